@@ -1,0 +1,59 @@
+use Rattle.std.proofs.Common.{◌≡◌, ℕ, ◌-◌, ◌*◌, ◌<◌, ◌≤◌, Bool, List, length, sym, ap, ◌∙◌, subst, arith, vec_len}
+use Rattle.std.specs.Vec.{with_items}
+use Rattle.std.proofs.lemmas.List.{with_items_is}
+use Rattle.xw_words.specs.Bits.{RowOfBits}
+use Rattle.xw_words.specs.Row.{Row, entries_of}
+use Rattle.xw_words.specs.Index.{word_in, IsIndex}
+use Rattle.xw_words.specs.Columns.{column_at}
+use Rattle.xw_words.proofs.RowLemmas.{length-entries_of}
+use Rattle.xw_words.proofs.KeptRowLemmas.{AreColumns, columns_made, room_for}
+use Rattle.xw_words.proofs.row.Row.reserve.Goals as goal
+
+pub invariant_of-self-2 : goal.invariant_of-self-2
+invariant_of-self-2 c =
+    let r = c.self.inside in
+    let kept = c.self.invariant in
+    let flags = r.active.bits in
+    let words = c.grown-words.result in
+    let known : c.len-known.result ≡ length flags = c.len-known.ensures.value in
+    let long_entries = length-entries_of r.count r.letters.items flags in
+    let few : length flags < 1048576 = omega (arith, c.requires.few, long_entries, ap (λ (row : Row). length row.entries) c.self.view_is) in
+    let below : length flags ≤ words = omega (arith, known, c.grown-words.ensures.more) in
+    let entries = entries_of r.count r.letters.items flags in
+    let made = c.make_columns.new.columns in
+    let new = c.reserve_columns.new.columns in
+    let made_is = c.deref_mut.ensures.value in
+    let same : length new ≡ length made.items = c.reserve_columns.auto.columns ∙ ap length made_is in
+    let columns_now : List RowOfBits = (with_items made new).items in
+    let now_is : columns_now ≡ new = with_items_is made new (c.reserve_columns.auto.columns ∙ c.deref_mut.ensures.len) in
+    let old_long : length r.columns.items ≡ vec_len r.columns = omega arith in
+    let made_long : length made.items ≡ vec_len made = omega arith in
+    let B : List RowOfBits → Type 0 = λ old. (i : ℕ) → (column_at new i).bits ≡ (column_at old i).bits in
+    let grown = columns_made r.count r.reserved entries r.columns.items made.items new (record { few = kept.column_count; all = kept.all_columns; bits = kept.columns; room = kept.columns_room }) (omega (arith, old_long, made_long, c.make_columns.ensures.more)) (made_long ∙ c.in_ok-make_columns.ensures.ok) same (omega (arith, long_entries, kept.within))
+    (λ i lt. c.make_columns.ensures.kept i (omega (arith, old_long))) (λ i le. c.make_columns.ensures.made i (omega (arith, old_long))) (subst B made_is c.reserve_columns.ensures.bits) words c.in_ok-reserve_columns.ensures.ok in
+    let letters_long : length r.letters.items ≡ vec_len r.letters = omega arith in
+    let index_long : length r.index.items ≡ vec_len r.index = omega arith in
+    let C : List ℕ → List Bool → List RowOfBits → Type 0 = λ letters bits columns. AreColumns r.count words (entries_of r.count letters bits) columns in
+    let placed : C r.letters.items flags columns_now = subst (C r.letters.items flags) (sym now_is) grown in
+    let active : C r.letters.items c.reserve.new.self.bits columns_now = subst (λ bits. C r.letters.items bits columns_now) (sym c.reserve.ensures.bits) placed in
+    let columns : C c.reserve_exact-2.new.self.items c.reserve.new.self.bits columns_now = subst (λ letters. C letters c.reserve.new.self.bits columns_now) (sym c.reserve_exact-2.ensures.items) active in
+    let same_flags : length c.reserve.new.self.bits ≡ length flags = ap length c.reserve.ensures.bits in
+    let I : List ℕ → ℕ → List ℕ → Type 0 = λ letters n index. IsIndex (word_in r.count letters) n index in
+    let indexed : I r.letters.items (length flags) c.reserve_exact.new.self.items = subst (I r.letters.items (length flags)) (sym c.reserve_exact.ensures.items) kept.index in
+    let counted : I r.letters.items (length c.reserve.new.self.bits) c.reserve_exact.new.self.items = subst (λ n. I r.letters.items n c.reserve_exact.new.self.items) (sym same_flags) indexed in
+    record {
+      short = kept.short;
+      long = λ _. omega (arith, c.requires.long, ap (λ (row : Row). row.count) c.self.view_is);
+      letters = ap length c.reserve_exact-2.ensures.items ∙ kept.letters ∙ ap (λ n. n * r.count) (sym same_flags);
+      few = omega (arith, same_flags, few);
+      within = omega (arith, same_flags, below);
+      reserved_few = c.grown-words.ensures.few;
+      index = subst (λ letters. I letters (length c.reserve.new.self.bits) c.reserve_exact.new.self.items) (sym c.reserve_exact-2.ensures.items) counted;
+      column_count = columns.few;
+      all_columns = columns.all;
+      columns = columns.bits;
+      letters_room = omega (arith, room_for words (length flags) r.count below, ap (λ n. (words - n) * r.count) known, kept.letters, letters_long, c.in_ok-reserve_exact-2.ensures.ok, c.reserve_exact-2.ensures.len);
+      index_room = omega (arith, known, below, kept.index.long, index_long, c.in_ok-reserve_exact.ensures.ok, c.reserve_exact.ensures.len);
+      active_room = omega (arith, c.in_ok-reserve.ensures.room, c.grown-words.ensures.few);
+      columns_room = columns.room;
+    }

@@ -1,0 +1,183 @@
+//! The dictionary.
+ghost use Rattle.std.specs.Prelude.{◌≡◌, ◌≢◌, ℕ, ◌+◌, ◌*◌, ◌<◌, ◌≤◌, Bool, true, false, [], map, replicate, length, Ok, Err, None, All, IsOk, IfErr, IfOk, OnOk, OnErr, IsOkUnless, position};
+ghost use Rattle.xw_words.specs.Letter.{folded, IsLetter};
+ghost use Rattle.xw_words.specs.Dictionary.{row as words_of, entry_at, place_of, add_answer, after_add, strike_answer, after_strike, IsNew, IsDictionary, matching_answer, reserve_answer, most_words};
+ghost use Rattle.xw_words.specs.Bank.{has_room};
+ghost use Rattle.xw_words.specs.Word.{is_bad_letter};
+ghost use Rattle.xw_words.specs.Bits.{has_bit};
+ghost use Rattle.xw_words.specs.Columns.{has_letter, is_active as word_is_active};
+
+use crate::fault::WordFault;
+use crate::letter::{Letter, are_letters};
+use crate::matching::Matching;
+use crate::row::{MOST_WORDS, Row};
+use crate::word::{judge_length, judge_pattern, judge_word};
+use std::alloc::Global;
+use std::marker::Model;
+
+/// What adding a word did, with its place among the words of its length.
+#[derive(Clone, Copy, Debug, PartialEq, Eq)]
+pub enum Added {
+    New(usize),
+    Returned(usize),
+}
+
+/// How many lengths there are, 0 to 255.
+const LENGTHS: usize = 256;
+
+/// The known words of each length, in the order of their first adding, each active or struck.
+#[derive(Drop)]
+pub struct Bank {
+    alloc: Global,
+    rows: Vec<Row>,
+}
+
+impl Model for Bank {
+    ghost use Rattle.xw_words.specs.Bank.{Bank as DictionaryWithRoom, bank_of, IsKept};
+
+    ghost Value = { DictionaryWithRoom };
+
+    ghost view = { λ bank. bank_of bank.rows.items };
+
+    ghost invariant = { λ bank. IsKept bank.rows.items };
+}
+
+impl Bank {
+    /// A dictionary of no words.
+    pub fn new(alloc: Global) -> Result<Bank, WordFault>
+        ensures empty { IfOk result (λ bank. bank.words ≡ replicate 256 []) }
+        ensures memory { IsOkUnless result WordFault.Memory }
+    {
+        let mut rows = Vec::new(alloc);
+        for count in 0..LENGTHS {
+            rows.push(Row::new(alloc, count))
+                .map_err(|_| WordFault::Memory)?;
+        }
+        Ok(Bank { alloc, rows })
+    }
+
+    /// How many words of a length are known, struck ones included.
+    pub fn known(&self, count: usize) -> usize
+        ensures words { result ≡ length (words_of self.now.words count) }
+        ensures dictionary { IsDictionary self.now.words }
+    {
+        match self.rows.get(count) {
+            Some(row) => row.len(),
+            None => 0,
+        }
+    }
+
+    pub fn is_active(&self, count: usize, place: usize) -> bool
+        ensures { result ≡ (entry_at (words_of self.now.words count) place).active }
+    {
+        match self.rows.get(count) {
+            Some(row) => row.is_active(place),
+            None => false,
+        }
+    }
+
+    pub fn word(&self, count: usize, place: usize) -> &[Letter]
+        requires { place < length (words_of self.now.words count) }
+        ensures word { result.now ≡ (entry_at (words_of self.now.words count) place).word }
+        ensures long { length result.now ≡ count }
+    {
+        self.rows[count].word(place)
+    }
+
+    /// The place of a word among those of its length, struck ones included.
+    pub fn find(&self, word: &[Letter]) -> Option<usize>
+        ensures { result ≡ place_of self.now.words word.now }
+    {
+        self.rows.get(word.len())?.find(word)
+    }
+
+    /// Which of 64 known words of a length have the letter at the position, the first of them lowest.
+    pub(crate) fn column(&self, count: usize, position: usize, letter: Letter, chunk: usize) -> u64
+        ensures { (k : ℕ) → k < 64 → has_bit result k ≡ has_letter (words_of self.now.words count) position letter (64 * chunk + k) }
+    {
+        match self.rows.get(count) {
+            Some(row) => row.column_chunk(position, letter, chunk),
+            None => 0,
+        }
+    }
+
+    /// Which of 64 known words of a length are active, the first of them lowest.
+    pub(crate) fn active(&self, count: usize, chunk: usize) -> u64
+        ensures { (k : ℕ) → k < 64 → has_bit result k ≡ word_is_active (words_of self.now.words count) (64 * chunk + k) }
+    {
+        match self.rows.get(count) {
+            Some(row) => row.active_chunk(chunk),
+            None => 0,
+        }
+    }
+
+    /// What adding a word would answer where no memory is wanting.
+    pub fn judge_add(&self, bytes: &[u8]) -> Result<Added, WordFault>
+        ensures { result ≡ add_answer self.now.words bytes.now }
+    {
+        judge_word(bytes)?;
+        self.rows[bytes.len()].judge_add(bytes)
+    }
+
+    /// Adds a word: a new one goes last, a struck one is active again.
+    pub fn add(&mut self, bytes: &[u8]) -> Result<Added, WordFault>
+        ensures answer { result ≢ Err WordFault.Memory → result ≡ add_answer self.old.words bytes.now }
+        ensures memory { result ≡ Err WordFault.Memory → IsNew (add_answer self.old.words bytes.now) }
+        ensures ok { IfOk result (λ added. self.new.words ≡ after_add self.old.words (map folded bytes.now) added) }
+        ensures err { OnErr result (self.new.words ≡ self.old.words) }
+    {
+        judge_word(bytes)?;
+        let row = &mut self.rows[bytes.len()];
+        row.add(self.alloc, bytes)
+    }
+
+    /// Strikes a word, which stays known.
+    pub fn strike(&mut self, bytes: &[u8]) -> Result<usize, WordFault>
+        ensures answer { result ≡ strike_answer self.old.words bytes.now }
+        ensures ok { IfOk result (λ place. self.new.words ≡ after_strike self.old.words (map folded bytes.now) place) }
+        ensures err { OnErr result (self.new.words ≡ self.old.words) }
+    {
+        judge_word(bytes)?;
+        let row = &mut self.rows[bytes.len()];
+        row.strike(bytes)
+    }
+
+    /// Lends the active words that fit a pattern, a letter or a dot for each place, in order.
+    pub fn matching<'a>(&'a self, pattern: &'a [u8]) -> Result<Matching<'a>, WordFault>
+        ensures words { IfOk result (λ words. matching_answer self.now.words pattern.now ≡ Ok words) }
+        ensures refused { IfErr result (λ fault. matching_answer self.now.words pattern.now ≡ Err fault) }
+    {
+        judge_pattern(pattern)?;
+        Ok(Matching::new(&self.rows[pattern.len()], pattern))
+    }
+
+    /// Makes room for one more word of a length.
+    pub fn reserve(&mut self, count: usize) -> Result<(), WordFault>
+        ensures words { self.new.words ≡ self.old.words }
+        ensures room { OnOk result (has_room self.new count ≡ true) }
+        ensures answer { result ≢ Err WordFault.Memory → result ≡ reserve_answer self.old.words count }
+        ensures memory { result ≡ Err WordFault.Memory → IsOk (reserve_answer self.old.words count) }
+    {
+        judge_length(count)?;
+        let row = &mut self.rows[count];
+        if row.len() >= MOST_WORDS {
+            return Err(WordFault::Full);
+        }
+        row.reserve(self.alloc)?;
+        Ok(())
+    }
+
+    /// Adds a word that is not known, in the room that was made for it, and answers its place.
+    pub fn add_reserved(&mut self, word: &[Letter]) -> usize
+        requires room { has_room self.old (length word.now) ≡ true }
+        requires unknown { place_of self.old.words word.now ≡ None }
+        ensures place { result ≡ length (words_of self.old.words (length word.now)) }
+        ensures words { self.new.words ≡ after_add self.old.words word.now (Added.New result) }
+    {
+        are_letters(word);
+        let row = &mut self.rows[word.len()];
+        let place = row.len();
+        row.add_reserved(word);
+        place
+    }
+}

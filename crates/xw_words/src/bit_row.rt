@@ -1,0 +1,148 @@
+//! A row of bits.
+ghost use Rattle.std.specs.Prelude.{◌≡◌, ℕ, ◌+◌, ◌-◌, ◌*◌, ◌/◌, ◌^◌, ◌<◌, ◌≤◌, Bool, false, not, ◌&&◌, [], ◌∷◌, ◌++◌, length, min, slice_index_or, slice_set, count_by, OnOk, OnErr, IfErr, if◌then◌else◌, nat_eq};
+ghost use Rattle.std.specs.Simd.Lanes.{zip2};
+ghost use Rattle.xw_words.specs.Bits.{RowOfBits, has_bit};
+ghost use Rattle.xw_words.specs.Places.{set_places};
+
+use crate::kernels::{
+    and_not_words, and_words, count_words, low_bits, make_room_for_bit, put_bit, with_bit,
+};
+use crate::fault::WordFault;
+use crate::ones::Ones;
+use std::alloc::Global;
+use std::marker::Model;
+
+/// The most bits that a row may be given room for.
+pub const MAX_BITS: usize = 0x1FF_FFFF_FFFF_FFFF;
+
+/// Bits in a row, packed 64 to a word.
+#[derive(Drop)]
+pub struct BitRow {
+    words: Vec<u64>,
+    len: usize,
+}
+
+impl Model for BitRow {
+    ghost use Rattle.xw_words.specs.Bits.{RowOfBits};
+
+    ghost Value = { RowOfBits };
+
+    ghost use Rattle.xw_words.specs.BitRow.{row_of, IsBitRow};
+
+    ghost view = { row_of };
+
+    ghost invariant = { IsBitRow };
+}
+
+impl BitRow {
+    pub fn new(alloc: Global) -> Self
+        ensures { result.bits ≡ [] }
+    {
+        BitRow {
+            words: Vec::new(alloc),
+            len: 0,
+        }
+    }
+
+    pub fn len(&self) -> usize
+        ensures value { result ≡ length self.now.bits }
+        ensures small { result < 2 ^ 57 }
+    {
+        self.len
+    }
+
+    /// Keeps the bits that both rows have.
+    pub fn and(&mut self, other: &BitRow)
+        requires { length self.old.bits ≡ length other.now.bits }
+        ensures bits { self.new.bits ≡ zip2 (λ x y. x && y) self.old.bits other.now.bits }
+        ensures room { self.new.room ≡ self.old.room }
+    {
+        and_words(&mut self.words, &other.words);
+    }
+
+    /// Keeps the bits that the other row lacks.
+    pub fn and_not(&mut self, other: &BitRow)
+        requires { length self.old.bits ≡ length other.now.bits }
+        ensures bits { self.new.bits ≡ zip2 (λ x y. x && not y) self.old.bits other.now.bits }
+        ensures room { self.new.room ≡ self.old.room }
+    {
+        and_not_words(&mut self.words, &other.words);
+    }
+
+    /// How many bits are set.
+    pub fn count(&self) -> usize
+        ensures { result ≡ count_by (λ bit. bit) self.now.bits }
+    {
+        count_words(&self.words) as usize
+    }
+
+    /// Makes room for so many bits in all; `Memory` where that is refused.
+    /// No row has room for more than `MAX_BITS`.
+    pub fn reserve(&mut self, bits: usize) -> Result<(), WordFault>
+        ensures room { OnOk result (min bits MAX_BITS ≤ self.new.room) }
+        ensures refused { IfErr result (λ fault. fault ≡ WordFault.Memory) }
+        ensures bits { self.new.bits ≡ self.old.bits }
+        ensures room_stays { self.old.room ≤ self.new.room }
+    {
+        let words = bits.div_ceil(64);
+        if words > self.words.len() {
+            self.words.reserve_exact(words - self.words.len())?;
+        }
+        Ok(())
+    }
+
+    /// Adds a bit at the end.
+    pub fn push(&mut self, bit: bool)
+        requires { length self.old.bits < self.old.room }
+        ensures bits { self.new.bits ≡ self.old.bits ++ bit ∷ [] }
+        ensures room { self.old.room ≤ self.new.room }
+    {
+        make_room_for_bit(&mut self.words, self.len);
+        put_bit(&mut self.words, self.len, bit);
+        self.len += 1;
+    }
+
+    /// The 64 bits from `64 * chunk` on, the first of them lowest. Bits past the row are 0.
+    pub fn chunk(&self, chunk: usize) -> u64
+        requires { 64 * chunk < length self.now.bits }
+        ensures { (k : ℕ) → k < 64 → has_bit result k ≡ slice_index_or self.now.bits (64 * chunk + k) false }
+    {
+        self.words[chunk]
+    }
+
+    /// Replaces the 64 bits from `64 * chunk` on. Bits past the row are dropped.
+    pub fn set_chunk(&mut self, chunk: usize, word: u64)
+        requires { 64 * chunk < length self.old.bits }
+        ensures len { length self.new.bits ≡ length self.old.bits }
+        ensures inside { (k : ℕ) → k < 64 → 64 * chunk + k < length self.old.bits → slice_index_or self.new.bits (64 * chunk + k) false ≡ has_bit word k }
+        ensures others { (i : ℕ) → (i / 64 ≡ chunk → ⊥) → slice_index_or self.new.bits i false ≡ slice_index_or self.old.bits i false }
+        ensures room { self.new.room ≡ self.old.room }
+    {
+        let left = self.len - 64 * chunk;
+        self.words[chunk] = low_bits(word, left.min(64));
+    }
+
+    /// Sets the bit at a place, or clears it.
+    pub(crate) fn put(&mut self, i: usize, bit: bool)
+        requires { i < length self.old.bits }
+        ensures bits { self.new.bits ≡ slice_set self.old.bits i bit }
+        ensures room { self.new.room ≡ self.old.room }
+    {
+        let chunk = self.chunk(i / 64);
+        self.set_chunk(i / 64, with_bit(chunk, i % 64, bit));
+    }
+
+    /// The places that are set, rising.
+    pub fn ones(&self) -> Ones<'_>
+        ensures { result ≡ set_places self.now.bits 0 }
+    {
+        Ones::new(self)
+    }
+
+    pub fn has(&self, i: usize) -> bool
+        requires { i < length self.now.bits }
+        ensures { result ≡ slice_index_or self.now.bits i false }
+    {
+        (self.words[i / 64] >> (i % 64)) & 1 == 1
+    }
+}

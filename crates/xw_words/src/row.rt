@@ -1,0 +1,315 @@
+//! The known words of one length.
+ghost use Rattle.xw_words.specs.Bits.{has_bit};
+ghost use Rattle.xw_words.specs.Columns.{has_letter, is_active};
+ghost use Rattle.std.specs.Prelude.{◌≡◌, ℕ, ◌+◌, ◌*◌, ◌<◌, ◌≤◌, ◌||◌, ◌==◌, Bool, true, false, None, [], ◌∷◌, ◌++◌, length, take, map, position, OnOk, OnErr, IfOk, IfErr, ◌≢◌, vec_len, vec_capacity, insert};
+ghost use Rattle.xw_words.specs.Dictionary.{entry_at, marked, place_in, add_to, added_at, with_added, matches, strike_from, IsNew, most_words};
+ghost use Rattle.xw_words.specs.Letter.{folded};
+ghost use Rattle.xw_words.specs.Word.{is_bad_letter, is_bad_in_pattern};
+
+use crate::bank::Added;
+use crate::bit_row::BitRow;
+use crate::columns::{LETTERS, make_columns, push_word, reserve_columns};
+use crate::fault::WordFault;
+use crate::index;
+use crate::letter::Letter;
+use crate::word::{LONGEST, spell};
+use std::alloc::Global;
+use std::marker::Model;
+
+/// How many words of one length can be known.
+pub const MOST_WORDS: usize = 1048576;
+
+/// By how many words the room grows at least.
+const LEAST_GROWTH: usize = 64;
+
+/// For how many words to make room where so many are known: an eighth more, so that
+/// little of it is idle and each word is moved a few times only.
+fn grown(known: usize) -> usize
+    requires { known < most_words }
+    ensures more { known < result }
+    ensures few { result ≤ most_words }
+{
+    (known + (known / 8).max(LEAST_GROWTH)).min(MOST_WORDS)
+}
+
+/// Adds a word's letters at the end, in the room that is there.
+fn append(letters: &mut Vec<Letter>, word: &[Letter])
+    requires { vec_len letters.old + length word.now ≤ vec_capacity letters.old }
+    ensures items { letters.new.items ≡ letters.old.items ++ word.now }
+    ensures capacity { vec_capacity letters.old ≤ vec_capacity letters.new }
+{
+    let _ = letters.extend_from_slice(word);
+}
+
+/// Puts a place into an index, in the room that is there.
+fn insert_place(index: &mut Vec<u32>, at: usize, place: u32)
+    requires at { at ≤ vec_len index.old }
+    requires room { vec_len index.old < vec_capacity index.old }
+    ensures items { index.new.items ≡ insert index.old.items at place }
+    ensures capacity { vec_capacity index.old ≤ vec_capacity index.new }
+{
+    let _ = index.insert(at, place);
+}
+
+/// The known words of one length, in the order of their first adding.
+#[derive(Drop)]
+pub struct Row {
+    count: usize,
+    letters: Vec<Letter>,
+    index: Vec<u32>,
+    active: BitRow,
+    columns: Vec<BitRow>,
+    reserved: usize,
+}
+
+impl Model for Row {
+    ghost use Rattle.xw_words.specs.Row.{Row as RowOfWords};
+
+    ghost Value = { RowOfWords };
+
+    ghost use Rattle.xw_words.specs.KeptRow.{row_of, IsKeptRow};
+
+    ghost view = { row_of };
+
+    ghost invariant = { IsKeptRow };
+}
+
+#[tactic(auto, using(crate::proofs::RowLemmas::row_steps))]
+impl Row {
+    pub fn new(alloc: Global, count: usize) -> Row
+        requires { count ≤ 255 }
+        ensures count { result.count ≡ count }
+        ensures entries { result.entries ≡ [] }
+        ensures room { result.room ≡ false }
+    {
+        Row {
+            count,
+            letters: Vec::new(alloc),
+            index: Vec::new(alloc),
+            active: BitRow::new(alloc),
+            columns: Vec::new(alloc),
+            reserved: 0,
+        }
+    }
+
+    pub fn len(&self) -> usize
+        ensures value { result ≡ length self.now.entries }
+        ensures few { result ≤ most_words }
+    {
+        self.active.len()
+    }
+
+    /// Whether the word at a place is active; not where there is none.
+    pub fn is_active(&self, place: usize) -> bool
+        ensures { result ≡ (entry_at self.now.entries place).active }
+    {
+        place < self.active.len() && self.active.has(place)
+    }
+
+    pub fn word(&self, place: usize) -> &[Letter]
+        requires { place < length self.now.entries }
+        ensures { result.now ≡ (entry_at self.now.entries place).word }
+    {
+        &self.letters[place * self.count..(place + 1) * self.count]
+    }
+
+    pub fn mark(&mut self, place: usize, active: bool)
+        requires { place < length self.old.entries }
+        ensures entries { self.new.entries ≡ marked self.old.entries place active }
+        ensures count { self.new.count ≡ self.old.count }
+        ensures room { self.new.room ≡ self.old.room }
+    {
+        self.active.put(place, active);
+    }
+
+    pub fn find(&self, word: &[Letter]) -> Option<usize>
+        ensures { result ≡ place_in self.now.entries word.now }
+    {
+        if word.len() != self.count {
+            return None;
+        }
+        index::find(&self.index, &self.letters, word)
+    }
+
+    /// Which of 64 words are active, the first of them lowest.
+    pub fn active_chunk(&self, chunk: usize) -> u64
+        ensures { (k : ℕ) → k < 64 → has_bit result k ≡ is_active self.now.entries (64 * chunk + k) }
+    {
+        if chunk >= self.active.len().div_ceil(64) {
+            return 0;
+        }
+        self.active.chunk(chunk)
+    }
+
+    /// Which of 64 words have the letter at the position, the first of them lowest.
+    pub fn column_chunk(&self, position: usize, letter: Letter, chunk: usize) -> u64
+        ensures { (k : ℕ) → k < 64 → has_bit result k ≡ has_letter self.now.entries position letter (64 * chunk + k) }
+    {
+        if position >= self.count {
+            return 0;
+        }
+        if chunk >= self.active.len().div_ceil(64) {
+            return 0;
+        }
+        let column = &self.columns[position * LETTERS + (letter.byte() - b'A') as usize];
+        column.chunk(chunk)
+    }
+
+    /// Which of 64 words have at a position what a pattern wants there.
+    fn stand_in_chunk(&self, wanted: u8, position: usize, chunk: usize) -> u64
+        requires { is_bad_in_pattern wanted ≡ false }
+        ensures { (k : ℕ) → k < 64 → has_bit result k ≡ ((folded wanted == 46) || has_letter self.now.entries position (folded wanted) (64 * chunk + k)) }
+    {
+        if wanted == b'.' {
+            return u64::MAX;
+        }
+        self.column_chunk(position, Letter::capital(wanted), chunk)
+    }
+
+    /// Which of 64 words are active and fit a pattern, the first of them lowest.
+    pub fn fits_chunk(&self, pattern: &[u8], chunk: usize) -> u64
+        requires length { length pattern.now ≡ self.now.count }
+        requires good { position is_bad_in_pattern pattern.now ≡ None }
+        ensures { (k : ℕ) → k < 64 → has_bit result k ≡ matches (map folded pattern.now) (entry_at self.now.entries (64 * chunk + k)) }
+    {
+        let _ = &self.count;
+        let mut fits = self.active_chunk(chunk);
+        for place in 0..pattern.len() {
+            fits &= self.stand_in_chunk(pattern[place], place, chunk);
+        }
+        fits
+    }
+
+    /// Adds the word that bytes spell: a new one goes last, a struck one is active again.
+    pub fn add(&mut self, alloc: Global, bytes: &[u8]) -> Result<Added, WordFault>
+        requires letters { position is_bad_letter bytes.now ≡ None }
+        requires length { length bytes.now ≡ self.old.count }
+        requires long { 2 ≤ self.old.count }
+        ensures count { self.new.count ≡ self.old.count }
+        ensures answer { result ≢ Err WordFault.Memory → result ≡ add_to self.old.entries (map folded bytes.now) }
+        ensures memory { result ≡ Err WordFault.Memory → IsNew (add_to self.old.entries (map folded bytes.now)) }
+        ensures ok { IfOk result (λ added. self.new.entries ≡ with_added self.old.entries (map folded bytes.now) added) }
+        ensures err { OnErr result (self.new.entries ≡ self.old.entries) }
+    {
+        let _ = &self.count;
+        let mut letters = [Letter::first(); LONGEST];
+        spell(&mut letters, bytes);
+        let word = &letters[..bytes.len()];
+        match self.find(word) {
+            Some(place) => self.add_again(place),
+            None => self.add_new(alloc, word),
+        }
+    }
+
+    fn add_again(&mut self, place: usize) -> Result<Added, WordFault>
+        requires { place < length self.old.entries }
+        ensures count { self.new.count ≡ self.old.count }
+        ensures answer { result ≡ added_at self.old.entries (Some place) }
+        ensures ok { OnOk result (self.new.entries ≡ marked self.old.entries place true) }
+        ensures err { OnErr result (self.new.entries ≡ self.old.entries) }
+    {
+        if self.is_active(place) {
+            return Err(WordFault::Known);
+        }
+        self.mark(place, true);
+        Ok(Added::Returned(place))
+    }
+
+    fn add_new(&mut self, alloc: Global, word: &[Letter]) -> Result<Added, WordFault>
+        requires length { length word.now ≡ self.old.count }
+        requires long { 2 ≤ self.old.count }
+        requires unknown { place_in self.old.entries word.now ≡ None }
+        ensures count { self.new.count ≡ self.old.count }
+        ensures answer { result ≢ Err WordFault.Memory → result ≡ added_at self.old.entries None }
+        ensures memory { result ≡ Err WordFault.Memory → IsNew (added_at self.old.entries None) }
+        ensures ok { OnOk result (self.new.entries ≡ self.old.entries ++ record { word = word.now; active = true } ∷ []) }
+        ensures err { OnErr result (self.new.entries ≡ self.old.entries) }
+    {
+        let place = self.len();
+        if place >= MOST_WORDS {
+            return Err(WordFault::Full);
+        }
+        self.reserve(alloc)?;
+        self.add_reserved(word);
+        Ok(Added::New(place))
+    }
+
+    /// What adding the word that bytes spell would answer where no memory is wanting.
+    pub fn judge_add(&self, bytes: &[u8]) -> Result<Added, WordFault>
+        requires letters { position is_bad_letter bytes.now ≡ None }
+        requires length { length bytes.now ≡ self.now.count }
+        ensures { result ≡ add_to self.now.entries (map folded bytes.now) }
+    {
+        let _ = &self.count;
+        let mut letters = [Letter::first(); LONGEST];
+        spell(&mut letters, bytes);
+        match self.find(&letters[..bytes.len()]) {
+            Some(place) if self.is_active(place) => Err(WordFault::Known),
+            Some(place) => Ok(Added::Returned(place)),
+            None if self.len() >= MOST_WORDS => Err(WordFault::Full),
+            None => Ok(Added::New(self.len())),
+        }
+    }
+
+    /// Strikes the word that bytes spell.
+    pub fn strike(&mut self, bytes: &[u8]) -> Result<usize, WordFault>
+        requires letters { position is_bad_letter bytes.now ≡ None }
+        requires length { length bytes.now ≡ self.old.count }
+        ensures count { self.new.count ≡ self.old.count }
+        ensures answer { result ≡ strike_from self.old.entries (map folded bytes.now) }
+        ensures ok { IfOk result (λ place. self.new.entries ≡ marked self.old.entries place false) }
+        ensures err { OnErr result (self.new.entries ≡ self.old.entries) }
+    {
+        let _ = &self.count;
+        let mut letters = [Letter::first(); LONGEST];
+        spell(&mut letters, bytes);
+        match self.find(&letters[..bytes.len()]) {
+            Some(place) if self.is_active(place) => {
+                self.mark(place, false);
+                Ok(place)
+            }
+            _ => Err(WordFault::Unknown),
+        }
+    }
+
+    /// Makes room for one more word.
+    pub fn reserve(&mut self, alloc: Global) -> Result<(), WordFault>
+        requires few { length self.old.entries < most_words }
+        requires long { 2 ≤ self.old.count }
+        ensures count { self.new.count ≡ self.old.count }
+        ensures entries { self.new.entries ≡ self.old.entries }
+        ensures ok { OnOk result (self.new.room ≡ true) }
+        ensures refused { IfErr result (λ fault. fault ≡ WordFault.Memory) }
+        ensures err { OnErr result (self.new.room ≡ self.old.room) }
+    {
+        let known = self.active.len();
+        if known < self.reserved {
+            return Ok(());
+        }
+        let words = grown(known);
+        make_columns(alloc, &mut self.columns, LETTERS * self.count)?;
+        reserve_columns(&mut self.columns, words)?;
+        self.active.reserve(words)?;
+        self.index.reserve_exact(words - known)?;
+        self.letters.reserve_exact((words - known) * self.count)?;
+        self.reserved = words;
+        Ok(())
+    }
+
+    /// Adds a word that is not known at the end, in the room that was made for it.
+    pub fn add_reserved(&mut self, word: &[Letter])
+        requires length { length word.now ≡ self.old.count }
+        requires room { self.old.room ≡ true }
+        requires unknown { place_in self.old.entries word.now ≡ None }
+        ensures count { self.new.count ≡ self.old.count }
+        ensures entries { self.new.entries ≡ self.old.entries ++ record { word = word.now; active = true } ∷ [] }
+        ensures few { length self.old.entries < most_words }
+        ensures long { 2 ≤ length word.now }
+    {
+        let at = index::search(&self.index, &self.letters, word);
+        insert_place(&mut self.index, at, self.active.len() as u32);
+        push_word(&mut self.columns, word);
+        self.active.push(true);
+        append(&mut self.letters, word);
+    }
+}
