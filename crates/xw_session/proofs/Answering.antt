@@ -1,0 +1,159 @@
+-- Edits that are answered.
+use Rattle.std.proofs.Common.{◌≡◌, ℕ, true, leb, List, ◌++◌, length, refl, subst, sym, ◌∙◌, inl, inr, arith}
+use Rattle.std.proofs.lemmas.Bool.{cases_Bool, cases_lt}
+use Rattle.std.proofs.lemmas.Bool.Decides.{nat_tests}
+use Rattle.std.specs.Prelude.{Some, None, Result, Ok, Err, IfOk, nat_lt}
+use Rattle.xw_session.specs.Sends.{Sends}
+use Rattle.xw_session.specs.Device.{Begins, HasFailed}
+use Rattle.xw_session.proofs.SendsLemmas.{sends-then, stops-within}
+use Rattle.xw_session.specs.declared.outcome.Step.{Step}
+use Rattle.xw_session.specs.declared.outcome.Step.TheVariants.{Silent, Refused}
+use Rattle.xw_session.specs.declared.command.SyntaxFault.TheVariants as syntax
+use Rattle.xw_session.specs.Cut.{held}
+use Rattle.xw_session.specs.Spoken.{Answered, BrokeOff, AnswersPiece}
+use Rattle.xw_session.specs.Command.{command_of}
+use Rattle.xw_session.specs.Text.{accepted, refused}
+use Rattle.xw_session.specs.declared.command.SyntaxFault.{SyntaxFault}
+use Rattle.xw_session.specs.State.{State}
+use Rattle.xw_session.specs.declared.command.Command.{Command}
+use Rattle.xw_session.specs.declared.refusal.Refusal.{Refusal}
+use Rattle.xw_session.specs.declared.refusal.Refusal.TheVariants as refusals
+use Rattle.xw_session.specs.Reply.{Reply, Answers, AnswersTo, AnswersParsed, AnswersLine, Edits, shown, reply_to, reply_of, text_of, step_of}
+
+-- an edit that was done or refused, and what was then written
+pub edit_answers : {S E T : Type 0} (told : S → List ℕ) (failures : S → ℕ) (state after : State) (command : Command) (done : Result T Refusal) (result : Result Step E) (old new : S)
+    → Edits state command done after
+    → ((g : State) → Sends told failures old new result (text_of (reply_of done g)))
+    → ((g : State) → IfOk result (λ o. o ≡ step_of (reply_of done g)))
+    → AnswersTo told failures state command result after old new
+edit_answers told failures state after command done result old new edits sends outcome = record {
+  reply = reply_of done after;
+  fits = edits.0;
+  effect = edits.1;
+  sends = sends after;
+  step = outcome after;
+}
+
+-- a line that asks for a command
+pub line_answers : {S E : Type 0} (told : S → List ℕ) (failures : S → ℕ) (state after : State) (line : List ℕ) (command : Command) (result : Result Step E) (old new : S)
+    → Ok (Some command) ≡ command_of line → AnswersTo told failures state command result after old new → AnswersLine told failures state line result after old new
+line_answers told failures state after line command result old new is a = record {
+  outcome = step_of a.reply;
+  answer = text_of a.reply;
+  fits = subst (λ parsed. AnswersParsed state parsed (step_of a.reply) (text_of a.reply) after) is (a.reply, a.fits, refl, refl, a.effect);
+  sends = a.sends;
+  is = a.step;
+}
+
+-- a line that is no command
+pub line_refused : {S E : Type 0} (told : S → List ℕ) (failures : S → ℕ) (state : State) (line : List ℕ) (fault : SyntaxFault) (result : Result Step E) (old new : S)
+    → Err fault ≡ command_of line
+    → ((g : State) → Sends told failures old new result (text_of (reply_of {T = Unit {0}} (Err (refusals.Syntax fault)) g)))
+    → ((g : State) → IfOk result (λ o. o ≡ step_of (reply_of {T = Unit {0}} (Err (refusals.Syntax fault)) g)))
+    → AnswersLine told failures state line result state old new
+line_refused told failures state line fault result old new is sends outcome = record {
+  outcome = Refused;
+  answer = refused (refusals.Syntax fault);
+  fits = subst (λ parsed. AnswersParsed state parsed Refused (refused (refusals.Syntax fault)) state) is (refl, refl, refl);
+  sends = sends state;
+  is = outcome state;
+}
+
+-- a query wrote its lines, and then the end of its answer
+pub query_answers : {S E : Type 0} (told : S → List ℕ) (failures : S → ℕ) (state : State) (command : Command) (lines : List ℕ) (result : Result Step E) (old mid new : S)
+    → reply_to state command ≡ shown state lines
+    → (told mid ≡ told old ++ lines) × (failures mid ≡ failures old)
+    → ((g : State) → Sends told failures mid new result (text_of (reply_of {T = Unit {0}} (Ok tt) g)))
+    → ((g : State) → IfOk result (λ o. o ≡ step_of (reply_of {T = Unit {0}} (Ok tt) g)))
+    → AnswersTo told failures state command result state old new
+query_answers told failures state command lines result old mid new is wrote sends outcome = record {
+  reply = shown state lines;
+  fits = is;
+  effect = refl;
+  sends = sends-then told failures old mid new lines accepted result wrote (sends state);
+  step = outcome state;
+}
+
+-- a query stopped within its lines
+pub query_stops : {S E : Type 0} (told : S → List ℕ) (failures : S → ℕ) (state : State) (command : Command) (lines : List ℕ) (error : E) (old new : S)
+    → reply_to state command ≡ shown state lines
+    → Begins (told old) (told new) lines × HasFailed (failures old) (failures new)
+    → AnswersTo told failures state command (Err error) state old new
+query_stops told failures state command lines error old new is sends = record {
+  reply = shown state lines;
+  fits = is;
+  effect = refl;
+  sends = stops-within told failures old new lines accepted sends;
+  step = tt;
+}
+
+-- a query was refused
+pub refusal_answers : {S E : Type 0} (told : S → List ℕ) (failures : S → ℕ) (state : State) (command : Command) (refusal : Refusal) (result : Result Step E) (old new : S)
+    → reply_to state command ≡ Err refusal
+    → ((g : State) → Sends told failures old new result (text_of (reply_of {T = Unit {0}} (Err refusal) g)))
+    → ((g : State) → IfOk result (λ o. o ≡ step_of (reply_of {T = Unit {0}} (Err refusal) g)))
+    → AnswersTo told failures state command result state old new
+refusal_answers told failures state command refusal result old new is sends outcome = record {
+  reply = Err refusal;
+  fits = inl is;
+  effect = refl;
+  sends = sends state;
+  step = outcome state;
+}
+
+-- only a line without a command is silent
+never_silent : (reply : Result Reply Refusal) → step_of reply ≡ Silent → ⊥
+never_silent (Ok reply) e = cc
+never_silent (Err refusal) e = cc
+
+pub not_silent : {E : Type 0} (P : Type 0) (reply : Result Reply Refusal) (result : Result Step E) → IfOk result (λ s. s ≡ step_of reply) → IfOk result (λ s. s ≡ Silent → P)
+not_silent P reply (Ok step) is = λ e. absurd (never_silent reply (sym is ∙ e))
+not_silent P reply (Err error) is = tt
+
+-- ---- the pieces that a run hands in
+
+held_is : (whole line : List ℕ) → held whole ≡ Some line → whole ≡ line
+held_is whole line h =
+    elim (cases_Bool (leb (length whole) 4096)) [
+      | inl small ↦ let same : Some whole ≡ Some line = rw small at h in cc
+      | inr large ↦ let none : None ≡ Some line = rw large at h in cc
+    ]
+
+too_long : (whole : List ℕ) → held whole ≡ None → command_of whole ≡ Err syntax.LineTooLong
+too_long whole h =
+    elim (cases_lt 4096 (length whole)) [
+      | inl large ↦ let test : nat_lt 4096 (length whole) ≡ true = grind (arith, nat_tests, large) in rw test refl
+      | inr small ↦
+          let test : leb (length whole) 4096 ≡ true = grind (arith, nat_tests, small) in
+          let some : Some whole ≡ None = rw test at h in cc
+    ]
+
+pub piece_answered : {S E : Type 0} (told : S → List ℕ) (failures : S → ℕ) (state after : State) (line : List ℕ) (step : Step) (old new : S)
+    → AnswersLine {E = E} told failures state line (Ok step) after old new → Answered Answers state (Some line) step after (told old) (told new)
+piece_answered told failures state after line step old new a = record {
+  answer = a.answer;
+  fits = λ whole h. subst (λ s. Answers state whole s a.answer after) (sym a.is) (subst (λ l. Answers state l a.outcome a.answer after) (sym (held_is whole line h)) a.fits);
+  told = a.sends.0;
+}
+
+pub piece_broke_off : {S E : Type 0} (told : S → List ℕ) (failures : S → ℕ) (state after : State) (line : List ℕ) (error : E) (old new : S)
+    → AnswersLine told failures state line (Err error) after old new → BrokeOff Answers state (Some line) after (told old) (told new)
+piece_broke_off told failures state after line error old new a = record {
+  outcome = a.outcome;
+  answer = a.answer;
+  fits = λ whole h. subst (λ l. Answers state l a.outcome a.answer after) (sym (held_is whole line h)) a.fits;
+  begins = a.sends.0;
+}
+
+-- a line too long to be held is refused
+pub long_piece : (state : State) → AnswersPiece Answers state None Refused (refused (refusals.Syntax syntax.LineTooLong)) state
+long_piece state whole h =
+    subst (λ parsed. AnswersParsed state parsed Refused (refused (refusals.Syntax syntax.LineTooLong)) state) (sym (too_long whole h)) (refl, refl, refl)
+
+pub long_piece_broke_off : (state : State) (old new : List ℕ) → Begins old new (refused (refusals.Syntax syntax.LineTooLong)) → BrokeOff Answers state None state old new
+long_piece_broke_off state old new begins = record {
+  outcome = Refused;
+  answer = refused (refusals.Syntax syntax.LineTooLong);
+  fits = long_piece state;
+  begins = begins;
+}

@@ -1,0 +1,101 @@
+-- How a cut text grows at its end.
+use Rattle.std.proofs.Common.{rules, ◌≢◌, ◌≡◌, ℕ, List, [], ◌∷◌, ◌++◌, length, Some, None, Bool, true, false, cond, refl, ap, ◌∙◌, append_assoc, append-nil}
+use Rattle.std.specs.Prelude.{◌==◌, nat_le}
+use Rattle.xw_session.specs.Cut.{Cut, cut, with_first, ended_lines, last_piece, last_line, lines_of, held, HasNoLf, AllHaveNoLf, with_lfs}
+
+-- the cut after one more byte at the front
+abbrev cut_onto : Bool → ℕ → Cut → Cut
+cut_onto is_lf b c = cond is_lf (record { ended = [] ∷ c.ended; rest = c.rest }) (with_first b c.ended c.rest)
+
+-- the cut of two texts with an LF between them
+abbrev joined : Cut → Cut → Cut
+joined c d = record { ended = c.ended ++ c.rest ∷ d.ended; rest = d.rest }
+
+-- the cut after one more byte at the end, which is no LF
+abbrev longer : Cut → ℕ → Cut
+longer c b = record { ended = c.ended; rest = c.rest ++ b ∷ [] }
+
+with_first-joined : (b : ℕ) (lines : List (List ℕ)) (rest : List ℕ) (d : Cut) → with_first b (lines ++ rest ∷ d.ended) d.rest ≡ joined (with_first b lines rest) d
+with_first-joined b [] rest d = refl
+with_first-joined b (line ∷ lines) rest d = refl
+
+with_first-longer : (a : ℕ) (lines : List (List ℕ)) (rest : List ℕ) (b : ℕ) → with_first a lines (rest ++ b ∷ []) ≡ longer (with_first a lines rest) b
+with_first-longer a [] rest b = refl
+with_first-longer a (line ∷ lines) rest b = refl
+
+onto-joined : (is_lf : Bool) (b : ℕ) (c d : Cut) → cut_onto is_lf b (joined c d) ≡ joined (cut_onto is_lf b c) d
+onto-joined true b c d = refl
+onto-joined false b c d = with_first-joined b c.ended c.rest d
+
+onto-longer : (is_lf : Bool) (a : ℕ) (c : Cut) (b : ℕ) → cut_onto is_lf a (longer c b) ≡ longer (cut_onto is_lf a c) b
+onto-longer true a c b = refl
+onto-longer false a c b = with_first-longer a c.ended c.rest b
+
+pub cut-at_lf : (front back : List ℕ) → cut (front ++ 10 ∷ back) ≡ joined (cut front) (cut back)
+cut-at_lf [] back = refl
+cut-at_lf (b ∷ front) back = ap (λ c. cut_onto (b == 10) b c) (cut-at_lf front back) ∙ onto-joined (b == 10) b (cut front) (cut back)
+
+pub cut-longer : (front : List ℕ) (b : ℕ) → (b == 10) ≡ false → cut (front ++ b ∷ []) ≡ longer (cut front) b
+cut-longer [] b h = ap (λ t. cut_onto t b (cut [])) h
+cut-longer (a ∷ front) b h = ap (λ c. cut_onto (a == 10) a c) (cut-longer front b h) ∙ onto-longer (a == 10) a (cut front) b
+
+-- the lines of a text with an LF in it
+pub lines_of-at_lf : (front back : List ℕ) → lines_of (front ++ 10 ∷ back) ≡ ended_lines front ++ last_piece front ∷ lines_of back
+lines_of-at_lf front back =
+    ap (λ (c : Cut). c.ended ++ last_line c.rest) (cut-at_lf front back)
+    ∙ append_assoc (ended_lines front) (last_piece front ∷ ended_lines back) (last_line (last_piece back))
+
+some-full : (t : Bool) (b : ℕ) (piece : List ℕ) → cond t (Some (b ∷ piece)) None ≡ Some [] → ⊥
+some-full true b piece h = cc
+some-full false b piece h = cc
+
+-- a piece that is held as nothing is empty
+pub held-empty : (piece : List ℕ) → held piece ≡ Some [] → piece ≡ []
+held-empty [] h = refl
+held-empty (b ∷ piece) h = absurd (some-full (nat_le (length (b ∷ piece)) 4096) b piece h)
+
+-- with no piece after the last LF, all lines are ended
+pub lines_of-ended : (text : List ℕ) → held (last_piece text) ≡ Some [] → lines_of text ≡ ended_lines text
+lines_of-ended text h = ap (λ rest. ended_lines text ++ last_line rest) (held-empty (last_piece text) h) ∙ append-nil (ended_lines text)
+
+last_line-full : (rest : List ℕ) → (held rest ≡ Some [] → ⊥) → last_line rest ≡ rest ∷ []
+last_line-full [] h = absurd (h refl)
+last_line-full (b ∷ rest) h = refl
+
+-- a piece that is not empty is the last line
+pub lines_of-rest : (text : List ℕ) → (held (last_piece text) ≡ Some [] → ⊥) → lines_of text ≡ ended_lines text ++ last_piece text ∷ []
+lines_of-rest text h = ap (λ lines. ended_lines text ++ lines) (last_line-full (last_piece text) h)
+
+-- a text with no LF is a rest
+cut-plain : (bytes : List ℕ) → HasNoLf bytes → cut bytes ≡ record { ended = []; rest = bytes }
+cut-plain [] h = refl
+cut-plain (b ∷ bytes) h =
+    let no_lf : (b == 10) ≡ false = search (rules, h.0) in
+    rw (no_lf, cut-plain bytes h.1) refl
+
+-- lines that an LF ends, and a rest, are cut into these
+pub cut-with_lfs : (lines : List (List ℕ)) (rest : List ℕ) → AllHaveNoLf lines → HasNoLf rest → cut (with_lfs lines rest) ≡ record { ended = lines; rest = rest }
+cut-with_lfs [] rest hs h = cut-plain rest h
+cut-with_lfs (line ∷ lines) rest hs h =
+    cut-at_lf line (with_lfs lines rest)
+    ∙ ap (λ c. joined c (cut (with_lfs lines rest))) (cut-plain line hs.0)
+    ∙ ap (λ c. joined (record { ended = []; rest = line }) c) (cut-with_lfs lines rest hs.1 h)
+
+onto-whole : (is_lf : Bool) (b : ℕ) (bytes : List ℕ) (c : Cut) → (b == 10) ≡ is_lf → (bytes ≡ with_lfs c.ended c.rest) × AllHaveNoLf c.ended × HasNoLf c.rest
+    → (b ∷ bytes ≡ with_lfs (cut_onto is_lf b c).ended (cut_onto is_lf b c).rest) × AllHaveNoLf (cut_onto is_lf b c).ended × HasNoLf (cut_onto is_lf b c).rest
+onto-whole true b bytes c t h =
+    let lf : b ≡ 10 = search (rules, t) in
+    (rw (lf, ← h.0) refl, (tt, h.1), h.2)
+onto-whole false b bytes c t h =
+    let other : b ≢ 10 = λ z. (let bad : (b == 10) ≡ true = rw z refl in cc) in
+    go c.ended c.rest h
+  where
+    go : (lines : List (List ℕ)) (rest : List ℕ) → (bytes ≡ with_lfs lines rest) × AllHaveNoLf lines × HasNoLf rest
+        → (b ∷ bytes ≡ with_lfs (with_first b lines rest).ended (with_first b lines rest).rest) × AllHaveNoLf (with_first b lines rest).ended × HasNoLf (with_first b lines rest).rest
+    go [] rest k = (ap (λ xs. b ∷ xs) k.0, tt, (λ z. (let bad : (b == 10) ≡ true = rw z refl in cc), k.2))
+    go (line ∷ lines) rest k = (ap (λ xs. b ∷ xs) k.0, ((λ z. (let bad : (b == 10) ≡ true = rw z refl in cc), k.1.0), k.1.1), k.2)
+
+-- the cut gives the text back, and no LF stands in its parts
+pub cut-whole : (text : List ℕ) → (text ≡ with_lfs (ended_lines text) (last_piece text)) × AllHaveNoLf (ended_lines text) × HasNoLf (last_piece text)
+cut-whole [] = (refl, tt, tt)
+cut-whole (b ∷ bytes) = onto-whole (b == 10) b bytes (cut bytes) refl (cut-whole bytes)

@@ -1,0 +1,30 @@
+-- Lines that are sent word by word, and words letter by letter.
+use Rattle.std.proofs.Common.{◌≡◌, ℕ, ◌-◌, ◌≤◌, ◌<◌, List, [], ◌∷◌, ◌++◌, length, map, take, drop, get_or, flat_map, codes, refl, subst, sym, ◌∙◌, ap, arith}
+use Rattle.std.proofs.lemmas.List.{take_all, get_or_default}
+use Rattle.xw_session.specs.Device.{Begins, HasFailed}
+use Rattle.xw_session.specs.Text.{line_of}
+use Rattle.xw_session.proofs.SendsLemmas.{stops-in-each}
+
+-- a line of two words or more: the first one, a space, and the line of the others
+pub line_of_more : {X : Type 0} (view : X → List ℕ) (words : List X) (d : X) → 2 ≤ length words
+    → line_of (map view words) ≡ (view (get_or words 0 d) ++ codes " ") ++ line_of (map view (take (length words - 1) (drop 1 words)))
+line_of_more view [] d h = absurd (omega (arith, h))
+line_of_more view (word ∷ []) d h = absurd (omega (arith, h))
+line_of_more view (word ∷ next ∷ words) d h =
+    let all : take (length (word ∷ next ∷ words) - 1) (next ∷ words) ≡ next ∷ words = take_all _ _ (omega arith) in
+    ap (λ rest. (view word ++ codes " ") ++ line_of (map view rest)) (sym all)
+
+-- letters that are sent one after another
+each_alone : (xs : List ℕ) → flat_map (λ x. x ∷ []) xs ≡ xs
+each_alone [] = refl
+each_alone (x ∷ xs) = ap (λ ys. x ∷ ys) (each_alone xs)
+
+pub letters_stop : {S : Type 0} (told : S → List ℕ) (failures : S → ℕ) (letters : List ℕ) (old mid new : S) (at byte : ℕ) {item : ℕ} → at < length letters → item ≡ get_or letters at item → byte ≡ item
+    → (told mid ≡ told old ++ take at letters) × (failures mid ≡ failures old)
+    → Begins (told mid) (told new) (byte ∷ []) × HasFailed (failures mid) (failures new)
+    → Begins (told old) (told new) letters × HasFailed (failures old) (failures new)
+letters_stop told failures letters old mid new at byte {item} h is same sent s =
+    let there : byte ≡ get_or letters at byte = same ∙ is ∙ get_or_default letters at item byte h in
+    let alone : told mid ≡ told old ++ flat_map (λ x. x ∷ []) (take at letters) = sent.0 ∙ ap (λ xs. told old ++ xs) (sym (each_alone (take at letters))) in
+    let all = stops-in-each told failures (λ x. x ∷ []) letters old mid new at byte h there (alone, sent.1) s in
+    (subst (λ xs. Begins (told old) (told new) xs) (each_alone letters) all.0, all.1)

@@ -1,0 +1,55 @@
+-- Texts that are sent one after another.
+use Rattle.std.proofs.Common.{◌≡◌, ℕ, List, ◌++◌, sym, ◌∙◌, ap, append_assoc}
+use Rattle.std.specs.Prelude.{Result, Ok, Err}
+use Rattle.xw_session.specs.Device.{Begins, HasFailed}
+use Rattle.xw_session.specs.Sends.{Sends}
+use Rattle.std.proofs.Common.{◌+◌, ◌<◌, ◌∷◌, length, take, drop, get_or, flat_map, subst, add-one, drop-cons, suc}
+use Rattle.std.proofs.lemmas.List.{take-append-drop}
+use Rattle.std.proofs.lemmas.Grind.{flat_map-append}
+use Rattle.xw_session.proofs.Texts.{begins-longer, begins-after}
+
+module _ {S : Type 0} (told : S → List ℕ) (failures : S → ℕ) where
+  -- the front of a text went out, and then the rest was sent
+  pub sends-then : {T E : Type 0} (old mid new : S) (front rest : List ℕ) (result : Result T E) → (told mid ≡ told old ++ front) × (failures mid ≡ failures old) → Sends told failures mid new result rest → Sends told failures old new result (front ++ rest)
+  sends-then old mid new front rest (Ok x) sent s = (s.0 ∙ ap (λ xs. xs ++ rest) sent.0 ∙ append_assoc (told old) front rest, s.1 ∙ sent.1)
+  sends-then old mid new front rest (Err e) sent s =
+      let failed : HasFailed (failures old) (failures new) = rw (← sent.1) s.1 in
+      (begins-after (told old) (told mid) (told new) front rest sent.0 s.0, failed)
+
+  -- a beginning of the front is one of the text
+  pub stops-within : (old new : S) (front rest : List ℕ) → Begins (told old) (told new) front × HasFailed (failures old) (failures new) → Begins (told old) (told new) (front ++ rest) × HasFailed (failures old) (failures new)
+  stops-within old new front rest s = (begins-longer (told old) (told new) front rest s.0, s.1)
+
+  -- texts of some first items went out, and of the next one a beginning
+  pub stops-in-each : {X : Type 0} (text : X → List ℕ) (items : List X) (old mid new : S) (at : ℕ) (item : X) → at < length items → item ≡ get_or items at item
+      → (told mid ≡ told old ++ flat_map text (take at items)) × (failures mid ≡ failures old)
+      → Begins (told mid) (told new) (text item) × HasFailed (failures mid) (failures new)
+      → Begins (told old) (told new) (flat_map text items) × HasFailed (failures old) (failures new)
+  stops-in-each text items old mid new at item h is sent s =
+      let next : drop at items ≡ item ∷ drop (at + 1) items = rw add-one (drop-cons items at item h ∙ ap (λ x. x ∷ drop (suc at) items) (sym is)) in
+      let parts : flat_map text items ≡ flat_map text (take at items) ++ (text item ++ flat_map text (drop (at + 1) items)) =
+      ap (flat_map text) (sym (take-append-drop at items) ∙ ap (λ xs. take at items ++ xs) next)
+      ∙ flat_map-append text (take at items) (item ∷ drop (at + 1) items) in
+      let whole = begins-after (told old) (told mid) (told new) _ _ sent.0 (begins-longer (told mid) (told new) (text item) (flat_map text (drop (at + 1) items)) s.0) in
+      let failed : HasFailed (failures old) (failures new) = rw (← sent.1) s.1 in
+      (subst (λ xs. Begins (told old) (told new) xs) (sym parts) whole, failed)
+
+  -- the texts of items are sent one after another: some of the whole text is sent, and that of the items left is not
+  pub one_more_sent : {X : Type 0} (text : X → List ℕ) (old mid new : S) (sent whole : List ℕ) (left rest : List X) (item : X)
+      → told mid ≡ told old ++ sent → whole ≡ sent ++ flat_map text left → left ≡ item ∷ rest → told new ≡ told mid ++ text item
+      → (told new ≡ told old ++ (sent ++ text item)) × (whole ≡ (sent ++ text item) ++ flat_map text rest)
+  one_more_sent text old mid new sent whole left rest item m w l n =
+      (
+        n ∙ ap (λ xs. xs ++ text item) m ∙ append_assoc (told old) sent (text item),
+        w ∙ ap (λ items. sent ++ flat_map text items) l ∙ sym (append_assoc sent (text item) (flat_map text rest)),
+      )
+
+  pub one_stops : {X : Type 0} (text : X → List ℕ) (old mid new : S) (sent whole : List ℕ) (left rest : List X) (item : X)
+      → told mid ≡ told old ++ sent → failures mid ≡ failures old → whole ≡ sent ++ flat_map text left → left ≡ item ∷ rest
+      → Begins (told mid) (told new) (text item) × HasFailed (failures mid) (failures new)
+      → Begins (told old) (told new) whole × HasFailed (failures old) (failures new)
+  one_stops text old mid new sent whole left rest item m f w l s =
+      let parts : whole ≡ sent ++ (text item ++ flat_map text rest) = w ∙ ap (λ items. sent ++ flat_map text items) l in
+      let begins = begins-after (told old) (told mid) (told new) sent _ m (begins-longer (told mid) (told new) (text item) (flat_map text rest) s.0) in
+      let failed : HasFailed (failures old) (failures new) = rw (← f) s.1 in
+      (subst (λ xs. Begins (told old) (told new) xs) (sym parts) begins, failed)

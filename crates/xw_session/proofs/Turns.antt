@@ -1,0 +1,183 @@
+-- One line after another.
+use Rattle.std.proofs.Common.{inl, inr, ◌≢◌, true, Bool, ◌≡◌, ℕ, ◌+◌, List, [], ◌∷◌, ◌++◌, Option, Some, false, arith, refl, sym, ◌∙◌, ap, subst, append_assoc, append-nil}
+use Rattle.std.specs.Prelude.{◌==◌}
+use Rattle.xw_session.specs.Cut.{Cut, held, ended_lines, last_piece, lines_of}
+use Rattle.xw_session.specs.Device.{saturated}
+use Rattle.xw_session.specs.Spoken.{Spoken, Answered, BrokeOff, refusals}
+use Rattle.xw_session.specs.Run.{Speaks, StopsIn, Progress, IsPassedOn}
+use Rattle.xw_session.specs.declared.outcome.Step.{Step}
+use Rattle.xw_session.specs.declared.outcome.Step.TheVariants.{Silent, Accepted, Refused}
+use Rattle.xw_session.proofs.Cuts.{cut-at_lf, cut-longer, lines_of-at_lf, lines_of-ended, lines_of-rest}
+
+pub saturated-add : (count more : ℕ) → saturated (saturated count + more) ≡ saturated (count + more)
+saturated-add count more = omega arith
+
+module _ {S : Type 0} (Answers : S → List ℕ → Step → List ℕ → S → Type 0) where
+  -- an answer at an equal piece and equal bytes
+  pub answered-along : (start end : S) (outcome : Step) (old new new' : List ℕ) (piece piece' : Option (List ℕ)) → piece ≡ piece' → new' ≡ new → Answered Answers start piece outcome end old new → Answered Answers start piece' outcome end old new'
+  answered-along start end outcome old new new' piece piece' p n a = record {
+    answer = a.answer;
+    fits = λ line h. a.fits line (h ∙ sym p);
+    told = n ∙ a.told;
+  }
+
+  -- a whole answer is a beginning of itself
+  pub broke-after : (start end : S) (outcome : Step) (old new new' : List ℕ) (piece piece' : Option (List ℕ)) → piece ≡ piece' → new' ≡ new → Answered Answers start piece outcome end old new → BrokeOff Answers start piece' end old new'
+  broke-after start end outcome old new new' piece piece' p n a = record {
+    outcome = outcome;
+    answer = a.answer;
+    fits = λ line h. a.fits line (h ∙ sym p);
+    begins = record { sent = a.answer; unsent = []; parts = sym (append-nil a.answer); told = n ∙ a.told };
+  }
+
+  -- one more line is answered
+  pub spoken-more : (lines : List (List ℕ)) (start mid end : S) (out answer line : List ℕ) (count : ℕ) (outcome : Step) → Spoken Answers start lines out count mid → Answers mid line outcome answer end → Spoken Answers start (lines ++ line ∷ []) (out ++ answer) (count + refusals outcome) end
+  spoken-more [] start mid end out answer line count outcome s a =
+      let a' : Answers start line outcome answer end = subst (λ m. Answers m line outcome answer end) s.2 a in
+      (outcome, answer, end, [], 0, a', (refl, refl, refl), rw s.0 (sym (append-nil answer)), rw s.1 (omega arith))
+  spoken-more (first ∷ lines) start mid end out answer line count outcome (first_outcome, first_answer, next, others, more, said, rest, out-is, count-is) a = (
+    first_outcome,
+    first_answer,
+    next,
+    others ++ answer,
+    more + refusals outcome,
+    said,
+    spoken-more lines next mid end others answer line more outcome rest a,
+    rw out-is (append_assoc first_answer others answer),
+    rw count-is (omega arith),
+  )
+
+  -- nothing was read yet
+  pub progress-begins : (start : S) (begun : List ℕ) (piece : Option (List ℕ)) (refused : ℕ) (told : List ℕ) → piece ≡ Some [] → refused ≡ 0 → told ≡ begun → Progress Answers start begun [] start piece refused told
+  progress-begins start begun piece refused told p r t = record {
+    count = 0;
+    speaks = record { out = []; spoken = (refl, refl, refl); told-is = t ∙ sym (append-nil begun) };
+    piece-is = p;
+    refused-is = r;
+  }
+
+  -- a byte that is no LF is held
+  pub progress-byte : (start state : S) (begun text : List ℕ) (piece piece' : Option (List ℕ)) (refused : ℕ) (told : List ℕ) (b : ℕ) → (b == 10) ≡ false → ((line : List ℕ) → piece ≡ held line → piece' ≡ held (line ++ b ∷ []))
+      → Progress Answers start begun text state piece refused told → Progress Answers start begun (text ++ b ∷ []) state piece' refused told
+  progress-byte start state begun text piece piece' refused told b h push p =
+      let e = cut-longer text b h in
+      let lines-is : ended_lines (text ++ b ∷ []) ≡ ended_lines text = ap (λ (c : Cut). c.ended) e in
+      let rest-is : last_piece (text ++ b ∷ []) ≡ last_piece text ++ b ∷ [] = ap (λ (c : Cut). c.rest) e in
+      record {
+        count = p.count;
+        speaks = subst (λ lines. Speaks Answers start lines p.count state begun told) (sym lines-is) p.speaks;
+        piece-is = push (last_piece text) p.piece-is ∙ ap held (sym rest-is);
+        refused-is = p.refused-is;
+      }
+
+  -- an LF ends a line, which is answered
+  pub progress-line : (start state end : S) (begun text : List ℕ) (piece piece' : Option (List ℕ)) (refused refused' : ℕ) (told told' : List ℕ) (outcome : Step)
+      → Answered Answers state piece outcome end told told' → refused' ≡ saturated (refused + refusals outcome) → piece' ≡ Some []
+      → Progress Answers start begun text state piece refused told → Progress Answers start begun (text ++ 10 ∷ []) end piece' refused' told'
+  progress-line start state end begun text piece piece' refused refused' told told' outcome a r e p =
+      let c = cut-at_lf text [] in
+      let lines-is : ended_lines (text ++ 10 ∷ []) ≡ ended_lines text ++ last_piece text ∷ [] = ap (λ (c : Cut). c.ended) c in
+      let rest-is : last_piece (text ++ 10 ∷ []) ≡ [] = ap (λ (c : Cut). c.rest) c in
+      let said = a.fits (last_piece text) (sym p.piece-is) in
+      let all : Speaks Answers start (ended_lines text ++ last_piece text ∷ []) (p.count + refusals outcome) end begun told' = record {
+        out = p.speaks.out ++ a.answer;
+        spoken = spoken-more (ended_lines text) start state end p.speaks.out a.answer (last_piece text) p.count outcome p.speaks.spoken said;
+        told-is = a.told ∙ ap (λ xs. xs ++ a.answer) p.speaks.told-is ∙ append_assoc begun p.speaks.out a.answer;
+      } in
+      record {
+        count = p.count + refusals outcome;
+        speaks = subst (λ lines. Speaks Answers start lines (p.count + refusals outcome) end begun told') (sym lines-is) all;
+        piece-is = e ∙ ap held (sym rest-is);
+        refused-is = r ∙ ap (λ n. saturated (n + refusals outcome)) p.refused-is ∙ saturated-add p.count (refusals outcome);
+      }
+
+  -- the answer of a line that an LF ends breaks off
+  pub stops-at_lf : (start state end : S) (begun text more : List ℕ) (piece : Option (List ℕ)) (refused : ℕ) (told told' : List ℕ)
+      → BrokeOff Answers state piece end told told' → Progress Answers start begun text state piece refused told → StopsIn Answers start (text ++ 10 ∷ more) end begun told'
+  stops-at_lf start state end begun text more piece refused told told' b p = record {
+    before = ended_lines text;
+    line = last_piece text;
+    after = lines_of more;
+    are-lines = lines_of-at_lf text more;
+    out = p.speaks.out;
+    refused = p.count;
+    mid = state;
+    spoken = p.speaks.spoken;
+    outcome = b.outcome;
+    answer = b.answer;
+    answers = b.fits (last_piece text) (sym p.piece-is);
+    begins = record {
+      sent = b.begins.sent;
+      unsent = b.begins.unsent;
+      parts = b.begins.parts;
+      told = b.begins.told ∙ ap (λ xs. xs ++ b.begins.sent) p.speaks.told-is;
+    };
+  }
+
+  -- at the end with nothing held, all lines are answered
+  pub speaks-ended : (start state : S) (begun text : List ℕ) (piece : Option (List ℕ)) (refused : ℕ) (told : List ℕ) → piece ≡ Some []
+      → (p : Progress Answers start begun text state piece refused told) → Speaks Answers start (lines_of text) p.count state begun told
+  speaks-ended start state begun text piece refused told e p =
+      subst (λ lines. Speaks Answers start lines p.count state begun told) (sym (lines_of-ended text (sym p.piece-is ∙ e))) p.speaks
+
+  -- at the end the piece that is held is the last line
+  pub speaks-last : (start state end : S) (begun text : List ℕ) (piece : Option (List ℕ)) (refused : ℕ) (told told' : List ℕ) (outcome : Step) → (piece ≡ Some [] → ⊥)
+      → Answered Answers state piece outcome end told told' → (p : Progress Answers start begun text state piece refused told)
+      → Speaks Answers start (lines_of text) (p.count + refusals outcome) end begun told'
+  speaks-last start state end begun text piece refused told told' outcome e a p =
+      let said = a.fits (last_piece text) (sym p.piece-is) in
+      let all : Speaks Answers start (ended_lines text ++ last_piece text ∷ []) (p.count + refusals outcome) end begun told' = record {
+        out = p.speaks.out ++ a.answer;
+        spoken = spoken-more (ended_lines text) start state end p.speaks.out a.answer (last_piece text) p.count outcome p.speaks.spoken said;
+        told-is = a.told ∙ ap (λ xs. xs ++ a.answer) p.speaks.told-is ∙ append_assoc begun p.speaks.out a.answer;
+      } in
+      subst (λ lines. Speaks Answers start lines (p.count + refusals outcome) end begun told') (sym (lines_of-rest text (λ h. e (p.piece-is ∙ h)))) all
+
+  -- the answer of the last line, which no LF ends, breaks off
+  pub stops-last : (start state end : S) (begun text : List ℕ) (piece : Option (List ℕ)) (refused : ℕ) (told told' : List ℕ) → (piece ≡ Some [] → ⊥)
+      → BrokeOff Answers state piece end told told' → Progress Answers start begun text state piece refused told → StopsIn Answers start text end begun told'
+  stops-last start state end begun text piece refused told told' e b p = record {
+    before = ended_lines text;
+    line = last_piece text;
+    after = [];
+    are-lines = lines_of-rest text (λ h. e (p.piece-is ∙ h));
+    out = p.speaks.out;
+    refused = p.count;
+    mid = state;
+    spoken = p.speaks.spoken;
+    outcome = b.outcome;
+    answer = b.answer;
+    answers = b.fits (last_piece text) (sym p.piece-is);
+    begins = record {
+      sent = b.begins.sent;
+      unsent = b.begins.unsent;
+      parts = b.begins.parts;
+      told = b.begins.told ∙ ap (λ xs. xs ++ b.begins.sent) p.speaks.told-is;
+    };
+  }
+
+-- what is spoken of states is spoken of what they mean
+pub spoken-map : {S T : Type 0} (meaning : S → T) (Answers : T → List ℕ → Step → List ℕ → T → Type 0) (lines : List (List ℕ)) (start : S) (out : List ℕ) (refused : ℕ) (end : S)
+    → Spoken (λ old line outcome answer new. Answers (meaning old) line outcome answer (meaning new)) start lines out refused end → Spoken Answers (meaning start) lines out refused (meaning end)
+spoken-map meaning Answers [] start out refused end h = (h.0, h.1, ap meaning h.2)
+spoken-map meaning Answers (line ∷ lines) start out refused end (outcome, answer, mid, others, more, said, rest, out-is, count-is) =
+    (outcome, answer, meaning mid, others, more, said, spoken-map meaning Answers lines mid others more end rest, out-is, count-is)
+
+pub speaks-map : {S T : Type 0} (meaning : S → T) (Answers : T → List ℕ → Step → List ℕ → T → Type 0) (start : S) (lines : List (List ℕ)) (count : ℕ) (state : S) (begun told : List ℕ)
+    → Speaks (λ old line outcome answer new. Answers (meaning old) line outcome answer (meaning new)) start lines count state begun told → Speaks Answers (meaning start) lines count (meaning state) begun told
+speaks-map meaning Answers start lines count state begun told s = record {
+  out = s.out;
+  spoken = spoken-map meaning Answers lines start s.out count state s.spoken;
+  told-is = s.told-is;
+}
+
+-- an answer that was passed on, and a silent line
+pub passed-by : {S : Type 0} (is_flushed : S → Bool) (old mid new : S) (outcome : Step) → (outcome ≡ Silent → mid ≡ old) → (outcome ≡ Silent → new ≡ mid) → (outcome ≢ Silent → is_flushed new ≡ true) → IsPassedOn is_flushed old new
+passed-by is_flushed old mid new Silent a b f = inl (b refl ∙ a refl)
+passed-by is_flushed old mid new Accepted a b f = inr (f (λ e. cc))
+passed-by is_flushed old mid new Refused a b f = inr (f (λ e. cc))
+
+pub passed-then : {S : Type 0} (is_flushed : S → Bool) (old mid new : S) → IsPassedOn is_flushed old mid → IsPassedOn is_flushed mid new → IsPassedOn is_flushed old new
+passed-then is_flushed old mid new a (inr f) = inr f
+passed-then is_flushed old mid new (inl a) (inl b) = inl (b ∙ a)
+passed-then is_flushed old mid new (inr f) (inl b) = inr (ap is_flushed b ∙ f)

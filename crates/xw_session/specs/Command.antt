@@ -1,0 +1,38 @@
+-- What a line asks for.
+use Rattle.std.specs.Prelude.{ℕ, ◌==◌, nat_lt, List, [], ◌∷◌, length, codes, slice_index, Option, Some, None, Result, Ok, Err, if◌then◌else◌}
+use Rattle.xw_session.specs.declared.command.Command.{Command}
+use Rattle.xw_session.specs.declared.command.Command.TheVariants.{Add, Strike, Match}
+use Rattle.xw_session.specs.declared.command.SyntaxFault.{SyntaxFault}
+use Rattle.xw_session.specs.declared.command.SyntaxFault.TheVariants as faults
+use Rattle.xw_session.specs.Line.{without_cr, first_word}
+use Rattle.xw_session.specs.Reading.{Reading, ◌>>=◌, given, fault, word, lookup, is_ended}
+
+-- each command by its name, with its arguments
+abbrev pub commands : List (List ℕ × Reading Command)
+commands =
+    (codes "add", do given (Add (← word)))
+    ∷ (codes "strike", do given (Strike (← word)))
+    ∷ (codes "match", do given (Match (← word)))
+    ∷ []
+
+abbrev arguments_of : Option (Reading Command) → Reading Command
+arguments_of None = fault faults.Command
+arguments_of (Some arguments) = arguments
+
+-- the command of a name, with its arguments
+abbrev pub command_named : List ℕ → Reading Command
+command_named name = arguments_of (lookup commands name)
+
+-- a command whose arguments are all that is left of its line
+abbrev pub whole : Result (Command × List ℕ) SyntaxFault → Result (Option Command) SyntaxFault
+whole (Ok found) = if is_ended found.1 then Ok (Some found.0) else Err faults.Arguments
+whole (Err f) = Err f
+
+-- The command of a line by its first word, if there is one. A word that begins with # begins a note.
+abbrev pub command_in : Option (List ℕ × List ℕ) → Result (Option Command) SyntaxFault
+command_in None = Ok None
+command_in (Some found) = if slice_index found.0 0 == 35 then Ok None else whole (command_named found.0 found.1)
+
+-- the command of a line, which is handed in without its LF; a silent line has none
+abbrev pub command_of : List ℕ → Result (Option Command) SyntaxFault
+command_of line = if nat_lt 4096 (length line) then Err faults.LineTooLong else command_in (first_word (without_cr line))

@@ -1,0 +1,11 @@
+pub mod Device
+pub mod Sends
+pub mod Cut
+pub mod Spoken
+pub mod Run
+pub mod Line
+pub mod Reading
+pub mod Command
+pub mod State
+pub mod Text
+pub mod Reply

@@ -1,0 +1,52 @@
+-- Arguments read one after another.
+use Rattle.std.specs.Prelude.{◌≡◌, ℕ, Bool, ◌==◌, List, [], ◌∷◌, length, Option, Some, None, Result, Ok, Err, bytes_eq, if◌then◌else◌}
+use Rattle.xw_session.specs.declared.command.SyntaxFault.{SyntaxFault}
+use Rattle.xw_session.specs.declared.command.SyntaxFault.TheVariants as faults
+use Rattle.xw_session.specs.Line.{first_word, trimmed_start}
+
+-- Something is read off what is left of a line: it, and what is left then, or why it isn't there.
+abbrev pub Reading : Type 0 → Type 0
+Reading A = List ℕ → Result (A × List ℕ) SyntaxFault
+
+-- What a function returned, seen by view, and what is left after it, are what a reading gives.
+abbrev pub Reads : {X A : Type 0} → (X → A) → Result X SyntaxFault → List ℕ → Result (A × List ℕ) SyntaxFault → Type 0
+Reads view (Ok x) left reading = reading ≡ Ok (view x, left)
+Reads view (Err fault) left reading = reading ≡ Err fault
+
+-- after one thing another
+abbrev then_others : {A B : Type 0} → Result (A × List ℕ) SyntaxFault → (A → Reading B) → Result (B × List ℕ) SyntaxFault
+then_others (Ok found) others = others found.0 found.1
+then_others (Err fault) others = Err fault
+
+infixl 10 ◌>>=◌
+abbrev pub ◌>>=◌ : {A B : Type 0} → Reading A → (A → Reading B) → Reading B
+◌>>=◌ read others rest = then_others (read rest) others
+
+-- nothing more is read, and this is it
+abbrev pub given : {A : Type 0} → A → Reading A
+given x rest = Ok (x, rest)
+
+abbrev pub fault : {A : Type 0} → SyntaxFault → Reading A
+fault f rest = Err f
+
+abbrev pub wanted : {A : Type 0} → Option A → Reading A
+wanted None = fault faults.Arguments
+wanted (Some x) = given x
+
+-- ---- words
+
+abbrev next_word : Option (List ℕ × List ℕ) → Result (List ℕ × List ℕ) SyntaxFault
+next_word None = Err faults.Arguments
+next_word (Some found) = Ok found
+
+abbrev pub word : Reading (List ℕ)
+word rest = next_word (first_word rest)
+
+-- no further word
+abbrev pub is_ended : List ℕ → Bool
+is_ended rest = length (trimmed_start rest) == 0
+
+-- what stands in a table beside a name
+abbrev pub lookup : {A : Type 0} → List (List ℕ × A) → List ℕ → Option A
+lookup [] name = None
+lookup (row ∷ rows) name = if bytes_eq name row.0 then Some row.1 else lookup rows name

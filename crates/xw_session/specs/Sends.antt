@@ -1,0 +1,9 @@
+-- What a function that writes a text did.
+use Rattle.std.specs.Prelude.{◌≡◌, ℕ, List, ◌++◌, Result, Ok, Err}
+use Rattle.xw_session.specs.Device.{Begins, HasFailed}
+
+-- All of the text went out and nothing failed, or a beginning of it and the writer failed. It takes what the writer
+-- tells, the writer before and after, and what was returned.
+abbrev pub Sends : {S T E : Type 0} → (S → List ℕ) → (S → ℕ) → S → S → Result T E → List ℕ → Type 0
+Sends told failures old new (Ok x) text = (told new ≡ told old ++ text) × (failures new ≡ failures old)
+Sends told failures old new (Err e) text = Begins (told old) (told new) text × HasFailed (failures old) (failures new)

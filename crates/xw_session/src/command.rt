@@ -1,0 +1,86 @@
+//! What a line asks for.
+ghost use Rattle.std.specs.Prelude.{◌≡◌};
+ghost use Rattle.xw_session.specs.Reading.{Reads};
+ghost use Rattle.xw_session.specs.Command.{command_named as command_named_so, command_of};
+
+use crate::line;
+use crate::words::Words;
+use crate::piece::LINE_LIMIT;
+use std::marker::Model;
+
+/// Why a line is no command.
+#[derive(Clone, Copy, Debug, PartialEq, Eq)]
+pub enum SyntaxFault {
+    LineTooLong,
+    Command,
+    Arguments,
+}
+
+/// Bytes of a line: a word, or a text.
+#[derive(Drop)]
+pub struct Text<'a> {
+    bytes: &'a [u8],
+}
+
+impl<'a> Model for Text<'a> {
+    ghost use Rattle.std.specs.Prelude.{ℕ, List};
+
+    ghost Value = { List ℕ };
+
+    ghost view = { λ text. text.bytes.now };
+}
+
+impl<'a> Text<'a> {
+    pub fn new(bytes: &'a [u8]) -> Text<'a>
+        ensures { result ≡ bytes.now }
+    {
+        Text { bytes }
+    }
+
+    pub fn bytes(&self) -> &'a [u8]
+        ensures { result.now ≡ self.now }
+    {
+        self.bytes
+    }
+}
+
+/// What a line asks for.
+#[derive(Drop)]
+pub enum Command<'a> {
+    Add(Text<'a>),
+    Strike(Text<'a>),
+    Match(Text<'a>),
+}
+
+/// The command of a name, with its arguments.
+fn command_named<'a>(name: &[u8], words: &mut Words<'a>) -> Result<Command<'a>, SyntaxFault>
+    ensures { Reads (λ command. command) result words.new (command_named_so name.now words.old) }
+{
+    match name {
+        _ if line::is(name, "add") => Ok(Command::Add(words.word()?)),
+        _ if line::is(name, "strike") => Ok(Command::Strike(words.word()?)),
+        _ if line::is(name, "match") => Ok(Command::Match(words.word()?)),
+        _ => Err(SyntaxFault::Command),
+    }
+}
+
+/// What a line asks for, which comes without its LF; a silent line asks for nothing.
+pub fn parse(line: &[u8]) -> Result<Option<Command<'_>>, SyntaxFault>
+    ensures { result ≡ command_of line.now }
+{
+    if line.len() > LINE_LIMIT {
+        return Err(SyntaxFault::LineTooLong);
+    }
+    let Some((name, rest)) = line::first_word(line::without_cr(line)) else {
+        return Ok(None);
+    };
+    if name.first() == Some(&b'#') {
+        return Ok(None);
+    }
+    let mut words = Words::new(rest);
+    let command = command_named(name, &mut words)?;
+    if !words.is_ended() {
+        return Err(SyntaxFault::Arguments);
+    }
+    Ok(Some(command))
+}

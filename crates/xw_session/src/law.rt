@@ -1,0 +1,14 @@
+//! What the definitions mean.
+ghost use Rattle.std.specs.Prelude.{◌≡◌, ℕ, List};
+ghost use Rattle.xw_session.specs.Cut.{ended_lines, last_piece, with_lfs, AllHaveNoLf, HasNoLf};
+
+/// A text is its ended lines, each with its LF, and then its last piece, and it is nothing else of that form.
+pub fn lines_are_cut_at_each_lf()
+    ensures whole { (text : List ℕ) → text ≡ with_lfs (ended_lines text) (last_piece text) }
+    ensures lines { (text : List ℕ) → AllHaveNoLf (ended_lines text) }
+    ensures piece { (text : List ℕ) → HasNoLf (last_piece text) }
+    ensures only { (lines : List (List ℕ)) (rest : List ℕ) → AllHaveNoLf lines → HasNoLf rest
+        → ended_lines (with_lfs lines rest) ≡ lines }
+    ensures only_piece { (lines : List (List ℕ)) (rest : List ℕ) → AllHaveNoLf lines → HasNoLf rest
+        → last_piece (with_lfs lines rest) ≡ rest }
+{}

@@ -1,0 +1,21 @@
+//! Line commands, from any reader to any writer.
+#![tactic(auto)]
+
+pub mod command;
+pub mod device;
+mod history;
+pub mod law;
+mod line;
+pub mod outcome;
+mod piece;
+pub mod refusal;
+mod run;
+pub mod session;
+pub mod standard;
+mod text;
+mod words;
+
+pub use device::{DeviceFault, Sink, Source, WriteFailed};
+pub use outcome::{RunEnd, Step};
+pub use session::Session;
+pub use standard::{FromRead, ToWrite};

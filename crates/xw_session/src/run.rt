@@ -1,0 +1,229 @@
+//! Answering the lines of a reader on a writer.
+ghost use Rattle.std.specs.Prelude.{true, ◌≡◌, ◌≢◌, ℕ, ◌+◌, ◌-◌, ◌^◌, ◌<◌, ◌≤◌, List, [], ◌∷◌, ◌++◌, length, take, drop, Option, Some, None, IfOk, OnOk, OnErr, IsTrue, MatchResult};
+ghost use Rattle.std.specs.Option.{option_map};
+ghost use Rattle.xw_session.specs.Cut.{lines_of, ended_lines, held};
+ghost use Rattle.xw_session.specs.Device.{saturated, HasFailed};
+ghost use Rattle.xw_session.specs.Spoken.{Answered, BrokeOff, refusals};
+ghost use Rattle.xw_session.specs.Run.{Speaks, StopsIn, Progress, IfDone, OnReadFailed, OnWriteFailed, OnEndless, OnMemory, UnlessWriteFailed, IsPassedOn};
+
+use crate::device::{Sink, Source, WriteFailed};
+use crate::outcome::{RunEnd, Step};
+use crate::piece::Piece;
+use std::alloc::Global;
+
+/// How many bytes one read asks for.
+const CHUNK: usize = 4096;
+
+/// Who answers lines, one after another.
+pub trait Speaker {
+    ghost use Rattle.std.specs.Prelude.{ℕ, List};
+    ghost use Rattle.xw_session.specs.declared.outcome.Step.{Step};
+
+    // From a state a line may be answered so, and leave such a state.
+    ghost answers: { Self → List ℕ → Step → List ℕ → Self → Type 0 };
+
+    /// Writes an answer of the line, which is handed in without its LF, and as `None` where it is too long to be held.
+    /// After an `Err` a beginning of the answer went out, and the line's effect stands.
+    fn speak<W: Sink>(&mut self, line: Option<&[u8]>, sink: &mut W) -> Result<Step, WriteFailed>
+        ensures ok { IfOk result (λ outcome. Answered answers self.old (option_map (λ bytes. bytes.now) line.entry)
+            outcome self.new (W.told sink.old) (W.told sink.new)) }
+        ensures quiet { OnOk result (W.failures sink.new ≡ W.failures sink.old) }
+        ensures silent { IfOk result (λ outcome. outcome ≡ Step.Silent → sink.new ≡ sink.old) }
+        ensures err { OnErr result (BrokeOff answers self.old (option_map (λ bytes. bytes.now) line.entry)
+            self.new (W.told sink.old) (W.told sink.new)) }
+        ensures failed { OnErr result (HasFailed (W.failures sink.old) (W.failures sink.new)) };
+}
+
+/// The count of refused lines after one more line.
+fn with_outcome(refused: u64, outcome: Step) -> u64
+    ensures { result ≡ saturated (refused + refusals outcome) }
+{
+    match outcome {
+        Step::Refused => refused.saturating_add(1),
+        Step::Silent | Step::Accepted => refused,
+    }
+}
+
+/// Passes an answer on; a silent line has none.
+fn pass_on<W: Sink>(step: Step, sink: &mut W) -> Result<(), WriteFailed>
+    ensures told { W.told sink.new ≡ W.told sink.old }
+    ensures quiet { OnOk result (W.failures sink.new ≡ W.failures sink.old) }
+    ensures failed { OnErr result (HasFailed (W.failures sink.old) (W.failures sink.new)) }
+    ensures silent { step ≡ Step.Silent → sink.new ≡ sink.old }
+    ensures flushed { OnOk result (step ≢ Step.Silent → W.is_flushed sink.new ≡ true) }
+{
+    match step {
+        Step::Silent => Ok(()),
+        Step::Accepted | Step::Refused => flush(sink),
+    }
+}
+
+fn flush<W: Sink>(sink: &mut W) -> Result<(), WriteFailed>
+    ensures told { W.told sink.new ≡ W.told sink.old }
+    ensures quiet { OnOk result (W.failures sink.new ≡ W.failures sink.old) }
+    ensures failed { OnErr result (HasFailed (W.failures sink.old) (W.failures sink.new)) }
+    ensures flushed { OnOk result (W.is_flushed sink.new ≡ true) }
+{
+    match sink.flush() {
+        Ok(()) => Ok(()),
+        Err(_) => Err(WriteFailed),
+    }
+}
+
+/// Answers the piece as a line, and counts the refused ones.
+fn answer_piece<S: Speaker, W: Sink>(
+    speaker: &mut S,
+    piece: &mut Piece,
+    refused: &mut u64,
+    sink: &mut W,
+) -> Result<(), WriteFailed>
+    ensures ok { OnOk result ((outcome : Step) × Answered S.answers speaker.old piece.old outcome speaker.new (W.told sink.old) (W.told sink.new)
+        × (refused.new ≡ saturated (refused.old + refusals outcome))) }
+    ensures cleared { OnOk result (piece.new ≡ Some []) }
+    ensures quiet { OnOk result (W.failures sink.new ≡ W.failures sink.old) }
+    ensures passed_on { OnOk result (IsPassedOn W.is_flushed sink.old sink.new) }
+    ensures err { OnErr result (BrokeOff S.answers speaker.old piece.old speaker.new (W.told sink.old) (W.told sink.new)) }
+    ensures failed { OnErr result (HasFailed (W.failures sink.old) (W.failures sink.new)) }
+{
+    let outcome = speaker.speak(piece.line(), sink)?;
+    pass_on(outcome, sink)?;
+    *refused = with_outcome(*refused, outcome);
+    piece.clear();
+    Ok(())
+}
+
+/// Goes on by one byte of the reader.
+fn take_byte<S: Speaker, W: Sink>(
+    speaker: &mut S,
+    piece: &mut Piece,
+    refused: &mut u64,
+    byte: u8,
+    sink: &mut W,
+) -> Result<(), WriteFailed>
+    ensures ok { OnOk result ((start : S) (begun text : List ℕ)
+        → Progress S.answers start begun text speaker.old piece.old refused.old (W.told sink.old)
+        → Progress S.answers start begun (text ++ byte ∷ []) speaker.new piece.new refused.new (W.told sink.new)) }
+    ensures quiet { OnOk result (W.failures sink.new ≡ W.failures sink.old) }
+    ensures passed_on { OnOk result (IsPassedOn W.is_flushed sink.old sink.new) }
+    ensures err { OnErr result ((start : S) (begun text more : List ℕ)
+        → Progress S.answers start begun text speaker.old piece.old refused.old (W.told sink.old)
+        → StopsIn S.answers start (text ++ byte ∷ more) speaker.new begun (W.told sink.new)) }
+    ensures failed { OnErr result (HasFailed (W.failures sink.old) (W.failures sink.new)) }
+{
+    if byte != b'\n' {
+        piece.push(byte);
+        return Ok(());
+    }
+    answer_piece(speaker, piece, refused, sink)?;
+    Ok(())
+}
+
+/// Goes on by the bytes of one read.
+fn take_bytes<S: Speaker, W: Sink>(
+    speaker: &mut S,
+    piece: &mut Piece,
+    refused: &mut u64,
+    bytes: &[u8],
+    sink: &mut W,
+) -> Result<(), WriteFailed>
+    ensures ok { OnOk result ((start : S) (begun text : List ℕ)
+        → Progress S.answers start begun text speaker.old piece.old refused.old (W.told sink.old)
+        → Progress S.answers start begun (text ++ bytes.now) speaker.new piece.new refused.new (W.told sink.new)) }
+    ensures quiet { OnOk result (W.failures sink.new ≡ W.failures sink.old) }
+    ensures passed_on { OnOk result (IsPassedOn W.is_flushed sink.old sink.new) }
+    ensures err { OnErr result ((start : S) (begun text : List ℕ)
+        → Progress S.answers start begun text speaker.old piece.old refused.old (W.told sink.old)
+        → StopsIn S.answers start (text ++ bytes.now) speaker.new begun (W.told sink.new)) }
+    ensures failed { OnErr result (HasFailed (W.failures sink.old) (W.failures sink.new)) }
+{
+    for byte in bytes {
+        take_byte(speaker, piece, refused, *byte, sink)?;
+    }
+    Ok(())
+}
+
+/// Answers what is held at the end, and returns the count of refused lines.
+fn finish<S: Speaker, W: Sink>(
+    speaker: &mut S,
+    mut piece: Piece,
+    mut refused: u64,
+    sink: &mut W,
+) -> Result<u64, WriteFailed>
+    ensures ok { IfOk result (λ total. (start : S) (begun text : List ℕ)
+        → Progress S.answers start begun text speaker.old piece refused (W.told sink.old)
+        → (count : ℕ) × (total ≡ saturated count) × Speaks S.answers start (lines_of text) count speaker.new begun (W.told sink.new)) }
+    ensures passed_on { OnOk result (IsPassedOn W.is_flushed sink.old sink.new) }
+    ensures err { OnErr result ((start : S) (begun text : List ℕ)
+        → Progress S.answers start begun text speaker.old piece refused (W.told sink.old)
+        → StopsIn S.answers start text speaker.new begun (W.told sink.new)) }
+    ensures failed { OnErr result (HasFailed (W.failures sink.old) (W.failures sink.new)) }
+{
+    if piece.is_empty() {
+        return Ok(refused);
+    }
+    answer_piece(speaker, &mut piece, &mut refused, sink)?;
+    Ok(refused)
+}
+
+/// Reads lines to the end of the reader, and answers each on the writer, which is flushed after each answer.
+pub fn run_lines<S: Speaker, R: Source, W: Sink>(
+    alloc: Global,
+    speaker: &mut S,
+    source: &mut R,
+    sink: &mut W,
+) -> RunEnd
+    // The reader came to its end, and all lines of what was read are answered.
+    ensures done { IfDone result (λ refused. (text : List ℕ) × (R.told source.new ≡ R.told source.old ++ text)
+        × IsTrue (R.is_at_end source.new)
+        × (count : ℕ) × (refused ≡ saturated count)
+        × Speaks S.answers speaker.old (lines_of text) count speaker.new (W.told sink.old) (W.told sink.new)) }
+
+    // The reader failed in this call, and the complete lines before it are answered.
+    ensures read_failed { OnReadFailed result ((text : List ℕ) × (R.told source.new ≡ R.told source.old ++ text)
+        × HasFailed (R.failures source.old) (R.failures source.new)
+        × (count : ℕ)
+        × Speaks S.answers speaker.old (ended_lines text) count speaker.new (W.told sink.old) (W.told sink.new)) }
+
+    // The writer failed in this call, or took no byte of a write.
+    ensures write_failed { OnWriteFailed result ((text : List ℕ) × (R.told source.new ≡ R.told source.old ++ text)
+        × HasFailed (W.failures sink.old) (W.failures sink.new)
+        × StopsIn S.answers speaker.old text speaker.new (W.told sink.old) (W.told sink.new)) }
+
+    // The greatest u64 of bytes came, and no end.
+    ensures endless { OnEndless result ((text : List ℕ) × (R.told source.new ≡ R.told source.old ++ text)
+        × (2 ^ 64 - 1 ≤ length text)
+        × (count : ℕ)
+        × Speaks S.answers speaker.old (ended_lines text) count speaker.new (W.told sink.old) (W.told sink.new)) }
+
+    // Nothing was read or written.
+    ensures memory { OnMemory result ((R.told source.new ≡ R.told source.old)
+        × (W.told sink.new ≡ W.told sink.old) × (speaker.new ≡ speaker.old)) }
+
+    // The last answer was passed on.
+    ensures passed_on { UnlessWriteFailed result (IsPassedOn W.is_flushed sink.old sink.new) }
+{
+    let Ok(mut piece) = Piece::new(alloc) else {
+        return RunEnd::Memory;
+    };
+    let mut chunk = [0; CHUNK];
+    let mut refused = 0;
+    for turn in 0..u64::MAX {
+        match source.read(&mut chunk) {
+            Err(_) => return RunEnd::ReadFailed,
+            Ok(0) => {
+                return match finish(speaker, piece, refused, sink) {
+                    Ok(refused) => RunEnd::Done { refused },
+                    Err(_) => RunEnd::WriteFailed,
+                };
+            }
+            Ok(count) => {
+                let bytes = &chunk[..count];
+                match take_bytes(speaker, &mut piece, &mut refused, bytes, sink) {
+                    Ok(()) => {}
+                    Err(_) => return RunEnd::WriteFailed,
+                }
+            }
+        }
+    }
+    RunEnd::Endless
+}

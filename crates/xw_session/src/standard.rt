@@ -1,0 +1,146 @@
+//! The readers and writers of std, as a `Source` and a `Sink`.
+ghost use Rattle.std.specs.Prelude.{◌≡◌, ◌≤◌, [], length, IfOk, false};
+
+use crate::device::{DeviceFault, Sink, Source};
+use crate::history::History;
+use std::io::{ErrorKind, Read, Write};
+
+/// A reader of std.
+#[derive(Drop)]
+pub struct FromRead<R> {
+    reader: R,
+    told: History,
+    failures: u64,
+    is_at_end: bool,
+}
+
+impl<R: Read> FromRead<R> {
+    pub fn new(reader: R) -> FromRead<R>
+        ensures told { result.told.bytes ≡ [] }
+        ensures failures { result.failures ≡ 0 }
+    {
+        FromRead {
+            reader,
+            told: History::new(),
+            failures: 0,
+            is_at_end: false,
+        }
+    }
+}
+
+impl<R: Read> Source for FromRead<R> {
+    ghost told = { λ source. source.told.bytes };
+
+    ghost failures = { λ source. source.failures };
+
+    ghost is_at_end = { λ source. source.is_at_end };
+
+    fn read(&mut self, buffer: &mut [u8]) -> Result<usize, DeviceFault> {
+        match read_retrying(&mut self.reader, buffer) {
+            Ok(count) => {
+                self.told.note(&buffer[..count]);
+                if count == 0 {
+                    self.is_at_end = true;
+                }
+                Ok(count)
+            }
+            Err(fault) => {
+                self.failures = self.failures.saturating_add(1);
+                Err(fault)
+            }
+        }
+    }
+}
+
+/// One read, tried again where a signal interrupts it.
+fn read_retrying<R: Read>(reader: &mut R, buffer: &mut [u8]) -> Result<usize, DeviceFault>
+    ensures { IfOk result (λ count. count ≤ length buffer.new) }
+{
+    for _ in 0..u64::MAX {
+        match reader.read(buffer) {
+            Ok(count) => return Ok(count),
+            Err(error) => {
+                if error.kind() != ErrorKind::Interrupted {
+                    return Err(DeviceFault);
+                }
+            }
+        }
+    }
+    Err(DeviceFault)
+}
+
+/// A writer of std.
+#[derive(Drop)]
+pub struct ToWrite<W> {
+    writer: W,
+    told: History,
+    failures: u64,
+    is_flushed: bool,
+}
+
+impl<W: Write> ToWrite<W> {
+    pub fn new(writer: W) -> ToWrite<W>
+        ensures told { result.told.bytes ≡ [] }
+        ensures failures { result.failures ≡ 0 }
+    {
+        ToWrite {
+            writer,
+            told: History::new(),
+            failures: 0,
+            is_flushed: true,
+        }
+    }
+}
+
+impl<W: Write> Sink for ToWrite<W> {
+    ghost told = { λ sink. sink.told.bytes };
+
+    ghost failures = { λ sink. sink.failures };
+
+    ghost is_flushed = { λ sink. sink.is_flushed };
+
+    fn write(&mut self, bytes: &[u8]) -> Result<usize, DeviceFault> {
+        match write_retrying(&mut self.writer, bytes) {
+            Ok(count) => {
+                self.told.note(&bytes[..count]);
+                if count > 0 {
+                    self.is_flushed = false;
+                }
+                if count == 0 && !bytes.is_empty() {
+                    self.failures = self.failures.saturating_add(1);
+                }
+                Ok(count)
+            }
+            Err(fault) => {
+                self.failures = self.failures.saturating_add(1);
+                Err(fault)
+            }
+        }
+    }
+
+    fn flush(&mut self) -> Result<(), DeviceFault> {
+        if self.writer.flush().is_err() {
+            self.failures = self.failures.saturating_add(1);
+            return Err(DeviceFault);
+        }
+        self.is_flushed = true;
+        Ok(())
+    }
+}
+
+/// One write, tried again where a signal interrupts it.
+fn write_retrying<W: Write>(writer: &mut W, bytes: &[u8]) -> Result<usize, DeviceFault>
+    ensures { IfOk result (λ count. count ≤ length bytes.now) }
+{
+    for _ in 0..u64::MAX {
+        match writer.write(bytes) {
+            Ok(count) => return Ok(count),
+            Err(error) => {
+                if error.kind() != ErrorKind::Interrupted {
+                    return Err(DeviceFault);
+                }
+            }
+        }
+    }
+    Err(DeviceFault)
+}
