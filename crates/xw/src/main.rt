@@ -8,34 +8,35 @@ mod perform;
 mod tests;
 
 use crate::arguments::Usage;
-use crate::perform::Status;
+use crate::failure::Status;
+use crate::perform::{explain, perform};
 use std::io::{self, BufWriter};
 use std::process::ExitCode;
-use xw_session::{FromRead, ToWrite};
+use xw_session::{FromRead, Sink, ToWrite};
 
 /// How many bytes of answers are gathered before they go out together.
 const GATHERED: usize = 65536;
 
-fn main(rt: HostRuntime) -> io::Result<ExitCode> {
-    let words: Vec<String> = std::env::args(&rt)?.collect(rt.alloc())?;
-    let call = match arguments::arguments(rt.alloc(), words.as_slice()) {
-        Ok(call) => call,
-        Err(Usage::Help(text)) => {
-            print!(rt; "{text}")?;
-            return Ok(Status::Accepted.code());
-        }
-        Err(Usage::Wrong(text)) => {
-            eprint!(rt; "{text}")?;
-            return Ok(Status::Usage.code());
-        }
-        Err(Usage::Memory) => {
-            eprintln!(rt; "xw: memory")?;
-            return Ok(Status::Failed.code());
-        }
-    };
-    let mut input = FromRead::new(rt.stdin());
-    let mut output = ToWrite::new(BufWriter::with_capacity(rt.alloc(), GATHERED, rt.stdout())?);
+fn main(rt: HostRuntime) -> ExitCode {
     let mut errors = ToWrite::new(rt.stderr());
-    let status = perform::perform(&rt, call, &mut input, &mut output, &mut errors);
-    Ok(status.code())
+    match start(&rt, &mut errors) {
+        Ok(status) => status.exit_code(),
+        Err(_) => explain(&Usage::Memory, &mut ToWrite::new(rt.stdout()), &mut errors).exit_code(),
+    }
+}
+
+/// The whole program, where memory for its set-up is not wanting.
+fn start<E: Sink>(rt: &HostRuntime, errors: &mut E) -> io::Result<Status> {
+    let mut output = ToWrite::new(BufWriter::with_capacity(rt.alloc(), GATHERED, rt.stdout())?);
+    let words: Vec<String> = std::env::args(rt)?.collect(rt.alloc())?;
+    match arguments::arguments(rt.alloc(), words.as_slice()) {
+        Ok(call) => Ok(perform(
+            rt,
+            call,
+            &mut FromRead::new(rt.stdin()),
+            &mut output,
+            errors,
+        )),
+        Err(usage) => Ok(explain(&usage, &mut output, errors)),
+    }
 }

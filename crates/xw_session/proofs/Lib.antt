@@ -5,3 +5,4 @@ pub mod Walks
 pub mod SendsLemmas
 pub mod Answering
 pub mod Sending
+pub mod Buffers

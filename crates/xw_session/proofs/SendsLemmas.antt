@@ -38,11 +38,10 @@ module _ {S : Type 0} (told : S → List ℕ) (failures : S → ℕ) where
   pub one_more_sent : {X : Type 0} (text : X → List ℕ) (old mid new : S) (sent whole : List ℕ) (left rest : List X) (item : X)
       → told mid ≡ told old ++ sent → whole ≡ sent ++ flat_map text left → left ≡ item ∷ rest → told new ≡ told mid ++ text item
       → (told new ≡ told old ++ (sent ++ text item)) × (whole ≡ (sent ++ text item) ++ flat_map text rest)
-  one_more_sent text old mid new sent whole left rest item m w l n =
-      (
-        n ∙ ap (λ xs. xs ++ text item) m ∙ append_assoc (told old) sent (text item),
-        w ∙ ap (λ items. sent ++ flat_map text items) l ∙ sym (append_assoc sent (text item) (flat_map text rest)),
-      )
+  one_more_sent text old mid new sent whole left rest item m w l n = (
+    n ∙ ap (λ xs. xs ++ text item) m ∙ append_assoc (told old) sent (text item),
+    w ∙ ap (λ items. sent ++ flat_map text items) l ∙ sym (append_assoc sent (text item) (flat_map text rest)),
+  )
 
   pub one_stops : {X : Type 0} (text : X → List ℕ) (old mid new : S) (sent whole : List ℕ) (left rest : List X) (item : X)
       → told mid ≡ told old ++ sent → failures mid ≡ failures old → whole ≡ sent ++ flat_map text left → left ≡ item ∷ rest

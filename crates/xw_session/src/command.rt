@@ -4,8 +4,8 @@ ghost use Rattle.xw_session.specs.Reading.{Reads};
 ghost use Rattle.xw_session.specs.Command.{command_named as command_named_so, command_of};
 
 use crate::line;
-use crate::words::Words;
 use crate::piece::LINE_LIMIT;
+use crate::words::Words;
 use std::marker::Model;
 
 /// Why a line is no command.

@@ -12,6 +12,8 @@ pub mod refusal;
 mod run;
 pub mod session;
 pub mod standard;
+#[cfg(test)]
+mod tests;
 mod text;
 mod words;
 

@@ -4,10 +4,10 @@ ghost use Rattle.std.specs.Simd.Lanes.{zip2};
 ghost use Rattle.xw_words.specs.Bits.{RowOfBits, has_bit};
 ghost use Rattle.xw_words.specs.Places.{set_places};
 
+use crate::fault::WordFault;
 use crate::kernels::{
     and_not_words, and_words, count_words, low_bits, make_room_for_bit, put_bit, with_bit,
 };
-use crate::fault::WordFault;
 use crate::ones::Ones;
 use std::alloc::Global;
 use std::marker::Model;

@@ -1,4 +1,4 @@
-use Rattle.std.proofs.Common.{◌≡◌, ◌<◌, length, sym, ap, refl, ◌∙◌, arith, true, false}
+use Rattle.std.proofs.Common.{◌≡◌, ◌<◌, length, sym, ap, refl, ◌∙◌, true, false}
 use Rattle.std.specs.Prelude.{None, slice_index_or, [], ◌∷◌, ◌++◌}
 use Rattle.xw_words.specs.Dictionary.{row, place_in, most_words}
 use Rattle.xw_words.proofs.DictionaryLemmas.{row_kept, IsKept-set, AreWords-push, entries_in-set, row-entries_in, room_within}

@@ -1,4 +1,4 @@
-use Rattle.std.proofs.Common.{◌≡◌, ◌-◌, ◌≤◌}
+use Rattle.std.proofs.Common.{◌≡◌, ◌-◌}
 use Rattle.xw_words.specs.LetterSet.{letters_from}
 use Rattle.xw_words.proofs.letters.LettersIterator.next.Given as goal
 

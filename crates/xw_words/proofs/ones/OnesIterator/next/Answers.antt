@@ -1,4 +1,4 @@
-use Rattle.std.proofs.Common.{◌≡◌, ◌+◌, ◌∷◌, false, length, sym, ap, ◌∙◌, arith, rules}
+use Rattle.std.proofs.Common.{◌≡◌, ◌+◌, ◌∷◌, false, sym, ◌∙◌, arith, rules}
 use Rattle.std.proofs.lemmas.List.{get_or_past}
 use Rattle.xw_words.specs.Places.{set_places}
 use Rattle.xw_words.proofs.PlaceLemmas.{set_places_none, set_places_first}

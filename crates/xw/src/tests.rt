@@ -1,0 +1,107 @@
+//! Runs of the program.
+use crate::arguments::{Call, Usage, arguments};
+use crate::failure::Status;
+use crate::perform::{explain, perform};
+use std::fs;
+use std::process::Abort;
+use std::rt::Files;
+use std::test::Fail;
+use xw_session::{FromRead, ToWrite};
+
+/// What a run is to come to.
+#[derive(Clone, Copy)]
+struct Run<'a> {
+    status: Status,
+    output: &'a [u8],
+    errors: &'a [u8],
+}
+
+/// Does what the words ask for, and compares.
+fn runs(rt: &(impl Abort + AllocGlobal + Files), words: &[&str], input: &[u8], wanted: Run<'_>) {
+    let mut told = Vec::new(rt.alloc());
+    let mut faults = Vec::new(rt.alloc());
+    let mut output = ToWrite::new(&mut told);
+    let mut errors = ToWrite::new(&mut faults);
+    let status = match arguments(rt.alloc(), words) {
+        Ok(call) => perform(
+            rt,
+            call,
+            &mut FromRead::new(input),
+            &mut output,
+            &mut errors,
+        ),
+        Err(usage) => explain(&usage, &mut output, &mut errors),
+    };
+    assert_eq!(rt; told.as_slice(), wanted.output);
+    assert_eq!(rt; faults.as_slice(), wanted.errors);
+    assert_eq!(rt; status, wanted.status);
+}
+
+#[test]
+fn word_list_of_five_lines(rt: HostRuntime) -> Result<(), Fail> {
+    fs::write(&rt, "five.txt", b"CAT;50\r\nco-t\n\nx\ncat\n")?;
+    runs(
+        &rt,
+        &["xw", "edit", "--dict", "five.txt"],
+        b"match C.T\nadd CAT\n",
+        Run {
+            status: Status::Refused,
+            output: b"CAT\nCOT\nok\nno Known\n",
+            errors: b"xw: five.txt: 2 added, 3 skipped\n",
+        },
+    );
+    runs(
+        &rt,
+        &["xw", "edit", "--dict=five.txt"],
+        b"match CO.\n",
+        Run {
+            status: Status::Accepted,
+            output: b"COT\nok\n",
+            errors: b"xw: five.txt: 2 added, 3 skipped\n",
+        },
+    );
+    fs::remove_file(&rt, "five.txt")?;
+    runs(
+        &rt,
+        &["xw", "edit", "--dict", "five.txt"],
+        b"add CAT\n",
+        Run {
+            status: Status::Failed,
+            output: b"",
+            errors: b"xw: five.txt: cannot read\n",
+        },
+    );
+    Ok(())
+}
+
+#[test]
+fn wrong_words(rt: HostRuntime) -> Result<(), Fail> {
+    for words in [
+        ["xw"].as_slice(),
+        &["xw", "frob"],
+        &["xw", "edit", "words.txt"],
+        &["xw", "edit", "--dict"],
+        &["xw", "edit", "--dict", "a", "--dict", "b"],
+        &["xw", "edit", "--frob"],
+    ] {
+        assert!(rt;
+            matches!(arguments(rt.alloc(), words), Err(Usage::Wrong(_))),
+            "{words:?}"
+        );
+    }
+    for words in [
+        ["xw", "-h"].as_slice(),
+        &["xw", "--help"],
+        &["xw", "help"],
+        &["xw", "edit", "-h"],
+        &["xw", "edit", "--help"],
+    ] {
+        assert!(rt;
+            matches!(arguments(rt.alloc(), words), Err(Usage::Help(_))),
+            "{words:?}"
+        );
+    }
+    let words = ["xw", "edit"];
+    assert!(rt; matches!(arguments(rt.alloc(), &words), Ok(Call::Edit { dict: None })));
+    Ok(())
+}

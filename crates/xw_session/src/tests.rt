@@ -1,0 +1,3 @@
+//! Scripts answered over memory, and over devices that fail.
+mod devices;
+mod scripts;

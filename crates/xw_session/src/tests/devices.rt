@@ -1,0 +1,268 @@
+//! Runs over readers and writers that fail.
+ghost use Rattle.std.specs.Prelude.{◌≡◌, ◌≤◌, ◌<◌, length, take, true, false};
+
+use crate::{DeviceFault, RunEnd, Session, Sink, Source, Step};
+use std::process::Abort;
+use std::test::Fail;
+use xw_words::Bank;
+
+/// A reader of some bytes, by pieces, that fails at one of its calls.
+#[derive(Drop)]
+struct Script<'a> {
+    bytes: &'a [u8],
+    given: usize,
+    piece: usize,
+    calls_left: u64,
+    failures: u64,
+    is_at_end: bool,
+    ghost within: { given ≤ length bytes.now },
+}
+
+impl Source for Script<'_> {
+    ghost told = { λ script. take script.given script.bytes.now };
+
+    ghost failures = { λ script. script.failures };
+
+    ghost is_at_end = { λ script. script.is_at_end };
+
+    fn read(&mut self, buffer: &mut [u8]) -> Result<usize, DeviceFault> {
+        if self.calls_left == 0 {
+            self.failures = self.failures.saturating_add(1);
+            return Err(DeviceFault);
+        }
+        self.calls_left -= 1;
+        let rest = &self.bytes[self.given..];
+        let count = rest.len().min(buffer.len()).min(self.piece);
+        buffer[..count].copy_from_slice(&rest[..count]);
+        self.given += count;
+        if count == 0 {
+            self.is_at_end = true;
+        }
+        Ok(count)
+    }
+}
+
+/// A writer into a fixed buffer, by pieces, that fails at one of its calls.
+#[derive(Drop)]
+struct Buffer {
+    bytes: [u8; 256],
+    taken: usize,
+    piece: usize,
+    calls_left: u64,
+    failures: u64,
+    is_flushed: bool,
+    ghost within: { taken ≤ 256 },
+}
+
+impl Sink for Buffer {
+    ghost told = { λ buffer. take buffer.taken buffer.bytes };
+
+    ghost failures = { λ buffer. buffer.failures };
+
+    ghost is_flushed = { λ buffer. buffer.is_flushed };
+
+    fn write(&mut self, bytes: &[u8]) -> Result<usize, DeviceFault> {
+        if self.calls_left == 0 {
+            self.failures = self.failures.saturating_add(1);
+            return Err(DeviceFault);
+        }
+        self.calls_left -= 1;
+        let count = bytes.len().min(256 - self.taken).min(self.piece);
+        self.bytes[self.taken..self.taken + count].copy_from_slice(&bytes[..count]);
+        self.taken += count;
+        self.is_flushed = false;
+        if count == 0 && !bytes.is_empty() {
+            self.failures = self.failures.saturating_add(1);
+        }
+        Ok(count)
+    }
+
+    fn flush(&mut self) -> Result<(), DeviceFault> {
+        if self.calls_left == 0 {
+            self.failures = self.failures.saturating_add(1);
+            return Err(DeviceFault);
+        }
+        self.calls_left -= 1;
+        self.is_flushed = true;
+        Ok(())
+    }
+}
+
+const LINES: &[u8] = b"add CAT\nadd COT\n\nmatch C.T\nadd CAT";
+
+const ANSWERS: &[u8] = b"ok\nok\nCAT\nCOT\nok\nno Known\n";
+
+/// How a run over devices is to end: after so many reads and writes, with so many bytes written.
+#[derive(Clone, Copy)]
+struct Case {
+    piece: usize,
+    reads: u64,
+    writes: u64,
+    end: RunEnd,
+    written: usize,
+}
+
+/// Runs the lines, compares, and gives back the session.
+fn runs(rt: &(impl Abort + AllocGlobal), lines: &[u8], case: Case) -> Result<Session, Fail> {
+    let mut session = Session::new(rt.alloc(), Bank::new(rt.alloc())?);
+    let mut source = Script {
+        bytes: lines,
+        given: 0,
+        piece: case.piece,
+        calls_left: case.reads,
+        failures: 0,
+        is_at_end: false,
+    };
+    let mut sink = Buffer {
+        bytes: [0; 256],
+        taken: 0,
+        piece: case.piece,
+        calls_left: case.writes,
+        failures: 0,
+        is_flushed: true,
+    };
+    let end = session.run_lines(&mut source, &mut sink);
+    assert_eq!(rt; end, case.end);
+    assert!(rt; case.written <= ANSWERS.len());
+    assert_eq!(rt; &sink.bytes[..sink.taken], &ANSWERS[..case.written]);
+    Ok(session)
+}
+
+/// Whether a session has the word CAT: adding it is then refused.
+fn has_cat(mut session: Session) -> bool {
+    let mut told = Buffer {
+        bytes: [0; 256],
+        taken: 0,
+        piece: 256,
+        calls_left: 9,
+        failures: 0,
+        is_flushed: true,
+    };
+    session.step(b"add CAT", &mut told) == Ok(Step::Refused)
+}
+
+#[test]
+fn answers_in_any_pieces(rt: HostRuntime) -> Result<(), Fail> {
+    for piece in [1, 2, 7, 100] {
+        let case = Case {
+            piece,
+            reads: 100,
+            writes: 100,
+            end: RunEnd::Done { refused: 1 },
+            written: 26,
+        };
+        assert!(rt; has_cat(runs(&rt, LINES, case)?));
+    }
+    Ok(())
+}
+
+/// The reader fails at each of its calls in turn: the complete lines before that are answered.
+#[test]
+fn reader_fails(rt: HostRuntime) -> Result<(), Fail> {
+    for (reads, written) in [
+        (0, 0),
+        (1, 0),
+        (2, 3),
+        (3, 3),
+        (4, 6),
+        (5, 6),
+        (6, 6),
+        (7, 17),
+        (8, 17),
+        (9, 17),
+    ] {
+        let case = Case {
+            piece: 4,
+            reads,
+            writes: 1000,
+            end: RunEnd::ReadFailed,
+            written,
+        };
+        assert_eq!(rt;
+            has_cat(runs(&rt, LINES, case)?),
+            written > 0,
+            "after {reads} reads"
+        );
+    }
+    Ok(())
+}
+
+/// The writer takes a byte at a time and fails at each of its calls in turn: what went out is a beginning.
+#[test]
+fn writer_fails(rt: HostRuntime) -> Result<(), Fail> {
+    // A flush after each of the five answers takes a call, too.
+    for (writes, written) in [
+        (0, 0),
+        (1, 1),
+        (2, 2),
+        (3, 3),
+        (4, 3),
+        (5, 4),
+        (7, 6),
+        (8, 6),
+        (9, 7),
+        (19, 17),
+        (20, 17),
+        (29, 26),
+    ] {
+        let case = Case {
+            piece: 1,
+            reads: 100,
+            writes,
+            end: RunEnd::WriteFailed,
+            written,
+        };
+        assert!(rt; has_cat(runs(&rt, LINES, case)?), "after {writes} writes");
+    }
+    Ok(())
+}
+
+#[test]
+fn writer_takes_none(rt: HostRuntime) -> Result<(), Fail> {
+    let mut session = Session::new(rt.alloc(), Bank::new(rt.alloc())?);
+    let mut source = Script {
+        bytes: LINES,
+        given: 0,
+        piece: 100,
+        calls_left: 100,
+        failures: 0,
+        is_at_end: false,
+    };
+    let mut sink = Buffer {
+        bytes: [0; 256],
+        taken: 0,
+        piece: 0,
+        calls_left: 100,
+        failures: 0,
+        is_flushed: true,
+    };
+    assert_eq!(rt;
+        session.run_lines(&mut source, &mut sink),
+        RunEnd::WriteFailed
+    );
+    assert_eq!(rt; sink.failures, 1);
+    assert!(rt; has_cat(session));
+    Ok(())
+}
+
+/// The two cases of a line that is cut off and of a writer that takes one byte and then fails.
+#[test]
+fn cut_off(rt: HostRuntime) -> Result<(), Fail> {
+    let reader = Case {
+        piece: 100,
+        reads: 1,
+        writes: 100,
+        end: RunEnd::ReadFailed,
+        written: 3,
+    };
+    assert!(rt; has_cat(runs(&rt, b"add CAT\nmat", reader)?));
+    let writer = Case {
+        piece: 1,
+        reads: 100,
+        writes: 1,
+        end: RunEnd::WriteFailed,
+        written: 1,
+    };
+    assert!(rt; has_cat(runs(&rt, b"add CAT\n", writer)?));
+    Ok(())
+}
