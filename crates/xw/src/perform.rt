@@ -4,9 +4,18 @@ use crate::failure::{Failure, Status};
 use std::alloc::Global;
 use std::rt::Files;
 use std::{fs, io};
+use xw_feas::feasible::Feasible;
+use xw_feas::plain::Plain;
+use xw_grid::Grid;
 use xw_session::refusal::{self, Refusal};
 use xw_session::{RunEnd, Session, Sink, Source, device};
 use xw_words::{Bank, WordFault};
+
+/// What works out the feasible words and letters.
+type Engine = Plain;
+
+/// How many rows and columns a grid has at first.
+const START: u32 = 15;
 
 /// Does the whole run, and answers how it went.
 pub fn perform<R: Files + AllocGlobal, I: Source, O: Sink, E: Sink>(
@@ -114,7 +123,9 @@ fn edit<I: Source, O: Sink>(
     input: &mut I,
     output: &mut O,
 ) -> Result<Status, Failure> {
-    let mut session = Session::new(alloc, bank);
+    let grid = Grid::new(alloc, START, START).map_err(|_| Failure::Memory)?;
+    let engine = Engine::open(alloc, grid, bank).map_err(|_| Failure::Memory)?;
+    let mut session = Session::new(alloc, engine);
     match session.run_lines(input, output) {
         RunEnd::Done { refused: 0 } => Ok(Status::Accepted),
         RunEnd::Done { .. } => Ok(Status::Refused),

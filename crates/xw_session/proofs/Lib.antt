@@ -6,3 +6,8 @@ pub mod SendsLemmas
 pub mod Answering
 pub mod Sending
 pub mod Buffers
+pub mod Bars
+pub mod Tests
+pub mod Digits
+pub mod Decimals
+pub mod LightTexts

@@ -1,6 +1,9 @@
 -- Lines that are sent word by word, and words letter by letter.
-use Rattle.std.proofs.Common.{◌≡◌, ℕ, ◌-◌, ◌≤◌, ◌<◌, List, [], ◌∷◌, ◌++◌, length, map, take, drop, get_or, flat_map, codes, refl, subst, sym, ◌∙◌, ap, arith}
-use Rattle.std.proofs.lemmas.List.{take_all, get_or_default}
+use Rattle.std.proofs.Common.{◌≡◌, ℕ, ◌+◌, ◌-◌, ◌≤◌, ◌<◌, List, [], ◌∷◌, ◌++◌, length, map, take, drop, get_or, flat_map, codes, refl, subst, sym, ◌∙◌, ap, append_assoc, append-nil, zero-add, arith}
+use Rattle.std.specs.List.{range_with_len}
+use Rattle.std.proofs.lemmas.List.{take_all, take_more, get_or_default}
+use Rattle.std.proofs.lemmas.List.FromFn.{get_or-range_with_len, length-range_with_len}
+use Rattle.std.proofs.lemmas.Grind.{flat_map-append}
 use Rattle.xw_session.specs.Device.{Begins, HasFailed}
 use Rattle.xw_session.specs.Text.{line_of}
 use Rattle.xw_session.proofs.SendsLemmas.{stops-in-each}
@@ -28,3 +31,34 @@ letters_stop told failures letters old mid new at byte {item} h is same sent s =
     let alone : told mid ≡ told old ++ flat_map (λ x. x ∷ []) (take at letters) = sent.0 ∙ ap (λ xs. told old ++ xs) (sym (each_alone (take at letters))) in
     let all = stops-in-each told failures (λ x. x ∷ []) letters old mid new at byte h there (alone, sent.1) s in
     (subst (λ xs. Begins (told old) (told new) xs) (each_alone letters) all.0, all.1)
+
+-- texts of the numbers below n, sent one after another
+module _ {S : Type 0} (told : S → List ℕ) (failures : S → ℕ) (text : ℕ → List ℕ) (n : ℕ) where
+  number_at : (i d : ℕ) → i < n → i ≡ get_or (range_with_len 0 n) i d
+  number_at i d h = sym (get_or-range_with_len 0 n i d h ∙ zero-add i)
+
+  within : (i : ℕ) → i < n → i < length (range_with_len 0 n)
+  within i h = rw length-range_with_len h
+
+  pub one_more_sent : (old mid new : S) (i : ℕ) → i < n
+      → told mid ≡ told old ++ flat_map text (take i (range_with_len 0 n)) → told new ≡ told mid ++ text i
+      → told new ≡ told old ++ flat_map text (take (i + 1) (range_with_len 0 n))
+  one_more_sent old mid new i h m s =
+      let next : take (i + 1) (range_with_len 0 n) ≡ take i (range_with_len 0 n) ++ i ∷ [] =
+      take_more (range_with_len 0 n) i 0 (within i h) ∙ ap (λ j. take i (range_with_len 0 n) ++ j ∷ []) (sym (number_at i 0 h)) in
+      let parts : flat_map text (take (i + 1) (range_with_len 0 n)) ≡ flat_map text (take i (range_with_len 0 n)) ++ text i =
+      ap (flat_map text) next ∙ flat_map-append text (take i (range_with_len 0 n)) (i ∷ []) ∙ ap (λ ys. flat_map text (take i (range_with_len 0 n)) ++ ys) (append-nil (text i)) in
+      s ∙ ap (λ xs. xs ++ text i) m ∙ append_assoc (told old) _ (text i) ∙ ap (λ xs. told old ++ xs) (sym parts)
+
+  pub stops_at : (old mid new : S) (i : ℕ) → i < n
+      → (told mid ≡ told old ++ flat_map text (take i (range_with_len 0 n))) × (failures mid ≡ failures old)
+      → Begins (told mid) (told new) (text i) × HasFailed (failures mid) (failures new)
+      → Begins (told old) (told new) (flat_map text (range_with_len 0 n)) × HasFailed (failures old) (failures new)
+  stops_at old mid new i h m s = stops-in-each told failures text (range_with_len 0 n) old mid new i i (within i h) (number_at i i h) m s
+
+  pub all_sent : (old new : S) (i : ℕ) → n ≤ i
+      → (told new ≡ told old ++ flat_map text (take i (range_with_len 0 n))) × (failures new ≡ failures old)
+      → (told new ≡ told old ++ flat_map text (range_with_len 0 n)) × (failures new ≡ failures old)
+  all_sent old new i h m =
+      let past : length (range_with_len 0 n) ≤ i = rw length-range_with_len h in
+      (m.0 ∙ ap (λ xs. told old ++ flat_map text xs) (take_all _ _ past), m.1)

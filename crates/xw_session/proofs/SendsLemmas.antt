@@ -3,8 +3,8 @@ use Rattle.std.proofs.Common.{◌≡◌, ℕ, List, ◌++◌, sym, ◌∙◌, ap
 use Rattle.std.specs.Prelude.{Result, Ok, Err}
 use Rattle.xw_session.specs.Device.{Begins, HasFailed}
 use Rattle.xw_session.specs.Sends.{Sends}
-use Rattle.std.proofs.Common.{◌+◌, ◌<◌, ◌∷◌, length, take, drop, get_or, flat_map, subst, add-one, drop-cons, suc}
-use Rattle.std.proofs.lemmas.List.{take-append-drop}
+use Rattle.std.proofs.Common.{◌+◌, ◌<◌, ◌≤◌, [], append-nil, ◌∷◌, length, take, drop, get_or, flat_map, subst, add-one, drop-cons, suc}
+use Rattle.std.proofs.lemmas.List.{take-append-drop, take_more, take_all, get_or_default}
 use Rattle.std.proofs.lemmas.Grind.{flat_map-append}
 use Rattle.xw_session.proofs.Texts.{begins-longer, begins-after}
 
@@ -35,20 +35,41 @@ module _ {S : Type 0} (told : S → List ℕ) (failures : S → ℕ) where
       (subst (λ xs. Begins (told old) (told new) xs) (sym parts) whole, failed)
 
   -- the texts of items are sent one after another: some of the whole text is sent, and that of the items left is not
-  pub one_more_sent : {X : Type 0} (text : X → List ℕ) (old mid new : S) (sent whole : List ℕ) (left rest : List X) (item : X)
+  pub next_sent : {X : Type 0} (text : X → List ℕ) (old mid new : S) (sent whole : List ℕ) (left rest : List X) (item : X)
       → told mid ≡ told old ++ sent → whole ≡ sent ++ flat_map text left → left ≡ item ∷ rest → told new ≡ told mid ++ text item
       → (told new ≡ told old ++ (sent ++ text item)) × (whole ≡ (sent ++ text item) ++ flat_map text rest)
-  one_more_sent text old mid new sent whole left rest item m w l n = (
+  next_sent text old mid new sent whole left rest item m w l n = (
     n ∙ ap (λ xs. xs ++ text item) m ∙ append_assoc (told old) sent (text item),
     w ∙ ap (λ items. sent ++ flat_map text items) l ∙ sym (append_assoc sent (text item) (flat_map text rest)),
   )
 
-  pub one_stops : {X : Type 0} (text : X → List ℕ) (old mid new : S) (sent whole : List ℕ) (left rest : List X) (item : X)
+  pub next_stops : {X : Type 0} (text : X → List ℕ) (old mid new : S) (sent whole : List ℕ) (left rest : List X) (item : X)
       → told mid ≡ told old ++ sent → failures mid ≡ failures old → whole ≡ sent ++ flat_map text left → left ≡ item ∷ rest
       → Begins (told mid) (told new) (text item) × HasFailed (failures mid) (failures new)
       → Begins (told old) (told new) whole × HasFailed (failures old) (failures new)
-  one_stops text old mid new sent whole left rest item m f w l s =
+  next_stops text old mid new sent whole left rest item m f w l s =
       let parts : whole ≡ sent ++ (text item ++ flat_map text rest) = w ∙ ap (λ items. sent ++ flat_map text items) l in
       let begins = begins-after (told old) (told mid) (told new) sent _ m (begins-longer (told mid) (told new) (text item) (flat_map text rest) s.0) in
       let failed : HasFailed (failures old) (failures new) = rw (← f) s.1 in
       (subst (λ xs. Begins (told old) (told new) xs) (sym parts) begins, failed)
+
+  -- texts of the first items went out, one item after another
+  pub each_sent : {X : Type 0} (text : X → List ℕ) (items : List X) (old mid new : S) (at : ℕ) (d : X) → at < length items
+      → told mid ≡ told old ++ flat_map text (take at items) → told new ≡ told mid ++ text (get_or items at d)
+      → told new ≡ told old ++ flat_map text (take (at + 1) items)
+  each_sent text items old mid new at d h m s =
+      let parts : flat_map text (take (at + 1) items) ≡ flat_map text (take at items) ++ text (get_or items at d) =
+      ap (flat_map text) (take_more items at d h) ∙ flat_map-append text (take at items) (get_or items at d ∷ []) ∙ ap (λ ys. flat_map text (take at items) ++ ys) (append-nil (text (get_or items at d))) in
+      s ∙ ap (λ xs. xs ++ text (get_or items at d)) m ∙ append_assoc (told old) _ _ ∙ ap (λ xs. told old ++ xs) (sym parts)
+
+  pub each_stops : {X : Type 0} (text : X → List ℕ) (items : List X) (old mid new : S) (at : ℕ) (d : X) → at < length items
+      → (told mid ≡ told old ++ flat_map text (take at items)) × (failures mid ≡ failures old)
+      → Begins (told mid) (told new) (text (get_or items at d)) × HasFailed (failures mid) (failures new)
+      → Begins (told old) (told new) (flat_map text items) × HasFailed (failures old) (failures new)
+  each_stops text items old mid new at d h sent s =
+      stops-in-each text items old mid new at (get_or items at d) h (get_or_default items at d (get_or items at d) h) sent s
+
+  pub each_all : {X : Type 0} (text : X → List ℕ) (items : List X) (old new : S) (at : ℕ) → length items ≤ at
+      → (told new ≡ told old ++ flat_map text (take at items)) × (failures new ≡ failures old)
+      → (told new ≡ told old ++ flat_map text items) × (failures new ≡ failures old)
+  each_all text items old new at h m = (m.0 ∙ ap (λ xs. told old ++ flat_map text xs) (take_all at items h), m.1)

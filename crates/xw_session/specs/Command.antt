@@ -1,18 +1,30 @@
 -- What a line asks for.
 use Rattle.std.specs.Prelude.{ℕ, ◌==◌, nat_lt, List, [], ◌∷◌, length, codes, slice_index, Option, Some, None, Result, Ok, Err, if◌then◌else◌}
 use Rattle.xw_session.specs.declared.command.Command.{Command}
-use Rattle.xw_session.specs.declared.command.Command.TheVariants.{Add, Strike, Match}
+use Rattle.xw_session.specs.declared.command.Command.TheVariants.{Size, Symmetry, Add, Strike, Match, Set, Clear, Place, Block, Bar, Clue, Circle, Circles, Show, Lights}
 use Rattle.xw_session.specs.declared.command.SyntaxFault.{SyntaxFault}
 use Rattle.xw_session.specs.declared.command.SyntaxFault.TheVariants as faults
 use Rattle.xw_session.specs.Line.{without_cr, first_word}
-use Rattle.xw_session.specs.Reading.{Reading, ◌>>=◌, given, fault, word, lookup, is_ended}
+use Rattle.xw_session.specs.Reading.{Reading, ◌>>=◌, given, fault, word, number, byte, text, symmetry, side, spot, named, lookup, is_ended}
 
 -- each command by its name, with its arguments
 abbrev pub commands : List (List ℕ × Reading Command)
 commands =
-    (codes "add", do given (Add (← word)))
+    (codes "size", do given (Size (← number) (← number)))
+    ∷ (codes "sym", do given (Symmetry (← symmetry)))
+    ∷ (codes "add", do given (Add (← word)))
     ∷ (codes "strike", do given (Strike (← word)))
     ∷ (codes "match", do given (Match (← word)))
+    ∷ (codes "set", do given (Set (← spot) (← byte)))
+    ∷ (codes "clear", do given (Clear (← spot)))
+    ∷ (codes "place", do given (Place (← named) (← word)))
+    ∷ (codes "block", do given (Block (← spot)))
+    ∷ (codes "bar", do given (Bar (← spot) (← side)))
+    ∷ (codes "clue", do given (Clue (← named) (← text)))
+    ∷ (codes "circle", do given (Circle (← spot)))
+    ∷ (codes "circles", given Circles)
+    ∷ (codes "show", given Show)
+    ∷ (codes "lights", given Lights)
     ∷ []
 
 abbrev arguments_of : Option (Reading Command) → Reading Command

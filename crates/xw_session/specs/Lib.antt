@@ -7,5 +7,7 @@ pub mod Line
 pub mod Reading
 pub mod Command
 pub mod State
+pub mod Refusal
 pub mod Text
+pub mod Show
 pub mod Reply

@@ -1,8 +1,16 @@
 -- Arguments read one after another.
-use Rattle.std.specs.Prelude.{◌≡◌, ℕ, Bool, ◌==◌, List, [], ◌∷◌, length, Option, Some, None, Result, Ok, Err, bytes_eq, if◌then◌else◌}
+use Rattle.std.specs.Prelude.{◌≡◌, ℕ, Bool, true, false, ◌==◌, List, [], ◌∷◌, length, Option, Some, None, Result, Ok, Err, bytes_eq, codes, if◌then◌else◌}
+use Rattle.xw_grid.specs.declared.cell.Direction.{Direction}
+use Rattle.xw_grid.specs.declared.cell.Direction.TheVariants.{Across, Down}
+use Rattle.xw_grid.specs.declared.cell.Side.{Side}
+use Rattle.xw_grid.specs.declared.cell.Side.TheVariants.{Right, Below}
+use Rattle.xw_grid.specs.declared.cell.Symmetry.{Symmetry}
+use Rattle.xw_grid.specs.declared.cell.Symmetry.TheVariants as kinds
+use Rattle.xw_session.specs.declared.command.Spot.{Spot}
+use Rattle.xw_session.specs.declared.command.Named.{Named}
 use Rattle.xw_session.specs.declared.command.SyntaxFault.{SyntaxFault}
 use Rattle.xw_session.specs.declared.command.SyntaxFault.TheVariants as faults
-use Rattle.xw_session.specs.Line.{first_word, trimmed_start}
+use Rattle.xw_session.specs.Line.{first_word, trimmed, trimmed_start, number_in, byte_in}
 
 -- Something is read off what is left of a line: it, and what is left then, or why it isn't there.
 abbrev pub Reading : Type 0 → Type 0
@@ -33,7 +41,7 @@ abbrev pub wanted : {A : Type 0} → Option A → Reading A
 wanted None = fault faults.Arguments
 wanted (Some x) = given x
 
--- ---- words
+-- ---- words, numbers, texts
 
 abbrev next_word : Option (List ℕ × List ℕ) → Result (List ℕ × List ℕ) SyntaxFault
 next_word None = Err faults.Arguments
@@ -42,11 +50,57 @@ next_word (Some found) = Ok found
 abbrev pub word : Reading (List ℕ)
 word rest = next_word (first_word rest)
 
+-- a decimal number of 1 to 18 digits
+abbrev pub number : Reading ℕ
+number = do wanted (number_in (← word))
+
+-- a word of one byte
+abbrev pub byte : Reading ℕ
+byte = do wanted (byte_in (← word))
+
+-- all that is left
+abbrev pub text : Reading (List ℕ)
+text rest = Ok (trimmed rest, [])
+
 -- no further word
 abbrev pub is_ended : List ℕ → Bool
 is_ended rest = length (trimmed_start rest) == 0
+
+-- ---- key words
 
 -- what stands in a table beside a name
 abbrev pub lookup : {A : Type 0} → List (List ℕ × A) → List ℕ → Option A
 lookup [] name = None
 lookup (row ∷ rows) name = if bytes_eq name row.0 then Some row.1 else lookup rows name
+
+abbrev pub key_word : {A : Type 0} → List (List ℕ × A) → Reading A
+key_word table = do wanted (lookup table (← word))
+
+abbrev pub direction : Reading Direction
+direction = key_word ((codes "across", Across) ∷ (codes "down", Down) ∷ [])
+
+abbrev pub side : Reading Side
+side = key_word ((codes "right", Right) ∷ (codes "below", Below) ∷ [])
+
+abbrev pub symmetry : Reading Symmetry
+symmetry = key_word (
+    (codes "none", kinds.None)
+    ∷ (codes "half", kinds.Half)
+    ∷ (codes "quarter", kinds.Quarter)
+    ∷ (codes "leftright", kinds.LeftRight)
+    ∷ (codes "updown", kinds.UpDown)
+    ∷ [])
+
+-- ---- cells and lights
+
+abbrev pub spot : Reading Spot
+spot = do
+  row ← number
+  col ← number
+  given (record { row = row; col = col })
+
+abbrev pub named : Reading Named
+named = do
+  count ← number
+  way ← direction
+  given (record { number = count; direction = way })

@@ -1,5 +1,11 @@
 -- What a session knows.
-use Rattle.xw_words.specs.Dictionary.{Dictionary}
+use Rattle.std.specs.Prelude.{List}
+use Rattle.xw_grid.specs.declared.cell.Cell.{Cell}
+use Rattle.xw_grid.specs.Clue.{ClueMap}
+use Rattle.xw_feas.specs.State.{State as Position}
 
+-- the grid with the dictionary, the clues, and the circled cells
 pub record State : Type 0 where
-  pub words : Dictionary
+  pub position : Position
+  pub clues : ClueMap
+  pub circles : List Cell

@@ -1,5 +1,14 @@
 -- The lines of answers.
-use Rattle.std.specs.Prelude.{ℕ, List, [], ◌∷◌, ◌++◌, codes}
+use Rattle.std.specs.Prelude.{ℕ, List, [], ◌∷◌, ◌++◌, map, ◌&&◌, flat_map, codes, decimal, Option, Some, None, if◌then◌else◌}
+use Rattle.xw_grid.specs.declared.cell.Cell.{Cell}
+use Rattle.xw_grid.specs.declared.cell.Direction.{Direction}
+use Rattle.xw_grid.specs.declared.cell.Direction.TheVariants.{Across, Down}
+use Rattle.xw_grid.specs.declared.fault.GridFault.{GridFault}
+use Rattle.xw_grid.specs.declared.fault.GridFault.TheVariants as grids
+use Rattle.xw_grid.specs.declared.lights.Light.{Light}
+use Rattle.xw_grid.specs.Grid.{Grid, entry, is_open, cells}
+use Rattle.xw_grid.specs.Clue.{is_circled}
+use Rattle.xw_grid.specs.Light.{cells_of, lights_of}
 use Rattle.xw_words.specs.declared.fault.WordFault.{WordFault}
 use Rattle.xw_words.specs.declared.fault.WordFault.TheVariants as words
 use Rattle.xw_session.specs.declared.command.SyntaxFault.{SyntaxFault}
@@ -30,6 +39,15 @@ word_fault words.Full = codes "Full"
 word_fault words.Unknown = codes "Unknown"
 word_fault words.Memory = codes "Memory"
 
+abbrev pub grid_fault : GridFault → List ℕ
+grid_fault grids.Size = codes "Size"
+grid_fault grids.OutOfGrid = codes "OutOfGrid"
+grid_fault grids.OnBlock = codes "OnBlock"
+grid_fault grids.Occupied = codes "Occupied"
+grid_fault grids.NotSquare = codes "NotSquare"
+grid_fault grids.Border = codes "Border"
+grid_fault grids.Memory = codes "Memory"
+
 abbrev pub syntax_fault : SyntaxFault → List ℕ
 syntax_fault syntax.LineTooLong = codes "LineTooLong"
 syntax_fault syntax.Command = codes "Command"
@@ -39,6 +57,44 @@ syntax_fault syntax.Arguments = codes "Arguments"
 abbrev pub name_of : Refusal → List ℕ
 name_of (refusals.Syntax fault) = syntax_fault fault
 name_of (refusals.Word fault) = word_fault fault
+name_of (refusals.Grid fault) = grid_fault fault
+name_of refusals.NoLight = codes "NoLight"
+name_of refusals.PlaceLength = codes "PlaceLength"
+name_of refusals.NulByte = codes "NulByte"
 
 abbrev pub refused : Refusal → List ℕ
 refused refusal = line_of (codes "no" ∷ name_of refusal ∷ [])
+
+-- ---- lights and cells
+
+abbrev pub direction_name : Direction → List ℕ
+direction_name Across = codes "across"
+direction_name Down = codes "down"
+
+-- a letter, or a dot where there is none
+abbrev pub letter_or_dot : Option ℕ → ℕ
+letter_or_dot None = 46
+letter_or_dot (Some letter) = letter
+
+-- the letters of a light
+abbrev pub pattern : Grid → Light → List ℕ
+pattern grid light = map (λ cell. letter_or_dot (entry grid cell)) (cells_of light)
+
+abbrev pub light_line : Grid → Light → List ℕ
+light_line grid light = line_of (decimal light.name.number ∷ direction_name light.name.direction ∷ decimal light.start.row ∷ decimal light.start.col ∷ pattern grid light ∷ [])
+
+-- all lights of a grid
+abbrev pub light_lines : Grid → List ℕ
+light_lines grid = flat_map (light_line grid) (lights_of grid)
+
+-- a cell by its row and column
+abbrev pub cell_line : Cell → List ℕ
+cell_line cell = line_of (decimal cell.row ∷ decimal cell.col ∷ [])
+
+-- the line of a cell that is open and circled, and none for another one
+abbrev pub circle_line : Grid → List Cell → Cell → List ℕ
+circle_line grid circles cell = if is_open grid cell && is_circled circles cell then cell_line cell else []
+
+-- the circled cells of a grid that are open, in reading order
+abbrev pub circle_lines : Grid → List Cell → List ℕ
+circle_lines grid circles = flat_map (circle_line grid circles) (cells grid)

@@ -7,6 +7,7 @@ use crate::line;
 use crate::piece::LINE_LIMIT;
 use crate::words::Words;
 use std::marker::Model;
+use xw_grid::{Direction, Side, Symmetry};
 
 /// Why a line is no command.
 #[derive(Clone, Copy, Debug, PartialEq, Eq)]
@@ -14,6 +15,20 @@ pub enum SyntaxFault {
     LineTooLong,
     Command,
     Arguments,
+}
+
+/// A cell as a line names it.
+#[derive(Clone, Copy, Debug, PartialEq, Eq)]
+pub struct Spot {
+    pub row: u64,
+    pub col: u64,
+}
+
+/// A light as a line names it.
+#[derive(Clone, Copy, Debug, PartialEq, Eq)]
+pub struct Named {
+    pub number: u64,
+    pub direction: Direction,
 }
 
 /// Bytes of a line: a word, or a text.
@@ -47,9 +62,21 @@ impl<'a> Text<'a> {
 /// What a line asks for.
 #[derive(Drop)]
 pub enum Command<'a> {
+    Size(u64, u64),
+    Symmetry(Symmetry),
     Add(Text<'a>),
     Strike(Text<'a>),
     Match(Text<'a>),
+    Set(Spot, u8),
+    Clear(Spot),
+    Place(Named, Text<'a>),
+    Block(Spot),
+    Bar(Spot, Side),
+    Clue(Named, Text<'a>),
+    Circle(Spot),
+    Circles,
+    Show,
+    Lights,
 }
 
 /// The command of a name, with its arguments.
@@ -57,9 +84,21 @@ fn command_named<'a>(name: &[u8], words: &mut Words<'a>) -> Result<Command<'a>, 
     ensures { Reads (λ command. command) result words.new (command_named_so name.now words.old) }
 {
     match name {
+        _ if line::is(name, "size") => Ok(Command::Size(words.number()?, words.number()?)),
+        _ if line::is(name, "sym") => Ok(Command::Symmetry(words.symmetry()?)),
         _ if line::is(name, "add") => Ok(Command::Add(words.word()?)),
         _ if line::is(name, "strike") => Ok(Command::Strike(words.word()?)),
         _ if line::is(name, "match") => Ok(Command::Match(words.word()?)),
+        _ if line::is(name, "set") => Ok(Command::Set(words.spot()?, words.byte()?)),
+        _ if line::is(name, "clear") => Ok(Command::Clear(words.spot()?)),
+        _ if line::is(name, "place") => Ok(Command::Place(words.named()?, words.word()?)),
+        _ if line::is(name, "block") => Ok(Command::Block(words.spot()?)),
+        _ if line::is(name, "bar") => Ok(Command::Bar(words.spot()?, words.side()?)),
+        _ if line::is(name, "clue") => Ok(Command::Clue(words.named()?, words.text())),
+        _ if line::is(name, "circle") => Ok(Command::Circle(words.spot()?)),
+        _ if line::is(name, "circles") => Ok(Command::Circles),
+        _ if line::is(name, "show") => Ok(Command::Show),
+        _ if line::is(name, "lights") => Ok(Command::Lights),
         _ => Err(SyntaxFault::Command),
     }
 }

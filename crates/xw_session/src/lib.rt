@@ -11,6 +11,7 @@ mod piece;
 pub mod refusal;
 mod run;
 pub mod session;
+mod show;
 pub mod standard;
 #[cfg(test)]
 mod tests;

@@ -1,8 +1,10 @@
 //! Why a command was refused.
 ghost use Rattle.std.specs.Prelude.{◌≡◌};
-ghost use Rattle.xw_session.specs.Text.{word_fault, syntax_fault, name_of};
+ghost use Rattle.xw_session.specs.Text.{word_fault, grid_fault, syntax_fault, name_of};
 
 use crate::command::SyntaxFault;
+use xw_feas::edit::Refusal as EditRefusal;
+use xw_grid::GridFault;
 use xw_words::WordFault;
 
 /// Why a command was refused.
@@ -10,6 +12,10 @@ use xw_words::WordFault;
 pub enum Refusal {
     Syntax(SyntaxFault),
     Word(WordFault),
+    Grid(GridFault),
+    NoLight,
+    PlaceLength,
+    NulByte,
 }
 
 /// The name of a refusal, without its place.
@@ -19,6 +25,10 @@ pub fn name(refusal: Refusal) -> &'static str
     match refusal {
         Refusal::Syntax(fault) => syntax_name(fault),
         Refusal::Word(fault) => word_name(fault),
+        Refusal::Grid(fault) => grid_name(fault),
+        Refusal::NoLight => "NoLight",
+        Refusal::PlaceLength => "PlaceLength",
+        Refusal::NulByte => "NulByte",
     }
 }
 
@@ -42,6 +52,47 @@ fn word_name(fault: WordFault) -> &'static str
         WordFault::Full => "Full",
         WordFault::Unknown => "Unknown",
         WordFault::Memory => "Memory",
+    }
+}
+
+fn grid_name(fault: GridFault) -> &'static str
+    ensures { result.now ≡ grid_fault fault }
+{
+    match fault {
+        GridFault::Size => "Size",
+        GridFault::OutOfGrid => "OutOfGrid",
+        GridFault::OnBlock => "OnBlock",
+        GridFault::Occupied => "Occupied",
+        GridFault::NotSquare => "NotSquare",
+        GridFault::Border => "Border",
+        GridFault::Memory => "Memory",
+    }
+}
+
+impl From<EditRefusal> for Refusal {
+    ghost use Rattle.std.specs.Prelude.{◌≡◌};
+    ghost use Rattle.xw_session.specs.Refusal.{refusal_of};
+
+    ghost from_gives = { λ edit refusal. refusal ≡ refusal_of edit };
+
+    fn from(refusal: EditRefusal) -> Refusal {
+        match refusal {
+            EditRefusal::Word(fault) => Refusal::Word(fault),
+            EditRefusal::Grid(fault) => Refusal::Grid(fault),
+            EditRefusal::NoLight => Refusal::NoLight,
+            EditRefusal::PlaceLength => Refusal::PlaceLength,
+        }
+    }
+}
+
+impl From<GridFault> for Refusal {
+    ghost use Rattle.std.specs.Prelude.{◌≡◌};
+    ghost use Rattle.xw_session.specs.declared.refusal.Refusal.TheVariants.{Grid};
+
+    ghost from_gives = { λ fault refusal. refusal ≡ Grid fault };
+
+    fn from(fault: GridFault) -> Refusal {
+        Refusal::Grid(fault)
     }
 }
 

@@ -1,3 +1,18 @@
 //! Scripts answered over memory, and over devices that fail.
 mod devices;
 mod scripts;
+
+use crate::Session;
+use std::alloc::Global;
+use std::test::Fail;
+use xw_feas::feasible::Feasible;
+use xw_feas::plain::Plain;
+use xw_grid::Grid;
+use xw_words::Bank;
+
+/// A session that begins as the program's does: 15 by 15 cells, and no words.
+fn session(alloc: Global) -> Result<Session<Plain>, Fail> {
+    let grid = Grid::new(alloc, 15, 15)?;
+    let engine = Plain::open(alloc, grid, Bank::new(alloc)?)?;
+    Ok(Session::new(alloc, engine))
+}

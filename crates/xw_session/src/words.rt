@@ -1,10 +1,11 @@
 //! Arguments read one after another.
-ghost use Rattle.std.specs.Prelude.{◌≡◌};
-ghost use Rattle.xw_session.specs.Reading.{word as word_of, is_ended as is_ended_text, Reads};
+ghost use Rattle.std.specs.Prelude.{◌≡◌, Ok};
+ghost use Rattle.xw_session.specs.Reading.{word as word_of, number as number_of, byte as byte_of, text as text_of, is_ended as is_ended_text, direction as direction_of, side as side_of, symmetry as symmetry_of, spot as spot_of, named as named_of, Reads};
 
-use crate::command::{SyntaxFault, Text};
+use crate::command::{Named, Spot, SyntaxFault, Text};
 use crate::line;
 use std::marker::Model;
+use xw_grid::{Direction, Side, Symmetry};
 
 /// What is left of a line.
 #[derive(Drop)]
@@ -46,5 +47,78 @@ impl<'a> Words<'a> {
         ensures { Reads (λ word. word) result self.new (word_of self.old) }
     {
         Ok(Text::new(self.next()?))
+    }
+
+    /// All that is left.
+    pub fn text(&mut self) -> Text<'a>
+        ensures { text_of self.old ≡ Ok (result, self.new) }
+    {
+        let text = Text::new(line::trimmed(self.rest));
+        self.rest = &[];
+        text
+    }
+
+    pub fn number(&mut self) -> Result<u64, SyntaxFault>
+        ensures { Reads (λ number. number) result self.new (number_of self.old) }
+    {
+        line::number_in(self.next()?).ok_or(SyntaxFault::Arguments)
+    }
+
+    pub fn byte(&mut self) -> Result<u8, SyntaxFault>
+        ensures { Reads (λ byte. byte) result self.new (byte_of self.old) }
+    {
+        line::byte_in(self.next()?).ok_or(SyntaxFault::Arguments)
+    }
+
+    pub fn direction(&mut self) -> Result<Direction, SyntaxFault>
+        ensures { Reads (λ direction. direction) result self.new (direction_of self.old) }
+    {
+        let word = self.next()?;
+        match word {
+            _ if line::is(word, "across") => Ok(Direction::Across),
+            _ if line::is(word, "down") => Ok(Direction::Down),
+            _ => Err(SyntaxFault::Arguments),
+        }
+    }
+
+    pub fn side(&mut self) -> Result<Side, SyntaxFault>
+        ensures { Reads (λ side. side) result self.new (side_of self.old) }
+    {
+        let word = self.next()?;
+        match word {
+            _ if line::is(word, "right") => Ok(Side::Right),
+            _ if line::is(word, "below") => Ok(Side::Below),
+            _ => Err(SyntaxFault::Arguments),
+        }
+    }
+
+    pub fn symmetry(&mut self) -> Result<Symmetry, SyntaxFault>
+        ensures { Reads (λ kind. kind) result self.new (symmetry_of self.old) }
+    {
+        let word = self.next()?;
+        match word {
+            _ if line::is(word, "none") => Ok(Symmetry::None),
+            _ if line::is(word, "half") => Ok(Symmetry::Half),
+            _ if line::is(word, "quarter") => Ok(Symmetry::Quarter),
+            _ if line::is(word, "leftright") => Ok(Symmetry::LeftRight),
+            _ if line::is(word, "updown") => Ok(Symmetry::UpDown),
+            _ => Err(SyntaxFault::Arguments),
+        }
+    }
+
+    pub fn spot(&mut self) -> Result<Spot, SyntaxFault>
+        ensures { Reads (λ spot. spot) result self.new (spot_of self.old) }
+    {
+        let row = self.number()?;
+        let col = self.number()?;
+        Ok(Spot { row, col })
+    }
+
+    pub fn named(&mut self) -> Result<Named, SyntaxFault>
+        ensures { Reads (λ named. named) result self.new (named_of self.old) }
+    {
+        let number = self.number()?;
+        let direction = self.direction()?;
+        Ok(Named { number, direction })
     }
 }

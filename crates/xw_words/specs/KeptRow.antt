@@ -1,14 +1,15 @@
 -- How the words of one length are kept.
-use Rattle.std.specs.Prelude.{◌≡◌, ℕ, ◌+◌, ◌*◌, ◌/◌, ◌%◌, ◌<◌, ◌≤◌, length, nat_lt, vec_capacity}
+use Rattle.std.specs.Prelude.{◌≡◌, ℕ, ◌+◌, ◌*◌, ◌/◌, ◌%◌, ◌<◌, ◌≤◌, length, nat_lt, ◌&&◌, vec_capacity}
 use Rattle.xw_words.specs.Row.{Row, entries_of}
 use Rattle.xw_words.specs.Index.{word_in, IsIndex}
 use Rattle.xw_words.specs.Columns.{column_at, column_of}
 use Rattle.xw_words.specs.declared.row.Row.TheInside.{Inside}
 
 abbrev pub row_of : Inside → Row
-row_of r = record { count = r.count; entries = entries_of r.count r.letters.items r.active.bits; room = nat_lt (length r.active.bits) r.reserved }
+row_of r = record { count = r.count; entries = entries_of r.count r.letters.items r.active.bits; room = nat_lt (length r.active.bits) r.reserved && r.index.room }
 
--- beside the words their index, and for each position and letter a column; all have the room that was reserved
+-- beside the words their index, and for each position and letter a column; all but the index, which
+-- makes its own, have the room that was reserved
 pub record IsKeptRow (r : Inside) : Type 0 where
   pub short : r.count ≤ 255
   pub letters : length r.letters.items ≡ length r.active.bits * r.count
@@ -16,11 +17,10 @@ pub record IsKeptRow (r : Inside) : Type 0 where
   pub within : length r.active.bits ≤ r.reserved
   pub reserved_few : r.reserved ≤ 1048576
   pub long : 0 < r.reserved → 2 ≤ r.count
-  pub index : IsIndex (word_in r.count r.letters.items) (length r.active.bits) r.index.items
+  pub index : IsIndex (word_in r.count r.letters.items) (length r.active.bits) r.index.places
   pub column_count : length r.columns.items ≤ 26 * r.count
   pub all_columns : 0 < r.reserved → length r.columns.items ≡ 26 * r.count
   pub columns : (i : ℕ) → i < length r.columns.items → (column_at r.columns.items i).bits ≡ column_of (entries_of r.count r.letters.items r.active.bits) (i / 26) (65 + i % 26)
   pub letters_room : r.reserved * r.count ≤ vec_capacity r.letters
-  pub index_room : r.reserved ≤ vec_capacity r.index
   pub active_room : r.reserved ≤ r.active.room
   pub columns_room : (i : ℕ) → i < length r.columns.items → r.reserved ≤ (column_at r.columns.items i).room

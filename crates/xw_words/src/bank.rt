@@ -23,7 +23,7 @@ pub enum Added {
 }
 
 /// How many lengths there are, 0 to 255.
-const LENGTHS: usize = 256;
+pub(crate) const LENGTHS: usize = 256;
 
 /// The known words of each length, in the order of their first adding, each active or struck.
 #[derive(Drop)]
@@ -158,12 +158,22 @@ impl Bank {
         ensures answer { result ≢ Err WordFault.Memory → result ≡ reserve_answer self.old.words count }
         ensures memory { result ≡ Err WordFault.Memory → IsOk (reserve_answer self.old.words count) }
     {
+        self.make_room(count, 0)
+    }
+
+    /// Makes room for one more word of a length; where it has to grow, for as many in all as are expected.
+    pub(crate) fn make_room(&mut self, count: usize, expected: usize) -> Result<(), WordFault>
+        ensures words { self.new.words ≡ self.old.words }
+        ensures room { OnOk result (has_room self.new count ≡ true) }
+        ensures answer { result ≢ Err WordFault.Memory → result ≡ reserve_answer self.old.words count }
+        ensures memory { result ≡ Err WordFault.Memory → IsOk (reserve_answer self.old.words count) }
+    {
         judge_length(count)?;
         let row = &mut self.rows[count];
         if row.len() >= MOST_WORDS {
             return Err(WordFault::Full);
         }
-        row.reserve(self.alloc)?;
+        row.reserve(self.alloc, expected)?;
         Ok(())
     }
 

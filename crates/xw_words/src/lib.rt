@@ -3,6 +3,7 @@
 
 pub mod bank;
 pub mod bit_row;
+mod block;
 mod columns;
 pub mod counted;
 pub mod fault;

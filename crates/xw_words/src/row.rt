@@ -1,7 +1,7 @@
 //! The known words of one length.
 ghost use Rattle.xw_words.specs.Bits.{has_bit};
 ghost use Rattle.xw_words.specs.Columns.{has_letter, is_active};
-ghost use Rattle.std.specs.Prelude.{◌≡◌, ℕ, ◌+◌, ◌*◌, ◌<◌, ◌≤◌, ◌||◌, ◌==◌, Bool, true, false, None, [], ◌∷◌, ◌++◌, length, take, map, position, OnOk, OnErr, IfOk, IfErr, ◌≢◌, vec_len, vec_capacity, insert};
+ghost use Rattle.std.specs.Prelude.{◌≡◌, ℕ, ◌+◌, ◌*◌, ◌<◌, ◌≤◌, ◌||◌, ◌==◌, Bool, true, false, None, [], ◌∷◌, ◌++◌, length, take, map, position, OnOk, OnErr, IfOk, IfErr, ◌≢◌, vec_len, vec_capacity};
 ghost use Rattle.xw_words.specs.Dictionary.{entry_at, marked, place_in, add_to, added_at, with_added, matches, strike_from, IsNew, most_words};
 ghost use Rattle.xw_words.specs.Letter.{folded};
 ghost use Rattle.xw_words.specs.Word.{is_bad_letter, is_bad_in_pattern};
@@ -10,7 +10,7 @@ use crate::bank::Added;
 use crate::bit_row::BitRow;
 use crate::columns::{LETTERS, make_columns, push_word, reserve_columns};
 use crate::fault::WordFault;
-use crate::index;
+use crate::index::Index;
 use crate::letter::Letter;
 use crate::word::{LONGEST, spell};
 use std::alloc::Global;
@@ -22,14 +22,15 @@ pub const MOST_WORDS: usize = 1048576;
 /// By how many words the room grows at least.
 const LEAST_GROWTH: usize = 64;
 
-/// For how many words to make room where so many are known: an eighth more, so that
-/// little of it is idle and each word is moved a few times only.
-fn grown(known: usize) -> usize
+/// For how many words to make room where so many are known: for those that are expected, or an
+/// eighth more, so that little of it is idle and each word is moved a few times only.
+fn grown(known: usize, expected: usize) -> usize
     requires { known < most_words }
     ensures more { known < result }
     ensures few { result ≤ most_words }
 {
-    (known + (known / 8).max(LEAST_GROWTH)).min(MOST_WORDS)
+    let more = known + (known / 8).max(LEAST_GROWTH);
+    more.max(expected).min(MOST_WORDS)
 }
 
 /// Adds a word's letters at the end, in the room that is there.
@@ -41,22 +42,12 @@ fn append(letters: &mut Vec<Letter>, word: &[Letter])
     let _ = letters.extend_from_slice(word);
 }
 
-/// Puts a place into an index, in the room that is there.
-fn insert_place(index: &mut Vec<u32>, at: usize, place: u32)
-    requires at { at ≤ vec_len index.old }
-    requires room { vec_len index.old < vec_capacity index.old }
-    ensures items { index.new.items ≡ insert index.old.items at place }
-    ensures capacity { vec_capacity index.old ≤ vec_capacity index.new }
-{
-    let _ = index.insert(at, place);
-}
-
 /// The known words of one length, in the order of their first adding.
 #[derive(Drop)]
 pub struct Row {
     count: usize,
     letters: Vec<Letter>,
-    index: Vec<u32>,
+    index: Index,
     active: BitRow,
     columns: Vec<BitRow>,
     reserved: usize,
@@ -85,7 +76,7 @@ impl Row {
         Row {
             count,
             letters: Vec::new(alloc),
-            index: Vec::new(alloc),
+            index: Index::new(alloc),
             active: BitRow::new(alloc),
             columns: Vec::new(alloc),
             reserved: 0,
@@ -128,7 +119,7 @@ impl Row {
         if word.len() != self.count {
             return None;
         }
-        index::find(&self.index, &self.letters, word)
+        self.index.find(&self.letters, word)
     }
 
     /// Which of 64 words are active, the first of them lowest.
@@ -229,7 +220,7 @@ impl Row {
         if place >= MOST_WORDS {
             return Err(WordFault::Full);
         }
-        self.reserve(alloc)?;
+        self.reserve(alloc, 0)?;
         self.add_reserved(word);
         Ok(Added::New(place))
     }
@@ -272,8 +263,8 @@ impl Row {
         }
     }
 
-    /// Makes room for one more word.
-    pub fn reserve(&mut self, alloc: Global) -> Result<(), WordFault>
+    /// Makes room for one more word; where it has to grow, for as many in all as are expected.
+    pub fn reserve(&mut self, alloc: Global, expected: usize) -> Result<(), WordFault>
         requires few { length self.old.entries < most_words }
         requires long { 2 ≤ self.old.count }
         ensures count { self.new.count ≡ self.old.count }
@@ -282,15 +273,15 @@ impl Row {
         ensures refused { IfErr result (λ fault. fault ≡ WordFault.Memory) }
         ensures err { OnErr result (self.new.room ≡ self.old.room) }
     {
+        self.index.reserve(alloc)?;
         let known = self.active.len();
         if known < self.reserved {
             return Ok(());
         }
-        let words = grown(known);
+        let words = grown(known, expected);
         make_columns(alloc, &mut self.columns, LETTERS * self.count)?;
         reserve_columns(&mut self.columns, words)?;
         self.active.reserve(words)?;
-        self.index.reserve_exact(words - known)?;
         self.letters.reserve_exact((words - known) * self.count)?;
         self.reserved = words;
         Ok(())
@@ -306,8 +297,8 @@ impl Row {
         ensures few { length self.old.entries < most_words }
         ensures long { 2 ≤ length word.now }
     {
-        let at = index::search(&self.index, &self.letters, word);
-        insert_place(&mut self.index, at, self.active.len() as u32);
+        let place = self.active.len() as u32;
+        self.index.insert(&self.letters, word, place);
         push_word(&mut self.columns, word);
         self.active.push(true);
         append(&mut self.letters, word);

@@ -1,10 +1,11 @@
 //! Runs over readers and writers that fail.
 ghost use Rattle.std.specs.Prelude.{◌≡◌, ◌≤◌, ◌<◌, length, take, true, false};
 
+use crate::tests::session;
 use crate::{DeviceFault, RunEnd, Session, Sink, Source, Step};
 use std::process::Abort;
 use std::test::Fail;
-use xw_words::Bank;
+use xw_feas::plain::Plain;
 
 /// A reader of some bytes, by pieces, that fails at one of its calls.
 #[derive(Drop)]
@@ -103,8 +104,8 @@ struct Case {
 }
 
 /// Runs the lines, compares, and gives back the session.
-fn runs(rt: &(impl Abort + AllocGlobal), lines: &[u8], case: Case) -> Result<Session, Fail> {
-    let mut session = Session::new(rt.alloc(), Bank::new(rt.alloc())?);
+fn runs(rt: &(impl Abort + AllocGlobal), lines: &[u8], case: Case) -> Result<Session<Plain>, Fail> {
+    let mut session = session(rt.alloc())?;
     let mut source = Script {
         bytes: lines,
         given: 0,
@@ -129,7 +130,7 @@ fn runs(rt: &(impl Abort + AllocGlobal), lines: &[u8], case: Case) -> Result<Ses
 }
 
 /// Whether a session has the word CAT: adding it is then refused.
-fn has_cat(mut session: Session) -> bool {
+fn has_cat(mut session: Session<Plain>) -> bool {
     let mut told = Buffer {
         bytes: [0; 256],
         taken: 0,
@@ -219,7 +220,7 @@ fn writer_fails(rt: HostRuntime) -> Result<(), Fail> {
 
 #[test]
 fn writer_takes_none(rt: HostRuntime) -> Result<(), Fail> {
-    let mut session = Session::new(rt.alloc(), Bank::new(rt.alloc())?);
+    let mut session = session(rt.alloc())?;
     let mut source = Script {
         bytes: LINES,
         given: 0,

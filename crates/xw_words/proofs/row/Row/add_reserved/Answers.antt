@@ -1,11 +1,11 @@
 use Rattle.std.proofs.Common.{◌≡◌, ℕ, ◌+◌, ◌*◌, ◌<◌, ◌≤◌, Bool, true, List, ◌∷◌, [], ◌++◌, length, sym, ap, ◌∙◌, subst, arith, length-append}
-use Rattle.std.specs.Prelude.{None, insert}
+use Rattle.std.specs.Prelude.{None}
 use Rattle.std.specs.Vec.{with_items}
 use Rattle.std.proofs.lemmas.List.{with_items_is, length_push}
 use Rattle.xw_words.specs.Bits.{RowOfBits}
 use Rattle.xw_words.specs.Row.{Row, entries_of}
 use Rattle.xw_words.specs.Dictionary.{place_in}
-use Rattle.xw_words.specs.Index.{word_in, IsIndex, Belongs}
+use Rattle.xw_words.specs.Index.{word_in, IsIndex, IsInserted}
 use Rattle.xw_words.specs.Columns.{column_at, bit_in}
 use Rattle.xw_words.proofs.RowLemmas.{length-entries_of}
 use Rattle.xw_words.proofs.KeptRowLemmas.{AreColumns, column_room, columns_pushed, index_pushed, room_is}
@@ -15,7 +15,7 @@ pub push_word-requires-clause-room : goal.push_word-requires-clause-room
 push_word-requires-clause-room c =
     let r = c.self.inside in
     let kept = c.self.invariant in
-    let some = room_is (length r.active.bits) r.reserved c.args.self.now.room (ap (λ (row : Row). row.room) c.self.view_is) c.requires.room in
+    let some = room_is (length r.active.bits) r.reserved r.index.room c.args.self.now.room (ap (λ (row : Row). row.room) c.self.view_is) c.requires.room in
     let P : List RowOfBits → Type 0 = λ columns. (i : ℕ) → i < length columns → length (column_at columns i).bits < (column_at columns i).room in
     subst P (sym c.deref_mut.ensures.value)
     (column_room r.count r.reserved r.letters.items r.active.bits r.columns.items (record { few = kept.column_count; all = kept.all_columns; bits = kept.columns; room = kept.columns_room }) some)
@@ -26,19 +26,18 @@ invariant_of-self c =
     let kept = c.self.invariant in
     let word = c.args.word.now in
     let flags = r.active.bits in
-    let some = room_is (length flags) r.reserved c.args.self.now.room (ap (λ (row : Row). row.room) c.self.view_is) c.requires.room in
+    let some = room_is (length flags) r.reserved r.index.room c.args.self.now.room (ap (λ (row : Row). row.room) c.self.view_is) c.requires.room in
     let fits : length word ≡ r.count = c.requires.length ∙ sym (ap (λ (row : Row). row.count) c.self.view_is) in
     let long_entries = length-entries_of r.count r.letters.items flags in
     let known : length flags < 1048576 = omega (arith, some, kept.reserved_few) in
     let unknown : place_in (entries_of r.count r.letters.items flags) word ≡ None = ap (λ (row : Row). place_in row.entries word) c.self.view_is ∙ c.requires.unknown in
-    let B : ℕ → List ℕ → List ℕ → Type 0 = λ count letters index. Belongs (word_in count letters) index word c.search-at.result in
-    let counted : B r.count c.deref-2.result.now c.deref.result.now = subst (λ n. B n c.deref-2.result.now c.deref.result.now) fits c.search-at.ensures in
-    let lettered : B r.count r.letters.items c.deref.result.now = subst (λ ls. B r.count ls c.deref.result.now) c.deref-2.ensures.value counted in
-    let belongs : B r.count r.letters.items r.index.items = subst (B r.count r.letters.items) c.deref.ensures.value lettered in
+    let B : ℕ → List ℕ → ℕ → Type 0 = λ count letters place. IsInserted (word_in count letters) r.index.places word place c.insert.new.self.places in
+    let counted : B r.count c.deref.result.now c.len-place.result = subst (λ n. B n c.deref.result.now c.len-place.result) fits c.insert.ensures in
+    let lettered : B r.count r.letters.items c.len-place.result = subst (λ ls. B r.count ls c.len-place.result) c.deref.ensures.value counted in
+    let put : B r.count r.letters.items (length flags) = subst (B r.count r.letters.items) c.len-place.ensures.value lettered in
     let grown = length_push flags true in
     let longer : length c.push.new.self.bits ≡ length flags + 1 = ap length c.push.ensures.bits ∙ grown in
-    let indexed = index_pushed r.count r.letters.items word flags r.index.items c.search-at.result kept.index belongs kept.letters fits unknown in
-    let index_is : c.insert_place.new.index.items ≡ insert r.index.items c.search-at.result (length flags) = c.insert_place.ensures.items ∙ ap (insert r.index.items c.search-at.result) c.len.ensures.value in
+    let indexed = index_pushed r.count r.letters.items word flags r.index.places c.insert.new.self.places kept.index put kept.letters fits unknown in
     let I : List ℕ → ℕ → List ℕ → Type 0 = λ letters n index. IsIndex (word_in r.count letters) n index in
     let C : List ℕ → List Bool → List RowOfBits → Type 0 = λ letters bits columns. AreColumns r.count r.reserved (entries_of r.count letters bits) columns in
     let new = c.push_word.new.columns in
@@ -58,12 +57,11 @@ invariant_of-self c =
       few = omega (arith, longer, known);
       within = omega (arith, longer, some);
       reserved_few = kept.reserved_few;
-      index = subst (λ letters. I letters (length c.push.new.self.bits) c.insert_place.new.index.items) (sym c.append.ensures.items) (subst (λ n. I (r.letters.items ++ word) n c.insert_place.new.index.items) (sym longer) (subst (I (r.letters.items ++ word) (length flags + 1)) (sym index_is) indexed));
+      index = subst (λ letters. I letters (length c.push.new.self.bits) c.insert.new.self.places) (sym c.append.ensures.items) (subst (λ n. I (r.letters.items ++ word) n c.insert.new.self.places) (sym longer) indexed);
       column_count = columns.few;
       all_columns = columns.all;
       columns = columns.bits;
       letters_room = omega (arith, kept.letters_room, c.append.ensures.capacity);
-      index_room = omega (arith, kept.index_room, c.insert_place.ensures.capacity);
       active_room = omega (arith, kept.active_room, c.push.ensures.room);
       columns_room = columns.room;
     }
@@ -73,11 +71,11 @@ returns-clause-few c =
     let r = c.self.inside in
     let kept = c.self.invariant in
     let flags = r.active.bits in
-    let some = room_is (length flags) r.reserved c.args.self.now.room (ap (λ (row : Row). row.room) c.self.view_is) c.requires.room in
+    let some = room_is (length flags) r.reserved r.index.room c.args.self.now.room (ap (λ (row : Row). row.room) c.self.view_is) c.requires.room in
     omega (arith, some, kept.reserved_few, length-entries_of r.count r.letters.items flags, ap (λ (row : Row). length row.entries) c.self.view_is)
 
 pub returns-clause-long : goal.returns-clause-long
 returns-clause-long c =
     let r = c.self.inside in
-    let some = room_is (length r.active.bits) r.reserved c.args.self.now.room (ap (λ (row : Row). row.room) c.self.view_is) c.requires.room in
+    let some = room_is (length r.active.bits) r.reserved r.index.room c.args.self.now.room (ap (λ (row : Row). row.room) c.self.view_is) c.requires.room in
     omega (arith, c.self.invariant.long (omega (arith, some)), c.requires.length, ap (λ (row : Row). row.count) c.self.view_is)

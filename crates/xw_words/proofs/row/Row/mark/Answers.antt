@@ -16,12 +16,11 @@ invariant_of-self c =
       few = omega (arith, kept.few);
       within = omega (arith, kept.within);
       reserved_few = kept.reserved_few;
-      index = let P : ℕ → Type 0 = λ n. IsIndex (word_in r.count r.letters.items) n r.index.items in subst P (sym same) kept.index;
+      index = let P : ℕ → Type 0 = λ n. IsIndex (word_in r.count r.letters.items) n r.index.places in subst P (sym same) kept.index;
       column_count = columns.few;
       all_columns = columns.all;
       columns = columns.bits;
       letters_room = kept.letters_room;
-      index_room = kept.index_room;
       active_room = omega (arith, kept.active_room, c.put.ensures.room);
       columns_room = columns.room;
     }

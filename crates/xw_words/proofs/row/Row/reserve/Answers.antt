@@ -32,28 +32,26 @@ invariant_of-self-2 c =
     let grown = columns_made r.count r.reserved entries r.columns.items made.items new (record { few = kept.column_count; all = kept.all_columns; bits = kept.columns; room = kept.columns_room }) (omega (arith, old_long, made_long, c.make_columns.ensures.more)) (made_long ∙ c.in_ok-make_columns.ensures.ok) same (omega (arith, long_entries, kept.within))
     (λ i lt. c.make_columns.ensures.kept i (omega (arith, old_long))) (λ i le. c.make_columns.ensures.made i (omega (arith, old_long))) (subst B made_is c.reserve_columns.ensures.bits) words c.in_ok-reserve_columns.ensures.ok in
     let letters_long : length r.letters.items ≡ vec_len r.letters = omega arith in
-    let index_long : length r.index.items ≡ vec_len r.index = omega arith in
     let C : List ℕ → List Bool → List RowOfBits → Type 0 = λ letters bits columns. AreColumns r.count words (entries_of r.count letters bits) columns in
     let placed : C r.letters.items flags columns_now = subst (C r.letters.items flags) (sym now_is) grown in
-    let active : C r.letters.items c.reserve.new.self.bits columns_now = subst (λ bits. C r.letters.items bits columns_now) (sym c.reserve.ensures.bits) placed in
-    let columns : C c.reserve_exact-2.new.self.items c.reserve.new.self.bits columns_now = subst (λ letters. C letters c.reserve.new.self.bits columns_now) (sym c.reserve_exact-2.ensures.items) active in
-    let same_flags : length c.reserve.new.self.bits ≡ length flags = ap length c.reserve.ensures.bits in
+    let active : C r.letters.items c.reserve-2.new.self.bits columns_now = subst (λ bits. C r.letters.items bits columns_now) (sym c.reserve-2.ensures.bits) placed in
+    let columns : C c.reserve_exact.new.self.items c.reserve-2.new.self.bits columns_now = subst (λ letters. C letters c.reserve-2.new.self.bits columns_now) (sym c.reserve_exact.ensures.items) active in
+    let same_flags : length c.reserve-2.new.self.bits ≡ length flags = ap length c.reserve-2.ensures.bits in
     let I : List ℕ → ℕ → List ℕ → Type 0 = λ letters n index. IsIndex (word_in r.count letters) n index in
-    let indexed : I r.letters.items (length flags) c.reserve_exact.new.self.items = subst (I r.letters.items (length flags)) (sym c.reserve_exact.ensures.items) kept.index in
-    let counted : I r.letters.items (length c.reserve.new.self.bits) c.reserve_exact.new.self.items = subst (λ n. I r.letters.items n c.reserve_exact.new.self.items) (sym same_flags) indexed in
+    let indexed : I r.letters.items (length flags) c.reserve.new.self.places = subst (I r.letters.items (length flags)) (sym c.reserve.ensures.places) kept.index in
+    let counted : I r.letters.items (length c.reserve-2.new.self.bits) c.reserve.new.self.places = subst (λ n. I r.letters.items n c.reserve.new.self.places) (sym same_flags) indexed in
     record {
       short = kept.short;
       long = λ _. omega (arith, c.requires.long, ap (λ (row : Row). row.count) c.self.view_is);
-      letters = ap length c.reserve_exact-2.ensures.items ∙ kept.letters ∙ ap (λ n. n * r.count) (sym same_flags);
+      letters = ap length c.reserve_exact.ensures.items ∙ kept.letters ∙ ap (λ n. n * r.count) (sym same_flags);
       few = omega (arith, same_flags, few);
       within = omega (arith, same_flags, below);
       reserved_few = c.grown-words.ensures.few;
-      index = subst (λ letters. I letters (length c.reserve.new.self.bits) c.reserve_exact.new.self.items) (sym c.reserve_exact-2.ensures.items) counted;
+      index = subst (λ letters. I letters (length c.reserve-2.new.self.bits) c.reserve.new.self.places) (sym c.reserve_exact.ensures.items) counted;
       column_count = columns.few;
       all_columns = columns.all;
       columns = columns.bits;
-      letters_room = omega (arith, room_for words (length flags) r.count below, ap (λ n. (words - n) * r.count) known, kept.letters, letters_long, c.in_ok-reserve_exact-2.ensures.ok, c.reserve_exact-2.ensures.len);
-      index_room = omega (arith, known, below, kept.index.long, index_long, c.in_ok-reserve_exact.ensures.ok, c.reserve_exact.ensures.len);
-      active_room = omega (arith, c.in_ok-reserve.ensures.room, c.grown-words.ensures.few);
+      letters_room = omega (arith, room_for words (length flags) r.count below, ap (λ n. (words - n) * r.count) known, kept.letters, letters_long, c.in_ok-reserve_exact.ensures.ok, c.reserve_exact.ensures.len);
+      active_room = omega (arith, c.in_ok-reserve-2.ensures.room, c.grown-words.ensures.few);
       columns_room = columns.room;
     }

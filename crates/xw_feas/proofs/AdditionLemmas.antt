@@ -1,0 +1,65 @@
+-- What is known of a word that is new to a dictionary.
+use Rattle.std.proofs.Common.{◌≡◌, ℕ, ◌<◌, ◌≤◌, ◌+◌, Bool, true, false, cond, List, [], ◌∷◌, ◌++◌, map, length, get_or, set, take, None, Some, refl, sym, ◌∙◌, ap, subst, arith}
+use Rattle.std.specs.Prelude.{Option, Result, Ok, Err, position, nat_le}
+use Rattle.std.proofs.lemmas.Bool.Decides.{nat_tests}
+use Rattle.std.proofs.lemmas.List.{length-map, take_more, take_more_set}
+use Rattle.xw_words.specs.declared.fault.WordFault.{WordFault}
+use Rattle.xw_words.specs.declared.fault.WordFault.TheVariants.{Length, Full, Known}
+use Rattle.xw_words.specs.declared.bank.Added.{Added}
+use Rattle.xw_words.specs.declared.bank.Added.TheVariants.{New, Returned}
+use Rattle.xw_words.specs.Letter.{folded}
+use Rattle.xw_words.specs.Word.{is_bad_letter, is_word_length, judged, word_of}
+use Rattle.xw_words.specs.Dictionary.{Entry, Dictionary, row, entry_at, place_in, place_of, most_words, added_at, add_to, answer_on, add_answer, IsNew}
+use Rattle.xw_words.proofs.DictionaryLemmas.{judged-Ok}
+
+-- a word of letters, of a length that words have, that is not known, where there is a place for it
+pub record IsNewWord (words : Dictionary) (bytes : List ℕ) : Type 0 where
+  pub letters : position is_bad_letter bytes ≡ None
+  pub low : 2 ≤ length bytes
+  pub high : length bytes ≤ 255
+  pub unknown : place_of words (map folded bytes) ≡ None
+  pub few : length (row words (length bytes)) < most_words
+  pub answer : add_answer words bytes ≡ Ok (New (length (row words (length bytes))))
+
+judged_same : (bad : Option ℕ) (count : ℕ) (x y : List ℕ) → judged bad count x ≡ Ok y → y ≡ x
+judged_same (Some place) count x y h = cc
+judged_same None count x y h = split (is_word_length count) h where
+  split : (b : Bool) → cond {A = Result (List ℕ) WordFault} b (Ok x) (Err Length) ≡ Ok y → y ≡ x
+  split true h = cc
+  split false h = cc
+
+new_place : (entries : List Entry) (place : Option ℕ) → IsNew (added_at entries place) → (place ≡ None) × ((length entries < most_words) × (added_at entries place ≡ Ok (New (length entries))))
+new_place entries (Some place) new = absurd (split (entry_at entries place).active new) where
+  split : (b : Bool) → IsNew (cond b (Err Known) (Ok (Returned place))) → ⊥
+  split true h = h
+  split false h = h
+new_place entries None new = split (nat_le most_words (length entries)) refl new where
+  split : (b : Bool) → nat_le most_words (length entries) ≡ b → IsNew (cond b (Err Full) (Ok (New (length entries)))) → ◌≡◌ {A = Option ℕ} None None × ((length entries < most_words) × (cond {A = Result Added WordFault} (nat_le most_words (length entries)) (Err Full) (Ok (New (length entries))) ≡ Ok (New (length entries))))
+  split true is h = absurd h
+  split false is h = (refl, (grind (arith, nat_tests), rw is refl))
+
+pub new_word : (words : Dictionary) (bytes : List ℕ) → IsNew (add_answer words bytes) → IsNewWord words bytes
+new_word words bytes new = split (word_of bytes) refl new where
+  split : (spelled : Result (List ℕ) WordFault) → word_of bytes ≡ spelled → IsNew (answer_on add_to words spelled) → IsNewWord words bytes
+  split (Err fault) is h = absurd h
+  split (Ok word) is h =
+      let fit = judged-Ok {X = List ℕ} (position is_bad_letter bytes) (length bytes) (map folded bytes) word is in
+      let same : word ≡ map folded bytes = judged_same (position is_bad_letter bytes) (length bytes) (map folded bytes) word is in
+      let long : length word ≡ length bytes = ap length same ∙ length-map bytes folded in
+      let found = new_place (row words (length word)) (place_in (row words (length word)) word) h in
+      record {
+        letters = fit.0;
+        low = fit.1;
+        high = fit.2;
+        unknown = ap (place_of words) (sym same) ∙ found.0;
+        few = subst (λ n. length (row words n) < most_words) long found.1.0;
+        answer = ap (answer_on add_to words) is ∙ found.1.1 ∙ ap (λ n. Ok (New (length (row words n)))) long;
+      }
+
+-- one more letter of a word
+pub letters_more : (word letters : List ℕ) (k letter : ℕ) → k < length word → k < length letters → letter ≡ get_or (map folded word) k 0 → take k letters ≡ take k (map folded word) → take (k + 1) (set letters k letter) ≡ take (k + 1) (map folded word)
+letters_more word letters k letter below under is front =
+    take_more_set letters k letter under
+    ∙ ap (λ first. first ++ letter ∷ []) front
+    ∙ ap (λ last. take k (map folded word) ++ last ∷ []) is
+    ∙ sym (take_more (map folded word) k 0 (omega (arith, length-map word folded)))

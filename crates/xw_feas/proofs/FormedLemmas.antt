@@ -1,0 +1,110 @@
+-- The lights of a grid as the places of their cells.
+use Rattle.std.proofs.Common.{◌≡◌, ℕ, ◌+◌, ◌<◌, ◌≤◌, true, cond, [], map, length, get_or, sym, ◌∙◌, ap, arith, inl, inr}
+use Rattle.std.specs.List.{range_with_len}
+use Rattle.std.proofs.lemmas.Bool.{cases_lt}
+use Rattle.std.proofs.lemmas.List.{get_or-map, get_or_past, length-map}
+use Rattle.std.proofs.lemmas.List.FromFn.{length-map-range_with_len, get_or-map-range_with_len}
+use Rattle.xw_words.specs.Dictionary.{Dictionary, IsDictionary}
+use Rattle.xw_grid.specs.declared.cell.Cell.{Cell}
+use Rattle.xw_grid.specs.declared.cell.Direction.{Direction}
+use Rattle.xw_grid.specs.declared.cell.Direction.TheVariants.{Across, Down}
+use Rattle.xw_grid.specs.declared.lights.Light.{Light}
+use Rattle.xw_grid.specs.Grid.{Grid, IsGrid, is_inside, is_open_square, index_of, cell_at}
+use Rattle.xw_grid.specs.Grid.{is_open as is_open_cell}
+use Rattle.std.specs.Prelude.{slice_get, None}
+use Rattle.xw_grid.specs.Light.{step, lights_of, no_light}
+use Rattle.xw_grid.proofs.GridLemmas.{cell_at-index_of}
+use Rattle.xw_grid.proofs.LightLemmas.{lights_are_lights, inside_from_open, cells_of_are_open, size_of_light}
+use Rattle.xw_feas.specs.Board.{board_of, light_at, is_open}
+use Rattle.xw_feas.specs.WellFormed.{HasLetterEntries, IsLaidOut, IsWellFormed}
+use Rattle.xw_feas.proofs.BoardLemmas.{length-open_cells, length-lights, length-entries, light_at-board, light_fits, is_open-square}
+use Rattle.xw_feas.proofs.LightsLemmas.{names_apart, lights_meet_once}
+
+abbrev light_in : Grid → ℕ → Light
+light_in grid place = get_or (lights_of grid) place no_light
+
+abbrev cell_of : Grid → ℕ → ℕ → Cell
+cell_of grid place k = step (light_in grid place).name.direction (light_in grid place).start k
+
+-- past the last light there is none
+light_past : (grid : Grid) (place : ℕ) → length (lights_of grid) ≤ place → light_at (board_of grid) place ≡ []
+light_past grid place past = get_or_past (board_of grid).lights place [] (omega (arith, length-lights grid))
+
+length-light_at : (grid : Grid) (place : ℕ) → place < length (lights_of grid) → length (light_at (board_of grid) place) ≡ (light_in grid place).size
+length-light_at grid place within =
+    let light = light_in grid place in
+    ap length (light_at-board grid place no_light within)
+    ∙ length-map (map (step light.name.direction light.start) (range_with_len 0 light.size)) (index_of grid)
+    ∙ length-map-range_with_len (step light.name.direction light.start) 0 light.size
+
+within_lights : (grid : Grid) (place k : ℕ) → k < length (light_at (board_of grid) place) → place < length (lights_of grid)
+within_lights grid place k below = elim (cases_lt place (length (lights_of grid))) [
+  | inl within ↦ within
+  | inr past ↦ absurd (omega (arith, ap length (light_past grid place past)))
+]
+
+place_is : (grid : Grid) (place k : ℕ) → k < length (light_at (board_of grid) place) → get_or (light_at (board_of grid) place) k 0 ≡ index_of grid (cell_of grid place k)
+place_is grid place k below =
+    let within = within_lights grid place k below in
+    let light = light_in grid place in
+    let under : k < light.size = omega (arith, length-light_at grid place within) in
+    ap (λ cells. get_or cells k 0) (light_at-board grid place no_light within)
+    ∙ get_or-map (index_of grid) (map (step light.name.direction light.start) (range_with_len 0 light.size)) k light.start 0 (omega (arith, length-map-range_with_len (step light.name.direction light.start) 0 light.size))
+    ∙ ap (index_of grid) (get_or-map-range_with_len (step light.name.direction light.start) 0 light.size k k light.start under (omega arith))
+
+open_at : (grid : Grid) (place k : ℕ) → k < length (light_at (board_of grid) place) → is_open_cell grid (cell_of grid place k) ≡ true
+open_at grid place k below =
+    let within = within_lights grid place k below in
+    cells_of_are_open grid place no_light within k (omega (arith, length-light_at grid place within))
+
+inside_at : (grid : Grid) (place k : ℕ) → k < length (light_at (board_of grid) place) → is_inside grid (cell_of grid place k) ≡ true
+inside_at grid place k below = inside_from_open grid (cell_of grid place k) (open_at grid place k below)
+
+same_place : (grid : Grid) (a b : Cell) → is_inside grid a ≡ true → is_inside grid b ≡ true → index_of grid a ≡ index_of grid b → a ≡ b
+same_place grid a b inside inside' same = sym (cell_at-index_of grid a inside) ∙ ap (cell_at grid) same ∙ cell_at-index_of grid b inside'
+
+-- the same place in two lights is the same cell
+same_cell_in : (grid : Grid) (light other i j : ℕ) → i < length (light_at (board_of grid) light) → j < length (light_at (board_of grid) other) → get_or (light_at (board_of grid) light) i 0 ≡ get_or (light_at (board_of grid) other) j 0 → cell_of grid light i ≡ cell_of grid other j
+same_cell_in grid light other i j below below' same =
+    same_place grid (cell_of grid light i) (cell_of grid other j) (inside_at grid light i below) (inside_at grid other j below') (sym (place_is grid light i below) ∙ same ∙ place_is grid other j below')
+
+steps_apart : (direction : Direction) (first : Cell) (j k : ℕ) → step direction first j ≡ step direction first k → j ≡ k
+steps_apart Across first j k same = let e : first.col + j ≡ first.col + k = ap (λ (cell : Cell). cell.col) same in omega arith
+steps_apart Down first j k same = let e : first.row + j ≡ first.row + k = ap (λ (cell : Cell). cell.row) same in omega arith
+
+meet_once : (grid : Grid) (light other i j k l : ℕ) → (light ≡ other → ⊥) → i < length (light_at (board_of grid) light) → k < length (light_at (board_of grid) light) → j < length (light_at (board_of grid) other) → l < length (light_at (board_of grid) other) → get_or (light_at (board_of grid) light) i 0 ≡ get_or (light_at (board_of grid) other) j 0 → get_or (light_at (board_of grid) light) k 0 ≡ get_or (light_at (board_of grid) other) l 0 → i ≡ k
+meet_once grid light other i j k l apart below_i below_k below_j below_l first second =
+    let within = within_lights grid light i below_i in
+    let within' = within_lights grid other j below_j in
+    lights_meet_once grid (light_in grid light) (light_in grid other) (lights_are_lights grid light no_light within) (lights_are_lights grid other no_light within')
+    (λ same. apart (names_apart grid light other no_light within within' same)) i j k l (omega (arith, length-light_at grid light within)) (omega (arith, length-light_at grid other within'))
+    (same_cell_in grid light other i j below_i below_j first) (same_cell_in grid light other k l below_k below_l second)
+
+open_in_board : (grid : Grid) (light k : ℕ) → k < length (light_at (board_of grid) light) → is_open (board_of grid) (get_or (light_at (board_of grid) light) k 0) ≡ true
+open_in_board grid light k below =
+    ap (is_open (board_of grid)) (place_is grid light k below)
+    ∙ is_open-square grid (index_of grid (cell_of grid light k))
+    ∙ sym (ap (λ inside. is_open_square (cond inside (slice_get grid.squares (index_of grid (cell_of grid light k))) None)) (inside_at grid light k below))
+    ∙ open_at grid light k below
+
+-- the lights of a grid are as lights are to be
+pub laid_out : (grid : Grid) → IsGrid grid → HasLetterEntries (board_of grid) → IsLaidOut (board_of grid)
+laid_out grid is letters = record {
+  entries = length-entries grid ∙ sym (length-open_cells grid);
+  several = λ light below.
+      let within : light < length (lights_of grid) = omega (arith, length-lights grid) in
+      omega (arith, length-light_at grid light within, size_of_light grid light no_light within);
+  short = λ light. elim (cases_lt light (length (lights_of grid))) [
+    | inl within ↦ omega (arith, length-light_at grid light within, (light_fits grid light no_light is within).size)
+    | inr past ↦ omega (arith, ap length (light_past grid light past))
+  ];
+  cells_open = open_in_board grid;
+  distinct = λ light j k below below' same. steps_apart (light_in grid light).name.direction (light_in grid light).start j k (same_cell_in grid light light j k below below' same);
+  cross_once = meet_once grid;
+  letters = letters;
+}
+
+pub formed : (grid : Grid) (words : Dictionary) → IsGrid grid → IsDictionary words → HasLetterEntries (board_of grid) → IsWellFormed (record { grid = grid; words = words })
+formed grid words is dictionary letters = record { grid = is; board = laid_out grid is letters; dictionary = dictionary }
+
+pub ruleset formed_steps = (formed)

@@ -1,0 +1,16 @@
+pub mod Examples
+pub mod Support
+pub mod FlagsLemmas
+pub mod BoardLemmas
+pub mod ChoicesLemmas
+pub mod Strip
+pub mod AnswersLemmas
+pub mod ChangesLemmas
+pub mod EditsLemmas
+pub mod ShapeLemmas
+pub mod QueryLemmas
+pub mod WorkedRow
+pub mod WordsLemmas
+pub mod LightsLemmas
+pub mod FormedLemmas
+pub mod AdditionLemmas

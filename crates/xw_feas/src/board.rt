@@ -1,0 +1,181 @@
+//! What feasibility sees of a grid.
+ghost use Rattle.std.specs.Prelude.{◌≡◌, ◌<◌, ◌≤◌, length, slice_index, slice_get, All, unwrap_or, IfSome};
+ghost use Rattle.xw_words.specs.Letter.{IsLetter};
+ghost use Rattle.xw_grid.specs.Grid.{is_open_square as is_open_in, letter_in as letter_of};
+ghost use Rattle.xw_grid.specs.Light.{lights_of};
+ghost use Rattle.xw_feas.specs.Board.{board_of, places_of, light_at, is_open as is_open_place, entry as entry_at};
+ghost use Rattle.xw_feas.specs.Fits.{Fits, stride_of};
+
+use std::marker::Model;
+use xw_grid::cell::{Direction, Square};
+use xw_grid::grid::Grid;
+use xw_grid::lights::{Light, Lights};
+use xw_words::letter::Letter;
+
+/// The places of a light's cells, in reading order of the grid.
+#[derive(Drop)]
+pub struct Cells {
+    first: usize,
+    stride: usize,
+    count: usize,
+}
+
+impl Model for Cells {
+    ghost use Rattle.std.specs.Prelude.{List, ℕ, ◌≤◌, ◌+◌, ◌*◌, map};
+    ghost use Rattle.std.specs.List.{range_with_len};
+
+    ghost Value = { List ℕ };
+
+    ghost view = { λ cells. map (λ k. cells.first + k * cells.stride) (range_with_len 0 cells.count) };
+
+    ghost invariant = { λ cells. (cells.first ≤ 65025) × (cells.stride ≤ 255) × (cells.count ≤ 255) };
+}
+
+impl Cells {
+    pub fn len(&self) -> usize
+        ensures { result ≡ length self.now }
+    {
+        self.count
+    }
+
+    /// The place of one of the cells.
+    pub fn at(&self, k: usize) -> usize
+        requires { k < length self.now }
+        ensures { result ≡ slice_index self.now k }
+    {
+        self.first + k * self.stride
+    }
+}
+
+/// A grid with its lights, seen by the places of cells.
+#[derive(Drop)]
+pub struct Board<'a> {
+    grid: &'a Grid,
+    squares: &'a [Square],
+    lights: &'a Lights,
+}
+
+impl<'a> Model for Board<'a> {
+    ghost use Rattle.std.specs.Prelude.{◌≡◌};
+    ghost use Rattle.xw_grid.specs.Grid.{IsGrid};
+    ghost use Rattle.xw_grid.specs.Light.{lights_of};
+    ghost use Rattle.xw_feas.specs.Board.{Board as BoardOfPlaces, board_of};
+
+    ghost Value = { BoardOfPlaces };
+
+    ghost view = { λ board. board_of board.grid.now };
+
+    ghost invariant = { λ board. (board.lights.now ≡ lights_of board.grid.now) × (board.squares.now ≡ board.grid.now.squares) × IsGrid board.grid.now };
+}
+
+#[tactic(auto, using(crate::proofs::BoardLemmas::board_steps))]
+impl<'a> Board<'a> {
+    pub fn new(grid: &'a Grid, lights: &'a Lights) -> Board<'a>
+        requires { lights.now ≡ lights_of grid.now }
+        ensures { result ≡ board_of grid.now }
+    {
+        Board {
+            grid,
+            squares: grid.squares(),
+            lights,
+        }
+    }
+
+    pub fn cell_count(&self) -> usize
+        ensures open_cells { result ≡ length self.now.open_cells }
+        ensures entries { result ≡ length self.now.entries }
+    {
+        self.squares.len()
+    }
+
+    pub fn light_count(&self) -> usize
+        ensures { result ≡ length self.now.lights }
+    {
+        self.lights.len()
+    }
+
+    /// The cells of a light.
+    pub fn light(&self, light: usize) -> Cells
+        requires { light < length self.now.lights }
+        ensures cells { result ≡ light_at self.now light }
+        ensures in_board { All (λ cell. cell < length self.now.open_cells) result }
+    {
+        match self.lights.get(light) {
+            Some(light) => cells_of(self.grid, light),
+            None => unreachable!(),
+        }
+    }
+
+    pub fn is_open(&self, cell: usize) -> bool
+        ensures { result ≡ is_open_place self.now cell }
+    {
+        is_open_square(square_at(self.squares, cell))
+    }
+
+    /// The letter entered in a cell.
+    pub fn entry(&self, cell: usize) -> Option<Letter>
+        ensures entry { result ≡ entry_at self.now cell }
+        ensures letter { IfSome result IsLetter }
+    {
+        letter_in(square_at(self.squares, cell))
+    }
+
+    /// The letter of a cell that has one.
+    pub fn letter(&self, cell: usize) -> Letter
+        ensures { result ≡ unwrap_or (entry_at self.now cell) 65 }
+    {
+        match self.entry(cell) {
+            Some(letter) => letter,
+            None => Letter::first(),
+        }
+    }
+}
+
+fn square_at(squares: &[Square], place: usize) -> Option<Square>
+    ensures { result ≡ slice_get squares.now place }
+{
+    squares.get(place).copied()
+}
+
+fn is_open_square(square: Option<Square>) -> bool
+    ensures { result ≡ is_open_in square }
+{
+    matches!(square, Some(Square::Open(_)))
+}
+
+fn letter_in(square: Option<Square>) -> Option<Letter>
+    ensures entry { result ≡ letter_of square }
+    ensures letter { IfSome result IsLetter }
+{
+    match square {
+        Some(Square::Open(letter)) => letter,
+        _ => None,
+    }
+}
+
+/// The places of the cells of a light that fits in a grid.
+#[tactic(auto, using(crate::proofs::BoardLemmas::cells_steps))]
+fn cells_of(grid: &Grid, light: Light) -> Cells
+    requires { Fits grid.now light }
+    ensures { result ≡ places_of grid.now light }
+{
+    match grid.index(light.start) {
+        Some(first) => Cells {
+            first,
+            stride: stride(grid, light.name.direction),
+            count: light.size as usize,
+        },
+        None => unreachable!(),
+    }
+}
+
+/// How far apart the cells of a light in a direction are.
+fn stride(grid: &Grid, direction: Direction) -> usize
+    ensures stride { result ≡ stride_of grid.now direction }
+    ensures small { result ≤ 255 }
+{
+    match direction {
+        Direction::Across => 1,
+        Direction::Down => grid.width() as usize,
+    }
+}

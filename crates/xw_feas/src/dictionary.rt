@@ -1,0 +1,83 @@
+//! Edits of the dictionary.
+ghost use Rattle.std.specs.Prelude.{◌≡◌, ◌≤◌, length, map, position, take, None, true, IfErr, OnOk, OnErr, IsOkUnless, Ok, Err};
+ghost use Rattle.xw_words.specs.Bank.{has_room};
+ghost use Rattle.xw_words.specs.Dictionary.{add_answer, IsNew, IsDictionary};
+ghost use Rattle.xw_words.specs.Letter.{folded};
+ghost use Rattle.xw_words.specs.Word.{is_bad_letter};
+ghost use Rattle.xw_feas.specs.Shape.{SameCounts, GrowsAt, IsReturned, IsAddRefused};
+ghost use Rattle.xw_feas.specs.State.{add_word, strike_word};
+
+use xw_words::bank::Bank;
+use xw_words::fault::WordFault;
+use xw_words::letter::Letter;
+
+/// What is true of every dictionary; it does nothing.
+pub fn known_distinct(bank: &Bank)
+    ensures { IsDictionary bank.now.words }
+{
+    let _ = bank.known(0);
+}
+
+/// Strikes a word of a dictionary.
+pub fn strike_in(bank: &mut Bank, word: &[u8]) -> Result<(), WordFault>
+    ensures ok { OnOk result (strike_word bank.old.words word.now ≡ Ok bank.new.words) }
+    ensures refused { IfErr result (λ fault. strike_word bank.old.words word.now ≡ Err fault) }
+    ensures counts { SameCounts bank.old.words bank.new.words }
+    ensures same { OnErr result (bank.new.words ≡ bank.old.words) }
+{
+    bank.strike(word)?;
+    Ok(())
+}
+
+/// Makes a struck word active again.
+pub fn return_in(bank: &mut Bank, word: &[u8]) -> Result<(), WordFault>
+    requires { IsReturned (add_answer bank.old.words word.now) }
+    ensures ok { OnOk result (add_word bank.old.words word.now ≡ Ok bank.new.words) }
+    ensures refused { IfErr result (λ fault. IsAddRefused bank.old.words word.now fault) }
+    ensures counts { SameCounts bank.old.words bank.new.words }
+    ensures same { OnErr result (bank.new.words ≡ bank.old.words) }
+{
+    bank.add(word)?;
+    Ok(())
+}
+
+/// Makes room for a word that is not known.
+pub fn reserve_in(bank: &mut Bank, word: &[u8]) -> Result<(), WordFault>
+    requires { IsNew (add_answer bank.old.words word.now) }
+    ensures words { bank.new.words ≡ bank.old.words }
+    ensures room { OnOk result (has_room bank.new (length word.now) ≡ true) }
+    ensures memory { IsOkUnless result WordFault.Memory }
+{
+    let _ = bank.known(word.len());
+    bank.reserve(word.len())
+}
+
+/// Adds a word that is not known, in the room that was made for it.
+pub fn add_in(bank: &mut Bank, word: &[u8])
+    requires new { IsNew (add_answer bank.old.words word.now) }
+    requires room { has_room bank.old (length word.now) ≡ true }
+    ensures words { add_word bank.old.words word.now ≡ Ok bank.new.words }
+    ensures counts { GrowsAt bank.old.words bank.new.words (length word.now) }
+{
+    let _ = bank.known(word.len());
+    let letters = capitals(word);
+    let _ = bank.add_reserved(&letters[..word.len()]);
+}
+
+/// The longest word.
+const LONGEST: usize = 255;
+
+/// The letters that a word has, at the front.
+fn capitals(word: &[u8]) -> [Letter; LONGEST]
+    requires letters { position is_bad_letter word.now ≡ None }
+    requires short { length word.now ≤ 255 }
+    ensures { take (length word.now) result ≡ map folded word.now }
+{
+    let mut letters = [Letter::first(); LONGEST];
+    for (place, byte) in word.iter().enumerate() {
+        if let Some(letter) = Letter::of(*byte) {
+            letters[place] = letter;
+        }
+    }
+    letters
+}

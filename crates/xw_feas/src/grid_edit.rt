@@ -1,0 +1,58 @@
+//! Edits of the grid.
+ghost use Rattle.std.specs.Prelude.{◌≡◌, length, true, IfOk, IfErr, OnOk, OnErr, Ok, Err};
+ghost use Rattle.xw_grid.specs.Edit.{toggle_block as block_toggled, toggle_bar as bar_toggled};
+ghost use Rattle.xw_grid.specs.Light.{lights_of};
+ghost use Rattle.xw_feas.specs.Shape.{SameShape, IsGridRefused};
+ghost use Rattle.xw_feas.specs.State.{grid_after, is_of_letters, action_of};
+
+use crate::edit::{Edit, Refusal};
+use crate::place::place;
+use xw_grid::cell::{Cell, Side};
+use xw_grid::fault::GridFault;
+use xw_grid::grid::Grid;
+use xw_grid::lights::Lights;
+
+/// A grid with one of its blocks toggled.
+pub fn with_block(grid: &Grid, cell: Cell) -> Result<Grid, GridFault>
+    ensures ok { IfOk result (λ toggled. block_toggled grid.now cell ≡ Ok toggled) }
+    ensures refused { IfErr result (λ fault. IsGridRefused (block_toggled grid.now cell) fault) }
+    ensures cells { IfOk result (λ toggled. length toggled.squares ≡ length grid.now.squares) }
+{
+    grid.well_formed();
+    grid.judge_block(cell)?;
+    let mut toggled = grid.copy()?;
+    toggled.toggle_block(cell)?;
+    Ok(toggled)
+}
+
+/// A grid with one of its bars toggled.
+pub fn with_bar(grid: &Grid, cell: Cell, side: Side) -> Result<Grid, GridFault>
+    ensures ok { IfOk result (λ toggled. bar_toggled grid.now cell side ≡ Ok toggled) }
+    ensures refused { IfErr result (λ fault. IsGridRefused (bar_toggled grid.now cell side) fault) }
+    ensures cells { IfOk result (λ toggled. length toggled.squares ≡ length grid.now.squares) }
+{
+    grid.judge_bar(cell, side)?;
+    let mut toggled = grid.copy()?;
+    toggled.toggle_bar(cell, side)?;
+    Ok(toggled)
+}
+
+/// An edit of letters, or of the symmetry, which leaves the lights as they are.
+pub fn edit_letters(grid: &mut Grid, lights: &Lights, edit: &Edit<'_>) -> Result<(), Refusal>
+    requires lights { lights.now ≡ lights_of grid.old }
+    requires letters { is_of_letters (action_of edit.now) ≡ true }
+    ensures ok { OnOk result (grid_after grid.old (action_of edit.now) ≡ Ok grid.new) }
+    ensures refused { IfErr result (λ refusal. grid_after grid.old (action_of edit.now) ≡ Err refusal) }
+    ensures same { OnErr result (grid.new ≡ grid.old) }
+    ensures shape { SameShape grid.old grid.new }
+{
+    grid.well_formed();
+    match *edit {
+        Edit::Set(cell, letter) => grid.set(cell, letter)?,
+        Edit::Clear(cell) => grid.clear(cell)?,
+        Edit::Place(name, word) => place(grid, lights, name, word)?,
+        Edit::Symmetry(kind) => grid.set_symmetry(kind)?,
+        _ => unreachable!(),
+    }
+    Ok(())
+}

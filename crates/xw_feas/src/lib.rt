@@ -1,0 +1,17 @@
+//! The feasible words and letters of a grid and a dictionary.
+#![tactic(auto)]
+
+mod arrays;
+pub mod board;
+pub mod changed;
+mod dictionary;
+pub mod edit;
+pub mod feasible;
+mod flags;
+mod grid_edit;
+mod place;
+pub mod plain;
+mod standing;
+#[cfg(test)]
+mod tests;
+pub mod words;

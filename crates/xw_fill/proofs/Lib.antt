@@ -1,0 +1,15 @@
+pub mod BelowLemmas
+pub mod Shaped
+pub mod StateLemmas
+pub mod FeasibleWordsLemmas
+pub mod PlacingLemmas
+pub mod SearchLemmas
+pub mod RepeatLemmas
+pub mod FillLemmas
+pub mod ScanLemmas
+pub mod WordsLemmas
+pub mod Trail
+pub mod Searching
+pub mod SuggestingLemmas
+pub mod ListingLemmas
+pub mod LawLemmas

@@ -1,0 +1,66 @@
+-- Lemmas on which words are active.
+use Rattle.std.proofs.Common.{◌≡◌, ℕ, ◌+◌, ◌<◌, true, false, ◌&&◌, List, [], ◌∷◌, ◌++◌, length, get_or, set, take, Some, None, refl, sym, ◌∙◌, ap, arith, inl, inr, add-one}
+use Rattle.std.specs.Prelude.{bytes_eq, unwrap_or}
+use Rattle.std.proofs.lemmas.Bool.{and_parts, and_from, cases_Bool, false≢true, false_from_ne_true}
+use Rattle.std.proofs.lemmas.List.{get_or-map, length-map, get_or_default, take_more, take_more_set}
+use Rattle.std.proofs.lemmas.List.Quantifiers.{position-Some}
+use Rattle.std.proofs.lemmas.Slice.Eq.{bytes_eq-Decides}
+use Rattle.xw_words.specs.Dictionary.{Entry, no_entry, Dictionary, row as known_words, place_of}
+use Rattle.xw_feas.specs.Known.{spellings}
+use Rattle.xw_feas.specs.Board.{Board, entry, spelled}
+use Rattle.xw_fill.proofs.Shaped.{HasDistinctWords}
+use Rattle.xw_fill.specs.Position.{Position}
+use Rattle.xw_fill.specs.Below.{those_below}
+use Rattle.xw_fill.specs.Search.{is_entered, spelling}
+use Rattle.xw_fill.specs.Listing.{is_listed, is_unlisted}
+use Rattle.xw_fill.proofs.BelowLemmas.{Contains-among, Among-contained, list_any-from, list_any-gives}
+use Rattle.xw_fill.proofs.WordsLemmas.{no_place}
+
+-- a known word that is active and spelled so, by its place
+listed_at : (state : Position) (word : List ℕ) → is_listed state word ≡ true → (k : ℕ) × (k < length (known_words state.words (length word))) × ((get_or (known_words state.words (length word)) k no_entry).active ≡ true) × ((get_or (known_words state.words (length word)) k no_entry).word ≡ word)
+listed_at state word h =
+    let known = known_words state.words (length word) in
+    let found = list_any-gives (λ (w : Entry). w.active && bytes_eq w.word word) known h in
+    let parts = and_parts found.0.active (bytes_eq found.0.word word) found.2 in
+    let at = Contains-among found.0 known found.1 in
+    let is : get_or known at.0 no_entry ≡ found.0 = get_or_default known at.0 no_entry found.0 at.1 ∙ at.2 in
+    (at.0, at.1, ap (λ (w : Entry). w.active) is ∙ parts.0, ap (λ (w : Entry). w.word) is ∙ (bytes_eq-Decides found.0.word word).0 parts.1)
+
+spelling_at : (dictionary : Dictionary) (len k : ℕ) → k < length (known_words dictionary len) → get_or (spellings dictionary len) k [] ≡ (get_or (known_words dictionary len) k no_entry).word
+spelling_at dictionary len k below = get_or-map (λ (w : Entry). w.word) (known_words dictionary len) k no_entry [] below
+
+pub listed-none : (state : Position) (word : List ℕ) → place_of state.words word ≡ None → is_listed state word ≡ false
+listed-none state word h = false_from_ne_true _ (λ listed.
+    let at = listed_at state word listed in
+    false≢true (sym (no_place (λ (w : Entry). bytes_eq w.word word) (known_words state.words (length word)) no_entry 0 h at.0 (omega arith) at.1) ∙ (bytes_eq-Decides _ word).1 at.3))
+
+pub listed-some : (state : Position) (word : List ℕ) (place : ℕ) → HasDistinctWords state.words → place_of state.words word ≡ Some place → is_listed state word ≡ (get_or (known_words state.words (length word)) place no_entry).active
+listed-some state word place dictionary h =
+    let known = known_words state.words (length word) in
+    let found = position-Some (λ (w : Entry). bytes_eq w.word word) known place no_entry h in
+    let long = length-map known (λ (w : Entry). w.word) in
+    let same : (get_or known place no_entry).word ≡ word = (bytes_eq-Decides _ word).0 found.1 in
+    elim (cases_Bool (get_or known place no_entry).active) [
+      | inl standing ↦
+          list_any-from (λ (w : Entry). w.active && bytes_eq w.word word) known (get_or known place no_entry) (Among-contained _ known (place, found.0, get_or_default known place _ no_entry found.0)) (and_from _ _ standing found.1)
+          ∙ sym standing
+      | inr struck ↦
+          false_from_ne_true _ (λ listed.
+          let at = listed_at state word listed in
+          let here : at.0 ≡ place = dictionary.distinct (length word) at.0 place (omega (arith, long, at.1)) (omega (arith, long, found.0)) (spelling_at state.words (length word) at.0 at.1 ∙ at.3 ∙ sym same ∙ sym (spelling_at state.words (length word) place found.0)) in
+          false≢true (sym struck ∙ ap (λ j. (get_or known j no_entry).active) (sym here) ∙ at.2))
+          ∙ sym struck
+    ]
+
+-- one light more
+pub unlisted-more : (state : Position) (n : ℕ) → is_entered state n ≡ true → is_listed state (spelling state n) ≡ false → those_below (is_unlisted state) (n + 1) ≡ those_below (is_unlisted state) n ++ n ∷ []
+unlisted-more state n entered none = rw add-one (rw (entered, none) refl)
+
+-- one letter more of what a light spells
+pub spelled-more : (board : Board) (cells letters : List ℕ) (k letter : ℕ) → k < length cells → k < length letters → letter ≡ unwrap_or (entry board (get_or cells k 0)) 65 → take k letters ≡ take k (spelled board cells) → take (k + 1) (set letters k letter) ≡ take (k + 1) (spelled board cells)
+spelled-more board cells letters k letter below within is so_far =
+    let long : length (spelled board cells) ≡ length cells = length-map cells (λ cell. unwrap_or (entry board cell) 65) in
+    take_more_set letters k letter within
+    ∙ ap (λ ls. ls ++ letter ∷ []) so_far
+    ∙ ap (λ l. take k (spelled board cells) ++ l ∷ []) (is ∙ sym (get_or-map (λ cell. unwrap_or (entry board cell) 65) cells k 0 0 below))
+    ∙ sym (take_more (spelled board cells) k 0 (omega arith))

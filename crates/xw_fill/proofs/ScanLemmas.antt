@@ -1,0 +1,142 @@
+-- Lemmas on what the scans of an engine find.
+use Rattle.std.proofs.Common.{◌≡◌, ℕ, zero, suc, ◌+◌, ◌<◌, ◌≤◌, Bool, true, false, cond, not, ◌||◌, List, [], ◌∷◌, ◌++◌, length, get_or, set, drop, Option, Some, None, refl, sym, ◌∙◌, ap, arith, add-one}
+use Rattle.std.specs.Prelude.{Result, is_some, is_none, unwrap_or, bytes_eq}
+use Rattle.std.proofs.lemmas.Bool.{true≢false, false≢true, eq-eqb, ne_eqb, false_from_ne_true, lt-ltb, le-ltb}
+use Rattle.std.proofs.lemmas.List.{get_or-map, length-map}
+use Rattle.std.proofs.lemmas.Slice.Eq.{bytes_eq-Decides}
+use Rattle.xw_grid.specs.declared.cell.Cell.{Cell}
+use Rattle.xw_grid.specs.declared.lights.Light.{Light}
+use Rattle.xw_grid.specs.Grid.{IsGrid}
+use Rattle.xw_grid.specs.Light.{lights_of, step, no_light}
+use Rattle.xw_feas.specs.State.{State, cell_cleared}
+use Rattle.xw_fill.proofs.StateLemmas.{cleared, light_cell_at, light_size, differs_open, differs_index, IsPartly, IsPartly-then}
+use Rattle.xw_feas.specs.Board.{Board, board_of, entry, spelled, light_at}
+use Rattle.xw_feas.specs.declared.edit.Refusal.{Refusal}
+use Rattle.xw_feas.specs.Feasible.{Answers}
+use Rattle.xw_fill.specs.Position.{Position}
+use Rattle.xw_feas.specs.Engine.{IsEdited}
+use Rattle.xw_feas.specs.declared.changed.Changed.{Changed}
+use Rattle.xw_fill.specs.declared.tries.Try.{Try}
+use Rattle.xw_fill.specs.Below.{any_below, first_below}
+use Rattle.xw_fill.specs.FeasibleWords.{feasible_words}
+use Rattle.xw_fill.specs.Search.{light_count, is_entered, is_repeat, lacks_words, is_dead, chosen_below}
+use Rattle.xw_fill.specs.Tries.{without_letters, taken_back, all_taken_back}
+use Rattle.xw_fill.proofs.BelowLemmas.{any_below-first}
+
+-- a light without feasible words
+pub lacks_words-none : (state : Position) (light count : ℕ) → count ≡ length (feasible_words state light) → count ≡ 0 → lacks_words state light ≡ true
+lacks_words-none state light count e none = eq-eqb (length (feasible_words state light)) 0 (sym e ∙ none)
+
+pub lacks_words-some : (state : Position) (light count : ℕ) → count ≡ length (feasible_words state light) → (count ≡ 0 → ⊥) → lacks_words state light ≡ false
+lacks_words-some state light count e some = ne_eqb (length (feasible_words state light)) 0 (λ none. some (e ∙ none))
+
+-- a light more among which one is chosen
+pub chosen-entered : (state : Position) (n : ℕ) → is_entered state n ≡ true → chosen_below state (n + 1) ≡ chosen_below state n
+chosen-entered state n e = rw add-one (rw e refl)
+
+chosen-first : (state : Position) (n : ℕ) → is_entered state n ≡ false → chosen_below state n ≡ None → chosen_below state (n + 1) ≡ Some n
+chosen-first state n e none = rw add-one (rw (e, none) refl)
+
+chosen-kept : (state : Position) (n best : ℕ) → is_entered state n ≡ false → chosen_below state n ≡ Some best → length (feasible_words state best) ≤ length (feasible_words state n) → chosen_below state (n + 1) ≡ Some best
+chosen-kept state n best e before more = rw add-one (rw (e, before) (ap (λ b. Some (cond b n best)) (le-ltb (length (feasible_words state n)) (length (feasible_words state best)) more)))
+
+chosen-fewer : (state : Position) (n best : ℕ) → is_entered state n ≡ false → chosen_below state n ≡ Some best → length (feasible_words state n) < length (feasible_words state best) → chosen_below state (n + 1) ≡ Some n
+chosen-fewer state n best e before fewer = rw add-one (rw (e, before) (ap (λ b. Some (cond b n best)) (lt-ltb (length (feasible_words state n)) (length (feasible_words state best)) fewer)))
+
+pub chosen-better : (state : Position) (n : ℕ) (best : Option ℕ) (fewest count : ℕ) → is_entered state n ≡ false → chosen_below state n ≡ best → ((light : ℕ) → best ≡ Some light → fewest ≡ length (feasible_words state light)) → count ≡ length (feasible_words state n) → (is_some best ≡ true → count < fewest) → chosen_below state (n + 1) ≡ Some n
+chosen-better state n None fewest count e before known is less = chosen-first state n e before
+chosen-better state n (Some light) fewest count e before known is less = chosen-fewer state n light e before (omega (arith, known light refl, is, less refl))
+
+pub chosen-as_good : (state : Position) (n : ℕ) (best : Option ℕ) (fewest count : ℕ) → is_entered state n ≡ false → chosen_below state n ≡ best → ((light : ℕ) → best ≡ Some light → fewest ≡ length (feasible_words state light)) → count ≡ length (feasible_words state n) → is_some best ≡ true → fewest ≤ count → chosen_below state (n + 1) ≡ best
+chosen-as_good state n None fewest count e before known is some more = absurd (false≢true some)
+chosen-as_good state n (Some light) fewest count e before known is some more = chosen-kept state n light e before (omega (arith, known light refl, is, more))
+
+-- whether two lists of cells spell the same
+pub spelled_letter : (board : Board) (cells : List ℕ) (k : ℕ) → k < length cells → get_or (spelled board cells) k 0 ≡ unwrap_or (entry board (get_or cells k 0)) 65
+spelled_letter board cells k below = get_or-map (λ cell. unwrap_or (entry board cell) 65) cells k 0 0 below
+
+pub differ-at : (board : Board) (cells others : List ℕ) (k : ℕ) → length cells ≡ length others → k < length cells → (unwrap_or (entry board (get_or cells k 0)) 65 ≡ unwrap_or (entry board (get_or others k 0)) 65 → ⊥) → bytes_eq (spelled board cells) (spelled board others) ≡ false
+differ-at board cells others k long below differ = false_from_ne_true _ (λ h.
+    let same = (bytes_eq-Decides (spelled board cells) (spelled board others)).0 h in
+    differ (sym (spelled_letter board cells k below) ∙ ap (λ w. get_or w k 0) same ∙ spelled_letter board others k (omega arith)))
+
+pub differ-length : (board : Board) (cells others : List ℕ) → (length cells ≡ length others → ⊥) → bytes_eq (spelled board cells) (spelled board others) ≡ false
+differ-length board cells others differ = false_from_ne_true _ (λ h.
+    let same = (bytes_eq-Decides (spelled board cells) (spelled board others)).0 h in
+    differ (sym (length-map cells (λ cell. unwrap_or (entry board cell) 65)) ∙ ap length same ∙ length-map others (λ cell. unwrap_or (entry board cell) 65)))
+
+same_letters : (board : Board) (cells others : List ℕ) → length cells ≡ length others → ((k : ℕ) → k < length cells → unwrap_or (entry board (get_or cells k 0)) 65 ≡ unwrap_or (entry board (get_or others k 0)) 65) → spelled board cells ≡ spelled board others
+same_letters board [] [] long h = refl
+same_letters board [] (other ∷ others) long h = absurd (omega arith)
+same_letters board (cell ∷ cells) [] long h = absurd (omega arith)
+same_letters board (cell ∷ cells) (other ∷ others) long h = rw (h 0 (omega arith), same_letters board cells others (omega arith) (λ k below. h (suc k) (omega arith))) refl
+
+pub same-all : (board : Board) (cells others : List ℕ) (n : ℕ) → length cells ≡ length others → length cells ≤ n → ((k : ℕ) → k < n → unwrap_or (entry board (get_or cells k 0)) 65 ≡ unwrap_or (entry board (get_or others k 0)) 65) → bytes_eq (spelled board cells) (spelled board others) ≡ true
+same-all board cells others n long all h = (bytes_eq-Decides (spelled board cells) (spelled board others)).1 (same_letters board cells others long (λ k below. h k (omega arith)))
+
+-- dead, as the scans find it
+pub dead-blocked : (state : Position) (first : Option ℕ) → first ≡ first_below (lacks_words state) (light_count state) → is_some first ≡ true → is_dead state ≡ true
+unfolding is_dead
+dead-blocked state first e some = ap (λ b. b || any_below (is_repeat state) (light_count state)) (any_below-first (lacks_words state) (light_count state) ∙ ap is_some (sym e) ∙ some)
+
+pub dead-repeat : (state : Position) (first : Option ℕ) (repeats : Bool) → first ≡ first_below (lacks_words state) (light_count state) → is_some first ≡ false → repeats ≡ any_below (is_repeat state) (light_count state) → is_dead state ≡ repeats
+unfolding is_dead
+dead-repeat state first repeats e none e' = ap (λ b. b || any_below (is_repeat state) (light_count state)) (any_below-first (lacks_words state) (light_count state) ∙ ap is_some (sym e) ∙ none) ∙ sym e'
+
+-- one more place of a light is cleared
+drop_nil : {X : Type 0} (k : ℕ) → drop {A = X} k [] ≡ []
+drop_nil zero = refl
+drop_nil (suc k) = refl
+
+without_letters-suc : (entries : List (Option ℕ)) (cells : List ℕ) (blanks : List Bool) (k : ℕ) → k < length cells → without_letters entries (drop k cells) (drop k blanks) ≡ without_letters (cond (get_or blanks k false) (set entries (get_or cells k 0) None) entries) (drop (suc k) cells) (drop (suc k) blanks)
+without_letters-suc entries [] blanks k below = absurd (omega arith)
+without_letters-suc entries (cell ∷ cells) [] zero below = refl
+without_letters-suc entries (cell ∷ cells) (blank ∷ blanks) zero below = refl
+without_letters-suc entries (cell ∷ cells) [] (suc k) below = rw (drop_nil {X = Bool} k) at (without_letters-suc entries cells [] k (omega arith))
+without_letters-suc entries (cell ∷ cells) (blank ∷ blanks) (suc k) below = without_letters-suc entries cells blanks k (omega arith)
+
+without_letters-more : (entries : List (Option ℕ)) (cells : List ℕ) (blanks : List Bool) (k : ℕ) → k < length cells → without_letters entries (drop k cells) (drop k blanks) ≡ without_letters (cond (get_or blanks k false) (set entries (get_or cells k 0) None) entries) (drop (k + 1) cells) (drop (k + 1) blanks)
+without_letters-more entries cells blanks k below = rw add-one (without_letters-suc entries cells blanks k below)
+
+-- no place of it is left
+pub without_letters-end : (entries : List (Option ℕ)) (cells : List ℕ) (k : ℕ) (blanks : List Bool) → length cells ≤ k → without_letters entries (drop k cells) blanks ≡ entries
+without_letters-end entries [] k blanks all = rw (drop_nil {X = ℕ} k) refl
+without_letters-end entries (cell ∷ cells) zero blanks all = absurd (omega arith)
+without_letters-end entries (cell ∷ cells) (suc k) blanks all = without_letters-end entries cells k blanks (omega arith)
+
+-- the light's cell at a place is cleared
+pub take_back-step : (before now after_it : State) (answers_now answers_after : Answers) (light place : ℕ) (found : Light) (blanks : List Bool) (target : List (Option ℕ)) (cell : Cell) (result : Result Changed Refusal) → IsGrid now.grid
+    → light < length (lights_of before.grid) → found ≡ get_or (lights_of before.grid) light no_light → place < found.size → cell ≡ step found.name.direction found.start place
+    → without_letters (board_of now.grid).entries (drop place (light_at (board_of before.grid) light)) (drop place blanks) ≡ target → IsPartly before now
+    → get_or blanks place false ≡ true
+    → IsEdited now answers_now (cell_cleared cell) result after_it answers_after
+    → (without_letters (board_of after_it.grid).entries (drop (place + 1) (light_at (board_of before.grid) light)) (drop (place + 1) blanks) ≡ target) × IsPartly before after_it
+take_back-step before now after_it answers_now answers_after light place found blanks target cell result is in_grid found_is within cell_is so_far partly blank edited =
+    let cells = light_at (board_of before.grid) light in
+    let at = light_cell_at before.grid light place found cell in_grid found_is within cell_is in
+    let below : place < length cells = omega (arith, light_size before.grid light found in_grid found_is, within) in
+    let done = cleared now after_it answers_now answers_after cell result is (differs_open before now cell partly.1 ∙ at.0) edited in
+    let entries : (board_of after_it.grid).entries ≡ set (board_of now.grid).entries (get_or cells place 0) None = ap (λ p. p.board.entries) done.0 ∙ ap (λ c. set (board_of now.grid).entries c None) (differs_index before now cell partly.1 ∙ at.1) in (
+      ap (λ es. without_letters es (drop (place + 1) cells) (drop (place + 1) blanks)) (entries ∙ sym (ap (λ b. cond b (set (board_of now.grid).entries (get_or cells place 0) None) (board_of now.grid).entries) blank)) ∙ sym (without_letters-more (board_of now.grid).entries cells blanks place below) ∙ so_far,
+      IsPartly-then before now after_it partly done,
+    )
+
+pub take_back-pass : (before now : State) (light k : ℕ) (blanks : List Bool) (target : List (Option ℕ)) → without_letters (board_of now.grid).entries (drop k (light_at (board_of before.grid) light)) (drop k blanks) ≡ target
+    → k < length (light_at (board_of before.grid) light) → get_or blanks k false ≡ false
+    → without_letters (board_of now.grid).entries (drop (k + 1) (light_at (board_of before.grid) light)) (drop (k + 1) blanks) ≡ target
+take_back-pass before now light k blanks target so_far below not_blank =
+    let cells = light_at (board_of before.grid) light in
+    let entries = (board_of now.grid).entries in
+    ap (λ b. without_letters (cond b (set entries (get_or cells k 0) None) entries) (drop (k + 1) cells) (drop (k + 1) blanks)) (sym not_blank) ∙ sym (without_letters-more entries cells blanks k below) ∙ so_far
+
+-- the last of several tries is taken back first
+pub all_taken_back-last : (position : Position) (tries : List Try) (tried : Try) → all_taken_back position (tries ++ tried ∷ []) ≡ all_taken_back (taken_back position tried) tries
+all_taken_back-last position [] tried = refl
+all_taken_back-last position (first ∷ tries) tried = ap (λ s. taken_back s first) (all_taken_back-last position tries tried)
+
+-- whether there is nothing
+pub none_is : {A : Type 0} (o : Option A) (b : Bool) → is_some o ≡ not b → b ≡ is_none o
+none_is None true h = refl
+none_is None false h = absurd (false≢true h)
+none_is (Some x) true h = absurd (true≢false h)
+none_is (Some x) false h = refl

@@ -1,0 +1,246 @@
+-- What a search for a fill keeps, from one step to the next.
+use Rattle.std.proofs.Common.{◌≡◌, ℕ, zero, suc, ◌+◌, ◌<◌, ◌≤◌, Bool, true, false, cond, not, List, [], ◌∷◌, ◌++◌, map, length, get_or, Option, Some, None, refl, sym, ◌∙◌, ap, subst, arith}
+use Rattle.std.specs.Prelude.{All, is_none, Result, Ok, Err, MatchResult, IsErrAnd, IfOk}
+use Rattle.std.specs.Option.{option_to_list}
+use Rattle.std.specs.List.{list_any}
+use Rattle.std.proofs.lemmas.Bool.{false≢true}
+use Rattle.std.proofs.lemmas.List.{nil_from_length, get_or_push, length-append, get_or-map}
+use Rattle.xw_feas.specs.Board.{board_of, light_at, entry}
+use Rattle.xw_feas.specs.State.{State}
+use Rattle.xw_fill.proofs.Shaped.{shaped, distinct_words}
+use Rattle.xw_fill.proofs.StateLemmas.{same_state}
+use Rattle.xw_feas.specs.WellFormed.{IsWellFormed}
+use Rattle.xw_fill.specs.Position.{Position, position_of, filled_in, DiffersInEntries}
+use Rattle.xw_fill.specs.FeasibleWords.{is_feasible_word}
+use Rattle.xw_fill.specs.Search.{light_count, is_entered, is_dead, chosen, found_in, due_of, due_in, end_in, unentered_count, found, due, end}
+use Rattle.xw_fill.specs.Tries.{AreBlanks, all_taken_back, taken_back}
+use Rattle.xw_fill.specs.Filling.{outlook, next_of, IsFilling, HasFill}
+use Rattle.xw_fill.specs.declared.tries.Try.{Try}
+use Rattle.xw_fill.specs.declared.search.Filling.{Filling}
+use Rattle.xw_fill.specs.declared.search.Filling.TheVariants.{Filled, NoFill, Limit}
+use Rattle.xw_fill.specs.declared.search.Next.{Next}
+use Rattle.xw_fill.specs.declared.search.Next.TheVariants.{Done, Spent, Words}
+use Rattle.xw_fill.proofs.FillLemmas.{fill_is_found, found_is_fill, reached-start}
+use Rattle.xw_fill.proofs.SearchLemmas.{chosen-Some, chosen-counted, count_below-most}
+use Rattle.xw_fill.specs.Words.{spellings_at, words_before, IsNextWord, HasNoMore}
+use Rattle.xw_fill.proofs.WordsLemmas.{next_before, no_more_before}
+use Rattle.xw_fill.proofs.Trail.{IsSound, IsUnderWay, spent_on, found_after, due_after, IsTried, after_try, cost_of, Trail, trail-found, trail-due, trail-more, trail-last, trail-sound, trail-depth, trail-enough, trail-lights, trail-back, tried-failed, taken_back-placed, way-spent}
+
+-- what is known of the position where the search is, and what was spent on it
+abbrev pub IsAt : ℕ → Position → ℕ → Next → Type 0
+IsAt left current spent Done = (is_dead current ≡ false) × (chosen current ≡ None) × (spent ≡ 0)
+IsAt left current spent Spent = (found_in left current ≡ false) × (spent ≡ due_in left current)
+IsAt zero current spent (Words light from) = ⊥
+IsAt (suc left) current spent (Words light from) = IsUnderWay left current light from × (spent ≡ spent_on left current light from)
+
+-- the search has come from the start by these tries, with so many placements
+pub record IsSearching (start : Position) (tries : List Try) (used : ℕ) (current : Position) (next : Next) : Type 0 where
+  pub cost : ℕ
+  pub left : ℕ
+  pub spent : ℕ
+  pub trail : Trail (unentered_count start) start tries cost left current
+  pub at : IsAt left current spent next
+  pub used_is : used ≡ cost + spent
+
+pub IsSound-formed : (state : State) → IsWellFormed state → IsSound (position_of state)
+IsSound-formed state formed = record { board = shaped (board_of state.grid) formed.board; dictionary = distinct_words state.words formed.dictionary }
+
+-- a position that is new
+IsAt-outlook : (left : ℕ) (current : Position) → unentered_count current ≤ left → IsAt left current 0 (outlook current)
+unfolding found_in due_in
+IsAt-outlook left current enough = split left (is_dead current) refl (chosen current) refl enough where
+  split : (n : ℕ) → (b : Bool) → is_dead current ≡ b → (o : Option ℕ) → chosen current ≡ o → unentered_count current ≤ n → IsAt n current 0 (cond b Spent (next_of o))
+  split zero true dead o is e = (rw dead refl, refl)
+  split (suc n) true dead o is e = (rw dead refl, rw dead refl)
+  split n false alive None is e = (alive, is, refl)
+  split zero false alive (Some light) is e = let counted = chosen-counted current light is in absurd (omega arith)
+  split (suc n) false alive (Some light) is e = (record { alive = alive; chosen_is = is; failed = refl }, refl)
+
+pub searching-start : (start : Position) → IsSearching start [] 0 start (outlook start)
+searching-start start = record {
+  cost = 0;
+  left = unentered_count start;
+  spent = 0;
+  trail = (refl, refl, refl);
+  at = IsAt-outlook (unentered_count start) start (omega arith);
+  used_is = omega arith;
+}
+
+-- a try that is taken back
+pub searching-back : (start current : Position) (tries : List Try) (tried : Try) (used : ℕ) → IsSound start → IsSearching start (tries ++ tried ∷ []) used current Spent → IsSearching start tries used (taken_back current tried) (Words tried.light (tried.place + 1))
+searching-back start current tries tried used sound s =
+    let last = trail-last tries (unentered_count start) start s.cost s.left current tried s.trail in
+    let before_sound = trail-sound tries (unentered_count start) start last.paid (suc s.left) last.before sound last.trail in
+    let failed = tried-failed s.left last.before tried last.is (ap (found_in s.left) (sym last.current_is) ∙ s.at.0) in
+    let back : taken_back current tried ≡ last.before = ap (λ p. taken_back p tried) last.current_is ∙ taken_back-placed s.left last.before tried before_sound last.is in
+    let spent : due_in s.left current ≡ due_in s.left (after_try last.before tried) = ap (due_in s.left) last.current_is in
+    rw back (record {
+      cost = last.paid;
+      left = suc s.left;
+      spent = spent_on s.left last.before tried.light (tried.place + 1);
+      trail = last.trail;
+      at = (failed.0, refl);
+      used_is = omega (arith, s.used_is, last.cost_is, failed.1, s.at.1);
+    })
+
+-- no word is left
+pub searching-spent : (start current : Position) (tries : List Try) (used light from : ℕ) → IsSound start → IsSearching start tries used current (Words light from) → HasNoMore current light from → IsSearching start tries used current Spent
+searching-spent start current tries used light from sound s all = split s.left s.trail s.at where
+  split : (left : ℕ) → Trail (unentered_count start) start tries s.cost left current → IsAt left current s.spent (Words light from) → IsSearching start tries used current Spent
+  split zero trail at = absurd at
+  split (suc left) trail at =
+      let over = way-spent left current light from (trail-sound tries (unentered_count start) start s.cost (suc left) current sound trail) at.0 (no_more_before current light from all) in
+      record { cost = s.cost; left = suc left; spent = s.spent; trail = trail; at = (over.0, omega (arith, at.1, over.1)); used_is = s.used_is }
+
+-- the light whose words are tried
+pub searching-open : (start current : Position) (tries : List Try) (used light from : ℕ) → IsSearching start tries used current (Words light from) → (light < light_count current) × (is_entered current light ≡ false)
+searching-open start current tries used light from s = split s.left s.at where
+  split : (left : ℕ) → IsAt left current s.spent (Words light from) → (light < light_count current) × (is_entered current light ≡ false)
+  split zero at = absurd at
+  split (suc left) at = chosen-Some current light at.0.chosen_is
+
+-- at a position that is not dead
+pub searching-alive : (start current : Position) (tries : List Try) (used light from : ℕ) → IsSearching start tries used current (Words light from) → is_dead current ≡ false
+searching-alive start current tries used light from s = split s.left s.at where
+  split : (left : ℕ) → IsAt left current s.spent (Words light from) → is_dead current ≡ false
+  split zero at = absurd at
+  split (suc left) at = at.0.alive
+
+-- the next word is a try
+next_try : (left : ℕ) (current : Position) (light from place : ℕ) (tried : Try) → IsUnderWay left current light from → IsNextWord current light from place → tried.light ≡ light → tried.place ≡ place → AreBlanks current.board (light_at current.board light) tried.blanks → IsTried left current tried × (spent_on left current tried.light tried.place ≡ spent_on left current light from)
+next_try left current light from place tried way next is at blanks = (
+  record {
+    way = record { alive = way.alive; chosen_is = way.chosen_is ∙ ap Some (sym is); failed = ap (λ l. list_any (found_after left current l) (words_before current l tried.place)) is ∙ ap (λ p. list_any (found_after left current light) (words_before current light p)) at ∙ ap (list_any (found_after left current light)) (next_before current light from place next) ∙ way.failed };
+    within = rw (is, at) next.within;
+    feasible = ap (λ l. is_feasible_word current l (get_or (spellings_at current l) tried.place [])) is ∙ ap (λ p. is_feasible_word current light (get_or (spellings_at current light) p [])) at ∙ next.feasible;
+    blanks = rw is blanks;
+  },
+  ap (λ l. spent_on left current l tried.place) is ∙ ap (λ p. spent_on left current light p) at ∙ ap (due_of (found_after left current light) (due_after left current light)) (next_before current light from place next),
+)
+
+pub searching-place : (start current : Position) (tries : List Try) (used light from place : ℕ) (tried : Try) → IsSound start → IsSearching start tries used current (Words light from) → IsNextWord current light from place → tried.light ≡ light → tried.place ≡ place → AreBlanks current.board (light_at current.board light) tried.blanks
+    → IsSearching start (tries ++ tried ∷ []) (used + 1) (after_try current tried) (outlook (after_try current tried))
+searching-place start current tries used light from place tried sound s next is at blanks = split s.left s.trail s.at where
+  split : (left : ℕ) → Trail (unentered_count start) start tries s.cost left current → IsAt left current s.spent (Words light from) → IsSearching start (tries ++ tried ∷ []) (used + 1) (after_try current tried) (outlook (after_try current tried))
+  split zero trail here = absurd here
+  split (suc left) trail here =
+      let made = next_try left current light from place tried here.0 next is at blanks in
+      let more = trail-more tries (unentered_count start) start s.cost left current tried trail made.0 in
+      record {
+        cost = s.cost + cost_of left current tried;
+        left = left;
+        spent = 0;
+        trail = more;
+        at = IsAt-outlook left (after_try current tried) (trail-enough (tries ++ tried ∷ []) (unentered_count start) start (s.cost + cost_of left current tried) left (after_try current tried) sound (omega arith) more);
+        used_is = omega (arith, s.used_is, here.1, made.1);
+      }
+
+-- there is room for it
+pub searching-room : (start current : Position) (tries : List Try) (used light from : ℕ) → IsSearching start tries used current (Words light from) → length tries < light_count start
+searching-room start current tries used light from s = split s.left s.trail s.at where
+  split : (left : ℕ) → Trail (unentered_count start) start tries s.cost left current → IsAt left current s.spent (Words light from) → length tries < light_count start
+  split zero trail at = absurd at
+  split (suc left) trail at =
+      let deep = trail-depth tries (unentered_count start) start s.cost (suc left) current trail in
+      let few = count_below-most (λ light. not (is_entered start light)) (light_count start) in
+      omega arith
+
+-- where the limit is reached and a word is left, more is due
+pub searching-limit : (start current : Position) (tries : List Try) (used light from place : ℕ) (tried : Try) → IsSound start → IsSearching start tries used current (Words light from) → IsNextWord current light from place → tried.light ≡ light → tried.place ≡ place → AreBlanks current.board (light_at current.board light) tried.blanks → used < due start
+searching-limit start current tries used light from place tried sound s next is at blanks = split s.left s.trail s.at where
+  split : (left : ℕ) → Trail (unentered_count start) start tries s.cost left current → IsAt left current s.spent (Words light from) → used < due start
+  split zero trail here = absurd here
+  split (suc left) trail here =
+      let made = next_try left current light from place tried here.0 next is at blanks in
+      let more = trail-more tries (unentered_count start) start s.cost left current tried trail made.0 in
+      let all = trail-due (tries ++ tried ∷ []) (unentered_count start) start (s.cost + cost_of left current tried) left (after_try current tried) sound more in
+      omega (arith, s.used_is, here.1, made.1)
+
+pub searching-lights : (start current : Position) (tries : List Try) (used : ℕ) (next : Next) → IsSearching start tries used current next → All (λ tried. tried.light < light_count current) tries
+searching-lights start current tries used next s =
+    let lights = trail-lights tries (unentered_count start) start s.cost s.left current s.trail in
+    λ k d below. rw lights.0 (lights.1 k d below)
+
+pub searching-count : (start current : Position) (tries : List Try) (used : ℕ) (next : Next) → IsSearching start tries used current next → light_count current ≡ light_count start
+searching-count start current tries used next s = (trail-lights tries (unentered_count start) start s.cost s.left current s.trail).0
+
+pub searching-all_back : (start current : Position) (tries : List Try) (used : ℕ) (next : Next) → IsSound start → IsSearching start tries used current next → all_taken_back current tries ≡ start
+searching-all_back start current tries used next sound s = trail-back tries (unentered_count start) start s.cost s.left current sound s.trail
+
+-- ---- How it ends
+
+-- what an answer says of the positions before and after
+abbrev pub IsOutcome : ℕ → Position → Position → Filling → Type 0
+IsOutcome limit start now Filled = (due start ≤ limit) × (found start ≡ true) × (now ≡ end start)
+IsOutcome limit start now NoFill = (due start ≤ limit) × (found start ≡ false) × (now ≡ start)
+IsOutcome limit start now Limit = (limit < due start) × (now ≡ start)
+
+-- and so of the states
+pub outcome_filling : (limit : ℕ) (before now : State) (filling : Filling) → DiffersInEntries before now → IsOutcome limit (position_of before) (position_of now) filling → IsFilling limit before now filling
+outcome_filling limit before now Filled differs h = (h.0, h.1, differs ∙ ap (λ position. filled_in before position.board.entries) h.2)
+outcome_filling limit before now NoFill differs h = (h.0, h.1, same_state before now differs h.2)
+outcome_filling limit before now Limit differs h = (h.0, same_state before now differs h.1)
+
+due_none : (left : ℕ) (position : Position) → is_dead position ≡ false → chosen position ≡ None → (found_in left position ≡ true) × (due_in left position ≡ 0) × (end_in left position ≡ position)
+unfolding found_in due_in end_in
+due_none zero position alive is = (rw (alive, is) refl, refl, refl)
+due_none (suc left) position alive is = (rw (alive, is) refl, rw (alive, is) refl, rw is refl)
+
+pub searching-done : (start current : Position) (tries : List Try) (used limit : ℕ) → IsSound start → IsSearching start tries used current Done → used ≤ limit → IsOutcome limit start current Filled
+searching-done start current tries used limit sound s few =
+    let here = due_none s.left current s.at.0 s.at.1 in
+    let all = trail-found tries (unentered_count start) start s.cost s.left current sound s.trail here.0 in
+    (omega (arith, s.used_is, s.at.2, all.1, here.1), all.0, sym (all.2 ∙ here.2))
+
+pub searching-none : (start current : Position) (used limit : ℕ) → IsSearching start [] used current Spent → used ≤ limit → IsOutcome limit start current NoFill
+searching-none start current used limit s few =
+    let same : current ≡ start = s.trail.2 in
+    let full : s.left ≡ unentered_count start = s.trail.1 in
+    let none : found start ≡ false = ap (λ p. found_in (unentered_count start) p) (sym same) ∙ ap (λ n. found_in n current) (sym full) ∙ s.at.0 in
+    let paid : due start ≡ due_in s.left current = ap (λ p. due_in (unentered_count start) p) (sym same) ∙ ap (λ n. due_in n current) (sym full) in
+    (omega (arith, s.used_is, s.at.1, paid, s.trail.0), none, same)
+
+-- and what that says of fills
+pub filling-fill : (limit : ℕ) (before now : State) (filling : Filling) → IsWellFormed before → IsFilling limit before now filling → HasFill before now filling
+filling-fill limit before now Filled formed h =
+    let start = position_of before in
+    let is = found_is_fill (unentered_count start) start start.board.entries (shaped start.board formed.board) (reached-start start formed.board.letters) h.1 in
+    (is.0, is.2, h.2 ∙ ap (λ position. filled_in before position.board.entries) is.1)
+filling-fill limit before now NoFill formed h = λ entries fill. false≢true (sym h.1 ∙ fill_is_found (unentered_count (position_of before)) (position_of before) entries (shaped (board_of before.grid) formed.board) (omega arith) fill)
+filling-fill limit before now Limit formed h = tt
+
+-- ---- What the code has, in these words
+
+-- a value that was made, with its error changed
+pub made : {T E D : Type 0} (r : Result T E) (m : Result T D) (x : T) (P : E → D → Type 0) (Q : T → Type 0) → MatchResult r (λ y. m ≡ Ok y) (λ e. IsErrAnd m (P e)) → m ≡ Ok x → IfOk r Q → Q x
+made (Ok y) m x P Q cases is q = let same : y ≡ x = cc in subst Q same q
+made (Err e) m x P Q cases is q = absurd (subst (λ r. IsErrAnd r (P e)) is cases)
+
+pub searching-popped : (start current : Position) (tries rest : List Try) (popped : Option Try) (tried : Try) (used : ℕ) (next : Next) → IsSearching start tries used current next → next ≡ Spent → tries ≡ rest ++ option_to_list popped → popped ≡ Some tried → IsSearching start (rest ++ tried ∷ []) used current Spent
+searching-popped start current tries rest popped tried used next s is items some =
+    subst (λ n. IsSearching start (rest ++ tried ∷ []) used current n) is (subst (λ ts. IsSearching start ts used current next) (items ∙ ap (λ o. rest ++ option_to_list o) some) s)
+
+pub searching-empty : (start current : Position) (tries rest : List Try) (popped : Option Try) (used : ℕ) (next : Next) → IsSearching start tries used current next → next ≡ Spent → tries ≡ rest ++ option_to_list popped → popped ≡ None → length tries ≡ 0 → IsSearching start [] used current Spent
+searching-empty start current tries rest popped used next s is items none long =
+    subst (λ n. IsSearching start [] used current n) is (subst (λ ts. IsSearching start ts used current next) (nil_from_length tries long) s)
+
+-- the place of the last try is one of the dictionary
+pub last-place : (start current : Position) (tries : List Try) (tried : Try) (used : ℕ) → IsSound start → IsSearching start (tries ++ tried ∷ []) used current Spent → tried.place < 1048576
+last-place start current tries tried used sound s =
+    let last = trail-last tries (unentered_count start) start s.cost s.left current tried s.trail in
+    let before_sound = trail-sound tries (unentered_count start) start last.paid (suc s.left) last.before sound last.trail in
+    let few = before_sound.dictionary.few (length (light_at last.before.board tried.light)) in
+    let within = last.is.within in
+    omega arith
+
+pub last-light : (start current : Position) (tries : List Try) (tried : Try) (used : ℕ) → IsSearching start (tries ++ tried ∷ []) used current Spent → tried.light < light_count current
+last-light start current tries tried used s =
+    subst (λ t. t.light < light_count current) (get_or_push tries tried tried (length tries) refl) (searching-lights start current (tries ++ tried ∷ []) used Spent s (length tries) tried (omega (arith, length-append tries (tried ∷ []))))
+
+-- the try that would come next
+abbrev pub try_at : Position → ℕ → ℕ → Try
+try_at position light place = record { light = light; place = place; blanks = map (λ cell. is_none (entry position.board cell)) (light_at position.board light) }
+
+pub due-more : (start current : Position) (tries : List Try) (used light from place : ℕ) → IsSound start → IsSearching start tries used current (Words light from) → IsNextWord current light from place → used < due start
+due-more start current tries used light from place sound s next =
+    searching-limit start current tries used light from place (try_at current light place) sound s next refl refl (λ k below. get_or-map (λ cell. is_none (entry current.board cell)) (light_at current.board light) k 0 false below)

@@ -1,0 +1,315 @@
+-- What an edit of letters makes of a state, and of its position.
+use Rattle.std.proofs.Common.{◌≡◌, ℕ, zero, suc, ◌-◌, ◌<◌, ◌≤◌, Bool, true, false, cond, not, List, [], ◌∷◌, map, length, get_or, set, drop, Option, Some, None, refl, sym, ◌∙◌, ap, subst, arith, inl, inr, length-set}
+use Rattle.std.specs.Prelude.{◌⊎◌, Result, Ok, Err, All, IsOk, slice_get, position, nat_le}
+use Rattle.std.proofs.lemmas.Bool.{false≢true, or_left, eq-eqb, leb-true}
+use Rattle.std.proofs.lemmas.List.{map-set, get_or-map, length-map}
+use Rattle.xw_words.specs.Dictionary.{Entry, row, entry_at, no_entry}
+use Rattle.xw_feas.specs.WellFormed.{IsWellFormed}
+use Rattle.xw_fill.specs.Words.{spellings_at}
+use Rattle.xw_words.specs.Letter.{IsLetter, folded}
+use Rattle.xw_words.specs.Word.{is_bad_letter}
+use Rattle.xw_words.proofs.LetterSetLemmas.{letter_is_capital}
+use Rattle.xw_grid.specs.declared.cell.Cell.{Cell}
+use Rattle.xw_grid.specs.declared.cell.Square.{Square}
+use Rattle.xw_grid.specs.declared.cell.Square.TheVariants.{Block, Open}
+use Rattle.xw_grid.specs.declared.lights.Light.{Light}
+use Rattle.xw_grid.specs.declared.fault.GridFault.{GridFault}
+use Rattle.xw_grid.specs.declared.fault.GridFault.TheVariants as faults
+use Rattle.std.proofs.lemmas.List.Elements.{All-set}
+use Rattle.xw_grid.specs.Grid.{Grid, IsSquare, IsGrid, is_inside, is_open, is_block, is_open_square, is_block_square, index_of, square_at}
+use Rattle.xw_grid.specs.Light.{lights_of, cells_of, step, no_light}
+use Rattle.xw_grid.specs.Edit.{with_entry}
+use Rattle.xw_grid.proofs.LightLemmas.{inside_from_open, cells_of_are_open, length-line, get_or-line}
+use Rattle.xw_feas.specs.declared.edit.Refusal.{Refusal}
+use Rattle.xw_feas.specs.declared.edit.Refusal.TheVariants as refusals
+use Rattle.xw_feas.specs.declared.changed.Changed.{Changed}
+use Rattle.xw_feas.specs.Board.{board_of, square_is_open, square_entry, places_of, light_at}
+use Rattle.xw_feas.specs.Feasible.{Answers, AreAnswers}
+use Rattle.xw_feas.specs.Queries.{words_of, on_light, count_answer, next_answer, next_found}
+use Rattle.xw_fill.specs.FeasibleWords.{feasible_words}
+use Rattle.xw_fill.proofs.FeasibleWordsLemmas.{answered_words}
+use Rattle.std.proofs.lemmas.Option.{slice_get-get_or, get_or_from_slice_get}
+use Rattle.xw_grid.specs.declared.cell.LightName.{LightName}
+use Rattle.xw_feas.specs.Engine.{IsEdited}
+use Rattle.xw_feas.specs.State.{State, Action, cell_cleared, word_placed, after, want_of, placed_in, spelled_in, with_letters as grid_with_letters, by_fault, with_grid}
+use Rattle.xw_feas.proofs.BoardLemmas.{length-lights, light_at-board}
+use Rattle.xw_feas.proofs.LightsLemmas.{found_by_name}
+use Rattle.xw_feas.proofs.ShapeLemmas.{SameShape-entry}
+use Rattle.xw_fill.proofs.BelowLemmas.{position-none}
+use Rattle.xw_fill.specs.Position.{position_of, holding, placed, with_entries, with_letters, squares_with, square_with, filled_in, DiffersInEntries, name_at}
+
+-- ---- lights by places and names
+
+pub in_grid_light : (grid : Grid) (light : ℕ) → light < length (board_of grid).lights → light < length (lights_of grid)
+in_grid_light grid light below = rw (← length-lights grid) below
+
+pub light_got : (grid : Grid) (lights : List Light) (light : ℕ) (found : Light) → lights ≡ lights_of grid → slice_get lights light ≡ Some found → found ≡ get_or (lights_of grid) light no_light
+light_got grid lights light found is at = sym (get_or_from_slice_get (lights_of grid) light found no_light (ap (λ ls. slice_get ls light) (sym is) ∙ at))
+
+pub light_missing : (grid : Grid) (lights : List Light) (light : ℕ) → lights ≡ lights_of grid → light < length (board_of grid).lights → slice_get lights light ≡ None → ⊥
+light_missing grid lights light is below at =
+    let there = sym at ∙ ap (λ ls. slice_get ls light) is ∙ slice_get-get_or (lights_of grid) light no_light (in_grid_light grid light below) in
+    cc
+
+pub count_named : (state : State) (answers : Answers) (light : ℕ) (name : LightName) → AreAnswers (board_of state.grid) state.words answers → name ≡ name_at state light → light < length (board_of state.grid).lights → count_answer state answers name ≡ Ok (length (feasible_words (position_of state) light))
+count_named state answers light name exact is below =
+    ap (λ n. count_answer state answers n) is
+    ∙ ap (on_light (λ place. length (words_of answers place))) (found_by_name state.grid light no_light (in_grid_light state.grid light below))
+    ∙ ap (λ words. Ok (length words)) (answered_words (position_of state) answers exact light)
+
+pub next_named : (state : State) (answers : Answers) (light from : ℕ) (name : LightName) → name ≡ name_at state light → light < length (board_of state.grid).lights → next_answer state answers name from ≡ Ok (next_found (board_of state.grid) state.words answers light from)
+next_named state answers light from name is below =
+    ap (λ n. next_answer state answers n from) is
+    ∙ ap (on_light (λ place. next_found (board_of state.grid) state.words answers place from)) (found_by_name state.grid light no_light (in_grid_light state.grid light below))
+
+pub ruleset light_steps = (length-lights)
+
+-- ---- entries of squares
+
+squares_with-same : (squares : List Square) → squares_with squares (map square_entry squares) ≡ squares
+squares_with-same [] = refl
+squares_with-same (Block ∷ squares) = ap (λ rest. Block ∷ rest) (squares_with-same squares)
+squares_with-same (Open entered ∷ squares) = ap (λ rest. Open entered ∷ rest) (squares_with-same squares)
+
+squares_with-opens : (before now : List Square) → map square_is_open now ≡ map square_is_open before → squares_with before (map square_entry now) ≡ now
+squares_with-opens [] [] h = refl
+squares_with-opens [] (square ∷ now) h = let long : suc (length (map square_is_open now)) ≡ 0 = ap length h in absurd (omega arith)
+squares_with-opens (square ∷ before) [] h = let long : 0 ≡ suc (length (map square_is_open before)) = ap length h in absurd (omega arith)
+squares_with-opens (Block ∷ before) (Block ∷ now) h = ap (λ rest. Block ∷ rest) (squares_with-opens before now (ap (λ flags. drop 1 flags) h))
+squares_with-opens (Open old ∷ before) (Open new ∷ now) h = ap (λ rest. Open new ∷ rest) (squares_with-opens before now (ap (λ flags. drop 1 flags) h))
+squares_with-opens (Block ∷ before) (Open new ∷ now) h = absurd (false≢true (sym (ap (λ flags. get_or flags 0 false) h)))
+squares_with-opens (Open old ∷ before) (Block ∷ now) h = absurd (false≢true (ap (λ flags. get_or flags 0 true) h))
+
+square_with-twice : (square : Square) (first second : Option ℕ) → square_with (square_with square first) second ≡ square_with square second
+square_with-twice Block first second = refl
+square_with-twice (Open entered) first second = refl
+
+squares_with-twice : (squares : List Square) (first second : List (Option ℕ)) → squares_with (squares_with squares first) second ≡ squares_with squares second
+squares_with-twice [] first second = refl
+squares_with-twice (square ∷ squares) first second = rw (square_with-twice square, squares_with-twice squares) refl
+
+-- ---- states that differ in entries
+
+pub DiffersInEntries-itself : (state : State) → DiffersInEntries state state
+unfolding board_of
+DiffersInEntries-itself state = ap (λ squares. record state { grid = record (state.grid) { squares = squares } }) (sym (squares_with-same state.grid.squares))
+
+pub DiffersInEntries-then : (first second third : State) → DiffersInEntries first second → DiffersInEntries second third → DiffersInEntries first third
+DiffersInEntries-then first second third a b =
+    b
+    ∙ ap (λ state. filled_in state (board_of third.grid).entries) a
+    ∙ ap (λ squares. record first { grid = record (first.grid) { squares = squares } }) (squares_with-twice first.grid.squares (board_of second.grid).entries (board_of third.grid).entries)
+
+-- with the same position it is the same state
+pub same_state : (start now : State) → DiffersInEntries start now → position_of now ≡ position_of start → now ≡ start
+same_state start now differs same = differs ∙ ap (λ position. filled_in start position.board.entries) same ∙ sym (DiffersInEntries-itself start)
+
+-- ---- an entry of the grid
+
+opens_set : (squares : List Square) (at : ℕ) (letter : Option ℕ) → is_open_square (slice_get squares at) ≡ true → map square_is_open (set squares at (Open letter)) ≡ map square_is_open squares
+opens_set [] at letter h = refl
+opens_set (Block ∷ squares) zero letter h = absurd (false≢true h)
+opens_set (Open entered ∷ squares) zero letter h = refl
+opens_set (square ∷ squares) (suc at) letter h = ap (λ rest. square_is_open square ∷ rest) (opens_set squares at letter h)
+
+IsGrid-entry : (grid : Grid) (cell : Cell) (letter : ℕ) → IsLetter letter → IsGrid grid → IsGrid (with_entry grid cell (Some letter))
+IsGrid-entry grid cell letter good is = record {
+  wide = is.wide;
+  high = is.high;
+  letters = All-set IsSquare grid.squares (index_of grid cell) (Open (Some letter)) good is.letters;
+  squares = length-set grid.squares (index_of grid cell) (Open (Some letter)) ∙ is.squares;
+  right = is.right;
+  below = is.below;
+  turned = is.turned;
+}
+
+pub entry_board : (grid : Grid) (cell : Cell) (letter : Option ℕ) → IsGrid grid → is_open grid cell ≡ true → board_of (with_entry grid cell letter) ≡ with_entries (board_of grid) (set (board_of grid).entries (index_of grid cell) letter)
+unfolding board_of
+entry_board grid cell letter is open_cell =
+    let shape = SameShape-entry grid cell letter is open_cell in
+    let inside = inside_from_open grid cell open_cell in
+    let was : is_open_square (slice_get grid.squares (index_of grid cell)) ≡ true = ap (λ b. is_open_square (cond b (slice_get grid.squares (index_of grid cell)) None)) (sym inside) ∙ open_cell in
+    let opens = opens_set grid.squares (index_of grid cell) letter was in
+    let entries : map square_entry (set grid.squares (index_of grid cell) (Open letter)) ≡ set (map square_entry grid.squares) (index_of grid cell) letter = map-set square_entry grid.squares (index_of grid cell) (Open letter) in
+    λ i. record { lights = map (places_of grid) (shape.lights i); open_cells = opens i; entries = entries i }
+
+-- the letters of a word in open cells
+letters_board : (grid : Grid) (cells : List Cell) (word : List ℕ) (d : Cell) → All IsLetter word → IsGrid grid → ((k : ℕ) → k < length cells → is_open grid (get_or cells k d) ≡ true)
+    → board_of (grid_with_letters grid cells word) ≡ with_entries (board_of grid) (with_letters (board_of grid).entries (map (index_of grid) cells) word)
+letters_board grid [] word d letters is open_cells = refl
+letters_board grid (cell ∷ cells) [] d letters is open_cells = refl
+letters_board grid (cell ∷ cells) (letter ∷ word) d letters is open_cells =
+    let one = entry_board grid cell (Some letter) is (open_cells 0 (omega arith)) in
+    let shape = SameShape-entry grid cell (Some letter) is (open_cells 0 (omega arith)) in
+    letters_board (with_entry grid cell (Some letter)) cells word d (λ k e below. letters (suc k) e (omega arith)) (IsGrid-entry grid cell letter (letters 0 0 (omega arith)) is) (λ k below. shape.opens (get_or cells k d) ∙ open_cells (suc k) (omega arith))
+    ∙ ap (λ board. with_entries board (with_letters board.entries (map (index_of grid) cells) word)) one
+
+-- they change squares alone
+letters_squares : (grid : Grid) (cells : List Cell) (word : List ℕ) → grid_with_letters grid cells word ≡ record grid { squares = (grid_with_letters grid cells word).squares }
+letters_squares grid [] word = refl
+letters_squares grid (cell ∷ cells) [] = refl
+letters_squares grid (cell ∷ cells) (letter ∷ word) = letters_squares (with_entry grid cell (Some letter)) cells word
+
+-- a grid whose squares alone have changed, with the same open cells
+differs_in_squares : (state : State) (grid : Grid) → grid ≡ record (state.grid) { squares = grid.squares } → (board_of grid).open_cells ≡ (board_of state.grid).open_cells → DiffersInEntries state (record state { grid = grid })
+unfolding board_of
+differs_in_squares state grid squares opens =
+    ap (λ g. record state { grid = g }) squares
+    ∙ ap (λ s. record state { grid = record (state.grid) { squares = s } }) (sym (squares_with-opens state.grid.squares grid.squares opens))
+
+-- ---- edits that are accepted
+
+pub edit_done : (before now target : State) (answers_before answers_now : Answers) (action : Action) (result : Result Changed Refusal) → after before action ≡ Ok target → want_of before action ≡ None → IsEdited before answers_before action result now answers_now → now ≡ target
+edit_done before now target answers_before answers_now action (Ok changed) e none edited = let is = edited.state in cc
+edit_done before now target answers_before answers_now action (Err refusal) e none edited = by_rule edited.rule where
+  by_rule : (after before action ≡ Err refusal) ⊎ (IsOk (after before action) × (want_of before action ≡ Some refusal)) → now ≡ target
+  by_rule (inl h) = cc
+  by_rule (inr h) = let wanted = h.1 in cc
+
+-- ---- placing a word
+
+-- a state that has come from one before by changes of entries
+abbrev pub IsPartly : State → State → Type 0
+IsPartly before now = (position_of now ≡ holding (position_of before) (board_of now.grid).entries) × DiffersInEntries before now
+
+pub IsPartly-itself : (state : State) → IsPartly state state
+IsPartly-itself state = (refl, DiffersInEntries-itself state)
+
+-- and one more change of entries
+pub IsPartly-then : (before now after_it : State) {entries : List (Option ℕ)} → IsPartly before now → (position_of after_it ≡ holding (position_of now) entries) × DiffersInEntries now after_it → IsPartly before after_it
+IsPartly-then before now after_it {entries} partly done =
+    let there : (board_of after_it.grid).entries ≡ entries = ap (λ p. p.board.entries) done.0 in (
+      done.0 ∙ ap (λ p. holding p entries) partly.0 ∙ ap (holding (position_of before)) (sym there),
+      DiffersInEntries-then before now after_it partly.1 done.1,
+    )
+
+-- the cells of a light are open
+light_open : (grid : Grid) (light : ℕ) (d : Cell) → light < length (lights_of grid) → (k : ℕ) → k < length (cells_of (get_or (lights_of grid) light no_light)) → is_open grid (get_or (cells_of (get_or (lights_of grid) light no_light)) k d) ≡ true
+light_open grid light d in_grid k below =
+    let found = get_or (lights_of grid) light no_light in
+    let within : k < found.size = omega (arith, length-line found.name.direction found.start found.size, below) in
+    ap (is_open grid) (get_or-line found.name.direction found.start found.size k d within) ∙ cells_of_are_open grid light no_light in_grid k within
+
+good_letter : (code : ℕ) → IsLetter code → is_bad_letter code ≡ false
+good_letter code is = ap not (or_left _ _ (letter_is_capital code is))
+
+good_letters : (word : List ℕ) → All IsLetter word → position is_bad_letter word ≡ None
+good_letters word letters = position-none is_bad_letter word 0 (λ k below. good_letter (get_or word k 0) (letters k 0 below))
+
+folded_letter : (code : ℕ) → IsLetter code → folded code ≡ code
+folded_letter code is = ap (λ b. cond b (code - 32) code) (not_above (nat_le 97 code) refl) where
+  not_above : (b : Bool) → nat_le 97 code ≡ b → nat_le 97 code ≡ false
+  not_above false e = e
+  not_above true e = let above : 97 ≤ code = leb-true 97 code e in absurd (omega (arith, is.1))
+
+folded_letters : (word : List ℕ) → All IsLetter word → map folded word ≡ word
+folded_letters [] letters = refl
+folded_letters (letter ∷ word) letters = rw (folded_letter letter (letters 0 0 (omega arith)), folded_letters word (λ k d below. letters (suc k) d (omega arith))) refl
+
+-- what placing a word of letters in a light makes of the grid
+place_accepted : (state : State) (light : ℕ) (word : List ℕ) → light < length (lights_of state.grid) → All IsLetter word → length word ≡ (get_or (lights_of state.grid) light no_light).size
+    → after state (word_placed (name_at state light) word) ≡ Ok (record state { grid = grid_with_letters state.grid (cells_of (get_or (lights_of state.grid) light no_light)) word })
+place_accepted state light word in_grid letters long =
+    let grid = state.grid in
+    let found = get_or (lights_of grid) light no_light in
+    ap (with_grid state)
+    (ap (λ place. placed_in grid place word) (found_by_name grid light no_light in_grid)
+    ∙ ap (λ bad. spelled_in grid found bad word) (good_letters word letters)
+    ∙ ap (λ b. cond {A = Result Grid Refusal} b (Ok (grid_with_letters grid (cells_of found) (map folded word))) (Err refusals.PlaceLength)) (eq-eqb (length word) found.size long)
+    ∙ ap (λ w. Ok (grid_with_letters grid (cells_of found) w)) (folded_letters word letters))
+
+pub placing : (before now : State) (answers_before answers_now : Answers) (light : ℕ) (word : List ℕ) (result : Result Changed Refusal) → IsGrid before.grid → light < length (lights_of before.grid) → All IsLetter word → length word ≡ (get_or (lights_of before.grid) light no_light).size
+    → IsEdited before answers_before (word_placed (name_at before light) word) result now answers_now
+    → (position_of now ≡ placed (position_of before) light word) × DiffersInEntries before now
+placing before now answers_before answers_now light word result is in_grid letters long edited =
+    let grid = before.grid in
+    let found = get_or (lights_of grid) light no_light in
+    let new = grid_with_letters grid (cells_of found) word in
+    let done = edit_done before now (record before { grid = new }) answers_before answers_now (word_placed (name_at before light) word) result (place_accepted before light word in_grid letters long) refl edited in
+    let board = letters_board grid (cells_of found) word found.start letters is (light_open grid light found.start in_grid) in
+    let cells : map (index_of grid) (cells_of found) ≡ light_at (board_of grid) light = sym (light_at-board grid light no_light in_grid) in (
+      ap position_of done ∙ ap (λ b. record { board = b; words = before.words }) board ∙ ap (λ cs. holding (position_of before) (with_letters (board_of grid).entries cs word)) cells,
+      subst (DiffersInEntries before) (sym done) (differs_in_squares before new (letters_squares grid (cells_of found) word) (ap (λ b. b.open_cells) board)),
+    )
+
+-- how long a light is
+pub light_size : (grid : Grid) (light : ℕ) (found : Light) → light < length (lights_of grid) → found ≡ get_or (lights_of grid) light no_light → length (light_at (board_of grid) light) ≡ found.size
+light_size grid light found in_grid is =
+    ap length (light_at-board grid light no_light in_grid ∙ ap (places_of grid) (sym is))
+    ∙ length-map (cells_of found) (index_of grid)
+    ∙ length-line found.name.direction found.start found.size
+
+-- a known word in its light
+pub placing_known : (before now : State) (answers_before answers_now : Answers) (light place : ℕ) (found : Light) (bytes : List ℕ) (result : Result Changed Refusal) → IsWellFormed before → light < length (board_of before.grid).lights → place < length (spellings_at (position_of before) light) → found ≡ get_or (lights_of before.grid) light no_light
+    → bytes ≡ (entry_at (row before.words found.size) place).word
+    → IsEdited before answers_before (word_placed found.name bytes) result now answers_now
+    → (position_of now ≡ placed (position_of before) light (get_or (spellings_at (position_of before) light) place [])) × DiffersInEntries before now
+placing_known before now answers_before answers_now light place found bytes result formed below within found_is bytes_are edited =
+    let in_grid = in_grid_light before.grid light below in
+    let size = light_size before.grid light found in_grid found_is in
+    let known = row before.words found.size in
+    let is = formed.dictionary.words found.size in
+    let many : length (spellings_at (position_of before) light) ≡ length known = length-map _ (λ (w : Entry). w.word) ∙ ap (λ n. length (row before.words n)) size in
+    let there : place < length known = rw (← many) within in
+    let word : bytes ≡ get_or (spellings_at (position_of before) light) place [] =
+    bytes_are ∙ sym (get_or-map (λ (w : Entry). w.word) known place no_entry [] there) ∙ ap (λ n. get_or (map (λ (w : Entry). w.word) (row before.words n)) place []) (sym size) in
+    let letters : All IsLetter bytes = subst (λ w. All IsLetter w) (sym bytes_are) (is.letters place no_entry there) in
+    let long : length bytes ≡ (get_or (lights_of before.grid) light no_light).size = ap length bytes_are ∙ is.long place no_entry there ∙ ap (λ l. l.size) found_is in
+    subst (λ w. (position_of now ≡ placed (position_of before) light w) × DiffersInEntries before now) word
+    (placing before now answers_before answers_now light bytes result formed.grid in_grid letters long (subst (λ l. IsEdited before answers_before (word_placed l.name bytes) result now answers_now) found_is edited))
+
+-- ---- clearing a cell
+
+open_no_block : (square : Option Square) → is_open_square square ≡ true → is_block_square square ≡ false
+open_no_block (Some (Open entered)) h = refl
+open_no_block (Some Block) h = absurd (false≢true h)
+open_no_block None h = absurd (false≢true h)
+
+clear_accepted : (state : State) (cell : Cell) → is_open state.grid cell ≡ true → after state (cell_cleared cell) ≡ Ok (record state { grid = with_entry state.grid cell None })
+clear_accepted state cell open_cell =
+    let inside = inside_from_open state.grid cell open_cell in
+    let no_block = open_no_block (square_at state.grid cell) open_cell in
+    ap (λ r. with_grid state (by_fault r))
+    (ap (λ b. cond {A = Result Grid GridFault} (not b) (Err faults.OutOfGrid) (cond (is_block state.grid cell) (Err faults.OnBlock) (Ok (with_entry state.grid cell None)))) inside
+    ∙ ap (λ b. cond {A = Result Grid GridFault} b (Err faults.OnBlock) (Ok (with_entry state.grid cell None))) no_block)
+
+pub cleared : (before now : State) (answers_before answers_now : Answers) (cell : Cell) (result : Result Changed Refusal) → IsGrid before.grid → is_open before.grid cell ≡ true
+    → IsEdited before answers_before (cell_cleared cell) result now answers_now
+    → (position_of now ≡ holding (position_of before) (set (board_of before.grid).entries (index_of before.grid cell) None)) × DiffersInEntries before now
+cleared before now answers_before answers_now cell result is open_cell edited =
+    let grid = before.grid in
+    let done = edit_done before now (record before { grid = with_entry grid cell None }) answers_before answers_now (cell_cleared cell) result (clear_accepted before cell open_cell) refl edited in
+    let board = entry_board grid cell None is open_cell in (
+      ap position_of done ∙ ap (λ b. record { board = b; words = before.words }) board,
+      subst (DiffersInEntries before) (sym done) (differs_in_squares before (with_entry grid cell None) refl (ap (λ b. b.open_cells) board)),
+    )
+
+-- a cell of a light by its step from the first one
+pub light_cell_at : (grid : Grid) (light place : ℕ) (found : Light) (cell : Cell) → light < length (lights_of grid) → found ≡ get_or (lights_of grid) light no_light → place < found.size → cell ≡ step found.name.direction found.start place
+    → (is_open grid cell ≡ true) × (index_of grid cell ≡ get_or (light_at (board_of grid) light) place 0)
+light_cell_at grid light place found cell in_grid found_is within cell_is =
+    let long : place < length (cells_of found) = omega (arith, length-line found.name.direction found.start found.size, within) in (
+      ap (is_open grid) (cell_is ∙ ap (λ l. step l.name.direction l.start place) found_is) ∙ cells_of_are_open grid light no_light in_grid place (subst (λ l. place < l.size) found_is within),
+      sym (ap (λ cs. get_or cs place 0) (light_at-board grid light no_light in_grid ∙ ap (places_of grid) (sym found_is))
+          ∙ get_or-map (index_of grid) (cells_of found) place found.start 0 long
+          ∙ ap (index_of grid) (get_or-line found.name.direction found.start found.size place found.start within ∙ sym cell_is)),
+    )
+
+-- entries leave the open cells
+open_with : (squares : List Square) (entries : List (Option ℕ)) (at : ℕ) → is_open_square (slice_get (squares_with squares entries) at) ≡ is_open_square (slice_get squares at)
+open_with [] entries at = refl
+open_with (Block ∷ squares) entries zero = refl
+open_with (Open entered ∷ squares) entries zero = refl
+open_with (square ∷ squares) entries (suc at) = open_with squares (drop 1 entries) at
+
+filled_open : (state : State) (entries : List (Option ℕ)) (cell : Cell) → is_open (filled_in state entries).grid cell ≡ is_open state.grid cell
+filled_open state entries cell = by_test (is_inside state.grid cell) where
+  by_test : (b : Bool) → is_open_square (cond b (slice_get (squares_with state.grid.squares entries) (index_of state.grid cell)) None) ≡ is_open_square (cond b (slice_get state.grid.squares (index_of state.grid cell)) None)
+  by_test true = open_with state.grid.squares entries (index_of state.grid cell)
+  by_test false = refl
+
+pub differs_open : (before now : State) (cell : Cell) → DiffersInEntries before now → is_open now.grid cell ≡ is_open before.grid cell
+differs_open before now cell differs = ap (λ s. is_open s.grid cell) differs ∙ filled_open before (board_of now.grid).entries cell
+
+pub differs_index : (before now : State) (cell : Cell) → DiffersInEntries before now → index_of now.grid cell ≡ index_of before.grid cell
+differs_index before now cell differs = ap (λ s. index_of s.grid cell) differs

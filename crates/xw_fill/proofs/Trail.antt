@@ -1,0 +1,340 @@
+-- The tries under way lead from the start of a search to where it is, and what has been placed on the way is a part of what is due.
+use Rattle.std.proofs.Common.{◌≡◌, ◌≢◌, ℕ, zero, suc, ◌+◌, ◌<◌, ◌≤◌, Bool, true, false, cond, ◌||◌, List, [], ◌∷◌, ◌++◌, length, get_or, set, drop, Option, Some, None, refl, sym, ◌∙◌, ap, arith, inl, inr}
+use Rattle.std.specs.Prelude.{filter, All, is_none}
+use Rattle.std.specs.List.{list_any}
+use Rattle.std.proofs.lemmas.Bool.{true≢false, or_from, or_left}
+use Rattle.std.proofs.lemmas.List.{length-set, get_or-set_same, get_or-set_other, ext_get_or}
+use Rattle.std.proofs.lemmas.List.Folds.{list_any-append}
+use Rattle.xw_feas.specs.Board.{entry, light_at, agrees}
+use Rattle.xw_fill.proofs.Shaped.{IsShaped}
+use Rattle.xw_fill.specs.Words.{spellings_at, words_before, words_from}
+use Rattle.xw_fill.proofs.Shaped.{HasDistinctWords}
+use Rattle.xw_fill.specs.Position.{Position, placed, with_letters, holding}
+use Rattle.xw_fill.specs.FeasibleWords.{is_feasible_word, feasible_words}
+use Rattle.xw_fill.specs.Search.{light_count, is_entered, is_dead, chosen, found_in, due_of, due_in, end_of, end_in, unentered_count}
+use Rattle.xw_fill.specs.Tries.{without_letters, taken_back, all_taken_back, AreBlanks}
+use Rattle.xw_fill.specs.declared.tries.Try.{Try}
+use Rattle.xw_fill.proofs.BelowLemmas.{Among-contained}
+use Rattle.xw_fill.proofs.FeasibleWordsLemmas.{is_feasible_word-gives}
+use Rattle.xw_fill.proofs.PlacingLemmas.{AreDistinct, cell_in, agrees-length, agrees-at, allowed, with_letters-other, length-with_letters}
+use Rattle.xw_fill.proofs.SearchLemmas.{chosen-Some, open_base, cells_within, cells_distinct, placed-laid, placed-at, placed-fewer}
+use Rattle.xw_fill.proofs.WordsLemmas.{feasible_known_words, words_before-more, words_parted}
+
+-- ---- Going through the words of a light
+
+due_of-append : (found : List ℕ → Bool) (due : List ℕ → ℕ) (xs ys : List (List ℕ)) → list_any found xs ≡ false → due_of found due (xs ++ ys) ≡ due_of found due xs + due_of found due ys
+due_of-append found due [] ys none = omega arith
+due_of-append found due (x ∷ xs) ys none = split (λ h. due_of-append found due xs ys h) (found x) refl none where
+  split : (list_any found xs ≡ false → due_of found due (xs ++ ys) ≡ due_of found due xs + due_of found due ys) → (b : Bool) → found x ≡ b → (b || list_any found xs) ≡ false
+      → 1 + due x + cond b 0 (due_of found due (xs ++ ys)) ≡ (1 + due x + cond b 0 (due_of found due xs)) + due_of found due ys
+  split rest true e h = absurd (true≢false h)
+  split rest false e h = let more = rest h in omega arith
+
+end_of-append : (found : List ℕ → Bool) (end : List ℕ → Position) (position : Position) (xs ys : List (List ℕ)) → list_any found xs ≡ false → end_of found end position (xs ++ ys) ≡ end_of found end position ys
+end_of-append found end position [] ys none = refl
+end_of-append found end position (x ∷ xs) ys none = split (λ h. end_of-append found end position xs ys h) (found x) refl none where
+  split : (list_any found xs ≡ false → end_of found end position (xs ++ ys) ≡ end_of found end position ys) → (b : Bool) → found x ≡ b → (b || list_any found xs) ≡ false → cond b (end x) (end_of found end position (xs ++ ys)) ≡ end_of found end position ys
+  split rest true e h = absurd (true≢false h)
+  split rest false e h = rest h
+
+abbrev pub found_after : ℕ → Position → ℕ → List ℕ → Bool
+found_after fuel position light word = found_in fuel (placed position light word)
+
+abbrev pub due_after : ℕ → Position → ℕ → List ℕ → ℕ
+due_after fuel position light word = due_in fuel (placed position light word)
+
+abbrev pub end_after : ℕ → Position → ℕ → List ℕ → Position
+end_after fuel position light word = end_in fuel (placed position light word)
+
+-- the words of the chosen light that stand before a place have been tried, and none led to a fill
+pub record IsUnderWay (fuel : ℕ) (position : Position) (light from : ℕ) : Type 0 where
+  pub alive : is_dead position ≡ false
+  pub chosen_is : chosen position ≡ Some light
+  pub failed : list_any (found_after fuel position light) (words_before position light from) ≡ false
+
+-- what that took
+abbrev pub spent_on : ℕ → Position → ℕ → ℕ → ℕ
+spent_on fuel position light from = due_of (found_after fuel position light) (due_after fuel position light) (words_before position light from)
+
+-- what is true of each position
+pub record IsSound (position : Position) : Type 0 where
+  pub board : IsShaped position.board
+  pub dictionary : HasDistinctWords position.words
+
+pub IsSound-placed : (position : Position) (light : ℕ) (word : List ℕ) → IsSound position → IsSound (placed position light word)
+IsSound-placed position light word sound = record { board = placed-laid position light word sound.board; dictionary = sound.dictionary }
+
+found_chosen : (fuel : ℕ) (position : Position) (light : ℕ) → is_dead position ≡ false → chosen position ≡ Some light → found_in (suc fuel) position ≡ list_any (found_after fuel position light) (feasible_words position light)
+unfolding found_in
+found_chosen fuel position light alive is = rw (alive, is) refl
+
+due_chosen : (fuel : ℕ) (position : Position) (light : ℕ) → is_dead position ≡ false → chosen position ≡ Some light → due_in (suc fuel) position ≡ due_of (found_after fuel position light) (due_after fuel position light) (feasible_words position light)
+unfolding due_in
+due_chosen fuel position light alive is = rw (alive, is) refl
+
+end_chosen : (fuel : ℕ) (position : Position) (light : ℕ) → chosen position ≡ Some light → end_in (suc fuel) position ≡ end_of (found_after fuel position light) (end_after fuel position light) position (feasible_words position light)
+unfolding end_in
+end_chosen fuel position light is = rw is refl
+
+-- all words have been tried
+pub way-spent : (fuel : ℕ) (position : Position) (light from : ℕ) → IsSound position → IsUnderWay fuel position light from → words_before position light from ≡ filter (is_feasible_word position light) (spellings_at position light) → (found_in (suc fuel) position ≡ false) × (due_in (suc fuel) position ≡ spent_on fuel position light from)
+way-spent fuel position light from sound way all =
+    let is = chosen-Some position light way.chosen_is in
+    let same : feasible_words position light ≡ words_before position light from = feasible_known_words position light sound.dictionary is.0 is.1 ∙ sym all in (
+      found_chosen fuel position light way.alive way.chosen_is ∙ ap (list_any (found_after fuel position light)) same ∙ way.failed,
+      due_chosen fuel position light way.alive way.chosen_is ∙ ap (due_of (found_after fuel position light) (due_after fuel position light)) same,
+    )
+
+-- ---- A try
+
+abbrev pub word_of : Position → Try → List ℕ
+word_of position tried = get_or (spellings_at position tried.light) tried.place []
+
+pub record IsTried (fuel : ℕ) (position : Position) (tried : Try) : Type 0 where
+  pub way : IsUnderWay fuel position tried.light tried.place
+  pub within : tried.place < length (spellings_at position tried.light)
+  pub feasible : is_feasible_word position tried.light (word_of position tried) ≡ true
+  pub blanks : AreBlanks position.board (light_at position.board tried.light) tried.blanks
+
+abbrev pub after_try : Position → Try → Position
+after_try position tried = placed position tried.light (word_of position tried)
+
+abbrev pub cost_of : ℕ → Position → Try → ℕ
+cost_of fuel position tried = spent_on fuel position tried.light tried.place + 1
+
+tried_parted : (fuel : ℕ) (position : Position) (tried : Try) → IsSound position → IsTried fuel position tried → feasible_words position tried.light ≡ words_before position tried.light tried.place ++ (word_of position tried ∷ words_from position tried.light (tried.place + 1))
+tried_parted fuel position tried sound t =
+    let is = chosen-Some position tried.light t.way.chosen_is in
+    words_parted position tried.light tried.place sound.dictionary is.0 is.1 t.within t.feasible
+
+tried_agrees : (fuel : ℕ) (position : Position) (tried : Try) → IsTried fuel position tried → agrees position.board (light_at position.board tried.light) (word_of position tried) ≡ true
+tried_agrees fuel position tried t =
+    let is = chosen-Some position tried.light t.way.chosen_is in
+    let feasible = is_feasible_word-gives position tried.light (word_of position tried) t.feasible in
+    (open_base position.board position.words tried.light (word_of position tried) is.0 is.1 (Among-contained (word_of position tried) _ (feasible.1.words_are_base tried.light (word_of position tried) feasible.2))).1
+
+-- it leads to a fill
+tried-found : (fuel : ℕ) (position : Position) (tried : Try) → IsSound position → IsTried fuel position tried → found_in fuel (after_try position tried) ≡ true
+    → (found_in (suc fuel) position ≡ true) × (due_in (suc fuel) position ≡ cost_of fuel position tried + due_in fuel (after_try position tried)) × (end_in (suc fuel) position ≡ end_in fuel (after_try position tried))
+tried-found fuel position tried sound t h =
+    let found = found_after fuel position tried.light in
+    let due = due_after fuel position tried.light in
+    let end = end_after fuel position tried.light in
+    let before = words_before position tried.light tried.place in
+    let rest = words_from position tried.light (tried.place + 1) in
+    let parted = tried_parted fuel position tried sound t in
+    let here : due_of found due (word_of position tried ∷ rest) ≡ 1 + due (word_of position tried) + 0 = ap (λ b. 1 + due (word_of position tried) + cond b 0 (due_of found due rest)) h in
+    let split = due_of-append found due before (word_of position tried ∷ rest) t.way.failed in
+    let all : due_in (suc fuel) position ≡ due_of found due (before ++ (word_of position tried ∷ rest)) = due_chosen fuel position tried.light t.way.alive t.way.chosen_is ∙ ap (due_of found due) parted in (
+      found_chosen fuel position tried.light t.way.alive t.way.chosen_is ∙ ap (list_any found) parted ∙ list_any-append found before (word_of position tried ∷ rest) ∙ ap (λ b. b || list_any found (word_of position tried ∷ rest)) t.way.failed ∙ or_left _ _ h,
+      omega (arith, all, split, here),
+      end_chosen fuel position tried.light t.way.chosen_is ∙ ap (end_of found end position) parted ∙ end_of-append found end position before (word_of position tried ∷ rest) t.way.failed ∙ ap (λ b. cond b (end (word_of position tried)) (end_of found end position rest)) h,
+    )
+
+-- what is due after it is due
+tried-due : (fuel : ℕ) (position : Position) (tried : Try) → IsSound position → IsTried fuel position tried → cost_of fuel position tried + due_in fuel (after_try position tried) ≤ due_in (suc fuel) position
+tried-due fuel position tried sound t =
+    let found = found_after fuel position tried.light in
+    let due = due_after fuel position tried.light in
+    let before = words_before position tried.light tried.place in
+    let rest = words_from position tried.light (tried.place + 1) in
+    let split = due_of-append found due before (word_of position tried ∷ rest) t.way.failed in
+    let all : due_in (suc fuel) position ≡ due_of found due (before ++ (word_of position tried ∷ rest)) = due_chosen fuel position tried.light t.way.alive t.way.chosen_is ∙ ap (due_of found due) (tried_parted fuel position tried sound t) in
+    let here : due_of found due (word_of position tried ∷ rest) ≡ 1 + due (word_of position tried) + cond (found (word_of position tried)) 0 (due_of found due rest) = refl in
+    omega (arith, all, split, here)
+
+-- it fails, and the words from the next place on are left
+pub tried-failed : (fuel : ℕ) (position : Position) (tried : Try) → IsTried fuel position tried → found_in fuel (after_try position tried) ≡ false
+    → IsUnderWay fuel position tried.light (tried.place + 1) × (spent_on fuel position tried.light (tried.place + 1) ≡ cost_of fuel position tried + due_in fuel (after_try position tried))
+tried-failed fuel position tried t h =
+    let found = found_after fuel position tried.light in
+    let due = due_after fuel position tried.light in
+    let before = words_before position tried.light tried.place in
+    let more = words_before-more position tried.light tried.place t.within t.feasible in
+    let split = due_of-append found due before (word_of position tried ∷ []) t.way.failed in
+    let all : spent_on fuel position tried.light (tried.place + 1) ≡ due_of found due (before ++ word_of position tried ∷ []) = ap (due_of found due) more in
+    let here : due_of found due (word_of position tried ∷ []) ≡ 1 + due (word_of position tried) + 0 = ap (λ b. 1 + due (word_of position tried) + cond b 0 0) h in (
+      record {
+        alive = t.way.alive;
+        chosen_is = t.way.chosen_is;
+        failed = ap (list_any found) more ∙ list_any-append found before (word_of position tried ∷ []) ∙ ap (λ b. b || list_any found (word_of position tried ∷ [])) t.way.failed ∙ or_from _ _ h refl;
+      },
+      omega (arith, all, split, here),
+    )
+
+-- ---- Taking it back
+
+length-without_letters : (entries : List (Option ℕ)) (cells : List ℕ) (blanks : List Bool) → length (without_letters entries cells blanks) ≡ length entries
+length-without_letters entries [] blanks = refl
+length-without_letters entries (cell ∷ cells) blanks = length-without_letters _ cells (drop 1 blanks) ∙ same (get_or blanks 0 false) where
+  same : (b : Bool) → length (cond b (set entries cell None) entries) ≡ length entries
+  same true = length-set entries cell None
+  same false = refl
+
+without_letters-other : (entries : List (Option ℕ)) (cells : List ℕ) (blanks : List Bool) (cell : ℕ) → ((k : ℕ) → k < length cells → get_or cells k 0 ≢ cell) → get_or (without_letters entries cells blanks) cell None ≡ get_or entries cell None
+without_letters-other entries [] blanks cell none = refl
+without_letters-other entries (c ∷ cells) blanks cell none = without_letters-other _ cells (drop 1 blanks) cell (λ k below. none (suc k) (omega arith)) ∙ same (get_or blanks 0 false) where
+  same : (b : Bool) → get_or (cond b (set entries c None) entries) cell None ≡ get_or entries cell None
+  same true = get_or-set_other entries c cell None None (λ e. none 0 (omega arith) (sym e))
+  same false = refl
+
+get_or-next : (blanks : List Bool) (k : ℕ) → get_or (drop 1 blanks) k false ≡ get_or blanks (suc k) false
+get_or-next [] k = refl
+get_or-next (blank ∷ blanks) k = refl
+
+without_letters-at : (entries : List (Option ℕ)) (cells : List ℕ) (blanks : List Bool) → AreDistinct cells → (k : ℕ) → k < length cells → get_or cells k 0 < length entries → get_or (without_letters entries cells blanks) (get_or cells k 0) None ≡ cond (get_or blanks k false) None (get_or entries (get_or cells k 0) None)
+without_letters-at entries [] blanks distinct k below within = absurd (omega arith)
+without_letters-at entries (cell ∷ cells) blanks distinct zero below within =
+    without_letters-other _ cells (drop 1 blanks) cell (λ k under at. let same : suc k ≡ 0 = distinct (suc k) 0 (omega arith) (omega arith) at in absurd (omega arith))
+    ∙ here (get_or blanks 0 false) where
+      here : (b : Bool) → get_or (cond b (set entries cell None) entries) cell None ≡ cond b None (get_or entries cell None)
+      here true = get_or-set_same entries cell None None within
+      here false = refl
+without_letters-at entries (cell ∷ cells) blanks distinct (suc k) below within =
+    without_letters-at (cond (get_or blanks 0 false) (set entries cell None) entries) cells (drop 1 blanks) (λ i j under under_j at. let same : suc i ≡ suc j = distinct (suc i) (suc j) (omega arith) (omega arith) at in omega arith) k (omega arith) (let long = size (get_or blanks 0 false) in omega arith)
+    ∙ ap (λ b. cond b None (get_or (cond (get_or blanks 0 false) (set entries cell None) entries) (get_or cells k 0) None)) (get_or-next blanks k)
+    ∙ ap (λ o. cond (get_or blanks (suc k) false) None o) (there (get_or blanks 0 false)) where
+      size : (b : Bool) → length (cond b (set entries cell None) entries) ≡ length entries
+      size true = length-set entries cell None
+      size false = refl
+
+      there : (b : Bool) → get_or (cond b (set entries cell None) entries) (get_or cells k 0) None ≡ get_or entries (get_or cells k 0) None
+      there true = get_or-set_other entries cell (get_or cells k 0) None None (λ e. let same : suc k ≡ 0 = distinct (suc k) 0 (omega arith) (omega arith) e in absurd (omega arith))
+      there false = refl
+
+was_entered : (o : Option ℕ) (letter : ℕ) (b : Bool) → b ≡ is_none o → ((entered : ℕ) → o ≡ Some entered → entered ≡ letter) → cond b None (Some letter) ≡ o
+was_entered None letter b e h = rw e refl
+was_entered (Some entered) letter b e h = rw e (ap Some (sym (h entered refl)))
+
+pub taken_back-agreed : (position : Position) (tried : Try) (word : List ℕ) → IsShaped position.board → agrees position.board (light_at position.board tried.light) word ≡ true → AreBlanks position.board (light_at position.board tried.light) tried.blanks → taken_back (placed position tried.light word) tried ≡ position
+taken_back-agreed position tried word laid agree blanks = ap (holding position) (ext_get_or None _ position.board.entries long each) where
+  cells : List ℕ
+  cells = light_at position.board tried.light
+
+  now : List (Option ℕ)
+  now = with_letters position.board.entries cells word
+
+  long : length (without_letters now cells tried.blanks) ≡ length position.board.entries
+  long = length-without_letters now cells tried.blanks ∙ length-with_letters position.board.entries cells word
+
+  each : (cell : ℕ) → cell < length (without_letters now cells tried.blanks) → get_or (without_letters now cells tried.blanks) cell None ≡ get_or position.board.entries cell None
+  each cell below = elim (cell_in cells cell) [
+    | inl found ↦
+        let within = cells_within position.board laid tried.light found.0 found.1 in
+        let within_now : get_or cells found.0 0 < length now = omega (arith, length-with_letters position.board.entries cells word) in
+        ap (λ c. get_or (without_letters now cells tried.blanks) c None) (sym found.2)
+        ∙ without_letters-at now cells tried.blanks (cells_distinct position.board laid tried.light) found.0 found.1 within_now
+        ∙ ap (λ o. cond (get_or tried.blanks found.0 false) None o) (placed-at position tried.light word laid (agrees-length position.board cells word agree) found.0 found.1)
+        ∙ was_entered (entry position.board (get_or cells found.0 0)) (get_or word found.0 0) (get_or tried.blanks found.0 false) (blanks found.0 found.1) (λ entered e. allowed (entry position.board (get_or cells found.0 0)) entered (get_or word found.0 0) e (agrees-at position.board cells word agree found.0 found.1))
+        ∙ ap (entry position.board) found.2
+    | inr none ↦ without_letters-other now cells tried.blanks cell none ∙ with_letters-other position.board.entries cells word cell none
+  ]
+
+-- a feasible word agrees
+pub feasible_agrees : (position : Position) (light : ℕ) (word : List ℕ) → light < light_count position → is_entered position light ≡ false → is_feasible_word position light word ≡ true → agrees position.board (light_at position.board light) word ≡ true
+feasible_agrees position light word in_grid not_entered h =
+    let feasible = is_feasible_word-gives position light word h in
+    (open_base position.board position.words light word in_grid not_entered (Among-contained word _ (feasible.1.words_are_base light word feasible.2))).1
+
+pub taken_back-placed : (fuel : ℕ) (position : Position) (tried : Try) → IsSound position → IsTried fuel position tried → taken_back (after_try position tried) tried ≡ position
+taken_back-placed fuel position tried sound t = taken_back-agreed position tried (word_of position tried) sound.board (tried_agrees fuel position tried t) t.blanks
+
+-- ---- The tries under way, from the first on
+
+abbrev pub Trail : ℕ → Position → List Try → ℕ → ℕ → Position → Type 0
+Trail fuel start [] cost left current = (cost ≡ 0) × (left ≡ fuel) × (current ≡ start)
+Trail zero start (tried ∷ tries) cost left current = ⊥
+Trail (suc fuel) start (tried ∷ tries) cost left current = (rest : ℕ) × IsTried fuel start tried × (cost ≡ cost_of fuel start tried + rest) × Trail fuel (after_try start tried) tries rest left current
+
+pub trail-found : (tries : List Try) (fuel : ℕ) (start : Position) (cost left : ℕ) (current : Position) → IsSound start → Trail fuel start tries cost left current → found_in left current ≡ true
+    → (found_in fuel start ≡ true) × (due_in fuel start ≡ cost + due_in left current) × (end_in fuel start ≡ end_in left current)
+trail-found [] fuel start cost left current sound t h = (rw (← t.1, ← t.2) h, let same : due_in fuel start ≡ due_in left current = rw (← t.1, ← t.2) refl in omega (arith, t.0), rw (← t.1, ← t.2) refl)
+trail-found (tried ∷ tries) zero start cost left current sound t h = absurd t
+trail-found (tried ∷ tries) (suc fuel) start cost left current sound t h =
+    let further = trail-found tries fuel (after_try start tried) t.0 left current (IsSound-placed start tried.light (word_of start tried) sound) t.3 h in
+    let here = tried-found fuel start tried sound t.1 further.0 in
+    (here.0, omega (arith, here.1, further.1, t.2), here.2 ∙ further.2)
+
+pub trail-due : (tries : List Try) (fuel : ℕ) (start : Position) (cost left : ℕ) (current : Position) → IsSound start → Trail fuel start tries cost left current → cost + due_in left current ≤ due_in fuel start
+trail-due [] fuel start cost left current sound t = let same : due_in fuel start ≡ due_in left current = rw (← t.1, ← t.2) refl in omega (arith, t.0)
+trail-due (tried ∷ tries) zero start cost left current sound t = absurd t
+trail-due (tried ∷ tries) (suc fuel) start cost left current sound t =
+    let further = trail-due tries fuel (after_try start tried) t.0 left current (IsSound-placed start tried.light (word_of start tried) sound) t.3 in
+    let here = tried-due fuel start tried sound t.1 in
+    omega (arith, t.2)
+
+pub trail-more : (tries : List Try) (fuel : ℕ) (start : Position) (cost left : ℕ) (current : Position) (tried : Try) → Trail fuel start tries cost (suc left) current → IsTried left current tried → Trail fuel start (tries ++ tried ∷ []) (cost + cost_of left current tried) left (after_try current tried)
+trail-more [] zero start cost left current tried t is = absurd (omega (arith, t.1))
+trail-more [] (suc fuel) start cost left current tried t is =
+    let same : left ≡ fuel = omega (arith, t.1) in
+    rw (← same, ← t.2) (0, is, omega (arith, t.0), (refl, refl, refl))
+trail-more (first ∷ tries) zero start cost left current tried t is = absurd t
+trail-more (first ∷ tries) (suc fuel) start cost left current tried t is =
+    (t.0 + cost_of left current tried, t.1, omega (arith, t.2), trail-more tries fuel (after_try start first) t.0 left current tried t.3 is)
+
+-- where the last of them began
+pub record IsLast (fuel : ℕ) (start : Position) (tries : List Try) (tried : Try) (cost left : ℕ) (current : Position) : Type 0 where
+  pub before : Position
+  pub paid : ℕ
+  pub trail : Trail fuel start tries paid (suc left) before
+  pub is : IsTried left before tried
+  pub cost_is : cost ≡ paid + cost_of left before tried
+  pub current_is : current ≡ after_try before tried
+
+pub trail-last : (tries : List Try) (fuel : ℕ) (start : Position) (cost left : ℕ) (current : Position) (tried : Try) → Trail fuel start (tries ++ tried ∷ []) cost left current → IsLast fuel start tries tried cost left current
+trail-last [] zero start cost left current tried t = absurd t
+trail-last [] (suc fuel) start cost left current tried t =
+    let rest = t.3 in
+    let same : left ≡ fuel = rest.1 in
+    record { before = start; paid = 0; trail = (refl, ap suc same, refl); is = rw same t.1; cost_is = rw same (omega (arith, t.2, rest.0)); current_is = rest.2 }
+trail-last (first ∷ tries) zero start cost left current tried t = absurd t
+trail-last (first ∷ tries) (suc fuel) start cost left current tried t =
+    let further = trail-last tries fuel (after_try start first) t.0 left current tried t.3 in
+    record {
+      before = further.before;
+      paid = cost_of fuel start first + further.paid;
+      trail = (further.paid, t.1, refl, further.trail);
+      is = further.is;
+      cost_is = omega (arith, t.2, further.cost_is);
+      current_is = further.current_is;
+    }
+
+pub trail-sound : (tries : List Try) (fuel : ℕ) (start : Position) (cost left : ℕ) (current : Position) → IsSound start → Trail fuel start tries cost left current → IsSound current
+trail-sound [] fuel start cost left current sound t = rw t.2 sound
+trail-sound (tried ∷ tries) zero start cost left current sound t = absurd t
+trail-sound (tried ∷ tries) (suc fuel) start cost left current sound t = trail-sound tries fuel (after_try start tried) t.0 left current (IsSound-placed start tried.light (word_of start tried) sound) t.3
+
+-- each placement enters a light
+pub trail-depth : (tries : List Try) (fuel : ℕ) (start : Position) (cost left : ℕ) (current : Position) → Trail fuel start tries cost left current → length tries + left ≡ fuel
+trail-depth [] fuel start cost left current t = omega (arith, t.1)
+trail-depth (tried ∷ tries) zero start cost left current t = absurd t
+trail-depth (tried ∷ tries) (suc fuel) start cost left current t = let further = trail-depth tries fuel (after_try start tried) t.0 left current t.3 in omega arith
+
+pub trail-lights : (tries : List Try) (fuel : ℕ) (start : Position) (cost left : ℕ) (current : Position) → Trail fuel start tries cost left current → (light_count current ≡ light_count start) × All (λ tried. tried.light < light_count start) tries
+trail-lights [] fuel start cost left current t = (ap light_count t.2, λ k d below. absurd (omega arith))
+trail-lights (tried ∷ tries) zero start cost left current t = absurd t
+trail-lights (tried ∷ tries) (suc fuel) start cost left current t =
+    let further = trail-lights tries fuel (after_try start tried) t.0 left current t.3 in
+    let here = chosen-Some start tried.light t.1.way.chosen_is in
+    (further.0, λ k. elim k as (λ n. (d : Try) → n < length (tried ∷ tries) → (get_or (tried ∷ tries) n d).light < light_count start) [ zero ↦ λ d below. here.0 | suc j ↦ λ d below. further.1 j d (omega arith) ])
+
+-- all of them are taken back
+pub trail-back : (tries : List Try) (fuel : ℕ) (start : Position) (cost left : ℕ) (current : Position) → IsSound start → Trail fuel start tries cost left current → all_taken_back current tries ≡ start
+trail-back [] fuel start cost left current sound t = t.2
+trail-back (tried ∷ tries) zero start cost left current sound t = absurd t
+trail-back (tried ∷ tries) (suc fuel) start cost left current sound t =
+    ap (λ s. taken_back s tried) (trail-back tries fuel (after_try start tried) t.0 left current (IsSound-placed start tried.light (word_of start tried) sound) t.3)
+    ∙ taken_back-placed fuel start tried sound t.1
+
+-- fewer lights are left to enter
+pub tried-fewer : (fuel : ℕ) (position : Position) (tried : Try) → IsSound position → IsTried fuel position tried → unentered_count (after_try position tried) < unentered_count position
+tried-fewer fuel position tried sound t =
+    let is = chosen-Some position tried.light t.way.chosen_is in
+    placed-fewer position tried.light (word_of position tried) sound.board (tried_agrees fuel position tried t) is.0 is.1
+
+pub trail-enough : (tries : List Try) (fuel : ℕ) (start : Position) (cost left : ℕ) (current : Position) → IsSound start → unentered_count start ≤ fuel → Trail fuel start tries cost left current → unentered_count current ≤ left
+trail-enough [] fuel start cost left current sound enough t = let same : unentered_count current ≡ unentered_count start = ap unentered_count t.2 in omega (arith, t.1)
+trail-enough (tried ∷ tries) zero start cost left current sound enough t = absurd t
+trail-enough (tried ∷ tries) (suc fuel) start cost left current sound enough t =
+    let fewer = tried-fewer fuel start tried sound t.1 in
+    trail-enough tries fuel (after_try start tried) t.0 left current (IsSound-placed start tried.light (word_of start tried) sound) (omega arith) t.3

@@ -1,0 +1,250 @@
+use Rattle.std.proofs.lemmas.List.{with_items_is}
+use Rattle.xw_fill.specs.Position.{position_of, placed}
+use Rattle.xw_fill.specs.Words.{spellings_at}
+use Rattle.xw_fill.proofs.StateLemmas.{DiffersInEntries-itself, DiffersInEntries-then, same_state}
+use Rattle.xw_fill.proofs.Trail.{after_try}
+use Rattle.std.proofs.Common.{◌≡◌, vec_len, get_or, sym, length, true, [], ◌∷◌, ◌++◌, ap, ◌∙◌, subst, arith, cond}
+use Rattle.std.specs.Vec.{vec_capacity}
+use Rattle.xw_feas.specs.Board.{light_at}
+use Rattle.xw_fill.specs.Tries.{AreBlanks}
+use Rattle.std.specs.Prelude.{is_ok}
+use Rattle.xw_fill.specs.declared.search.Filling.TheVariants.{Filled, NoFill}
+use Rattle.xw_fill.proofs.FeasibleWordsLemmas.{AreAnswers-along}
+use Rattle.xw_fill.proofs.Searching.{IsSearching, IsSound-formed, searching-start, searching-back, searching-spent, searching-open, searching-place, searching-room, searching-lights, searching-all_back, searching-done, searching-none, filling-fill, made, searching-popped, searching-empty, searching-alive, searching-count, outcome_filling, last-place, last-light, due-more}
+use Rattle.xw_fill.proofs.search.fill.Goals as goal
+
+pub search-init : goal.search-init
+search-init g c =
+    let before = g.E.Feasible.state c.args.engine.now in
+    let start = position_of before in
+    let items : c.in_ok-tries.tries.items ≡ [] = made c.with_capacity.result c.map_err.result c.in_ok-tries.tries _ (λ v. v.items ≡ []) c.map_err.ensures.cases (c.in_ok-tries.was) c.with_capacity.ensures.items in
+    let capacity : vec_capacity c.in_ok-tries.tries ≡ c.light_count-count.result = made c.with_capacity.result c.map_err.result c.in_ok-tries.tries _ (λ v. vec_capacity v ≡ c.light_count-count.result) c.map_err.ensures.cases (c.in_ok-tries.was) c.with_capacity.ensures.exact in
+    let many : vec_len c.in_ok-entered.entered ≡ c.light_count-count.result = made c.vec.result c.map_err-2.result c.in_ok-entered.entered _ (λ v. vec_len v ≡ c.light_count-count.result) c.map_err-2.ensures.cases (c.in_ok-entered.was) c.vec.ensures.len in
+    let ok = c.in_ok-entered.entered.ok in
+    record {
+      searching = rw (items, c.outlook-next.ensures) (searching-start start);
+      entries = DiffersInEntries-itself before;
+      room = omega (arith, capacity, c.light_count-count.ensures);
+      few = omega arith;
+      flags = omega (arith, many, ok, c.light_count-count.ensures);
+    }
+
+pub returns-in-None-clause-found : goal.returns-in-None-clause-found
+returns-in-None-clause-found g c =
+    let before = g.E.Feasible.state c.args.engine.now in
+    let start = position_of before in
+    let now = g.E.Feasible.state c.search.engine in
+    let current = position_of now in
+    let ok = c.search.tries.ok in let cases = c.in-None.ensures.cases in let long : length c.search.tries.items ≡ 0 = omega (arith, ok, cases) in
+    let searching = searching-empty start current c.search.tries.items c.pop.new.self.items c.pop.result c.search.used c.search.next c.search.invariant.searching c.in-Spent.is c.pop.ensures.items c.in-None.is long in
+    outcome_filling c.args.limit before now NoFill c.search.invariant.entries (searching-none start current c.search.used c.args.limit searching c.search.invariant.few)
+
+pub returns-in-Done-clause-found : goal.returns-in-Done-clause-found
+returns-in-Done-clause-found g c =
+    let before = g.E.Feasible.state c.args.engine.now in
+    let start = position_of before in
+    let now = g.E.Feasible.state c.search.engine in
+    let current = position_of now in
+    let sound = IsSound-formed before (g.met.E.Feasible.well_formed c.args.engine.now) in
+    outcome_filling c.args.limit before now Filled c.search.invariant.entries (searching-done start current c.search.tries.items c.search.used c.args.limit sound (subst (IsSearching start c.search.tries.items c.search.used current) c.in-Done.is c.search.invariant.searching) c.search.invariant.few)
+
+pub returns-in-Done-clause-fill : goal.returns-in-Done-clause-fill
+returns-in-Done-clause-fill g c =
+    let before = g.E.Feasible.state c.args.engine.now in
+    let start = position_of before in
+    let now = g.E.Feasible.state c.search.engine in
+    let current = position_of now in
+    let formed = g.met.E.Feasible.well_formed c.args.engine.now in
+    filling-fill c.args.limit before now Filled formed (outcome_filling c.args.limit before now Filled c.search.invariant.entries (searching-done start current c.search.tries.items c.search.used c.args.limit (IsSound-formed before formed) (subst (IsSearching start c.search.tries.items c.search.used current) c.in-Done.is c.search.invariant.searching) c.search.invariant.few))
+
+pub returns-in-None-clause-fill : goal.returns-in-None-clause-fill
+returns-in-None-clause-fill g c =
+    let before = g.E.Feasible.state c.args.engine.now in
+    let start = position_of before in
+    let now = g.E.Feasible.state c.search.engine in
+    let current = position_of now in
+    let formed = g.met.E.Feasible.well_formed c.args.engine.now in
+    let ok = c.search.tries.ok in let cases = c.in-None.ensures.cases in let long : length c.search.tries.items ≡ 0 = omega (arith, ok, cases) in
+    let searching = searching-empty start current c.search.tries.items c.pop.new.self.items c.pop.result c.search.used c.search.next c.search.invariant.searching c.in-Spent.is c.pop.ensures.items c.in-None.is long in
+    filling-fill c.args.limit before now NoFill formed (outcome_filling c.args.limit before now NoFill c.search.invariant.entries (searching-none start current c.search.used c.args.limit searching c.search.invariant.few))
+
+pub take_back-requires : goal.take_back-requires
+take_back-requires g c =
+    let before = g.E.Feasible.state c.args.engine.now in
+    let start = position_of before in
+    let now = g.E.Feasible.state c.search.engine in
+    let current = position_of now in
+    last-light start current c.pop.new.self.items c.in-Some.tried c.search.used (searching-popped start current c.search.tries.items c.pop.new.self.items c.pop.result c.in-Some.tried c.search.used c.search.next c.search.invariant.searching c.in-Spent.is c.pop.ensures.items c.in-Some.is)
+
+pub overflow_add-next : goal.overflow_add-next
+overflow_add-next g c =
+    let before = g.E.Feasible.state c.args.engine.now in
+    let start = position_of before in
+    let now = g.E.Feasible.state c.search.engine in
+    let current = position_of now in
+    let sound = IsSound-formed before (g.met.E.Feasible.well_formed c.args.engine.now) in
+    let small = last-place start current c.pop.new.self.items c.in-Some.tried c.search.used sound (searching-popped start current c.search.tries.items c.pop.new.self.items c.pop.result c.in-Some.tried c.search.used c.search.next c.search.invariant.searching c.in-Spent.is c.pop.ensures.items c.in-Some.is) in
+    omega arith
+
+pub search-preserved-in-Some : goal.search-preserved-in-Some
+search-preserved-in-Some g c =
+    let before = g.E.Feasible.state c.args.engine.now in
+    let start = position_of before in
+    let now = g.E.Feasible.state c.search.engine in
+    let current = position_of now in
+    let sound = IsSound-formed before (g.met.E.Feasible.well_formed c.args.engine.now) in
+    let popped = searching-popped start current c.search.tries.items c.pop.new.self.items c.pop.result c.in-Some.tried c.search.used c.search.next c.search.invariant.searching c.in-Spent.is c.pop.ensures.items c.in-Some.is in
+    record {
+      entries = DiffersInEntries-then before now (g.E.Feasible.state c.take_back.new.engine) c.search.invariant.entries c.take_back.ensures.entries;
+      flags = c.search.invariant.flags;
+      searching = rw c.take_back.ensures.back (searching-back start current c.pop.new.self.items c.in-Some.tried c.search.used sound popped);
+      room = rw c.pop.ensures.capacity c.search.invariant.room;
+      few = c.search.invariant.few;
+    }
+
+pub take_all_back-requires : goal.take_all_back-requires
+take_all_back-requires g c =
+    let before = g.E.Feasible.state c.args.engine.now in
+    let start = position_of before in
+    let now = g.E.Feasible.state c.search.engine in
+    let current = position_of now in
+    searching-lights start current c.search.tries.items c.search.used c.search.next c.search.invariant.searching
+
+pub next_place-requires-clause-light : goal.next_place-requires-clause-light
+next_place-requires-clause-light g c =
+    let before = g.E.Feasible.state c.args.engine.now in
+    let start = position_of before in
+    let now = g.E.Feasible.state c.search.engine in
+    let current = position_of now in
+    let searching = subst (IsSearching start c.search.tries.items c.search.used current) c.in-Words.is c.search.invariant.searching in
+    let is = searching-open start current c.search.tries.items c.search.used c.in-Words.light c.in-Words.from searching in
+    is.0
+
+pub next_place-requires-clause-not_entered : goal.next_place-requires-clause-not_entered
+next_place-requires-clause-not_entered g c =
+    let before = g.E.Feasible.state c.args.engine.now in
+    let start = position_of before in
+    let now = g.E.Feasible.state c.search.engine in
+    let current = position_of now in
+    let searching = subst (IsSearching start c.search.tries.items c.search.used current) c.in-Words.is c.search.invariant.searching in
+    let is = searching-open start current c.search.tries.items c.search.used c.in-Words.light c.in-Words.from searching in
+    is.1
+
+pub make_try-requires : goal.make_try-requires
+make_try-requires g c =
+    let before = g.E.Feasible.state c.args.engine.now in
+    let start = position_of before in
+    let now = g.E.Feasible.state c.search.engine in
+    let current = position_of now in
+    let searching = subst (IsSearching start c.search.tries.items c.search.used current) c.in-Words.is c.search.invariant.searching in
+    let is = searching-open start current c.search.tries.items c.search.used c.in-Words.light c.in-Words.from searching in
+    is.0
+
+pub try_word-next-requires-clause-tried : goal.try_word-next-requires-clause-tried
+try_word-next-requires-clause-tried g c =
+    let before = g.E.Feasible.state c.args.engine.now in
+    let start = position_of before in
+    let now = g.E.Feasible.state c.search.engine in
+    let current = position_of now in
+    let searching = subst (IsSearching start c.search.tries.items c.search.used current) c.in-Words.is c.search.invariant.searching in
+    let is = searching-open start current c.search.tries.items c.search.used c.in-Words.light c.in-Words.from searching in
+    record { light_in = is.0; not_entered = is.1; place_in = c.in-Some-next_place.ensures.within; feasible = c.in-Some-next_place.ensures.feasible }
+
+pub try_word-next-requires-clause-alive : goal.try_word-next-requires-clause-alive
+try_word-next-requires-clause-alive g c =
+    let before = g.E.Feasible.state c.args.engine.now in
+    let start = position_of before in
+    let now = g.E.Feasible.state c.search.engine in
+    let current = position_of now in
+    let searching = subst (IsSearching start c.search.tries.items c.search.used current) c.in-Words.is c.search.invariant.searching in
+    let is = searching-open start current c.search.tries.items c.search.used c.in-Words.light c.in-Words.from searching in
+    searching-alive start current c.search.tries.items c.search.used c.in-Words.light c.in-Words.from searching
+
+pub try_word-next-requires-clause-flags : goal.try_word-next-requires-clause-flags
+try_word-next-requires-clause-flags g c =
+    let start = position_of (g.E.Feasible.state c.args.engine.now) in
+    let current = position_of (g.E.Feasible.state c.search.engine) in
+    ap length c.as_mut_slice.ensures.value ∙ c.search.invariant.flags ∙ sym (searching-count start current c.search.tries.items c.search.used c.search.next c.search.invariant.searching)
+
+pub returns-then-used-limit-clause-found : goal.returns-then-used-limit-clause-found
+returns-then-used-limit-clause-found g c =
+    let before = g.E.Feasible.state c.args.engine.now in
+    let start = position_of before in
+    let now = g.E.Feasible.state c.search.engine in
+    let current = position_of now in
+    let searching = subst (IsSearching start c.search.tries.items c.search.used current) c.in-Words.is c.search.invariant.searching in
+    let is = searching-open start current c.search.tries.items c.search.used c.in-Words.light c.in-Words.from searching in
+    let sound = IsSound-formed before (g.met.E.Feasible.well_formed c.args.engine.now) in
+    let after = g.E.Feasible.state c.take_all_back.new.engine in
+    let back = c.take_all_back.ensures.back ∙ searching-all_back start current c.search.tries.items c.search.used c.search.next sound c.search.invariant.searching in
+    let more = due-more start current c.search.tries.items c.search.used c.in-Words.light c.in-Words.from c.in-Some-next_place.place sound searching c.in-Some-next_place.ensures in
+    (rw (← c.if-used-limit.true) more, same_state before after (DiffersInEntries-then before now after c.search.invariant.entries c.take_all_back.ensures.entries) back)
+
+pub search-preserved-in-None-next_place : goal.search-preserved-in-None-next_place
+search-preserved-in-None-next_place g c =
+    let before = g.E.Feasible.state c.args.engine.now in
+    let start = position_of before in
+    let now = g.E.Feasible.state c.search.engine in
+    let current = position_of now in
+    let searching = subst (IsSearching start c.search.tries.items c.search.used current) c.in-Words.is c.search.invariant.searching in
+    let is = searching-open start current c.search.tries.items c.search.used c.in-Words.light c.in-Words.from searching in
+    let sound = IsSound-formed before (g.met.E.Feasible.well_formed c.args.engine.now) in
+    record {
+      entries = c.search.invariant.entries;
+      flags = c.search.invariant.flags;
+      searching = searching-spent start current c.search.tries.items c.search.used c.in-Words.light c.in-Words.from sound searching c.in-None-next_place.ensures;
+      room = c.search.invariant.room;
+      few = c.search.invariant.few;
+    }
+
+pub search-preserved : goal.search-preserved
+search-preserved g c =
+    let before = g.E.Feasible.state c.args.engine.now in
+    let start = position_of before in
+    let now = g.E.Feasible.state c.search.engine in
+    let current = position_of now in
+    let searching = subst (IsSearching start c.search.tries.items c.search.used current) c.in-Words.is c.search.invariant.searching in
+    let is = searching-open start current c.search.tries.items c.search.used c.in-Words.light c.in-Words.from searching in
+    let sound = IsSound-formed before (g.met.E.Feasible.well_formed c.args.engine.now) in
+    let tried = c.make_try.result in
+    let made_of = c.make_try.ensures in
+    let after = g.E.Feasible.state c.try_word-next.new.engine in
+    let blanks : AreBlanks current.board (light_at current.board c.in-Words.light) tried.blanks = made_of.blanks in
+    let placed_now = searching-place start current c.search.tries.items c.search.used c.in-Words.light c.in-Words.from c.in-Some-next_place.place tried sound searching c.in-Some-next_place.ensures made_of.light made_of.place blanks in
+    let there : position_of after ≡ after_try current tried =
+    c.try_word-next.ensures.placed
+    ∙ ap (λ light. placed current light (get_or (spellings_at current light) c.in-Some-next_place.place [])) (sym made_of.light)
+    ∙ ap (λ place. placed current tried.light (get_or (spellings_at current tried.light) place [])) (sym made_of.place) in
+    let room = searching-room start current c.search.tries.items c.search.used c.in-Words.light c.in-Words.from searching in
+    let ok = c.search.tries.ok in
+    let pushed : is_ok c.push.result ≡ true = c.push.ensures.succeeds (omega (arith, ok, room, c.search.invariant.room)) in
+    let items : c.push.new.self.items ≡ c.search.tries.items ++ tried ∷ [] = c.push.ensures.items ∙ ap (λ b. cond b (c.search.tries.items ++ tried ∷ []) c.search.tries.items) pushed in
+    let flags = c.search.entered.ok in
+    let value = ap length c.as_mut_slice.ensures.value in
+    record {
+      searching = rw (items, c.try_word-next.ensures.next, there) placed_now;
+      entries = DiffersInEntries-then before now after c.search.invariant.entries c.try_word-next.ensures.entries;
+      room = omega (arith, c.push.ensures.capacity, c.search.invariant.room);
+      few = omega (arith, c.if-used-limit.false, c.search.invariant.few);
+      flags = ap length (with_items_is c.search.entered c.try_word-next.new.entered (omega (arith, c.try_word-next.ensures.flags, value, flags))) ∙ c.try_word-next.ensures.flags ∙ value ∙ c.search.invariant.flags;
+    }
+
+pub returns-in-None-clause-answers : goal.returns-in-None-clause-answers
+returns-in-None-clause-answers g c =
+    let before = g.E.Feasible.state c.args.engine.now in
+    let start = position_of before in
+    let now = g.E.Feasible.state c.search.engine in
+    let current = position_of now in
+    let ok = c.search.tries.ok in let cases = c.in-None.ensures.cases in let long : length c.search.tries.items ≡ 0 = omega (arith, ok, cases) in
+    let searching = searching-empty start current c.search.tries.items c.pop.new.self.items c.pop.result c.search.used c.search.next c.search.invariant.searching c.in-Spent.is c.pop.ensures.items c.in-None.is long in
+    AreAnswers-along current start (g.E.Feasible.answers c.search.engine) (g.E.Feasible.answers c.args.engine.now) (g.met.E.Feasible.exact c.search.engine) (g.met.E.Feasible.exact c.args.engine.now) (searching-none start current c.search.used c.args.limit searching c.search.invariant.few).2
+
+pub returns-then-used-limit-clause-answers : goal.returns-then-used-limit-clause-answers
+returns-then-used-limit-clause-answers g c =
+    let before = g.E.Feasible.state c.args.engine.now in
+    let start = position_of before in
+    let now = g.E.Feasible.state c.search.engine in
+    let current = position_of now in
+    let sound = IsSound-formed before (g.met.E.Feasible.well_formed c.args.engine.now) in
+    let back = c.take_all_back.ensures.back ∙ searching-all_back start current c.search.tries.items c.search.used c.search.next sound c.search.invariant.searching in
+    AreAnswers-along (position_of (g.E.Feasible.state c.take_all_back.new.engine)) start (g.E.Feasible.answers c.take_all_back.new.engine) (g.E.Feasible.answers c.args.engine.now) (g.met.E.Feasible.exact c.take_all_back.new.engine) (g.met.E.Feasible.exact c.args.engine.now) back

@@ -1,0 +1,29 @@
+use Rattle.std.proofs.Common.{◌≡◌, length, ◌+◌, ◌-◌, ◌*◌, ◌≤◌, ℕ, vec_len}
+use Rattle.std.specs.Vec.{vec_capacity}
+use Rattle.xw_fill.specs.Position.{position_of, DiffersInEntries}
+use Rattle.xw_fill.specs.declared.search.Next.{Next}
+use Rattle.xw_fill.specs.declared.search.Next.TheVariants.{Done, Spent, Words}
+use Rattle.xw_fill.specs.Search.{light_count}
+use Rattle.xw_fill.proofs.Searching.{IsSearching}
+use Rattle.xw_fill.proofs.search.fill.Given as goal
+
+abbrev pub invariant-search : goal.invariant-search
+invariant-search g l =
+    let start = g.E.Feasible.state l.initial.engine in
+    let now = g.E.Feasible.state l.engine in
+    record {
+      searching : IsSearching (position_of start) l.tries.items l.used (position_of now) l.next;
+      entries : DiffersInEntries start now;
+      room : light_count (position_of start) ≤ vec_capacity l.tries;
+      few : l.used ≤ l.limit;
+      flags : length l.entered.items ≡ light_count (position_of start);
+    }
+
+-- one step for a position that is left to go through
+abbrev steps : Next → ℕ
+steps Done = 0
+steps Spent = 0
+steps (Words light from) = 1
+
+abbrev pub decreases-search : goal.decreases-search
+decreases-search g l = 3 * (l.limit - l.used) + 2 * vec_len l.tries + steps l.next

@@ -1,0 +1,12 @@
+pub mod Position
+pub mod Below
+pub mod FeasibleWords
+pub mod Search
+pub mod Noted
+pub mod Fill
+pub mod Tries
+pub mod Filling
+pub mod Words
+pub mod Suggesting
+pub mod Listing
+pub mod Laws

@@ -1,0 +1,33 @@
+-- Repeated words, and words that the dictionary lacks.
+use Rattle.std.specs.Prelude.{ℕ, zero, suc, Bool, ◌&&◌, not, List, [], ◌∷◌, ◌++◌, map, length, Option, Some, None, bytes_eq}
+use Rattle.std.specs.List.{list_any}
+use Rattle.xw_words.specs.Dictionary.{Entry, row as known_words}
+use Rattle.xw_grid.specs.declared.cell.LightName.{LightName}
+use Rattle.xw_feas.specs.State.{State}
+use Rattle.xw_fill.specs.Position.{Position, position_of, name_at}
+use Rattle.xw_fill.specs.Below.{those_below}
+use Rattle.xw_fill.specs.Search.{light_count, is_entered, spelling, first_same}
+use Rattle.xw_fill.specs.declared.listing.Duplicate.{Duplicate}
+
+abbrev pub duplicate_of : State → ℕ → Option ℕ → List Duplicate
+duplicate_of state light None = []
+duplicate_of state light (Some first) = record { light = name_at state light; first = name_at state first } ∷ []
+
+-- of the first lights those that spell what one before them does, each with the first of those
+abbrev pub duplicates_below : State → ℕ → List Duplicate
+duplicates_below state zero = []
+duplicates_below state (suc n) = duplicates_below state n ++ duplicate_of state n (first_same (position_of state) n)
+
+abbrev pub duplicates_of : State → List Duplicate
+duplicates_of state = duplicates_below state (light_count (position_of state))
+
+-- the word is an active one
+abbrev pub is_listed : Position → List ℕ → Bool
+is_listed position word = list_any (λ (known : Entry). known.active && bytes_eq known.word word) (known_words position.words (length word))
+
+abbrev pub is_unlisted : Position → ℕ → Bool
+is_unlisted position light = is_entered position light && not (is_listed position (spelling position light))
+
+-- the lights that are wholly entered with another word
+abbrev pub unlisted_of : State → List LightName
+unlisted_of state = map (name_at state) (those_below (is_unlisted (position_of state)) (light_count (position_of state)))

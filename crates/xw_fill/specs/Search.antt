@@ -1,0 +1,98 @@
+-- What the search for a fill finds from a position, and after how many placements.
+use Rattle.std.specs.Prelude.{ℕ, zero, suc, ◌+◌, Bool, true, cond, ◌&&◌, ◌||◌, not, nat_lt, ◌==◌, List, [], ◌∷◌, length, bytes_eq, Option, Some, None, is_none}
+use Rattle.std.specs.List.{list_any}
+use Rattle.xw_feas.specs.Board.{light_at, is_wholly_entered, spelled}
+use Rattle.xw_fill.specs.Position.{Position, placed}
+use Rattle.xw_fill.specs.Below.{any_below, count_below, first_below}
+use Rattle.xw_fill.specs.FeasibleWords.{feasible_words}
+
+abbrev pub light_count : Position → ℕ
+light_count position = length position.board.lights
+
+abbrev pub is_entered : Position → ℕ → Bool
+is_entered position light = is_wholly_entered position.board (light_at position.board light)
+
+-- what a wholly entered light spells
+abbrev pub spelling : Position → ℕ → List ℕ
+spelling position light = spelled position.board (light_at position.board light)
+
+-- both lights are wholly entered and spell the same
+abbrev pub spell_same : Position → ℕ → ℕ → Bool
+spell_same position light other = is_entered position light && (is_entered position other && bytes_eq (spelling position light) (spelling position other))
+
+-- the light spells what one before it does
+abbrev pub is_repeat : Position → ℕ → Bool
+is_repeat position light = any_below (spell_same position light) light
+
+-- the first of those
+abbrev pub first_same : Position → ℕ → Option ℕ
+first_same position light = first_below (spell_same position light) light
+
+abbrev pub lacks_words : Position → ℕ → Bool
+lacks_words position light = length (feasible_words position light) == 0
+
+-- some light has no feasible word, or two wholly entered lights spell the same
+unfoldable pub is_dead : Position → Bool
+is_dead position = any_below (lacks_words position) (light_count position) || any_below (is_repeat position) (light_count position)
+
+-- the light with the fewest feasible words, the first of these
+abbrev pub with_fewer : Position → Option ℕ → ℕ → ℕ
+with_fewer position None light = light
+with_fewer position (Some best) light = cond (nat_lt (length (feasible_words position light)) (length (feasible_words position best))) light best
+
+-- among the first lights that are not wholly entered
+abbrev pub chosen_below : Position → ℕ → Option ℕ
+chosen_below position zero = None
+chosen_below position (suc n) = cond (is_entered position n) (chosen_below position n) (Some (with_fewer position (chosen_below position n) n))
+
+unfoldable pub chosen : Position → Option ℕ
+chosen position = chosen_below position (light_count position)
+
+-- some of the words leads to a fill
+abbrev pub found_by : (Position → Bool) → Position → Option ℕ → Bool
+found_by found position None = true
+found_by found position (Some light) = list_any (λ word. found (placed position light word)) (feasible_words position light)
+
+-- within so many placements on each way
+unfoldable pub found_in : ℕ → Position → Bool
+found_in zero position = not (is_dead position) && is_none (chosen position)
+found_in (suc n) position = not (is_dead position) && found_by (found_in n) position (chosen position)
+
+-- one placement for each word up to the first that leads to a fill, and what is due after it
+abbrev pub due_of : (List ℕ → Bool) → (List ℕ → ℕ) → List (List ℕ) → ℕ
+due_of found due [] = 0
+due_of found due (word ∷ words) = 1 + due word + cond (found word) 0 (due_of found due words)
+
+abbrev pub due_by : (Position → Bool) → (Position → ℕ) → Position → Option ℕ → ℕ
+due_by found due position None = 0
+due_by found due position (Some light) = due_of (λ word. found (placed position light word)) (λ word. due (placed position light word)) (feasible_words position light)
+
+unfoldable pub due_in : ℕ → Position → ℕ
+due_in zero position = 0
+due_in (suc n) position = cond (is_dead position) 0 (due_by (found_in n) (due_in n) position (chosen position))
+
+-- what the first word leads to that leads to a fill
+abbrev pub end_of : (List ℕ → Bool) → (List ℕ → Position) → Position → List (List ℕ) → Position
+end_of found end position [] = position
+end_of found end position (word ∷ words) = cond (found word) (end word) (end_of found end position words)
+
+abbrev pub end_by : (Position → Bool) → (Position → Position) → Position → Option ℕ → Position
+end_by found end position None = position
+end_by found end position (Some light) = end_of (λ word. found (placed position light word)) (λ word. end (placed position light word)) position (feasible_words position light)
+
+unfoldable pub end_in : ℕ → Position → Position
+end_in zero position = position
+end_in (suc n) position = end_by (found_in n) (end_in n) position (chosen position)
+
+-- each placement enters one more light wholly, so there are no more of them on a way than lights to enter
+abbrev pub unentered_count : Position → ℕ
+unentered_count position = count_below (λ light. not (is_entered position light)) (light_count position)
+
+abbrev pub found : Position → Bool
+found position = found_in (unentered_count position) position
+
+abbrev pub due : Position → ℕ
+due position = due_in (unentered_count position) position
+
+abbrev pub end : Position → Position
+end position = end_in (unentered_count position) position

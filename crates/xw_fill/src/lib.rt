@@ -1,0 +1,11 @@
+//! Lists repeats and words that the dictionary lacks, proposes words, and fills grids.
+#![tactic(auto)]
+
+pub mod laws;
+pub mod listing;
+mod scan;
+pub mod search;
+pub mod suggesting;
+#[cfg(test)]
+mod tests;
+mod tries;

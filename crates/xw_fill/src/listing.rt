@@ -1,0 +1,85 @@
+//! Repeated words, and words that the dictionary lacks.
+ghost use Rattle.std.specs.Prelude.{◌≡◌, ◌<◌, ◌≤◌, length, IfOk, IfErr, take};
+ghost use Rattle.xw_feas.specs.Board.{spelled};
+ghost use Rattle.xw_fill.specs.Position.{position_of};
+ghost use Rattle.xw_fill.specs.Search.{light_count, is_entered, spelling};
+ghost use Rattle.xw_fill.specs.Listing.{duplicates_of, is_listed, unlisted_of};
+
+use crate::scan::{board, first_same, is_entered, light_count, name_at};
+use crate::tries::MAX_LEN;
+use std::alloc::Global;
+use xw_feas::board::{Board, Cells};
+use xw_feas::edit::Refusal;
+use xw_feas::feasible::Feasible;
+use xw_grid::cell::LightName;
+use xw_grid::fault::GridFault;
+use xw_words::letter::Letter;
+
+/// A light that spells what an earlier one does, and the first such.
+#[derive(Clone, Copy, Debug, PartialEq, Eq)]
+pub struct Duplicate {
+    pub light: LightName,
+    pub first: LightName,
+}
+
+/// The lights that spell what an earlier light does, in order.
+pub fn duplicates<E: Feasible>(alloc: Global, engine: &E) -> Result<Vec<Duplicate>, Refusal>
+    ensures lists { IfOk result (λ found. found.items ≡ duplicates_of (E.state engine.now)) }
+    ensures memory { IfErr result (λ refusal. refusal ≡ Refusal.Grid GridFault.Memory) }
+{
+    let mut found = Vec::new(alloc);
+    for light in 0..light_count(engine) {
+        if let Some(first) = first_same(engine, light) {
+            found
+                .push(Duplicate {
+                    light: name_at(engine, light),
+                    first: name_at(engine, first),
+                })
+                .map_err(|_| Refusal::Grid(GridFault::Memory))?;
+        }
+    }
+    Ok(found)
+}
+
+/// The letters of a light, at the front.
+fn spell(board: &Board<'_>, cells: &Cells) -> [Letter; MAX_LEN]
+    requires { length cells.now ≤ 255 }
+    ensures { take (length cells.now) result ≡ spelled board.now cells.now }
+{
+    let mut letters = [Letter::first(); MAX_LEN];
+    for place in 0..cells.len() {
+        letters[place] = board.letter(cells.at(place));
+    }
+    letters
+}
+
+/// Whether what a light spells is an active word.
+fn is_listed<E: Feasible>(engine: &E, light: usize) -> bool
+    requires { light < light_count (position_of (E.state engine.now)) }
+    ensures { result ≡ is_listed (position_of (E.state engine.now)) (spelling (position_of (E.state engine.now)) light) }
+{
+    let board = board(engine);
+    let cells = board.light(light);
+    let letters = spell(&board, &cells);
+    let bank = engine.bank();
+    match bank.find(&letters[..cells.len()]) {
+        None => false,
+        Some(place) => bank.is_active(cells.len(), place),
+    }
+}
+
+/// The wholly entered lights whose words are not active, in order.
+pub fn unlisted<E: Feasible>(alloc: Global, engine: &E) -> Result<Vec<LightName>, Refusal>
+    ensures lists { IfOk result (λ lights. lights.items ≡ unlisted_of (E.state engine.now)) }
+    ensures memory { IfErr result (λ refusal. refusal ≡ Refusal.Grid GridFault.Memory) }
+{
+    let mut lights = Vec::new(alloc);
+    for light in 0..light_count(engine) {
+        if is_entered(engine, light) && !is_listed(engine, light) {
+            lights
+                .push(name_at(engine, light))
+                .map_err(|_| Refusal::Grid(GridFault::Memory))?;
+        }
+    }
+    Ok(lights)
+}

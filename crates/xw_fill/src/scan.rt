@@ -1,0 +1,252 @@
+//! What the scans of an engine's lights find.
+ghost use Rattle.std.specs.Prelude.{◌≡◌, ◌<◌, length, bytes_eq, unwrap_or, slice_index_or, ℕ, true, false, MatchOption, is_some};
+ghost use Rattle.xw_grid.specs.Light.{lights_of, no_light};
+ghost use Rattle.xw_feas.specs.Board.{board_of, is_wholly_entered, spelled, entry};
+ghost use Rattle.xw_feas.specs.Queries.{next_found};
+ghost use Rattle.xw_fill.specs.Position.{position_of, name_at};
+ghost use Rattle.xw_fill.specs.FeasibleWords.{feasible_words};
+ghost use Rattle.xw_fill.specs.Below.{any_below, first_below};
+ghost use Rattle.xw_fill.specs.Words.{IsNextWord, HasNoMore};
+ghost use Rattle.xw_fill.specs.Search.{is_entered, spell_same, is_repeat, first_same, lacks_words, light_count, is_dead, chosen};
+ghost use Rattle.xw_fill.specs.Noted.{is_spelled_again, AreEntered, SpellApart};
+
+use xw_feas::board::{Board, Cells};
+use xw_feas::edit::Found;
+use xw_feas::feasible::Feasible;
+use xw_grid::cell::LightName;
+use xw_grid::lights::Light;
+
+/// The engine's grid with its lights, seen by the places of cells.
+pub fn board<E: Feasible>(engine: &E) -> Board<'_>
+    ensures { result ≡ board_of (E.state engine.now).grid }
+{
+    Board::new(engine.grid(), engine.lights())
+}
+
+#[tactic(auto, using(crate::proofs::StateLemmas::light_steps))]
+pub fn light_count<E: Feasible>(engine: &E) -> usize
+    ensures { result ≡ light_count (position_of (E.state engine.now)) }
+{
+    engine.lights().len()
+}
+
+/// The light at a place.
+#[tactic(auto, using(crate::proofs::StateLemmas::light_steps))]
+pub fn light_at<E: Feasible>(engine: &E, light: usize) -> Light
+    requires { light < light_count (position_of (E.state engine.now)) }
+    ensures { result ≡ slice_index_or (lights_of (E.state engine.now).grid) light no_light }
+{
+    match engine.lights().get(light) {
+        Some(light) => light,
+        None => unreachable!(),
+    }
+}
+
+/// The name of the light at a place.
+pub fn name_at<E: Feasible>(engine: &E, light: usize) -> LightName
+    requires { light < light_count (position_of (E.state engine.now)) }
+    ensures { result ≡ name_at (E.state engine.now) light }
+{
+    light_at(engine, light).name
+}
+
+/// How many feasible words the light at a place has.
+fn word_count<E: Feasible>(engine: &E, light: usize) -> usize
+    requires { light < light_count (position_of (E.state engine.now)) }
+    ensures { result ≡ length (feasible_words (position_of (E.state engine.now)) light) }
+{
+    match engine.word_count(name_at(engine, light)) {
+        Ok(count) => count,
+        Err(_) => unreachable!(),
+    }
+}
+
+/// Whether each of the cells has a letter.
+#[tactic(auto, using(xw_feas::proofs::BoardLemmas::entered_steps))]
+fn are_entered(board: &Board<'_>, cells: &Cells) -> bool
+    ensures { result ≡ is_wholly_entered board.now cells.now }
+{
+    for place in 0..cells.len() {
+        if board.entry(cells.at(place)).is_none() {
+            return false;
+        }
+    }
+    true
+}
+
+/// Whether two lists of cells have the same letters.
+fn have_same_letters(board: &Board<'_>, cells: &Cells, others: &Cells) -> bool
+    ensures { result ≡ bytes_eq (spelled board.now cells.now) (spelled board.now others.now) }
+{
+    if cells.len() != others.len() {
+        return false;
+    }
+    for place in 0..cells.len() {
+        if board.letter(cells.at(place)) != board.letter(others.at(place)) {
+            return false;
+        }
+    }
+    true
+}
+
+/// Whether a light is wholly entered.
+pub fn is_entered<E: Feasible>(engine: &E, light: usize) -> bool
+    requires { light < light_count (position_of (E.state engine.now)) }
+    ensures { result ≡ is_entered (position_of (E.state engine.now)) light }
+{
+    let board = board(engine);
+    are_entered(&board, &board.light(light))
+}
+
+/// Whether two lights are wholly entered and spell the same.
+fn spell_same<E: Feasible>(engine: &E, light: usize, other: usize) -> bool
+    requires light { light < light_count (position_of (E.state engine.now)) }
+    requires other { other < light_count (position_of (E.state engine.now)) }
+    ensures { result ≡ spell_same (position_of (E.state engine.now)) light other }
+{
+    let board = board(engine);
+    have_same_letters(&board, &board.light(light), &board.light(other))
+        && is_entered(engine, light)
+        && is_entered(engine, other)
+}
+
+/// The first light before this one that is wholly entered and spells the same, where this one is wholly entered.
+pub fn first_same<E: Feasible>(engine: &E, light: usize) -> Option<usize>
+    requires { light < light_count (position_of (E.state engine.now)) }
+    ensures { result ≡ first_same (position_of (E.state engine.now)) light }
+{
+    if !is_entered(engine, light) {
+        return None;
+    }
+    for other in 0..light {
+        if spell_same(engine, light, other) {
+            return Some(other);
+        }
+    }
+    None
+}
+
+/// The first light without a feasible word.
+pub fn first_without_words<E: Feasible>(engine: &E) -> Option<usize>
+    ensures { result ≡ first_below (lacks_words (position_of (E.state engine.now))) (light_count (position_of (E.state engine.now))) }
+{
+    for light in 0..light_count(engine) {
+        if word_count(engine, light) == 0 {
+            return Some(light);
+        }
+    }
+    None
+}
+
+/// Whether two wholly entered lights spell the same.
+fn has_repeat<E: Feasible>(engine: &E) -> bool
+    ensures { result ≡ any_below (is_repeat (position_of (E.state engine.now))) (light_count (position_of (E.state engine.now))) }
+{
+    for light in 0..light_count(engine) {
+        if first_same(engine, light).is_some() {
+            return true;
+        }
+    }
+    false
+}
+
+/// Whether another light is wholly entered and spells the same as this one, where this one is wholly entered.
+fn has_same<E: Feasible>(engine: &E, light: usize) -> bool
+    requires { light < light_count (position_of (E.state engine.now)) }
+    ensures { result ≡ is_spelled_again (position_of (E.state engine.now)) light }
+{
+    if !is_entered(engine, light) {
+        return false;
+    }
+    for other in 0..light_count(engine) {
+        if other != light && spell_same(engine, light, other) {
+            return true;
+        }
+    }
+    false
+}
+
+/// Notes for each light whether it is wholly entered.
+pub fn note_entered<E: Feasible>(engine: &E, entered: &mut [bool])
+    requires { length entered.old ≡ light_count (position_of (E.state engine.now)) }
+    ensures long { length entered.new ≡ length entered.old }
+    ensures entered { AreEntered (position_of (E.state engine.now)) entered.new }
+{
+    for light in 0..light_count(engine) {
+        entered[light] = is_entered(engine, light);
+    }
+}
+
+/// Whether two wholly entered lights spell the same, where none of those that are noted do: so only the others are looked for among all.
+fn has_new_repeat<E: Feasible>(engine: &E, entered: &[bool]) -> bool
+    requires long { length entered.now ≡ light_count (position_of (E.state engine.now)) }
+    requires apart { SpellApart (position_of (E.state engine.now)) entered.now }
+    ensures { result ≡ any_below (is_repeat (position_of (E.state engine.now))) (light_count (position_of (E.state engine.now))) }
+{
+    for light in 0..light_count(engine) {
+        if !entered[light] && has_same(engine, light) {
+            return true;
+        }
+    }
+    false
+}
+
+/// Whether the position is dead, where none of the lights that are noted spell the same.
+pub fn is_dead_now<E: Feasible>(engine: &E, entered: &[bool]) -> bool
+    requires long { length entered.now ≡ light_count (position_of (E.state engine.now)) }
+    requires apart { SpellApart (position_of (E.state engine.now)) entered.now }
+    ensures { result ≡ is_dead (position_of (E.state engine.now)) }
+{
+    first_without_words(engine).is_some() || has_new_repeat(engine, entered)
+}
+
+/// Whether the position is dead.
+pub fn is_dead<E: Feasible>(engine: &E) -> bool
+    ensures { result ≡ is_dead (position_of (E.state engine.now)) }
+{
+    first_without_words(engine).is_some() || has_repeat(engine)
+}
+
+/// Of the lights that are not wholly entered the first with the fewest feasible words.
+pub fn chosen<E: Feasible>(engine: &E) -> Option<usize>
+    ensures { result ≡ chosen (position_of (E.state engine.now)) }
+{
+    let mut best = None;
+    let mut fewest = 0;
+    for light in 0..light_count(engine) {
+        if !is_entered(engine, light) {
+            let count = word_count(engine, light);
+            if best.is_none() || count < fewest {
+                best = Some(light);
+                fewest = count;
+            }
+        }
+    }
+    best
+}
+
+/// The first feasible word of the light at a place, from a place of the dictionary on.
+fn found_from<E: Feasible>(engine: &E, light: usize, from: usize) -> Option<Found>
+    requires { light < light_count (position_of (E.state engine.now)) }
+    ensures { result ≡ next_found (board_of (E.state engine.now).grid) (E.state engine.now).words (E.answers engine.now) light from }
+{
+    match engine.next_word(name_at(engine, light), from) {
+        Ok(found) => found,
+        Err(_) => unreachable!(),
+    }
+}
+
+/// The place of the first feasible word at a place or later, of a light that is not wholly entered.
+pub fn next_place<E: Feasible>(engine: &E, light: usize, from: usize) -> Option<usize>
+    requires light { light < light_count (position_of (E.state engine.now)) }
+    requires not_entered { is_entered (position_of (E.state engine.now)) light ≡ false }
+    ensures { MatchOption result (HasNoMore (position_of (E.state engine.now)) light from) (λ place. IsNextWord (position_of (E.state engine.now)) light from place) }
+{
+    match found_from(engine, light, from) {
+        None => None,
+        Some(found) => match found {
+            Found::Listed(place) => Some(place),
+            Found::Entered => None,
+        },
+    }
+}

@@ -1,0 +1,93 @@
+//! Tries of words, and how they are taken back.
+ghost use Rattle.std.specs.Prelude.{◌≡◌, ◌<◌, ◌≤◌, length, slice_index_or, [], All};
+ghost use Rattle.xw_feas.specs.Board.{board_of, light_at};
+ghost use Rattle.xw_fill.specs.Position.{position_of, placed, DiffersInEntries};
+ghost use Rattle.xw_fill.specs.Search.{light_count};
+ghost use Rattle.xw_fill.specs.Tries.{taken_back, all_taken_back, AreBlanks};
+ghost use Rattle.xw_fill.specs.Words.{spellings_at};
+
+use crate::scan::{board, light_at};
+use xw_feas::board::{Board, Cells};
+use xw_feas::edit::Edit;
+use xw_feas::feasible::Feasible;
+
+/// The length of a light is at most this.
+pub const MAX_LEN: usize = 255;
+
+/// A try under way: a light, the place of the word that was placed, and which of the light's cells were empty before.
+#[derive(Clone, Copy)]
+pub struct Try {
+    pub light: usize,
+    pub place: usize,
+    pub blanks: [bool; MAX_LEN],
+}
+
+/// Which of the cells are empty.
+fn blanks_of(board: &Board<'_>, cells: &Cells) -> [bool; MAX_LEN]
+    requires { length cells.now ≤ 255 }
+    ensures { AreBlanks board.now cells.now result }
+{
+    let mut blanks = [false; MAX_LEN];
+    for place in 0..cells.len() {
+        blanks[place] = board.entry(cells.at(place)).is_none();
+    }
+    blanks
+}
+
+/// The try of a word at a place in a light, before it is placed.
+pub fn make_try<E: Feasible>(engine: &E, light: usize, place: usize) -> Try
+    requires { light < light_count (position_of (E.state engine.now)) }
+    ensures light { result.light ≡ light }
+    ensures place { result.place ≡ place }
+    ensures blanks { AreBlanks (board_of (E.state engine.now).grid) (light_at (board_of (E.state engine.now).grid) light) result.blanks }
+{
+    let board = board(engine);
+    let blanks = blanks_of(&board, &board.light(light));
+    Try {
+        light,
+        place,
+        blanks,
+    }
+}
+
+/// Places a known word in a light.
+pub fn place_word<E: Feasible>(engine: &mut E, light: usize, place: usize)
+    requires light { light < light_count (position_of (E.state engine.old)) }
+    requires place { place < length (spellings_at (position_of (E.state engine.old)) light) }
+    ensures placed { position_of (E.state engine.new) ≡ placed (position_of (E.state engine.old)) light (slice_index_or (spellings_at (position_of (E.state engine.old)) light) place []) }
+    ensures entries { DiffersInEntries (E.state engine.old) (E.state engine.new) }
+{
+    let named = light_at(engine, light);
+    let len = named.size as usize;
+    let mut bytes = [0; MAX_LEN];
+    let word = engine.bank().word(len, place);
+    for (index, letter) in word.iter().enumerate() {
+        bytes[index] = letter.byte();
+    }
+    let _ = engine.edit(&Edit::Place(named.name, &bytes[..len]));
+}
+
+/// Takes a try back.
+pub fn take_back<E: Feasible>(engine: &mut E, tried: &Try)
+    requires { tried.now.light < light_count (position_of (E.state engine.old)) }
+    ensures back { position_of (E.state engine.new) ≡ taken_back (position_of (E.state engine.old)) tried.now }
+    ensures entries { DiffersInEntries (E.state engine.old) (E.state engine.new) }
+{
+    let light = light_at(engine, tried.light);
+    for place in 0..light.size {
+        if tried.blanks[place as usize] {
+            let _ = engine.edit(&Edit::Clear(light.cell(place)));
+        }
+    }
+}
+
+/// Takes all tries back, the last one first.
+pub fn take_all_back<E: Feasible>(engine: &mut E, tries: &mut Vec<Try>)
+    requires { All (λ tried. tried.light < light_count (position_of (E.state engine.old))) tries.old.items }
+    ensures back { position_of (E.state engine.new) ≡ all_taken_back (position_of (E.state engine.old)) tries.old.items }
+    ensures entries { DiffersInEntries (E.state engine.old) (E.state engine.new) }
+{
+    while let Some(tried) = tries.pop() {
+        take_back(engine, &tried);
+    }
+}

@@ -1,0 +1,13 @@
+use Rattle.std.proofs.Common.{◌≡◌, ℕ, ◌*◌, ◌<◌, length, get_or}
+use Rattle.std.specs.Prelude.{None}
+use Rattle.xw_grid.specs.Grid.{cell_at}
+use Rattle.xw_grid.specs.Light.{passes, no_light}
+use Rattle.xw_grid.specs.Places.{IsFirstOf}
+use Rattle.xw_grid.proofs.places.through.Given as goal
+
+-- for each cell the first of the lights so far that passes through it
+abbrev pub invariant-loop-place : goal.invariant-loop-place
+invariant-loop-place l = record {
+  long : length l.places.items ≡ l.grid.width * l.grid.height;
+  each : (s : ℕ) → s < l.grid.width * l.grid.height → IsFirstOf (λ i. passes l.direction (cell_at l.grid s) (get_or l.lights i no_light)) l.place (get_or l.places.items s None);
+}

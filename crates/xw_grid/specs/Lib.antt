@@ -1,0 +1,9 @@
+pub mod Grid
+pub mod Orbit
+pub mod Edit
+pub mod Light
+pub mod Clue
+pub mod ClueView
+pub mod LightLaws
+pub mod Places
+pub mod EditLaws

@@ -1,0 +1,52 @@
+-- What is true of the lights of every grid.
+use Rattle.std.specs.Prelude.{◌≡◌, ◌⊎◌, ℕ, ◌<◌, ◌≤◌, List, length, slice_index_or, All, Contains}
+use Rattle.xw_grid.specs.declared.cell.Cell.{Cell}
+use Rattle.xw_grid.specs.declared.cell.Direction.{Direction}
+use Rattle.xw_grid.specs.declared.cell.Direction.TheVariants.{Across, Down}
+use Rattle.xw_grid.specs.declared.cell.LightName.{LightName}
+use Rattle.xw_grid.specs.declared.lights.Light.{Light}
+use Rattle.xw_grid.specs.Grid.{Grid, IsGrid}
+use Rattle.xw_grid.specs.Light.{IsLight, cells_of, number_at, lights_of, step}
+
+-- each light of the list is one, under the number of its first cell
+abbrev pub IsLightOf : Grid → Light → Type 0
+IsLightOf grid light = IsLight grid light.name.direction (cells_of light) × (light.name.number ≡ number_at grid light.start)
+
+abbrev pub LightsAreLights : Type 0
+LightsAreLights = (grid : Grid) → All (IsLightOf grid) (lights_of grid)
+
+-- each list of cells that is a light is that of one in the list
+abbrev pub LightsAreAll : Type 0
+LightsAreAll = (grid : Grid) (direction : Direction) (light : List Cell) → IsLight grid direction light →
+    (found : Light) × Contains (lights_of grid) found × (found.name.direction ≡ direction) × (cells_of found ≡ light)
+
+-- a smaller number, or the same one across before down
+abbrev pub IsBefore : LightName → LightName → Type 0
+IsBefore a b = (a.number < b.number) ⊎ ((a.number ≡ b.number) × (a.direction ≡ Across) × (b.direction ≡ Down))
+
+-- each name comes before those of the lights after it
+abbrev pub AreOrdered : List Light → Type 0
+AreOrdered lights = (i j : ℕ) (d : Light) → i < j → j < length lights → IsBefore (slice_index_or lights i d).name (slice_index_or lights j d).name
+
+abbrev pub LightsAreOrdered : Type 0
+LightsAreOrdered = (grid : Grid) → AreOrdered (lights_of grid)
+
+-- two lights of one direction share no cell
+abbrev pub AreApart : List Light → Type 0
+AreApart lights = (i j : ℕ) (d : Light) (k l : ℕ) → i < length lights → j < length lights →
+    (slice_index_or lights i d).name.direction ≡ (slice_index_or lights j d).name.direction →
+    k < (slice_index_or lights i d).size → l < (slice_index_or lights j d).size →
+    step (slice_index_or lights i d).name.direction (slice_index_or lights i d).start k ≡ step (slice_index_or lights j d).name.direction (slice_index_or lights j d).start l → i ≡ j
+
+abbrev pub LightsAreApart : Type 0
+LightsAreApart = (grid : Grid) → AreApart (lights_of grid)
+
+-- cells that two lights share are one cell, unless the two are one light
+abbrev pub LightsMeetOnce : Type 0
+LightsMeetOnce = (grid : Grid) (a b : Light) (k l m n : ℕ) → Contains (lights_of grid) a → Contains (lights_of grid) b → k < a.size → m < a.size → l < b.size → n < b.size →
+    step a.name.direction a.start k ≡ step b.name.direction b.start l → step a.name.direction a.start m ≡ step b.name.direction b.start n →
+    (a ≡ b) ⊎ (step a.name.direction a.start k ≡ step a.name.direction a.start m)
+
+-- so that a count of clues fits 16 bits
+abbrev pub LightsAreFew : Type 0
+LightsAreFew = (grid : Grid) → IsGrid grid → length (lights_of grid) ≤ 64770

@@ -1,0 +1,21 @@
+//! Grids: cells, bars and symmetry, lights and their numbers.
+#![tactic(auto)]
+
+pub mod cell;
+pub mod circles;
+pub mod clues;
+pub mod fault;
+pub mod grid;
+pub mod lights;
+pub mod orbit;
+mod places;
+#[cfg(test)]
+mod tests;
+
+pub use cell::{Cell, Direction, Edge, LightName, Side, Square, Symmetry};
+pub use circles::Circles;
+pub use clues::Clues;
+pub use fault::GridFault;
+pub use grid::Grid;
+pub use lights::{Light, Lights};
+pub use orbit::Orbit;

@@ -1,0 +1,396 @@
+//! Lights and their numbers.
+ghost use Rattle.std.specs.Prelude.{◌≡◌, ℕ, ◌+◌, ◌++◌, ◌<◌, ◌≤◌, ◌^◌, true, List, Some, None, slice_get, IfOk, OnOk, IsOkUnless, length, if◌then◌else◌, ◌&&◌, ◌==◌};
+ghost use Rattle.xw_grid.specs.Grid.{is_inside, same_cell};
+ghost use Rattle.xw_grid.specs.Light.{is_joined as is_joined_to_next, begins as begins_light, previous as cell_before, begins_some as begins_some_light, step as cell_after, run_from, light_from, lights_at, lights_of, number_at, same_name, place_named, place_through, place_with_cells, number_in, same_name, name_before};
+ghost use Rattle.xw_grid.specs.LightLaws.{LightsAreLights, LightsAreAll, LightsAreOrdered, LightsAreApart, LightsAreFew, LightsMeetOnce};
+ghost use Rattle.xw_grid.specs.Places.{ArePlaces, number_of_start, is_such};
+ghost use Rattle.std.specs.Option.{option_and_then};
+
+use crate::cell::{Cell, Direction, LightName, Side};
+use crate::fault::GridFault;
+use crate::grid::Grid;
+use crate::places;
+use std::alloc::{AllocError, Global};
+use std::marker::Model;
+
+/// A light by its name, its first cell and how many cells it has.
+#[derive(Clone, Copy, Debug, PartialEq, Eq)]
+pub struct Light {
+    pub name: LightName,
+    pub start: Cell,
+    pub size: u32,
+}
+
+impl Light {
+    /// One of its cells, or of those that would follow.
+    pub fn cell(&self, k: u32) -> Cell
+        requires { (self.now.start.row ≤ 255) × (self.now.start.col ≤ 255) × (k ≤ 255) }
+        ensures { result ≡ cell_after self.now.name.direction self.now.start k }
+    {
+        step(self.name.direction, self.start, k)
+    }
+}
+
+/// The lights of a grid by number, across before down.
+#[derive(Drop)]
+pub struct Lights {
+    width: u32,
+    height: u32,
+    lights: Vec<Light>,
+    across: Vec<Option<usize>>,
+    down: Vec<Option<usize>>,
+}
+
+impl Model for Lights {
+    ghost use Rattle.std.specs.Prelude.{List};
+    ghost use Rattle.xw_grid.specs.declared.lights.Light.{Light as LightOfGrid};
+    ghost use Rattle.xw_grid.specs.Places.{AreKept};
+
+    ghost Value = { List LightOfGrid };
+
+    ghost view = { λ lights. lights.lights.items };
+
+    ghost invariant = { λ lights. AreKept lights.width lights.height lights.lights.items lights.across.items lights.down.items };
+}
+
+impl Lights {
+    /// The lights of a grid.
+    pub fn of(alloc: Global, grid: &Grid) -> Result<Lights, GridFault>
+        ensures ok { IfOk result (λ lights. lights ≡ lights_of grid.now) }
+        ensures memory { IsOkUnless result GridFault.Memory }
+    {
+        let lights = list(alloc, grid)?;
+        let across = places::through(alloc, grid, &lights, Direction::Across)?;
+        let down = places::through(alloc, grid, &lights, Direction::Down)?;
+        Ok(kept(grid, lights, across, down))
+    }
+
+    pub fn len(&self) -> usize
+        ensures len { result ≡ length self.now }
+        ensures few { result ≤ 64770 }
+    {
+        self.lights.len()
+    }
+
+    /// A light by its place in the order.
+    pub fn get(&self, index: usize) -> Option<Light>
+        ensures { result ≡ slice_get self.now index }
+    {
+        self.lights.get(index).copied()
+    }
+
+    /// The place of a light by its name.
+    pub fn index(&self, name: LightName) -> Option<usize>
+        ensures { result ≡ place_named self.now name }
+    {
+        let place = self
+            .lights
+            .partition_point(|light| is_before(light.name, name));
+        if self.is_at(place, name) {
+            Some(place)
+        } else {
+            None
+        }
+    }
+
+    /// Whether the light of a name stands at a place.
+    fn is_at(&self, place: usize, name: LightName) -> bool
+        ensures { result ≡ is_such (λ light. same_name light.name name) (slice_get self.now place) }
+    {
+        match self.lights.get(place) {
+            Some(light) => is_named(light, name),
+            None => false,
+        }
+    }
+
+    /// The number in a cell, if a light begins there.
+    pub fn number(&self, cell: Cell) -> Option<u16>
+        ensures { result ≡ number_in self.now cell }
+    {
+        let _ = &self.lights;
+        match self.number_by(self.across_at(cell), cell) {
+            Some(number) => Some(number),
+            None => self.number_by(self.down_at(cell), cell),
+        }
+    }
+
+    /// The number of the light at a place, if it begins at a cell.
+    fn number_by(&self, place: Option<usize>, cell: Cell) -> Option<u16>
+        ensures { result ≡ number_of_start self.now place cell }
+    {
+        let light = self.get(place?)?;
+        if starts_at(&light, cell) {
+            Some(light.name.number)
+        } else {
+            None
+        }
+    }
+
+    /// The place of the light across through a cell.
+    pub fn across_at(&self, cell: Cell) -> Option<usize>
+        ensures { result ≡ place_through self.now Direction.Across cell }
+    {
+        places::at(self.width, self.height, &self.across, cell)
+    }
+
+    /// The place of the light down through a cell.
+    pub fn down_at(&self, cell: Cell) -> Option<usize>
+        ensures { result ≡ place_through self.now Direction.Down cell }
+    {
+        places::at(self.width, self.height, &self.down, cell)
+    }
+
+    /// The place in another list of the light that has the cells of one in this list.
+    pub fn same(&self, index: usize, other: &Lights) -> Option<usize>
+        ensures { result ≡ option_and_then (place_with_cells other.now) (slice_get self.now index) }
+    {
+        let _ = &self.lights;
+        let light = self.get(index)?;
+        other.same_as(&light)
+    }
+
+    /// The place of the light that has the cells of a given one.
+    fn same_as(&self, light: &Light) -> Option<usize>
+        requires { 2 ≤ light.now.size }
+        ensures { result ≡ place_with_cells self.now light.now }
+    {
+        let _ = &self.lights;
+        let place = self.through(light.name.direction, light.start)?;
+        if self.is_like(place, light) {
+            Some(place)
+        } else {
+            None
+        }
+    }
+
+    fn through(&self, direction: Direction, cell: Cell) -> Option<usize>
+        ensures { result ≡ place_through self.now direction cell }
+    {
+        match direction {
+            Direction::Across => self.across_at(cell),
+            Direction::Down => self.down_at(cell),
+        }
+    }
+
+    /// Whether the light at a place begins where another does and has its size.
+    fn is_like(&self, place: usize, light: &Light) -> bool
+        ensures { result ≡ is_such (λ other. same_cell other.start light.now.start && (other.size == light.now.size)) (slice_get self.now place) }
+    {
+        match self.lights.get(place) {
+            Some(other) => starts_at(other, light.start) && other.size == light.size,
+            None => false,
+        }
+    }
+}
+
+/// The lights of a grid in order.
+#[tactic(auto, using(crate::proofs::GridLemmas::cells_steps))]
+fn list(alloc: Global, grid: &Grid) -> Result<Vec<Light>, AllocError>
+    ensures { IfOk result (λ lights. lights.items ≡ lights_of grid.now) }
+{
+    let mut lights = Vec::new(alloc);
+    let mut begun = 0;
+    for index in 0..grid.size() {
+        begun = add_lights(&mut lights, grid, begun, grid.cell_at(index))?;
+    }
+    Ok(lights)
+}
+
+/// The lights of a grid with their tables.
+fn kept(
+    grid: &Grid,
+    lights: Vec<Light>,
+    across: Vec<Option<usize>>,
+    down: Vec<Option<usize>>,
+) -> Lights
+    requires lights { lights.items ≡ lights_of grid.now }
+    requires across { ArePlaces grid.now lights.items Direction.Across across.items }
+    requires down { ArePlaces grid.now lights.items Direction.Down down.items }
+    ensures { result ≡ lights.items }
+{
+    grid.well_formed();
+    Lights {
+        width: grid.width(),
+        height: grid.height(),
+        lights,
+        across,
+        down,
+    }
+}
+
+/// Whether a name comes before another.
+fn is_before(name: LightName, other: LightName) -> bool
+    ensures { result ≡ name_before name other }
+{
+    name.number < other.number
+        || name.number == other.number
+            && matches!(
+                (name.direction, other.direction),
+                (Direction::Across, Direction::Down)
+            )
+}
+
+fn is_named(light: &Light, name: LightName) -> bool
+    ensures { result ≡ same_name light.now.name name }
+{
+    light.name.number == name.number
+        && matches!(
+            (light.name.direction, name.direction),
+            (Direction::Across, Direction::Across) | (Direction::Down, Direction::Down)
+        )
+}
+
+fn starts_at(light: &Light, cell: Cell) -> bool
+    ensures { result ≡ same_cell light.now.start cell }
+{
+    light.start.row == cell.row && light.start.col == cell.col
+}
+
+/// Whether a cell and the next one in a direction are open, with no bar between.
+fn is_joined(grid: &Grid, direction: Direction, cell: Cell) -> bool
+    ensures { result ≡ is_joined_to_next grid.now direction cell }
+{
+    let side = match direction {
+        Direction::Across => Side::Right,
+        Direction::Down => Side::Below,
+    };
+    grid.is_open(cell) && grid.is_open(grid.beyond(cell, side)) && !grid.is_barred(cell, side)
+}
+
+fn previous(direction: Direction, cell: Cell) -> Cell
+    ensures { result ≡ cell_before direction cell }
+{
+    match direction {
+        Direction::Across => Cell {
+            row: cell.row,
+            col: cell.col.saturating_sub(1),
+        },
+        Direction::Down => Cell {
+            row: cell.row.saturating_sub(1),
+            col: cell.col,
+        },
+    }
+}
+
+fn begins(grid: &Grid, direction: Direction, cell: Cell) -> bool
+    ensures { result ≡ begins_light grid.now direction cell }
+{
+    is_joined(grid, direction, cell) && !is_joined(grid, direction, previous(direction, cell))
+}
+
+fn begins_some(grid: &Grid, cell: Cell) -> bool
+    ensures { result ≡ begins_some_light grid.now cell }
+{
+    begins(grid, Direction::Across, cell) || begins(grid, Direction::Down, cell)
+}
+
+/// The cell so many places further on.
+fn step(direction: Direction, first: Cell, count: u32) -> Cell
+    requires { (first.row ≤ 255) × (first.col ≤ 255) × (count ≤ 255) }
+    ensures { result ≡ cell_after direction first count }
+{
+    match direction {
+        Direction::Across => Cell {
+            row: first.row,
+            col: first.col + count,
+        },
+        Direction::Down => Cell {
+            row: first.row + count,
+            col: first.col,
+        },
+    }
+}
+
+/// How many cells a light has that begins at a cell.
+fn run(grid: &Grid, direction: Direction, first: Cell) -> u32
+    requires { is_inside grid.now first ≡ true }
+    ensures { result ≡ run_from grid.now direction first }
+{
+    let (width, height) = (grid.width(), grid.height());
+    let extent = match direction {
+        Direction::Across => width,
+        Direction::Down => height,
+    };
+    for count in 0..extent {
+        if !is_joined(grid, direction, step(direction, first, count)) {
+            return count + 1;
+        }
+    }
+    extent + 1
+}
+
+/// Adds the lights that begin at a cell, and answers how many cells begin one so far.
+fn add_lights(
+    lights: &mut Vec<Light>,
+    grid: &Grid,
+    begun: u16,
+    cell: Cell,
+) -> Result<u16, AllocError>
+    requires inside { is_inside grid.now cell ≡ true }
+    requires number { begun + 1 ≡ number_at grid.now cell }
+    requires few { begun < 65025 }
+    ensures lights { OnOk result (lights.new.items ≡ lights.old.items ++ lights_at grid.now cell) }
+    ensures begun { IfOk result (λ now. now ≡ begun + (if begins_some_light grid.now cell then 1 else 0)) }
+{
+    let number = begun + 1;
+    add_light(lights, grid, number, Direction::Across, cell)?;
+    add_light(lights, grid, number, Direction::Down, cell)?;
+    Ok(if begins_some(grid, cell) {
+        number
+    } else {
+        begun
+    })
+}
+
+/// Adds the light that begins at a cell in a direction, if one does.
+fn add_light(
+    lights: &mut Vec<Light>,
+    grid: &Grid,
+    number: u16,
+    direction: Direction,
+    start: Cell,
+) -> Result<(), AllocError>
+    requires inside { is_inside grid.now start ≡ true }
+    requires number { number ≡ number_at grid.now start }
+    ensures { OnOk result (lights.new.items ≡ lights.old.items ++ light_from grid.now start direction) }
+{
+    if begins(grid, direction, start) {
+        lights.push(Light {
+            name: LightName { number, direction },
+            start,
+            size: run(grid, direction, start),
+        })?;
+    }
+    Ok(())
+}
+
+/// Each light of a grid's list is at least two open cells, each joined to the one before, that no
+/// further cell can lengthen, under the number of its first cell.
+pub fn lights_are_lights()
+    ensures { LightsAreLights }
+{}
+
+/// Whatever is such a light of a grid is in its list.
+pub fn lights_are_all()
+    ensures { LightsAreAll }
+{}
+
+/// The lights of a list stand in the order of their names, each of which names one light.
+pub fn lights_are_ordered()
+    ensures { LightsAreOrdered }
+{}
+
+/// No two lights of one direction share a cell.
+pub fn lights_are_apart()
+    ensures { LightsAreApart }
+{}
+
+/// Two lights share one cell at most.
+pub fn lights_meet_once()
+    ensures { LightsMeetOnce }
+{}
+
+/// No grid has more lights than 64,770.
+pub fn lights_are_few()
+    ensures { LightsAreFew }
+{}

@@ -1,0 +1,88 @@
+//! Tables of the places of lights, by the cells that they pass through.
+ghost use Rattle.std.specs.Prelude.{◌≡◌, ℕ, ◌*◌, ◌<◌, ◌≤◌, true, Some, None, length, if◌then◌else◌, ◌&&◌, slice_index_or, slice_set, IfOk};
+ghost use Rattle.std.specs.Option.{unwrap_or};
+ghost use Rattle.xw_grid.specs.Grid.{cell_at, is_inside};
+ghost use Rattle.xw_grid.specs.Light.{lights_of, is_on_line, passes, same_direction, step as cell_after};
+ghost use Rattle.xw_grid.specs.Places.{ArePlaces, entry_for};
+
+use crate::cell::{Cell, Direction};
+use crate::grid::Grid;
+use crate::lights::Light;
+use std::alloc::{AllocError, Global};
+
+/// What a table in reading order has for a cell.
+pub(crate) fn at(width: u32, height: u32, places: &[Option<usize>], cell: Cell) -> Option<usize>
+    requires { (width ≤ 255) × (height ≤ 255) }
+    ensures { result ≡ entry_for width height places.now cell }
+{
+    if !(1..=height).contains(&cell.row) || !(1..=width).contains(&cell.col) {
+        return None;
+    }
+    let square = (cell.row - 1) as usize * width as usize + (cell.col - 1) as usize;
+    places.get(square).copied().unwrap_or(None)
+}
+
+/// For each cell the place of the light in a direction through it.
+pub(crate) fn through(
+    alloc: Global,
+    grid: &Grid,
+    lights: &[Light],
+    direction: Direction,
+) -> Result<Vec<Option<usize>>, AllocError>
+    requires { lights.now ≡ lights_of grid.now }
+    ensures { IfOk result (λ places. ArePlaces grid.now lights.now direction places.items) }
+{
+    let mut places = vec![in alloc; None; grid.size()]?;
+    for place in 0..lights.len() {
+        enter_towards(&mut places, grid, &lights[place], place, direction);
+    }
+    Ok(places)
+}
+
+/// Enters the place of a light that goes in a direction.
+fn enter_towards(
+    places: &mut [Option<usize>],
+    grid: &Grid,
+    light: &Light,
+    place: usize,
+    direction: Direction,
+)
+    requires long { length places.old ≡ grid.now.width * grid.now.height }
+    requires inside { (k : ℕ) → k < light.now.size → is_inside grid.now (cell_after light.now.name.direction light.now.start k) ≡ true }
+    ensures long { length places.new ≡ length places.old }
+    ensures each { (k : ℕ) → k < length places.old → slice_index_or places.new k None ≡ (if passes direction (cell_at grid.now k) light.now then Some (unwrap_or (slice_index_or places.old k None) place) else slice_index_or places.old k None) }
+{
+    if is_towards(light, direction) {
+        enter(places, grid, light, place);
+    }
+}
+
+fn is_towards(light: &Light, direction: Direction) -> bool
+    ensures { result ≡ same_direction light.now.name.direction direction }
+{
+    matches!(
+        (light.name.direction, direction),
+        (Direction::Across, Direction::Across) | (Direction::Down, Direction::Down)
+    )
+}
+
+/// Enters the place of a light at each of its cells that has none yet.
+fn enter(places: &mut [Option<usize>], grid: &Grid, light: &Light, place: usize)
+    requires long { length places.old ≡ grid.now.width * grid.now.height }
+    requires inside { (k : ℕ) → k < light.now.size → is_inside grid.now (cell_after light.now.name.direction light.now.start k) ≡ true }
+    ensures long { length places.new ≡ length places.old }
+    ensures each { (k : ℕ) → k < length places.old → slice_index_or places.new k None ≡ (if is_on_line light.now.name.direction light.now.start light.now.size (cell_at grid.now k) then Some (unwrap_or (slice_index_or places.old k None) place) else slice_index_or places.old k None) }
+{
+    grid.well_formed();
+    for k in 0..light.size {
+        let square = grid.index_inside(light.cell(k));
+        mark(places, square, place);
+    }
+}
+
+fn mark(places: &mut [Option<usize>], square: usize, place: usize)
+    requires { square < length places.old }
+    ensures { places.new ≡ slice_set places.old square (Some (unwrap_or (slice_index_or places.old square None) place)) }
+{
+    places[square] = Some(places[square].unwrap_or(place));
+}

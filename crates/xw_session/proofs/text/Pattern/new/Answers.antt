@@ -1,0 +1,23 @@
+use Rattle.std.proofs.Common.{◌≡◌, ◌<◌, ℕ, ◌++◌, ◌∷◌, [], length, take, ap, sym, ◌∙◌, length-set, arith}
+use Rattle.std.proofs.lemmas.List.{take_more_set}
+use Rattle.xw_grid.specs.Grid.{entry}
+use Rattle.xw_grid.specs.Light.{step}
+use Rattle.xw_session.specs.Text.{letter_or_dot}
+use Rattle.xw_session.proofs.LightTexts.{one_more_made, pattern_by_places}
+use Rattle.xw_session.proofs.text.Pattern.new.Goals as goal
+
+pub loop-k-preserved : goal.loop-k-preserved
+loop-k-preserved c =
+    let light = c.args.light.now in
+    let byte : ℕ → ℕ = λ k. letter_or_dot (entry c.args.grid.now (step light.name.direction light.start k)) in
+    let here : c.letter_or_dot.result ≡ byte c.loop-k.k = c.letter_or_dot.ensures ∙ ap (λ cell. letter_or_dot (entry c.args.grid.now cell)) c.cell.ensures in
+    let room : c.loop-k.k < length c.loop-k.bytes = omega (arith, c.loop-k.invariant.long, c.loop-k-test.true, c.requires.short) in
+    record {
+      long = rw length-set c.loop-k.invariant.long;
+      is = take_more_set c.loop-k.bytes c.loop-k.k c.letter_or_dot.result room ∙ ap (λ front. front ++ c.letter_or_dot.result ∷ []) c.loop-k.invariant.is ∙ rw here (sym (one_more_made byte c.loop-k.k));
+    }
+
+pub returns : goal.returns
+returns c =
+    let same : c.args.light.now.size ≡ c.loop-k.k = omega (arith, c.loop-k-test.false, c.loop-k.auto.k-end) in
+    ap (λ n. take n c.loop-k.bytes) same ∙ c.loop-k.invariant.is ∙ rw (← same) (sym (pattern_by_places c.args.grid.now c.args.light.now))

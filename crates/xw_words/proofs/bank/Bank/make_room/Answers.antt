@@ -1,0 +1,28 @@
+use Rattle.std.proofs.Common.{sym, ◌∙◌}
+use Rattle.std.specs.Prelude.{None}
+use Rattle.xw_words.proofs.DictionaryLemmas.{judged-Ok, row_kept, IsKept-same, entries_in-same, room_set}
+use Rattle.xw_words.proofs.bank.Bank.make_room.Goals as goal
+
+pub invariant_of-self-in_err-reserve : goal.invariant_of-self-in_err-reserve
+invariant_of-self-in_err-reserve c =
+    let judged = judged-Ok None c.args.count tt _ (sym c.in_ok-judge_length.ensures) in
+    IsKept-same c.self.inside.rows.items c.args.count c.index_mut-row.result.now c.reserve.new.self c.self.invariant judged.1 judged.2 c.index_mut-row.ensures.value c.reserve.ensures.count c.reserve.ensures.entries
+
+pub returns-in_err-reserve-clause-words : goal.returns-in_err-reserve-clause-words
+returns-in_err-reserve-clause-words c =
+    rw (← c.self.view_is) (entries_in-same c.self.inside.rows.items c.args.count c.index_mut-row.result.now c.reserve.new.self c.index_mut-row.ensures.value c.reserve.ensures.entries)
+
+pub invariant_of-self-2 : goal.invariant_of-self-2
+invariant_of-self-2 c =
+    let judged = judged-Ok None c.args.count tt _ (sym c.in_ok-judge_length.ensures) in
+    IsKept-same c.self.inside.rows.items c.args.count c.index_mut-row.result.now c.reserve.new.self c.self.invariant judged.1 judged.2 c.index_mut-row.ensures.value c.reserve.ensures.count c.reserve.ensures.entries
+
+pub returns-clause-words : goal.returns-clause-words
+returns-clause-words c =
+    rw (← c.self.view_is) (entries_in-same c.self.inside.rows.items c.args.count c.index_mut-row.result.now c.reserve.new.self c.index_mut-row.ensures.value c.reserve.ensures.entries)
+
+pub returns-clause-room : goal.returns-clause-room
+returns-clause-room c =
+    let judged = judged-Ok None c.args.count tt _ (sym c.in_ok-judge_length.ensures) in
+    let at = row_kept c.self.inside.rows.items c.args.count c.index_mut-row.result.now c.self.invariant judged.2 c.index_mut-row.ensures.value in
+    room_set c.self.inside.rows.items c.args.count c.reserve.new.self at.within ∙ c.in_ok-reserve.ensures.ok
