@@ -7,7 +7,7 @@ pub mod Answering
 pub mod Sending
 pub mod Buffers
 pub mod Bars
-pub mod Tests
+pub mod Passing
 pub mod Digits
 pub mod Decimals
 pub mod LightTexts
