@@ -5,7 +5,7 @@ use Rattle.std.specs.List.{concat}
 use Rattle.std.proofs.lemmas.Bool.{cases_lt, both_ways}
 use Rattle.std.proofs.lemmas.List.{take-append-drop, get_or_append_left, get_or-append-add}
 use Rattle.std.proofs.lemmas.List.Edits.{length-insert, insert-append_left, insert-append_right, insert_end}
-use Rattle.std.proofs.lemmas.List.Elements.{All-set, All-append, All-take, All-drop, All-cons, All-get_or, All-push}
+use Rattle.std.proofs.lemmas.List.Elements.{All-set, All-append, All-take, All-drop, All-cons, All-get_or}
 use Rattle.xw_words.specs.Index.{is_before, word_in, IsSorted, IsPart, Belongs, IsFilled, IsCut, block_at, start}
 use Rattle.xw_words.proofs.IndexLemmas.{all_before, none_before}
 

@@ -1,5 +1,5 @@
 -- How a block of places is kept.
-use Rattle.std.specs.Prelude.{ℕ, ◌≤◌, length, vec_capacity}
+use Rattle.std.specs.Prelude.{◌≤◌, length, vec_capacity}
 use Rattle.xw_words.specs.declared.block.Block.TheInside.{Inside}
 
 -- it has its room from the start

@@ -1,4 +1,4 @@
-use Rattle.std.proofs.Common.{◌+◌, ◌<◌, ◌≤◌, ◌≡◌, length, ap, ◌∙◌, arith, length-take, length-drop}
+use Rattle.std.proofs.Common.{length, ap, arith, length-take, length-drop}
 use Rattle.xw_words.specs.Index.{block_at}
 use Rattle.xw_words.proofs.index.split.Goals as goal
 
