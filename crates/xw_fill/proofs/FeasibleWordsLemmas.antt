@@ -24,11 +24,11 @@ equal_words : (a b : List ℕ) → a ≡ b → bytes_eq a b ≡ true
 equal_words a b e = (bytes_eq-Decides a b).1 e
 
 -- the family of some pairs and the letters that they leave
-abbrev family_of : Board → List Pair → Family
+abbrev pub family_of : Board → List Pair → Family
 family_of board pairs = record { words = λ light word. list_any (is_pair light word) pairs; letters = leaves_letter board pairs }
 
 -- where each of them is kept, it is supported
-family_is_supported : (board : Board) (dictionary : Dictionary) (pairs : List Pair) → list_all (is_kept board dictionary pairs) pairs ≡ true → IsSupported board dictionary (family_of board pairs)
+pub family_is_supported : (board : Board) (dictionary : Dictionary) (pairs : List Pair) → list_all (is_kept board dictionary pairs) pairs ≡ true → IsSupported board dictionary (family_of board pairs)
 family_is_supported board dictionary pairs all = record {
   words_are_base = λ light word h. (kept_pair light word h).0;
   words_have_letters = λ light word h. (kept_pair light word h).1;
@@ -78,7 +78,7 @@ base_in_grid board dictionary light word (k, below, at) =
     ]
 
 -- the pairs of a supported family
-abbrev pairs_of : Board → Dictionary → Family → List Pair
+abbrev pub pairs_of : Board → Dictionary → Family → List Pair
 pairs_of board dictionary family = filter (λ (pair : Pair). family.words pair.0 pair.1) (base_pairs board dictionary (length board.lights))
 
 pair_of_family : (board : Board) (dictionary : Dictionary) (family : Family) → IsSupported board dictionary family → (light : ℕ) (word : List ℕ) → family.words light word ≡ true → Among {X = Pair} (light, word) (pairs_of board dictionary family)
@@ -86,7 +86,7 @@ pair_of_family board dictionary family supported light word h =
     let base = supported.words_are_base light word h in
     Among-filter (λ (pair : Pair). family.words pair.0 pair.1) (base_pairs board dictionary (length board.lights)) (light, word) (base_pairs-among board dictionary (length board.lights) light word (base_in_grid board dictionary light word base) base) h
 
-letter_of_family : (board : Board) (dictionary : Dictionary) (family : Family) → IsSupported board dictionary family → (cell letter : ℕ) → family.letters cell letter ≡ true → leaves_letter board (pairs_of board dictionary family) cell letter ≡ true
+pub letter_of_family : (board : Board) (dictionary : Dictionary) (family : Family) → IsSupported board dictionary family → (cell letter : ℕ) → family.letters cell letter ≡ true → leaves_letter board (pairs_of board dictionary family) cell letter ≡ true
 letter_of_family board dictionary family supported cell letter h =
     and_from _ _ (supported.letters_agree cell letter h)
     (all_below-from (λ light. all_below (λ place. not (slice_index (light_at board light) place == cell) || list_any (has_letter_at light place letter) (pairs_of board dictionary family)) (length (light_at board light))) (length board.lights) (λ light in_grid.
@@ -98,7 +98,7 @@ letter_of_family board dictionary family supported cell letter h =
       | inr elsewhere ↦ or_left (not (slice_index (light_at board light) k == cell)) _ (ap not (ne_eqb (slice_index (light_at board light) k) cell elsewhere))
     ])))
 
-family_is_kept : (board : Board) (dictionary : Dictionary) (family : Family) → IsSupported board dictionary family → list_all (is_kept board dictionary (pairs_of board dictionary family)) (pairs_of board dictionary family) ≡ true
+pub family_is_kept : (board : Board) (dictionary : Dictionary) (family : Family) → IsSupported board dictionary family → list_all (is_kept board dictionary (pairs_of board dictionary family)) (pairs_of board dictionary family) ≡ true
 family_is_kept board dictionary family supported =
     list_all-from (is_kept board dictionary (pairs_of board dictionary family)) (pairs_of board dictionary family) (λ pair among.
     let has : family.words pair.0 pair.1 ≡ true = (Among-filtered (λ (p : Pair). family.words p.0 p.1) (base_pairs board dictionary (length board.lights)) pair among).1 in
@@ -121,7 +121,7 @@ is_feasible_word-from state light word family supported h =
     (list_any-from (is_pair light word) (pairs_of state.board state.words family) (light, word) (pair_of_family state.board state.words family supported light word h) (and_from _ _ (eq-eqb light light refl) (equal_words word word refl))))
 
 -- two tests that pass together are one
-same_tests : (a b : Bool) → (a ≡ true → b ≡ true) → (b ≡ true → a ≡ true) → a ≡ b
+pub same_tests : (a b : Bool) → (a ≡ true → b ≡ true) → (b ≡ true → a ≡ true) → a ≡ b
 same_tests true b f g = sym (f refl)
 same_tests false true f g = g refl
 same_tests false false f g = refl
@@ -132,7 +132,7 @@ answers_word-is state answers exact light word =
     (λ h. ∥∥₁_elim ((exact.words light word).0 h) (Bool-set _ _) (λ feasible. is_feasible_word-from state light word feasible.0 feasible.1 feasible.2))
     (λ h. (exact.words light word).1 ∣ is_feasible_word-gives state light word h ∣₁)
 
-filter-same : {X : Type 0} (p q : X → Bool) → ((x : X) → p x ≡ q x) → (xs : List X) → filter p xs ≡ filter q xs
+pub filter-same : {X : Type 0} (p q : X → Bool) → ((x : X) → p x ≡ q x) → (xs : List X) → filter p xs ≡ filter q xs
 filter-same p q same [] = refl
 filter-same p q same (x ∷ xs) = rw (same x, filter-same p q same xs) refl
 

@@ -2,6 +2,7 @@ pub mod BelowLemmas
 pub mod Shaped
 pub mod StateLemmas
 pub mod FeasibleWordsLemmas
+pub mod FeasibleLettersLemmas
 pub mod PlacingLemmas
 pub mod SearchLemmas
 pub mod RepeatLemmas

@@ -1,6 +1,7 @@
 pub mod Position
 pub mod Below
 pub mod FeasibleWords
+pub mod FeasibleLetters
 pub mod Search
 pub mod Noted
 pub mod Fill

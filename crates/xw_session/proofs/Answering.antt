@@ -2,7 +2,7 @@
 use Rattle.std.proofs.Common.{◌≡◌, ℕ, true, leb, List, ◌++◌, length, refl, subst, sym, ◌∙◌, inl, inr, arith}
 use Rattle.std.proofs.lemmas.Bool.{cases_Bool, cases_lt}
 use Rattle.std.proofs.lemmas.Bool.Decides.{nat_tests}
-use Rattle.std.specs.Prelude.{Some, None, Result, Ok, Err, IfOk, nat_lt}
+use Rattle.std.specs.Prelude.{Option, Some, None, Result, Ok, Err, IfOk, nat_lt}
 use Rattle.xw_session.specs.Sends.{Sends}
 use Rattle.xw_session.specs.Device.{Begins, HasFailed}
 use Rattle.xw_session.proofs.SendsLemmas.{sends-then, stops-within}
@@ -18,7 +18,8 @@ use Rattle.xw_session.specs.State.{State}
 use Rattle.xw_session.specs.declared.command.Command.{Command}
 use Rattle.xw_session.specs.declared.refusal.Refusal.{Refusal}
 use Rattle.xw_session.specs.declared.refusal.Refusal.TheVariants as refusals
-use Rattle.xw_session.specs.Reply.{Reply, Answers, AnswersTo, AnswersParsed, AnswersLine, Edits, shown, reply_to, reply_of, text_of, step_of}
+use Rattle.xw_session.specs.Reply.{Reply, shown, reply_to, want_of}
+use Rattle.xw_session.specs.Answer.{Answers, IsReply, AnswersBy, AnswersTo, AnswersParsed, AnswersLine, Edits, reply_of, text_of, step_of}
 
 -- an edit that was done or refused, and what was then written
 pub edit_answers : {S E T : Type 0} (told : S → List ℕ) (failures : S → ℕ) (state after : State) (command : Command) (done : Result T Refusal) (result : Result Step E) (old new : S)
@@ -59,47 +60,77 @@ line_refused told failures state line fault result old new is sends outcome = re
   is = outcome state;
 }
 
--- a query wrote its lines, and then the end of its answer
-pub query_answers : {S E : Type 0} (told : S → List ℕ) (failures : S → ℕ) (state : State) (command : Command) (lines : List ℕ) (result : Result Step E) (old mid new : S)
-    → reply_to state command ≡ shown state lines
-    → (told mid ≡ told old ++ lines) × (failures mid ≡ failures old)
-    → ((g : State) → Sends told failures mid new result (text_of (reply_of {T = Unit {0}} (Ok tt) g)))
-    → ((g : State) → IfOk result (λ o. o ≡ step_of (reply_of {T = Unit {0}} (Ok tt) g)))
-    → AnswersTo told failures state command result state old new
-query_answers told failures state command lines result old mid new is wrote sends outcome = record {
-  reply = shown state lines;
-  fits = is;
-  effect = refl;
-  sends = sends-then told failures old mid new lines accepted result wrote (sends state);
-  step = outcome state;
-}
+-- ---- what is due was answered
 
--- a query stopped within its lines
-pub query_stops : {S E : Type 0} (told : S → List ℕ) (failures : S → ℕ) (state : State) (command : Command) (lines : List ℕ) (error : E) (old new : S)
-    → reply_to state command ≡ shown state lines
-    → Begins (told old) (told new) lines × HasFailed (failures old) (failures new)
-    → AnswersTo told failures state command (Err error) state old new
-query_stops told failures state command lines error old new is sends = record {
-  reply = shown state lines;
-  fits = is;
-  effect = refl;
-  sends = stops-within told failures old new lines accepted sends;
-  step = tt;
-}
+module _ {S : Type 0} (told : S → List ℕ) (failures : S → ℕ) where
+  -- the lines were written, and then the end of the answer
+  pub reply_answers : {E : Type 0} (state : State) (due : Result Reply Refusal) (want : Option Refusal) (reply : Reply) (result : Result Step E) (old mid new : S)
+      → due ≡ Ok reply
+      → (told mid ≡ told old ++ reply.lines) × (failures mid ≡ failures old)
+      → ((g : State) → Sends told failures mid new result (text_of (reply_of {T = Unit {0}} (Ok tt) g)))
+      → ((g : State) → IfOk result (λ o. o ≡ step_of (reply_of {T = Unit {0}} (Ok tt) g)))
+      → AnswersBy told failures state due want result reply.state old new
+  reply_answers state due want reply result old mid new is wrote sends outcome = record {
+    reply = Ok reply;
+    fits = is;
+    effect = refl;
+    sends = sends-then told failures old mid new reply.lines accepted result wrote (sends state);
+    step = outcome state;
+  }
 
--- a query was refused
-pub refusal_answers : {S E : Type 0} (told : S → List ℕ) (failures : S → ℕ) (state : State) (command : Command) (refusal : Refusal) (result : Result Step E) (old new : S)
-    → reply_to state command ≡ Err refusal
-    → ((g : State) → Sends told failures old new result (text_of (reply_of {T = Unit {0}} (Err refusal) g)))
-    → ((g : State) → IfOk result (λ o. o ≡ step_of (reply_of {T = Unit {0}} (Err refusal) g)))
-    → AnswersTo told failures state command result state old new
-refusal_answers told failures state command refusal result old new is sends outcome = record {
-  reply = Err refusal;
-  fits = inl is;
-  effect = refl;
-  sends = sends state;
-  step = outcome state;
-}
+  -- the writer failed within the lines
+  pub reply_stops : {E : Type 0} (state : State) (due : Result Reply Refusal) (want : Option Refusal) (reply : Reply) (error : E) (old new : S)
+      → due ≡ Ok reply
+      → Begins (told old) (told new) reply.lines × HasFailed (failures old) (failures new)
+      → AnswersBy told failures state due want (Err error) reply.state old new
+  reply_stops state due want reply error old new is sends = record {
+    reply = Ok reply;
+    fits = is;
+    effect = refl;
+    sends = stops-within told failures old new reply.lines accepted sends;
+    step = tt;
+  }
+
+  -- a refusal was answered
+  pub refused_answers : {E : Type 0} (state : State) (due : Result Reply Refusal) (want : Option Refusal) (refusal : Refusal) (result : Result Step E) (old new : S)
+      → IsReply due want (Err refusal)
+      → ((g : State) → Sends told failures old new result (text_of (reply_of {T = Unit {0}} (Err refusal) g)))
+      → ((g : State) → IfOk result (λ o. o ≡ step_of (reply_of {T = Unit {0}} (Err refusal) g)))
+      → AnswersBy told failures state due want result state old new
+  refused_answers state due want refusal result old new is sends outcome = record {
+    reply = Err refusal;
+    fits = is;
+    effect = refl;
+    sends = sends state;
+    step = outcome state;
+  }
+
+  -- a query wrote its lines, and then the end of its answer
+  pub query_answers : {E : Type 0} (state : State) (command : Command) (lines : List ℕ) (result : Result Step E) (old mid new : S)
+      → reply_to state command ≡ shown state lines
+      → (told mid ≡ told old ++ lines) × (failures mid ≡ failures old)
+      → ((g : State) → Sends told failures mid new result (text_of (reply_of {T = Unit {0}} (Ok tt) g)))
+      → ((g : State) → IfOk result (λ o. o ≡ step_of (reply_of {T = Unit {0}} (Ok tt) g)))
+      → AnswersTo told failures state command result state old new
+  query_answers state command lines result old mid new is wrote sends outcome =
+      reply_answers state (reply_to state command) (want_of state command) (record { lines = lines; state = state }) result old mid new is wrote sends outcome
+
+  -- a query stopped within its lines
+  pub query_stops : {E : Type 0} (state : State) (command : Command) (lines : List ℕ) (error : E) (old new : S)
+      → reply_to state command ≡ shown state lines
+      → Begins (told old) (told new) lines × HasFailed (failures old) (failures new)
+      → AnswersTo told failures state command (Err error) state old new
+  query_stops state command lines error old new is sends =
+      reply_stops state (reply_to state command) (want_of state command) (record { lines = lines; state = state }) error old new is sends
+
+  -- a query was refused
+  pub refusal_answers : {E : Type 0} (state : State) (command : Command) (refusal : Refusal) (result : Result Step E) (old new : S)
+      → reply_to state command ≡ Err refusal
+      → ((g : State) → Sends told failures old new result (text_of (reply_of {T = Unit {0}} (Err refusal) g)))
+      → ((g : State) → IfOk result (λ o. o ≡ step_of (reply_of {T = Unit {0}} (Err refusal) g)))
+      → AnswersTo told failures state command result state old new
+  refusal_answers state command refusal result old new is sends outcome =
+      refused_answers state (reply_to state command) (want_of state command) refusal result old new (inl is) sends outcome
 
 -- only a line without a command is silent
 never_silent : (reply : Result Reply Refusal) → step_of reply ≡ Silent → ⊥

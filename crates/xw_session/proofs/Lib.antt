@@ -4,10 +4,12 @@ pub mod Turns
 pub mod Walks
 pub mod SendsLemmas
 pub mod Answering
+pub mod Engine
 pub mod Sending
 pub mod Buffers
 pub mod Bars
 pub mod Passing
 pub mod Digits
 pub mod Decimals
+pub mod LetterTexts
 pub mod LightTexts

@@ -1,6 +1,8 @@
 -- Lights as lines tell them.
-use Rattle.std.proofs.Common.{◌≡◌, ℕ, ◌+◌, ◌-◌, ◌*◌, ◌<◌, ◌≤◌, Bool, true, false, ◌&&◌, eqb, List, [], ◌∷◌, ◌++◌, length, map, take, get_or, refl, sym, ap, ◌∙◌, arith, zero-add, length-take}
-use Rattle.std.specs.Prelude.{None, count_by}
+use Rattle.std.proofs.Common.{◌≡◌, ℕ, ◌+◌, ◌-◌, ◌*◌, ◌<◌, ◌≤◌, true, ◌&&◌, List, [], ◌∷◌, ◌++◌, length, map, take, get_or, refl, sym, subst, ap, ◌∙◌, arith, zero-add, length-take}
+use Rattle.std.specs.Prelude.{Option, Some, None, slice_get}
+use Rattle.std.specs.Option.{option_and_then}
+use Rattle.std.proofs.lemmas.Option.{slice_get_within, get_or_from_slice_get}
 use Rattle.std.specs.List.{range_with_len}
 use Rattle.std.proofs.lemmas.Bool.{ne_eqb}
 use Rattle.std.proofs.lemmas.List.{take_more, take_all}
@@ -13,7 +15,7 @@ use Rattle.xw_grid.specs.declared.cell.Direction.{Direction}
 use Rattle.xw_grid.specs.declared.cell.Direction.TheVariants.{Across, Down}
 use Rattle.xw_grid.specs.declared.lights.Light.{Light}
 use Rattle.xw_grid.specs.Grid.{Grid, IsGrid, is_inside, cells, cell_at, index_of, entry}
-use Rattle.xw_grid.specs.Light.{begins_some, number_at, lights_of, no_light, place_named, same_name, same_direction, step, cells_of}
+use Rattle.xw_grid.specs.Light.{begins_some, lights_of, no_light, place_named, same_name, same_direction, step}
 use Rattle.xw_grid.proofs.GridLemmas.{IsInside-is_inside, length-cells, get_or-map-cells, size_small}
 use Rattle.xw_grid.proofs.LightLemmas.{size_of_light, step-zero}
 use Rattle.xw_grid.proofs.OrderLemmas.{lights_are_made, made_number}
@@ -40,6 +42,15 @@ light_short grid place is within =
     let inside = light_inside grid place no_light within in
     let first : is_inside grid light.start ≡ true = ap (is_inside grid) (sym (step-zero light.name.direction light.start)) ∙ inside 0 (omega (arith, several)) in
     line_short grid light.name.direction light.start light.size is several first (inside (light.size - 1) (omega (arith, several)))
+
+-- the same of a light that was found by its name
+pub found_short : (grid : Grid) (lights : List Light) (light : Light) (at : Option ℕ) → lights ≡ lights_of grid → IsGrid grid → option_and_then (slice_get lights) at ≡ Some light
+    → (light.size ≤ 255) × (light.start.row ≤ 255) × (light.start.col ≤ 255)
+found_short grid lights light None same is e = cc
+found_short grid lights light (Some place) same is e =
+    let there : slice_get (lights_of grid) place ≡ Some light = rw (← same) e in
+    let within : place < length (lights_of grid) = slice_get_within (lights_of grid) place light there in
+    subst (λ (l : Light). (l.size ≤ 255) × (l.start.row ≤ 255) × (l.start.col ≤ 255)) (get_or_from_slice_get (lights_of grid) place light no_light there) (light_short grid place is within)
 
 -- no number of a light goes past 16 bits
 numbers_small : (grid : Grid) (place : ℕ) → IsGrid grid → place < length (lights_of grid) → (get_or (lights_of grid) place no_light).name.number ≤ 65026

@@ -32,6 +32,13 @@ letters_stop told failures letters old mid new at byte {item} h is same sent s =
     let all = stops-in-each told failures (λ x. x ∷ []) letters old mid new at byte h there (alone, sent.1) s in
     (subst (λ xs. Begins (told old) (told new) xs) (each_alone letters) all.0, all.1)
 
+pub entry_stops : {S : Type 0} (told : S → List ℕ) (failures : S → ℕ) (letters : List ℕ) (old mid new : S) (at : ℕ) → at < length letters
+    → (told mid ≡ told old ++ take at letters) × (failures mid ≡ failures old)
+    → Begins (told mid) (told new) (get_or letters at 0 ∷ []) × HasFailed (failures mid) (failures new)
+    → Begins (told old) (told new) letters × HasFailed (failures old) (failures new)
+entry_stops told failures letters old mid new at h sent s =
+    letters_stop told failures letters old mid new at (get_or letters at 0) {item = get_or letters at 0} h (get_or_default letters at 0 (get_or letters at 0) h) refl sent s
+
 -- texts of the numbers below n, sent one after another
 module _ {S : Type 0} (told : S → List ℕ) (failures : S → ℕ) (text : ℕ → List ℕ) (n : ℕ) where
   number_at : (i d : ℕ) → i < n → i ≡ get_or (range_with_len 0 n) i d

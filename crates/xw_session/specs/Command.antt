@@ -1,11 +1,12 @@
 -- What a line asks for.
 use Rattle.std.specs.Prelude.{ℕ, ◌==◌, nat_lt, List, [], ◌∷◌, length, codes, slice_index, Option, Some, None, Result, Ok, Err, if◌then◌else◌}
 use Rattle.xw_session.specs.declared.command.Command.{Command}
-use Rattle.xw_session.specs.declared.command.Command.TheVariants.{Size, Symmetry, Add, Strike, Match, Set, Clear, Place, Block, Bar, Clue, Circle, Circles, Show, Lights}
+use Rattle.xw_session.specs.declared.command.Command.TheVariants.{Size, Symmetry, Add, Strike, Match, Set, Clear, Place, Block, Bar, Clue, Write, Circle, Circles, Show, Lights, Words, Letters, Duplicates, Unlisted, Suggest, Fill, Watch}
+use Rattle.xw_session.specs.declared.command.TextField.TheVariants.{Title, Author, Copyright, Notes}
 use Rattle.xw_session.specs.declared.command.SyntaxFault.{SyntaxFault}
 use Rattle.xw_session.specs.declared.command.SyntaxFault.TheVariants as faults
 use Rattle.xw_session.specs.Line.{without_cr, first_word}
-use Rattle.xw_session.specs.Reading.{Reading, ◌>>=◌, given, fault, word, number, byte, text, symmetry, side, spot, named, lookup, is_ended}
+use Rattle.xw_session.specs.Reading.{Reading, ◌>>=◌, given, fault, word, number, number_if_any, byte, text, symmetry, side, switch, spot, named, lookup, is_ended}
 
 -- each command by its name, with its arguments
 abbrev pub commands : List (List ℕ × Reading Command)
@@ -21,10 +22,21 @@ commands =
     ∷ (codes "block", do given (Block (← spot)))
     ∷ (codes "bar", do given (Bar (← spot) (← side)))
     ∷ (codes "clue", do given (Clue (← named) (← text)))
+    ∷ (codes "title", do given (Write Title (← text)))
+    ∷ (codes "author", do given (Write Author (← text)))
+    ∷ (codes "copyright", do given (Write Copyright (← text)))
+    ∷ (codes "notes", do given (Write Notes (← text)))
     ∷ (codes "circle", do given (Circle (← spot)))
     ∷ (codes "circles", given Circles)
     ∷ (codes "show", given Show)
     ∷ (codes "lights", given Lights)
+    ∷ (codes "words", do given (Words (← named) (← number_if_any)))
+    ∷ (codes "letters", do given (Letters (← spot)))
+    ∷ (codes "dups", given Duplicates)
+    ∷ (codes "unlisted", given Unlisted)
+    ∷ (codes "suggest", given Suggest)
+    ∷ (codes "fill", do given (Fill (← number)))
+    ∷ (codes "watch", do given (Watch (← switch)))
     ∷ []
 
 abbrev arguments_of : Option (Reading Command) → Reading Command

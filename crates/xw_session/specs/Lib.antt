@@ -11,3 +11,4 @@ pub mod Refusal
 pub mod Text
 pub mod Show
 pub mod Reply
+pub mod Answer

@@ -66,6 +66,10 @@ text rest = Ok (trimmed rest, [])
 abbrev pub is_ended : List ℕ → Bool
 is_ended rest = length (trimmed_start rest) == 0
 
+-- a number, where there is a further word
+abbrev pub number_if_any : Reading (Option ℕ)
+number_if_any rest = if is_ended rest then given None rest else (do given (Some (← number))) rest
+
 -- ---- key words
 
 -- what stands in a table beside a name
@@ -90,6 +94,9 @@ symmetry = key_word (
     ∷ (codes "leftright", kinds.LeftRight)
     ∷ (codes "updown", kinds.UpDown)
     ∷ [])
+
+abbrev pub switch : Reading Bool
+switch = key_word ((codes "on", true) ∷ (codes "off", false) ∷ [])
 
 -- ---- cells and lights
 

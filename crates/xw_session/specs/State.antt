@@ -1,11 +1,23 @@
 -- What a session knows.
-use Rattle.std.specs.Prelude.{List}
+use Rattle.std.specs.Prelude.{ℕ, Bool, List}
 use Rattle.xw_grid.specs.declared.cell.Cell.{Cell}
 use Rattle.xw_grid.specs.Clue.{ClueMap}
 use Rattle.xw_feas.specs.State.{State as Position}
+use Rattle.xw_files.specs.Puzzle.{TextsShown}
+use Rattle.xw_session.specs.declared.command.TextField.{TextField}
+use Rattle.xw_session.specs.declared.command.TextField.TheVariants.{Title, Author, Copyright, Notes}
 
--- the grid with the dictionary, the clues, and the circled cells
+-- the grid with the dictionary, the four texts, the clues, the circled cells, and whether the watch is on
 pub record State : Type 0 where
   pub position : Position
+  pub texts : TextsShown
   pub clues : ClueMap
   pub circles : List Cell
+  pub is_watched : Bool
+
+-- the texts with another one in a field
+abbrev pub with_text_in : TextsShown → TextField → List ℕ → TextsShown
+with_text_in texts Title text = record texts { title = text }
+with_text_in texts Author text = record texts { author = text }
+with_text_in texts Copyright text = record texts { copyright = text }
+with_text_in texts Notes text = record texts { notes = text }

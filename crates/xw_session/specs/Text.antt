@@ -1,5 +1,6 @@
 -- The lines of answers.
-use Rattle.std.specs.Prelude.{ℕ, List, [], ◌∷◌, ◌++◌, map, ◌&&◌, flat_map, codes, decimal, Option, Some, None, if◌then◌else◌}
+use Rattle.std.specs.Prelude.{ℕ, List, [], ◌∷◌, ◌++◌, map, ◌&&◌, flat_map, codes, decimal, slice_get, Option, Some, None, if◌then◌else◌}
+use Rattle.std.specs.Option.{option_and_then}
 use Rattle.xw_grid.specs.declared.cell.Cell.{Cell}
 use Rattle.xw_grid.specs.declared.cell.Direction.{Direction}
 use Rattle.xw_grid.specs.declared.cell.Direction.TheVariants.{Across, Down}
@@ -8,7 +9,13 @@ use Rattle.xw_grid.specs.declared.fault.GridFault.TheVariants as grids
 use Rattle.xw_grid.specs.declared.lights.Light.{Light}
 use Rattle.xw_grid.specs.Grid.{Grid, entry, is_open, cells}
 use Rattle.xw_grid.specs.Clue.{is_circled}
-use Rattle.xw_grid.specs.Light.{cells_of, lights_of}
+use Rattle.xw_grid.specs.Light.{cells_of, lights_of, place_named}
+use Rattle.xw_grid.specs.declared.cell.LightName.{LightName}
+use Rattle.xw_words.specs.Dictionary.{entry_at, row as known_words}
+use Rattle.xw_feas.specs.State.{State as Position}
+use Rattle.xw_fill.specs.declared.listing.Duplicate.{Duplicate}
+use Rattle.xw_fill.specs.declared.suggesting.Suggestion.{Suggestion}
+use Rattle.xw_fill.specs.declared.suggesting.Suggestion.TheVariants as suggestions
 use Rattle.xw_words.specs.declared.fault.WordFault.{WordFault}
 use Rattle.xw_words.specs.declared.fault.WordFault.TheVariants as words
 use Rattle.xw_session.specs.declared.command.SyntaxFault.{SyntaxFault}
@@ -67,6 +74,23 @@ refused refusal = line_of (codes "no" ∷ name_of refusal ∷ [])
 
 -- ---- lights and cells
 
+-- letters, or a dash where there are none
+abbrev pub letters_or_dash : List ℕ → List ℕ
+letters_or_dash [] = codes "-"
+letters_or_dash (letter ∷ letters) = letter ∷ letters
+
+-- the feasible letters of a cell
+abbrev pub letters_line : List ℕ → List ℕ
+letters_line letters = line_of (letters_or_dash letters ∷ [])
+
+-- a cell whose feasible letters changed, with its letters now
+abbrev pub change_line : Cell × List ℕ → List ℕ
+change_line change = line_of (codes "cell" ∷ decimal change.0.row ∷ decimal change.0.col ∷ letters_or_dash change.1 ∷ [])
+
+-- feasible words, their number first
+abbrev pub counted_lines : ℕ → List (List ℕ) → List ℕ
+counted_lines count found = line_of (decimal count ∷ []) ++ flat_map word_line found
+
 abbrev pub direction_name : Direction → List ℕ
 direction_name Across = codes "across"
 direction_name Down = codes "down"
@@ -82,6 +106,39 @@ pattern grid light = map (λ cell. letter_or_dot (entry grid cell)) (cells_of li
 
 abbrev pub light_line : Grid → Light → List ℕ
 light_line grid light = line_of (decimal light.name.number ∷ direction_name light.name.direction ∷ decimal light.start.row ∷ decimal light.start.col ∷ pattern grid light ∷ [])
+
+-- the light of a name
+abbrev pub light_of : Grid → LightName → Option Light
+light_of grid name = option_and_then (slice_get (lights_of grid)) (place_named (lights_of grid) name)
+
+-- the letters of the light of a name
+abbrev pub pattern_of : Grid → Option Light → List ℕ
+pattern_of grid None = []
+pattern_of grid (Some light) = pattern grid light
+
+-- a light that spells what an earlier one does: both, and what they spell
+abbrev pub duplicate_line : Grid → Duplicate → List ℕ
+duplicate_line grid found = line_of (decimal found.light.number ∷ direction_name found.light.direction ∷ decimal found.first.number ∷ direction_name found.first.direction ∷ pattern_of grid (light_of grid found.light) ∷ [])
+
+-- a light and what it spells
+abbrev pub spelled_line : Grid → LightName → List ℕ
+spelled_line grid name = line_of (decimal name.number ∷ direction_name name.direction ∷ pattern_of grid (light_of grid name) ∷ [])
+
+-- the length of the light of a name
+abbrev pub size_of : Option Light → ℕ
+size_of None = 0
+size_of (Some light) = light.size
+
+-- the known word at a place among those as long as a light
+abbrev pub word_at : Position → LightName → ℕ → List ℕ
+word_at position name place = (entry_at (known_words position.words (size_of (light_of position.grid name))) place).word
+
+-- what is proposed
+abbrev pub suggestion_line : Position → Suggestion → List ℕ
+suggestion_line position (suggestions.Dead name) = line_of (codes "dead" ∷ decimal name.number ∷ direction_name name.direction ∷ [])
+suggestion_line position suggestions.Done = line_of (codes "done" ∷ [])
+suggestion_line position (suggestions.Try name place) = line_of (codes "try" ∷ decimal name.number ∷ direction_name name.direction ∷ word_at position name place ∷ [])
+suggestion_line position (suggestions.NoWord name) = line_of (codes "noword" ∷ decimal name.number ∷ direction_name name.direction ∷ [])
 
 -- all lights of a grid
 abbrev pub light_lines : Grid → List ℕ

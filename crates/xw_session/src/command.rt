@@ -31,6 +31,15 @@ pub struct Named {
     pub direction: Direction,
 }
 
+/// A text of the puzzle that is no clue.
+#[derive(Clone, Copy, Debug, PartialEq, Eq)]
+pub enum TextField {
+    Title,
+    Author,
+    Copyright,
+    Notes,
+}
+
 /// Bytes of a line: a word, or a text.
 #[derive(Drop)]
 pub struct Text<'a> {
@@ -73,10 +82,18 @@ pub enum Command<'a> {
     Block(Spot),
     Bar(Spot, Side),
     Clue(Named, Text<'a>),
+    Write(TextField, Text<'a>),
     Circle(Spot),
     Circles,
     Show,
     Lights,
+    Words(Named, Option<u64>),
+    Letters(Spot),
+    Duplicates,
+    Unlisted,
+    Suggest,
+    Fill(u64),
+    Watch(bool),
 }
 
 /// The command of a name, with its arguments.
@@ -95,10 +112,21 @@ fn command_named<'a>(name: &[u8], words: &mut Words<'a>) -> Result<Command<'a>, 
         _ if line::is(name, "block") => Ok(Command::Block(words.spot()?)),
         _ if line::is(name, "bar") => Ok(Command::Bar(words.spot()?, words.side()?)),
         _ if line::is(name, "clue") => Ok(Command::Clue(words.named()?, words.text())),
+        _ if line::is(name, "title") => Ok(Command::Write(TextField::Title, words.text())),
+        _ if line::is(name, "author") => Ok(Command::Write(TextField::Author, words.text())),
+        _ if line::is(name, "copyright") => Ok(Command::Write(TextField::Copyright, words.text())),
+        _ if line::is(name, "notes") => Ok(Command::Write(TextField::Notes, words.text())),
         _ if line::is(name, "circle") => Ok(Command::Circle(words.spot()?)),
         _ if line::is(name, "circles") => Ok(Command::Circles),
         _ if line::is(name, "show") => Ok(Command::Show),
         _ if line::is(name, "lights") => Ok(Command::Lights),
+        _ if line::is(name, "words") => Ok(Command::Words(words.named()?, words.number_if_any()?)),
+        _ if line::is(name, "letters") => Ok(Command::Letters(words.spot()?)),
+        _ if line::is(name, "dups") => Ok(Command::Duplicates),
+        _ if line::is(name, "unlisted") => Ok(Command::Unlisted),
+        _ if line::is(name, "suggest") => Ok(Command::Suggest),
+        _ if line::is(name, "fill") => Ok(Command::Fill(words.number()?)),
+        _ if line::is(name, "watch") => Ok(Command::Watch(words.switch()?)),
         _ => Err(SyntaxFault::Command),
     }
 }

@@ -6,6 +6,8 @@ pub mod device;
 mod history;
 pub mod law;
 mod line;
+mod lists;
+mod lookup;
 pub mod outcome;
 mod piece;
 pub mod refusal;

@@ -1,14 +1,20 @@
 //! The lines of answers.
-ghost use Rattle.std.specs.Prelude.{◌≡◌, ◌≤◌, ◌<◌, ◌^◌, ◌++◌, [], ◌∷◌, codes, map, decimal};
+ghost use Rattle.std.specs.Prelude.{◌≡◌, ◌≤◌, ◌<◌, ◌^◌, ◌++◌, [], ◌∷◌, codes, map, decimal, length, slice_index_or};
+ghost use Rattle.xw_words.specs.LetterSet.{has, letters_in};
 ghost use Rattle.xw_grid.specs.Grid.{entry as entry_of};
+ghost use Rattle.xw_grid.specs.Light.{lights_of};
+ghost use Rattle.xw_feas.specs.Spelled.{spelling};
 ghost use Rattle.xw_session.specs.Sends.{Sends};
-ghost use Rattle.xw_session.specs.Text.{line_of, accepted, refused, direction_name as name_of_direction, letter_or_dot as byte_of_entry, pattern as pattern_of, light_line, cell_line};
+ghost use Rattle.xw_session.specs.Text.{line_of, accepted, refused, direction_name as name_of_direction, letter_or_dot as byte_of_entry, pattern as pattern_in, pattern_of, light_of, light_line, cell_line, letters_or_dash, letters_line, change_line, duplicate_line, spelled_line};
 
 use crate::device::{self, Sink, WriteFailed};
+use crate::lookup::light_named;
 use crate::refusal::{self, Refusal};
 use std::marker::Model;
-use xw_grid::{Cell, Direction, Grid, Light};
-use xw_words::Letter;
+use xw_feas::words::{Entries, Spelled};
+use xw_fill::listing::Duplicate;
+use xw_grid::{Cell, Direction, Grid, Light, LightName, Lights};
+use xw_words::{Letter, LetterSet};
 
 /// The digits of a number, which take no memory.
 #[derive(Drop)]
@@ -56,6 +62,77 @@ fn write_spaced<W: Sink>(sink: &mut W, word: &[u8]) -> Result<(), WriteFailed>
 {
     device::write_all(sink, word)?;
     device::write_all(sink, b" ")
+}
+
+/// Writes a number and a space.
+fn write_number_spaced<W: Sink>(sink: &mut W, number: u16) -> Result<(), WriteFailed>
+    ensures { Sends W.told W.failures sink.old sink.new result (decimal number ++ codes " ") }
+{
+    let number = Decimal::new(u64::from(number));
+    write_spaced(sink, number.digits())
+}
+
+/// Writes the way of a light and a space.
+fn write_direction_spaced<W: Sink>(sink: &mut W, direction: Direction) -> Result<(), WriteFailed>
+    ensures { Sends W.told W.failures sink.old sink.new result (name_of_direction direction ++ codes " ") }
+{
+    write_spaced(sink, direction_name(direction).as_bytes())
+}
+
+/// Writes the way of a light and a word, and ends the line.
+fn write_directed_word<W: Sink>(
+    sink: &mut W,
+    direction: Direction,
+    word: &[Letter],
+) -> Result<(), WriteFailed>
+    ensures { Sends W.told W.failures sink.old sink.new result (line_of (name_of_direction direction ∷ word.now ∷ [])) }
+{
+    write_direction_spaced(sink, direction)?;
+    write_word(sink, word)
+}
+
+/// Writes a light and a word, and ends the line.
+fn write_light_and_word<W: Sink>(
+    sink: &mut W,
+    light: LightName,
+    word: &[Letter],
+) -> Result<(), WriteFailed>
+    ensures { Sends W.told W.failures sink.old sink.new result (line_of (decimal light.number ∷ name_of_direction light.direction ∷ word.now ∷ [])) }
+{
+    write_number_spaced(sink, light.number)?;
+    write_directed_word(sink, light.direction, word)
+}
+
+/// Writes what is said of a light with a word.
+pub fn write_named_word<W: Sink>(
+    sink: &mut W,
+    said: &[u8],
+    light: LightName,
+    word: &[Letter],
+) -> Result<(), WriteFailed>
+    ensures { Sends W.told W.failures sink.old sink.new result (line_of (said.now ∷ decimal light.number ∷ name_of_direction light.direction ∷ word.now ∷ [])) }
+{
+    write_spaced(sink, said)?;
+    write_light_and_word(sink, light, word)
+}
+
+/// Writes a light by its name, and ends the line.
+fn write_light_name<W: Sink>(sink: &mut W, light: LightName) -> Result<(), WriteFailed>
+    ensures { Sends W.told W.failures sink.old sink.new result (line_of (decimal light.number ∷ name_of_direction light.direction ∷ [])) }
+{
+    let number = Decimal::new(u64::from(light.number));
+    write_line(
+        sink,
+        &[number.digits(), direction_name(light.direction).as_bytes()],
+    )
+}
+
+/// Writes what is said of a light.
+pub fn write_named<W: Sink>(sink: &mut W, said: &[u8], light: LightName) -> Result<(), WriteFailed>
+    ensures { Sends W.told W.failures sink.old sink.new result (line_of (said.now ∷ decimal light.number ∷ name_of_direction light.direction ∷ [])) }
+{
+    write_spaced(sink, said)?;
+    write_light_name(sink, light)
 }
 
 /// Writes words with a space between them, and ends the line.
@@ -147,7 +224,7 @@ impl Pattern {
     fn new(grid: &Grid, light: &Light) -> Pattern
         requires short { light.now.size ≤ 255 }
         requires inside { (light.now.start.row ≤ 255) × (light.now.start.col ≤ 255) }
-        ensures { result ≡ pattern_of grid.now light.now }
+        ensures { result ≡ pattern_in grid.now light.now }
     {
         let mut bytes = [0; 255];
         for k in 0..light.size {
@@ -156,6 +233,21 @@ impl Pattern {
         Pattern {
             bytes,
             count: light.size as usize,
+        }
+    }
+
+    /// The letters of the light of a name, none where there is no such light.
+    fn named(grid: &Grid, lights: &Lights, name: LightName) -> Pattern
+        requires { lights.now ≡ lights_of grid.now }
+        ensures { result ≡ pattern_of grid.now (light_of grid.now name) }
+    {
+        grid.well_formed();
+        match light_named(lights, name) {
+            Some(light) => Pattern::new(grid, &light),
+            None => Pattern {
+                bytes: [0; 255],
+                count: 0,
+            },
         }
     }
 
@@ -195,4 +287,178 @@ pub fn write_cell<W: Sink>(sink: &mut W, cell: Cell) -> Result<(), WriteFailed>
     let row = Decimal::new(u64::from(cell.row));
     let col = Decimal::new(u64::from(cell.col));
     write_line(sink, &[row.digits(), col.digits()])
+}
+
+/// Writes a number on a line of its own.
+pub fn write_number<W: Sink>(sink: &mut W, number: u64) -> Result<(), WriteFailed>
+    ensures { Sends W.told W.failures sink.old sink.new result (line_of (decimal number ∷ [])) }
+{
+    let number = Decimal::new(number);
+    write_line(sink, &[number.digits()])
+}
+
+/// The letters, in order.
+const ALPHABET: &[u8; 26] = b"ABCDEFGHIJKLMNOPQRSTUVWXYZ";
+
+/// The letters of a set, or a dash where it has none. They take no memory.
+#[derive(Drop)]
+pub struct LetterText {
+    bytes: [u8; 26],
+    count: usize,
+}
+
+impl Model for LetterText {
+    ghost use Rattle.std.specs.Prelude.{ℕ, ◌≤◌, List, take};
+    ghost use Rattle.xw_session.specs.Text.{letters_or_dash as letters_or_a_dash};
+
+    ghost Value = { List ℕ };
+
+    ghost view = { λ text. letters_or_a_dash (take text.count text.bytes) };
+
+    ghost invariant = { λ text. text.count ≤ 26 };
+}
+
+impl LetterText {
+    pub fn new(set: LetterSet) -> LetterText
+        ensures { result ≡ letters_or_dash (letters_in set) }
+    {
+        let mut bytes = [0; 26];
+        let mut count = 0;
+        for byte in ALPHABET {
+            if is_in(set, *byte) {
+                bytes[count] = *byte;
+                count += 1;
+            }
+        }
+        LetterText { bytes, count }
+    }
+
+    pub fn letters(&self) -> &[u8]
+        ensures { result.now ≡ self.now }
+    {
+        if self.count == 0 {
+            b"-"
+        } else {
+            &self.bytes[..self.count]
+        }
+    }
+}
+
+/// Whether a set has the letter of this capital.
+fn is_in(set: LetterSet, capital: u8) -> bool
+    requires { (65 ≤ capital) × (capital ≤ 90) }
+    ensures { result ≡ has set capital }
+{
+    Letter::of(capital).is_some_and(|letter| set.has(letter))
+}
+
+/// Writes the letters of a set on a line.
+pub fn write_letter_set<W: Sink>(sink: &mut W, letters: LetterSet) -> Result<(), WriteFailed>
+    ensures { Sends W.told W.failures sink.old sink.new result (letters_line (letters_in letters)) }
+{
+    let letters = LetterText::new(letters);
+    write_line(sink, &[letters.letters()])
+}
+
+/// Writes a cell that changed, with its letters now.
+pub fn write_change<W: Sink>(
+    sink: &mut W,
+    cell: Cell,
+    letters: LetterSet,
+) -> Result<(), WriteFailed>
+    ensures { Sends W.told W.failures sink.old sink.new result (change_line (cell, letters_in letters)) }
+{
+    let row = Decimal::new(u64::from(cell.row));
+    let col = Decimal::new(u64::from(cell.col));
+    let letters = LetterText::new(letters);
+    write_line(
+        sink,
+        &[b"cell", row.digits(), col.digits(), letters.letters()],
+    )
+}
+
+/// Writes the letter that is entered at a place of a light.
+fn write_entry<W: Sink>(sink: &mut W, entries: &Entries<'_>, k: usize) -> Result<(), WriteFailed>
+    requires { k < length entries.now }
+    ensures { Sends W.told W.failures sink.old sink.new result (slice_index_or entries.now k 0 ∷ []) }
+{
+    match entries.letter(k) {
+        Some(letter) => device::write_all(sink, &[letter.byte()]),
+        None => Ok(()),
+    }
+}
+
+/// Writes what is entered in a light.
+fn write_entries<W: Sink>(sink: &mut W, entries: &Entries<'_>) -> Result<(), WriteFailed>
+    ensures { Sends W.told W.failures sink.old sink.new result entries.now }
+{
+    for k in 0..entries.len() {
+        write_entry(sink, entries, k)?;
+    }
+    Ok(())
+}
+
+/// Writes the letters of a feasible word.
+fn write_spelling<W: Sink>(sink: &mut W, word: &Spelled<'_>) -> Result<(), WriteFailed>
+    ensures { Sends W.told W.failures sink.old sink.new result (spelling word.now) }
+{
+    match word {
+        Spelled::Listed(letters) => write_letters(sink, letters),
+        Spelled::Entered(entries) => write_entries(sink, entries),
+    }
+}
+
+/// Writes a feasible word on a line of its own.
+pub fn write_spelled<W: Sink>(sink: &mut W, word: &Spelled<'_>) -> Result<(), WriteFailed>
+    ensures { Sends W.told W.failures sink.old sink.new result (line_of (spelling word.now ∷ [])) }
+{
+    write_spelling(sink, word)?;
+    device::write_all(sink, b"\n")
+}
+
+/// Writes a light that spells what an earlier one does, the first such, and what both spell.
+pub fn write_duplicate<W: Sink>(
+    sink: &mut W,
+    grid: &Grid,
+    lights: &Lights,
+    found: &Duplicate,
+) -> Result<(), WriteFailed>
+    requires { lights.now ≡ lights_of grid.now }
+    ensures { Sends W.told W.failures sink.old sink.new result (duplicate_line grid.now found.now) }
+{
+    let number = Decimal::new(u64::from(found.light.number));
+    let first = Decimal::new(u64::from(found.first.number));
+    let word = Pattern::named(grid, lights, found.light);
+    write_line(
+        sink,
+        &[
+            number.digits(),
+            direction_name(found.light.direction).as_bytes(),
+            first.digits(),
+            direction_name(found.first.direction).as_bytes(),
+            word.bytes(),
+        ],
+    )
+}
+
+/// Writes a light and what it spells.
+pub fn write_light_word<W: Sink>(
+    sink: &mut W,
+    grid: &Grid,
+    lights: &Lights,
+    name: LightName,
+) -> Result<(), WriteFailed>
+    requires { lights.now ≡ lights_of grid.now }
+    ensures { Sends W.told W.failures sink.old sink.new result (spelled_line grid.now name) }
+{
+    let number = Decimal::new(u64::from(name.number));
+    let word = Pattern::named(grid, lights, name);
+    write_line(
+        sink,
+        &[
+            number.digits(),
+            direction_name(name.direction).as_bytes(),
+            word.bytes(),
+        ],
+    )
 }

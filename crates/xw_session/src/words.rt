@@ -1,6 +1,6 @@
 //! Arguments read one after another.
 ghost use Rattle.std.specs.Prelude.{◌≡◌, Ok};
-ghost use Rattle.xw_session.specs.Reading.{word as word_of, number as number_of, byte as byte_of, text as text_of, is_ended as is_ended_text, direction as direction_of, side as side_of, symmetry as symmetry_of, spot as spot_of, named as named_of, Reads};
+ghost use Rattle.xw_session.specs.Reading.{word as word_of, number as number_of, byte as byte_of, text as text_of, number_if_any as number_if_any_of, is_ended as is_ended_text, direction as direction_of, side as side_of, symmetry as symmetry_of, switch as switch_of, spot as spot_of, named as named_of, Reads};
 
 use crate::command::{Named, Spot, SyntaxFault, Text};
 use crate::line;
@@ -64,6 +64,16 @@ impl<'a> Words<'a> {
         line::number_in(self.next()?).ok_or(SyntaxFault::Arguments)
     }
 
+    /// A number, where there is a further word.
+    pub fn number_if_any(&mut self) -> Result<Option<u64>, SyntaxFault>
+        ensures { Reads (λ number. number) result self.new (number_if_any_of self.old) }
+    {
+        if self.is_ended() {
+            return Ok(None);
+        }
+        Ok(Some(self.number()?))
+    }
+
     pub fn byte(&mut self) -> Result<u8, SyntaxFault>
         ensures { Reads (λ byte. byte) result self.new (byte_of self.old) }
     {
@@ -102,6 +112,17 @@ impl<'a> Words<'a> {
             _ if line::is(word, "quarter") => Ok(Symmetry::Quarter),
             _ if line::is(word, "leftright") => Ok(Symmetry::LeftRight),
             _ if line::is(word, "updown") => Ok(Symmetry::UpDown),
+            _ => Err(SyntaxFault::Arguments),
+        }
+    }
+
+    pub fn switch(&mut self) -> Result<bool, SyntaxFault>
+        ensures { Reads (λ is_on. is_on) result self.new (switch_of self.old) }
+    {
+        let word = self.next()?;
+        match word {
+            _ if line::is(word, "on") => Ok(true),
+            _ if line::is(word, "off") => Ok(false),
             _ => Err(SyntaxFault::Arguments),
         }
     }

@@ -1,5 +1,5 @@
-use Rattle.std.proofs.Common.{◌≡◌, None, inl, refl, ap, sym, ◌∙◌, subst}
-use Rattle.xw_grid.specs.Grid.{Grid, IsGrid}
+use Rattle.std.proofs.Common.{◌≡◌, None, ap, ◌∙◌, subst}
+use Rattle.xw_grid.specs.Grid.{IsGrid}
 use Rattle.xw_grid.specs.Light.{lights_of, place_named}
 use Rattle.xw_feas.specs.State.{placed_in, with_grid}
 use Rattle.xw_session.specs.State.{State}
@@ -7,10 +7,10 @@ use Rattle.xw_session.specs.Reply.{name_of_light, moved}
 use Rattle.xw_session.proofs.LightTexts.{no_such_number}
 use Rattle.xw_session.proofs.session.Session.place.Goals as goal
 
-pub returns-in_default : goal.returns-in_default
-returns-in_default g c =
+pub returns-in-None : goal.returns-in-None
+returns-in-None g c =
     let state = c.args.self.now in
     let grid_is : c.grid.result.now ≡ state.position.grid = c.grid.ensures ∙ ap (λ (s : State). s.position.grid) c.self.view_is in
     let formed : IsGrid state.position.grid = subst IsGrid grid_is c.well_formed-2.ensures in
-    let none : place_named (lights_of state.position.grid) (name_of_light c.args.named) ≡ None = no_such_number state.position.grid (name_of_light c.args.named) formed c.in_default.ensures.none in
-    (inl (ap (λ place. moved state (with_grid state.position (placed_in state.position.grid place c.args.word.now))) none), refl)
+    let none : place_named (lights_of state.position.grid) (name_of_light c.args.named) ≡ None = no_such_number state.position.grid (name_of_light c.args.named) formed c.in-None.ensures.none in
+    ap (λ place. moved state (with_grid state.position (placed_in state.position.grid place c.args.word.now))) none

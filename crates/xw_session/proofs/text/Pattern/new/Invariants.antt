@@ -1,4 +1,4 @@
-use Rattle.std.proofs.Common.{◌≡◌, ◌≤◌, length, take, map}
+use Rattle.std.proofs.Common.{◌≡◌, length, take, map}
 use Rattle.std.specs.List.{range_with_len}
 use Rattle.xw_grid.specs.Grid.{entry}
 use Rattle.xw_grid.specs.Light.{step}

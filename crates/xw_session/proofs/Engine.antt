@@ -1,0 +1,123 @@
+-- What an engine answers, as the replies of a session have it.
+use Rattle.std.proofs.Common.{◌≡◌, ℕ, Bool, true, false, not, ◌≤◌, ◌<◌, List, [], ap, sym, ◌∙◌, refl, inl, inr, arith}
+use Rattle.std.proofs.lemmas.Bool.Decides.{nat_tests}
+use Rattle.std.specs.Prelude.{Option, flat_map, length, map, option_map, Some, None, Result, Ok, Err, IsOk, IfOk, IfErr, OnErr, if◌then◌else◌, nat_lt}
+use Rattle.xw_words.specs.LetterSet.{letters_in}
+use Rattle.xw_grid.specs.declared.cell.Cell.{Cell}
+use Rattle.xw_grid.specs.Grid.{is_inside, is_block, index_of, cell_at}
+use Rattle.xw_feas.specs.Board.{board_of}
+use Rattle.xw_feas.specs.State.{State as Position, Action, after}
+use Rattle.xw_feas.specs.Feasible.{Answers, AreAnswers}
+use Rattle.xw_feas.specs.Changes.{letters_of, changes, cells_that_differ}
+use Rattle.xw_feas.specs.Engine.{IsEdited}
+use Rattle.xw_feas.specs.Queries.{cell_judged, on_light, words_of}
+use Rattle.xw_feas.specs.declared.edit.Refusal.{Refusal as EditRefusal}
+use Rattle.xw_feas.specs.declared.edit.Refusal.TheVariants as edits
+use Rattle.xw_grid.specs.declared.fault.GridFault.TheVariants as grids
+use Rattle.xw_feas.specs.declared.changed.Changed.{Changed}
+use Rattle.xw_fill.specs.declared.search.Filling.{Filling}
+use Rattle.xw_fill.specs.declared.search.Filling.TheVariants as fillings
+use Rattle.xw_fill.specs.Position.{position_of}
+use Rattle.xw_fill.specs.Search.{due, found}
+use Rattle.xw_fill.specs.Filling.{IsFilling}
+use Rattle.xw_fill.specs.FeasibleLetters.{feasible_letters}
+use Rattle.xw_fill.specs.FeasibleWords.{feasible_words}
+use Rattle.xw_fill.proofs.FeasibleWordsLemmas.{answered_words}
+use Rattle.xw_fill.proofs.FeasibleLettersLemmas.{answered_letters}
+use Rattle.xw_session.specs.declared.refusal.Refusal.{Refusal}
+use Rattle.xw_session.specs.declared.refusal.Refusal.TheVariants as refusals
+use Rattle.xw_session.specs.Refusal.{refusal_of}
+use Rattle.xw_session.specs.State.{State}
+use Rattle.xw_session.specs.Text.{word_line, change_line, letters_line}
+use Rattle.xw_session.specs.Reply.{Reply, filling_name, changes_between, moved, want_of_action, lettered, shown, fill_tried, grid_memory}
+use Rattle.xw_session.specs.Answer.{IsReply, edit_reply, fill_reply, state_after}
+
+abbrev pub Knows : Position → Answers → Type 0
+Knows position answers = AreAnswers (board_of position.grid) position.words answers
+
+-- the letters that an engine answers are the feasible ones
+letters_are : (position : Position) (answers : Answers) → Knows position answers → letters_of answers ≡ feasible_letters (position_of position)
+letters_are position answers exact = λ i. λ cell. answered_letters (position_of position) answers exact cell i
+
+changes_are : (before now : Position) (a b : Answers) → Knows before a → Knows now b → changes now.grid a b ≡ changes_between before now
+changes_are before now a b exact_before exact_now =
+    ap (λ (letters : ℕ → List ℕ). map (λ place. (cell_at now.grid place, letters_of b place)) (cells_that_differ now.grid letters (letters_of b) 0)) (letters_are before a exact_before)
+    ∙ ap (λ (letters : ℕ → List ℕ). map (λ place. (cell_at now.grid place, letters place)) (cells_that_differ now.grid (feasible_letters (position_of before)) letters 0)) (letters_are now b exact_now)
+
+may_move : (state : State) (r : Result Position EditRefusal) → IsOk r → IsOk (moved state r)
+may_move state (Ok position) is = is
+may_move state (Err refusal) is = is
+
+-- an edit of the engine gives the reply that is due
+pub edit_fits : (state : State) (now : Position) (a b : Answers) (action : Action) (result : Result Changed EditRefusal) → Knows state.position a → Knows now b → IsEdited state.position a action result now b
+    → IsReply (moved state (after state.position action)) (want_of_action state action) (edit_reply state.is_watched result (record state { position = now }))
+edit_fits state now a b action (Ok changed) exact_before exact_now edited =
+    ap (moved state) edited.state
+    ∙ ap (λ lines. Ok (record { lines = if state.is_watched then flat_map change_line lines else []; state = record state { position = now } })) (sym (changes_are state.position now a b exact_before exact_now) ∙ sym edited.changes)
+edit_fits state now a b action (Err refusal) exact_before exact_now edited =
+    elim edited.rule [
+      | inl is ↦ inl (ap (moved state) is)
+      | inr wants ↦ inr (may_move state (after state.position action) wants.0, ap (option_map refusal_of) wants.1)
+    ]
+
+pub edit_effect : (state : State) (now : Position) (a b : Answers) (action : Action) (result : Result Changed EditRefusal) → IsEdited state.position a action result now b
+    → record state { position = now } ≡ state_after state (edit_reply state.is_watched result (record state { position = now }))
+edit_effect state now a b action (Ok changed) edited = refl
+edit_effect state now a b action (Err refusal) edited = ap (λ (p : Position). record state { position = p }) edited.state
+
+-- ---- letters of a cell
+
+judged : {X : Type 0} (is_in blocks : Bool) (good letters : List ℕ) (answer : List ℕ → Result X Refusal)
+    → (if not is_in then Err (edits.Grid grids.OutOfGrid) else if blocks then Err (edits.Grid grids.OnBlock) else Ok good) ≡ Ok letters
+    → (if not is_in then Err (refusals.Grid grids.OutOfGrid) else if blocks then Err (refusals.Grid grids.OnBlock) else answer good) ≡ answer letters
+judged true false good letters answer is = let same : good ≡ letters = cc in ap answer same
+judged true true good letters answer is = cc
+judged false blocks good letters answer is = cc
+
+pub lettered_is : (state : State) (answers : Answers) (cell : Cell) (set : ℕ) → Knows state.position answers
+    → cell_judged state.position.grid cell (letters_of answers (index_of state.position.grid cell)) ≡ Ok (letters_in set)
+    → lettered state cell ≡ shown state (letters_line (letters_in set))
+lettered_is state answers cell set exact is =
+    judged (is_inside state.position.grid cell) (is_block state.position.grid cell) _ _ (λ letters. shown state (letters_line letters))
+    (ap (cell_judged state.position.grid cell) (sym (answered_letters (position_of state.position) answers exact (index_of state.position.grid cell))) ∙ is)
+
+-- ---- words of a light
+
+pub counted : (position : Position) (answers : Answers) (at : Option ℕ) (count : ℕ) (words : List (List ℕ)) → Knows position answers
+    → Ok count ≡ on_light (λ light. length (words_of answers light)) at → Ok words ≡ on_light (words_of answers) at
+    → (light : ℕ) × (at ≡ Some light) × (count ≡ length (feasible_words (position_of position) light)) × (words ≡ feasible_words (position_of position) light)
+counted position answers None count words exact counts is = cc
+counted position answers (Some light) count words exact counts is =
+    let same = answered_words (position_of position) answers exact light in
+    let number : count ≡ length (words_of answers light) = cc in
+    let all : words ≡ words_of answers light = cc in
+    (light, refl, number ∙ ap length same, all ∙ same)
+
+-- ---- fills
+
+abbrev one_of : Bool → Bool → Reply → Reply → Reply → Result Reply Refusal
+one_of past there a b c = if past then Ok a else if there then Ok b else Ok c
+
+fills : (past there : Bool) (a b c : Reply) → IsOk (one_of past there a b c)
+fills true there a b c = refl
+fills false true a b c = refl
+fills false false a b c = refl
+
+within : (limit n : ℕ) → n ≤ limit → nat_lt limit n ≡ false
+within limit n h = grind (arith, nat_tests, h)
+
+past : (limit n : ℕ) → limit < n → nat_lt limit n ≡ true
+past limit n h = grind (arith, nat_tests, h)
+
+-- a search for a fill gives the reply that is due
+pub fill_fits : (state : State) (now : Position) (limit : ℕ) (result : Result Filling EditRefusal) → IfOk result (IsFilling limit state.position now) → IfErr result (λ refusal. refusal ≡ edits.Grid grids.Memory)
+    → IsReply (fill_tried state limit) (Some grid_memory) (fill_reply result (record state { position = now }))
+fill_fits state now limit (Ok fillings.Filled) is memory = rw (within limit (due (position_of state.position)) is.0, is.1) (ap (λ (p : Position). Ok (record { lines = word_line (filling_name fillings.Filled); state = record state { position = p } })) (sym is.2))
+fill_fits state now limit (Ok fillings.NoFill) is memory = rw (within limit (due (position_of state.position)) is.0, is.1) (ap (λ (p : Position). Ok (record { lines = word_line (filling_name fillings.NoFill); state = record state { position = p } })) (sym is.2))
+fill_fits state now limit (Ok fillings.Limit) is memory = rw (past limit (due (position_of state.position)) is.0) (ap (λ (p : Position). Ok (record { lines = word_line (filling_name fillings.Limit); state = record state { position = p } })) (sym is.1))
+fill_fits state now limit (Err refusal) is memory = inr (fills (nat_lt limit (due (position_of state.position))) (found (position_of state.position)) _ _ _, ap (λ r. Some (refusal_of r)) (sym memory))
+
+pub fill_effect : {E : Type 0} (state : State) (old new : E) (position : E → Position) (result : Result Filling EditRefusal) → state.position ≡ position old → OnErr result (new ≡ old)
+    → record state { position = position new } ≡ state_after state (fill_reply result (record state { position = position new }))
+fill_effect state old new position (Ok filling) is same = refl
+fill_effect state old new position (Err refusal) is same = ap (λ (p : Position). record state { position = p }) (ap position same ∙ sym is)

@@ -1,0 +1,35 @@
+use Rattle.std.proofs.Common.{◌≡◌, ◌<◌, ◌*◌, length, get_or, ap, sym, ◌∙◌, subst, ◌++◌, arith}
+use Rattle.std.proofs.lemmas.Result.{err_from_is_err_and}
+use Rattle.xw_grid.specs.declared.cell.Cell.{Cell}
+use Rattle.xw_grid.specs.Grid.{cells}
+use Rattle.xw_grid.proofs.GridLemmas.{length-cells}
+use Rattle.xw_session.specs.Device.{Begins, HasFailed}
+use Rattle.xw_session.specs.Text.{circle_line}
+use Rattle.xw_session.proofs.LightTexts.{cell_in_order}
+use Rattle.xw_session.proofs.SendsLemmas.{each_sent, each_stops, each_all}
+use Rattle.xw_session.proofs.lists.write_circles.Goals as goal
+
+pub loop-place-preserved : goal.loop-place-preserved
+loop-place-preserved g c =
+    let grid = c.args.grid.now in
+    let below : c.loop-place.place < grid.width * grid.height = omega (arith, c.loop-place-test.true, c.size-place-end.ensures.size) in
+    let is : c.cell_at.result ≡ get_or (cells grid) c.loop-place.place c.cell_at.result = c.cell_at.ensures.cell ∙ sym (cell_in_order grid c.loop-place.place c.cell_at.result below) in
+    let within : c.loop-place.place < length (cells grid) = omega (arith, below, length-cells grid) in
+    let wrote = c.in_ok-write_circle.ensures in
+    record {
+      told = each_sent g.W.Sink.told g.W.Sink.failures (circle_line grid c.args.circles.now) (cells grid) c.args.sink.now c.loop-place.sink c.write_circle.new.sink c.loop-place.place c.cell_at.result within c.loop-place.invariant.told (wrote.0 ∙ ap (λ (cell : Cell). g.W.Sink.told c.loop-place.sink ++ circle_line grid c.args.circles.now cell) is);
+      quiet = wrote.1 ∙ c.loop-place.invariant.quiet;
+    }
+
+pub returns-in_err-write_circle : goal.returns-in_err-write_circle
+returns-in_err-write_circle g c =
+    let e = err_from_is_err_and c.from_residual.result c.from_residual.ensures.1 in
+    let grid = c.args.grid.now in
+    let below : c.loop-place.place < grid.width * grid.height = omega (arith, c.loop-place-test.true, c.size-place-end.ensures.size) in
+    let is : c.cell_at.result ≡ get_or (cells grid) c.loop-place.place c.cell_at.result = c.cell_at.ensures.cell ∙ sym (cell_in_order grid c.loop-place.place c.cell_at.result below) in
+    let within : c.loop-place.place < length (cells grid) = omega (arith, below, length-cells grid) in
+    let stops = subst (λ (cell : Cell). Begins (g.W.Sink.told c.loop-place.sink) (g.W.Sink.told c.write_circle.new.sink) (circle_line grid c.args.circles.now cell) × HasFailed (g.W.Sink.failures c.loop-place.sink) (g.W.Sink.failures c.write_circle.new.sink)) is c.in_err-write_circle.ensures in
+    rw e.1 (each_stops g.W.Sink.told g.W.Sink.failures (circle_line grid c.args.circles.now) (cells grid) c.args.sink.now c.loop-place.sink c.write_circle.new.sink c.loop-place.place c.cell_at.result within (c.loop-place.invariant.told, c.loop-place.invariant.quiet) stops)
+
+pub returns : goal.returns
+returns g c = each_all g.W.Sink.told g.W.Sink.failures (circle_line c.args.grid.now c.args.circles.now) (cells c.args.grid.now) _ _ c.loop-place.place (omega (arith, c.loop-place-test.false, length-cells c.args.grid.now, c.size-place-end.ensures.size)) (c.loop-place.invariant.told, c.loop-place.invariant.quiet)

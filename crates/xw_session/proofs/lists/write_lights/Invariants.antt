@@ -1,0 +1,10 @@
+use Rattle.std.proofs.Common.{◌≡◌, ◌++◌, take}
+use Rattle.std.specs.Prelude.{flat_map}
+use Rattle.xw_session.specs.Text.{light_line}
+use Rattle.xw_session.proofs.lists.write_lights.Given as goal
+
+abbrev pub invariant-loop-place : goal.invariant-loop-place
+invariant-loop-place g l = record {
+  told : g.W.Sink.told l.sink ≡ g.W.Sink.told l.initial.sink ++ flat_map (light_line l.grid) (take l.place l.lights);
+  quiet : g.W.Sink.failures l.sink ≡ g.W.Sink.failures l.initial.sink;
+}

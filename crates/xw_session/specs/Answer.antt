@@ -1,0 +1,101 @@
+-- How answers go out, and what state they leave.
+use Rattle.std.specs.Prelude.{◌≡◌, ◌⊎◌, ℕ, Bool, List, [], ◌++◌, flat_map, Option, Some, None, Result, Ok, Err, IsOk, IfOk, if◌then◌else◌}
+use Rattle.xw_feas.specs.declared.edit.Edit.{Edit}
+use Rattle.xw_feas.specs.declared.edit.Refusal.{Refusal as EditRefusal}
+use Rattle.xw_feas.specs.declared.changed.Changed.{Changed}
+use Rattle.xw_feas.specs.State.{action_of, after}
+use Rattle.xw_feas.specs.Changed.{changes_left}
+use Rattle.xw_feas.specs.Changes.{spelled_out}
+use Rattle.xw_fill.specs.declared.search.Filling.{Filling}
+use Rattle.xw_session.specs.declared.outcome.Step.{Step}
+use Rattle.xw_session.specs.declared.outcome.Step.TheVariants.{Silent, Accepted, Refused}
+use Rattle.xw_session.specs.declared.command.Command.{Command}
+use Rattle.xw_session.specs.declared.command.SyntaxFault.{SyntaxFault}
+use Rattle.xw_session.specs.declared.refusal.Refusal.{Refusal}
+use Rattle.xw_session.specs.declared.refusal.Refusal.TheVariants as refusals
+use Rattle.xw_session.specs.Command.{command_of}
+use Rattle.xw_session.specs.Refusal.{refusal_of}
+use Rattle.xw_session.specs.Reply.{Reply, reply_to, want_of, want_of_action, moved, filling_name}
+use Rattle.xw_session.specs.Sends.{Sends}
+use Rattle.xw_session.specs.State.{State}
+use Rattle.xw_session.specs.Text.{accepted, refused, word_line, change_line}
+
+-- a reply that is allowed: the one that is due, or the want of memory where that one is no refusal
+abbrev pub IsReply : Result Reply Refusal → Option Refusal → Result Reply Refusal → Type 0
+IsReply due want (Ok reply) = due ≡ Ok reply
+IsReply due want (Err refusal) = (due ≡ Err refusal) ⊎ (IsOk due × (want ≡ Some refusal))
+
+-- a reply that a command may have
+abbrev pub Replies : State → Command → Result Reply Refusal → Type 0
+Replies state command = IsReply (reply_to state command) (want_of state command)
+
+abbrev pub text_of : Result Reply Refusal → List ℕ
+text_of (Ok reply) = reply.lines ++ accepted
+text_of (Err refusal) = refused refusal
+
+-- a refused command changes nothing
+abbrev pub state_after : State → Result Reply Refusal → State
+state_after state (Ok reply) = reply.state
+state_after state (Err refusal) = state
+
+abbrev pub step_of : Result Reply Refusal → Step
+step_of (Ok reply) = Accepted
+step_of (Err refusal) = Refused
+
+-- A reply that is allowed was answered on a writer, or a beginning of the answer was written. Its effect stands either way.
+pub record AnswersBy {S E : Type 0} (told : S → List ℕ) (failures : S → ℕ) (state : State) (due : Result Reply Refusal) (want : Option Refusal) (result : Result Step E) (after : State) (old new : S) : Type 0 where
+  pub reply : Result Reply Refusal
+  pub fits : IsReply due want reply
+  pub effect : after ≡ state_after state reply
+  pub sends : Sends told failures old new result (text_of reply)
+  pub step : IfOk result (λ s. s ≡ step_of reply)
+
+-- a command was answered
+abbrev pub AnswersTo : {S E : Type 0} → (S → List ℕ) → (S → ℕ) → State → Command → Result Step E → State → S → S → Type 0
+AnswersTo told failures state command result after old new = AnswersBy told failures state (reply_to state command) (want_of state command) result after old new
+
+-- ---- what one function does
+
+-- a command asks for an edit, or is refused before that
+abbrev pub Asks : State → Command → Result Edit Refusal → Type 0
+Asks state command (Ok edit) = (reply_to state command ≡ moved state (after state.position (action_of edit))) × (want_of state command ≡ want_of_action state (action_of edit))
+Asks state command (Err refusal) = reply_to state command ≡ Err refusal
+
+-- the result of an edit, as a reply without lines
+abbrev pub reply_of : {T : Type 0} → Result T Refusal → State → Result Reply Refusal
+reply_of (Ok u) state = Ok (record { lines = []; state = state })
+reply_of (Err refusal) state = Err refusal
+
+-- the result of an edit of the engine, as a reply that with the watch on tells the changed cells
+abbrev pub edit_reply : Bool → Result Changed EditRefusal → State → Result Reply Refusal
+edit_reply is_watched (Ok changed) state = Ok (record { lines = if is_watched then flat_map change_line (spelled_out (changes_left changed)) else []; state = state })
+edit_reply is_watched (Err refusal) state = Err (refusal_of refusal)
+
+-- the result of a search for a fill, as a reply that names it
+abbrev pub fill_reply : Result Filling EditRefusal → State → Result Reply Refusal
+fill_reply (Ok filling) state = Ok (record { lines = word_line (filling_name filling); state = state })
+fill_reply (Err refusal) state = Err (refusal_of refusal)
+
+-- An edit did what it is to do, or was refused.
+abbrev pub Edits : {T : Type 0} → State → Command → Result T Refusal → State → Type 0
+Edits state command result after = Replies state command (reply_of result after) × (after ≡ state_after state (reply_of result after))
+
+-- ---- lines
+
+-- The answer of a line, what became of it, and the state afterwards.
+abbrev pub AnswersParsed : State → Result (Option Command) SyntaxFault → Step → List ℕ → State → Type 0
+AnswersParsed state (Ok None) step answer after = (step ≡ Silent) × (answer ≡ []) × (after ≡ state)
+AnswersParsed state (Ok (Some command)) step answer after =
+    (reply : Result Reply Refusal) × Replies state command reply × (step ≡ step_of reply) × (answer ≡ text_of reply) × (after ≡ state_after state reply)
+AnswersParsed state (Err fault) step answer after = (step ≡ Refused) × (answer ≡ refused (refusals.Syntax fault)) × (after ≡ state)
+
+abbrev pub Answers : State → List ℕ → Step → List ℕ → State → Type 0
+Answers state line = AnswersParsed state (command_of line)
+
+-- A line was answered on a writer, or a beginning of an answer was written. The line's effect stands either way.
+pub record AnswersLine {S E : Type 0} (told : S → List ℕ) (failures : S → ℕ) (state : State) (line : List ℕ) (result : Result Step E) (after : State) (old new : S) : Type 0 where
+  pub outcome : Step
+  pub answer : List ℕ
+  pub fits : Answers state line outcome answer after
+  pub sends : Sends told failures old new result answer
+  pub is : IfOk result (λ s. s ≡ outcome)

@@ -1,0 +1,160 @@
+//! Lists that are answered, one line after another.
+ghost use Rattle.std.specs.Prelude.{◌≡◌, ◌<◌, flat_map, length, slice_index_or, take};
+ghost use Rattle.xw_grid.specs.Light.{lights_of, no_light};
+ghost use Rattle.xw_feas.specs.Changed.{changes_left};
+ghost use Rattle.xw_feas.specs.Changes.{spelled_out};
+ghost use Rattle.xw_session.specs.Sends.{Sends};
+ghost use Rattle.xw_session.specs.Text.{word_line, light_line, light_lines, circle_line, circle_lines, change_line, duplicate_line, spelled_line};
+
+use crate::device::{Sink, WriteFailed};
+use crate::text;
+use xw_feas::changed::Changed;
+use xw_feas::feasible::Feasible;
+use xw_feas::words::WordIter;
+use xw_fill::listing::Duplicate;
+use xw_grid::{Cell, Circles, Grid, LightName, Lights};
+use xw_words::Matching;
+
+/// Writes words, each on a line.
+pub fn write_words<W: Sink>(sink: &mut W, words: Matching<'_>) -> Result<(), WriteFailed>
+    ensures { Sends W.told W.failures sink.old sink.new result (flat_map word_line words.entry) }
+{
+    for word in words {
+        text::write_word(sink, word)?;
+    }
+    Ok(())
+}
+
+/// Writes lights, each on a line.
+pub fn write_lights<W: Sink>(sink: &mut W, grid: &Grid, lights: &Lights) -> Result<(), WriteFailed>
+    requires { lights.now ≡ lights_of grid.now }
+    ensures { Sends W.told W.failures sink.old sink.new result (light_lines grid.now) }
+{
+    for place in 0..lights.len() {
+        write_light_at(sink, grid, lights, place)?;
+    }
+    Ok(())
+}
+
+/// Writes the light at a place.
+fn write_light_at<W: Sink>(
+    sink: &mut W,
+    grid: &Grid,
+    lights: &Lights,
+    place: usize,
+) -> Result<(), WriteFailed>
+    requires lights { lights.now ≡ lights_of grid.now }
+    requires place { place < length lights.now }
+    ensures { Sends W.told W.failures sink.old sink.new result (light_line grid.now (slice_index_or lights.now place no_light)) }
+{
+    grid.well_formed();
+    match lights.get(place) {
+        Some(light) => text::write_light(sink, grid, &light),
+        None => Ok(()),
+    }
+}
+
+/// Writes a cell on a line where it is open and circled.
+fn write_circle<W: Sink>(
+    sink: &mut W,
+    grid: &Grid,
+    circles: &Circles,
+    cell: Cell,
+) -> Result<(), WriteFailed>
+    ensures { Sends W.told W.failures sink.old sink.new result (circle_line grid.now circles.now cell) }
+{
+    if grid.is_open(cell) && circles.has(cell) {
+        text::write_cell(sink, cell)
+    } else {
+        Ok(())
+    }
+}
+
+/// Writes the open cells that are circled, each on a line.
+pub fn write_circles<W: Sink>(
+    sink: &mut W,
+    grid: &Grid,
+    circles: &Circles,
+) -> Result<(), WriteFailed>
+    ensures { Sends W.told W.failures sink.old sink.new result (circle_lines grid.now circles.now) }
+{
+    for place in 0..grid.size() {
+        write_circle(sink, grid, circles, grid.cell_at(place))?;
+    }
+    Ok(())
+}
+
+/// Writes the cells that changed, each with its letters on a line.
+pub fn write_changes<W: Sink>(sink: &mut W, changed: Changed<'_>) -> Result<(), WriteFailed>
+    ensures { Sends W.told W.failures sink.old sink.new result (flat_map change_line (spelled_out (changes_left changed.entry))) }
+{
+    for change in changed {
+        let (cell, letters) = change;
+        text::write_change(sink, cell, letters)?;
+    }
+    Ok(())
+}
+
+/// Writes feasible words, each on a line.
+pub fn write_feasible<E: Feasible, W: Sink>(
+    sink: &mut W,
+    words: WordIter<'_, E>,
+) -> Result<(), WriteFailed>
+    ensures { Sends W.told W.failures sink.old sink.new result (flat_map word_line words.entry) }
+{
+    for word in words {
+        text::write_spelled(sink, &word)?;
+    }
+    Ok(())
+}
+
+/// Writes the first feasible words, no more than so many, each on a line.
+pub fn write_first_feasible<E: Feasible, W: Sink>(
+    sink: &mut W,
+    words: WordIter<'_, E>,
+    most: u64,
+) -> Result<(), WriteFailed>
+    ensures { Sends W.told W.failures sink.old sink.new result (flat_map word_line (take most words.entry)) }
+{
+    let mut left = most;
+    for word in words {
+        if left == 0 {
+            return Ok(());
+        }
+        left -= 1;
+        text::write_spelled(sink, &word)?;
+    }
+    Ok(())
+}
+
+/// Writes lights that spell what earlier ones do, each on a line.
+pub fn write_duplicates<W: Sink>(
+    sink: &mut W,
+    grid: &Grid,
+    lights: &Lights,
+    found: &[Duplicate],
+) -> Result<(), WriteFailed>
+    requires { lights.now ≡ lights_of grid.now }
+    ensures { Sends W.told W.failures sink.old sink.new result (flat_map (duplicate_line grid.now) found.now) }
+{
+    for duplicate in found {
+        text::write_duplicate(sink, grid, lights, duplicate)?;
+    }
+    Ok(())
+}
+
+/// Writes lights and what they spell, each on a line.
+pub fn write_unlisted<W: Sink>(
+    sink: &mut W,
+    grid: &Grid,
+    lights: &Lights,
+    found: &[LightName],
+) -> Result<(), WriteFailed>
+    requires { lights.now ≡ lights_of grid.now }
+    ensures { Sends W.told W.failures sink.old sink.new result (flat_map (spelled_line grid.now) found.now) }
+{
+    for name in found {
+        text::write_light_word(sink, grid, lights, *name)?;
+    }
+    Ok(())
+}

@@ -1,0 +1,138 @@
+//! The edits that commands ask for, and how they are answered.
+ghost use Rattle.std.specs.Prelude.{◌≡◌, IfOk, flat_map, if◌then◌else◌, []};
+ghost use Rattle.xw_feas.specs.Changed.{changes_left};
+ghost use Rattle.xw_feas.specs.Changes.{spelled_out};
+ghost use Rattle.xw_feas.specs.State.{after, action_of};
+ghost use Rattle.xw_session.specs.Sends.{Sends};
+ghost use Rattle.xw_session.specs.Text.{change_line};
+ghost use Rattle.xw_session.specs.Reply.{moved, want_of_action};
+ghost use Rattle.xw_session.specs.Answer.{AnswersBy, AnswersTo, Asks, edit_reply, text_of, step_of};
+ghost use Rattle.xw_session.specs.State.{State};
+
+use crate::command::{Named, Spot};
+use crate::device::{Sink, WriteFailed};
+use crate::lists;
+use crate::lookup::light_name;
+use crate::outcome::Step;
+use crate::refusal::Refusal;
+use crate::session::{Session, end_answer};
+use xw_feas::changed::Changed;
+use xw_feas::edit::{Edit, Refusal as EditRefusal};
+use xw_feas::feasible::Feasible;
+use xw_grid::{Side, Symmetry};
+use xw_words::{Letter, WordFault};
+
+/// With the watch on writes the cells that changed.
+fn tell_changes<W: Sink>(
+    sink: &mut W,
+    changed: Changed<'_>,
+    is_watched: bool,
+) -> Result<(), WriteFailed>
+    ensures { Sends W.told W.failures sink.old sink.new result (if is_watched then flat_map change_line (spelled_out (changes_left changed.entry)) else []) }
+{
+    if is_watched {
+        lists::write_changes(sink, changed)
+    } else {
+        Ok(())
+    }
+}
+
+/// Answers an edit that was done or refused, with the watch on or off.
+fn end_edit<W: Sink>(
+    sink: &mut W,
+    edited: Result<Changed<'_>, EditRefusal>,
+    is_watched: bool,
+) -> Result<Step, WriteFailed>
+    ensures sends { (state : State) → Sends W.told W.failures sink.old sink.new result (text_of (edit_reply is_watched edited.entry state)) }
+    ensures step { (state : State) → IfOk result (λ step. step ≡ step_of (edit_reply is_watched edited.entry state)) }
+{
+    match edited {
+        Ok(changed) => {
+            tell_changes(sink, changed, is_watched)?;
+            end_answer(sink, Ok(()))
+        }
+        Err(refusal) => end_answer(sink, Err(Refusal::from(refusal))),
+    }
+}
+
+impl<E: Feasible> Session<E> {
+    ghost use Rattle.xw_session.specs.declared.command.Command.{Command as AnyCommand};
+    ghost use Rattle.xw_session.specs.declared.command.Command.TheVariants as commands;
+
+    /// Does the edit that a command asks for and answers it, or the refusal that comes before it.
+    pub(crate) fn edit<W: Sink>(
+        &mut self,
+        asked: &Result<Edit<'_>, Refusal>,
+        sink: &mut W,
+    ) -> Result<Step, WriteFailed>
+        ensures { (command : AnyCommand) → Asks self.old command asked.now → AnswersTo W.told W.failures self.old command result self.new sink.old sink.new }
+    {
+        match asked {
+            Ok(edit) => self.answer_edit(edit, sink),
+            Err(refusal) => end_answer(sink, Err(*refusal)),
+        }
+    }
+
+    /// Does an edit and answers it.
+    fn answer_edit<W: Sink>(&mut self, edit: &Edit<'_>, sink: &mut W) -> Result<Step, WriteFailed>
+        ensures { AnswersBy W.told W.failures self.old (moved self.old (after self.old.position (action_of edit.now))) (want_of_action self.old (action_of edit.now)) result self.new sink.old sink.new }
+    {
+        let is_watched = self.is_watched;
+        end_edit(sink, self.engine.edit(edit), is_watched)
+    }
+
+    pub(crate) fn symmetry<'a>(&self, kind: Symmetry) -> Result<Edit<'a>, Refusal>
+        ensures { Asks self.now (commands.Symmetry kind) result }
+    {
+        Ok(Edit::Symmetry(kind))
+    }
+
+    pub(crate) fn add<'a>(&self, word: &'a [u8]) -> Result<Edit<'a>, Refusal>
+        ensures { Asks self.now (commands.Add word.now) result }
+    {
+        Ok(Edit::Add(word))
+    }
+
+    pub(crate) fn strike<'a>(&self, word: &'a [u8]) -> Result<Edit<'a>, Refusal>
+        ensures { Asks self.now (commands.Strike word.now) result }
+    {
+        Ok(Edit::Strike(word))
+    }
+
+    pub(crate) fn set<'a>(&self, spot: Spot, letter: u8) -> Result<Edit<'a>, Refusal>
+        ensures { Asks self.now (commands.Set spot letter) result }
+    {
+        let Some(letter) = Letter::of(letter) else {
+            return Err(Refusal::Word(WordFault::BadLetter(1)));
+        };
+        Ok(Edit::Set(self.cell(spot)?, letter))
+    }
+
+    pub(crate) fn clear<'a>(&self, spot: Spot) -> Result<Edit<'a>, Refusal>
+        ensures { Asks self.now (commands.Clear spot) result }
+    {
+        Ok(Edit::Clear(self.cell(spot)?))
+    }
+
+    pub(crate) fn place<'a>(&self, named: Named, word: &'a [u8]) -> Result<Edit<'a>, Refusal>
+        ensures { Asks self.now (commands.Place named word.now) result }
+    {
+        self.engine.grid().well_formed();
+        match light_name(named) {
+            Some(name) => Ok(Edit::Place(name, word)),
+            None => Err(Refusal::NoLight),
+        }
+    }
+
+    pub(crate) fn block<'a>(&self, spot: Spot) -> Result<Edit<'a>, Refusal>
+        ensures { Asks self.now (commands.Block spot) result }
+    {
+        Ok(Edit::Block(self.cell(spot)?))
+    }
+
+    pub(crate) fn bar<'a>(&self, spot: Spot, side: Side) -> Result<Edit<'a>, Refusal>
+        ensures { Asks self.now (commands.Bar spot side) result }
+    {
+        Ok(Edit::Bar(self.cell(spot)?, side))
+    }
+}

@@ -1,0 +1,276 @@
+//! Queries answered: what a session knows, and what its engine and the search say.
+ghost use Rattle.std.specs.Prelude.{◌≡◌, ℕ, Err, ◌∷◌, [], length, IfOk, IfErr, IfSome, IfNone, Some, None, codes, decimal, ◌++◌};
+ghost use Rattle.xw_words.specs.LetterSet.{letters_in};
+ghost use Rattle.xw_grid.specs.Grid.{index_of};
+ghost use Rattle.xw_grid.specs.Light.{lights_of, place_named};
+ghost use Rattle.xw_fill.specs.Position.{position_of};
+ghost use Rattle.xw_fill.specs.FeasibleWords.{feasible_words};
+ghost use Rattle.xw_fill.specs.FeasibleLetters.{feasible_letters};
+ghost use Rattle.xw_session.specs.Sends.{Sends};
+ghost use Rattle.xw_session.specs.Text.{word_line, line_of, counted_lines, direction_name as name_of_direction, suggestion_line, letters_line, word_at as known_word_at};
+ghost use Rattle.xw_session.specs.Reply.{first_words, name_of_light, filling_name as name_of_filling, cell_of, lettered, shown};
+ghost use Rattle.xw_session.specs.Answer.{AnswersTo, fill_reply, text_of, step_of};
+ghost use Rattle.xw_session.specs.State.{State};
+
+use crate::command::{Named, Spot};
+use crate::device::{Sink, WriteFailed};
+use crate::lookup::{light_name, light_named};
+use crate::outcome::Step;
+use crate::refusal::Refusal;
+use crate::session::{Session, end_answer};
+use crate::{lists, show, text};
+use xw_feas::edit::Refusal as EditRefusal;
+use xw_feas::feasible::Feasible;
+use xw_feas::words::{WordIter, words};
+use xw_fill::listing::{duplicates, unlisted};
+use xw_fill::search::{Filling, fill};
+use xw_fill::suggesting::{Suggestion, suggest};
+use xw_grid::{Direction, LightName};
+use xw_words::{Letter, LetterSet};
+
+/// Writes how many words there are, and then as many of them as are asked for.
+fn write_counted<E: Feasible, W: Sink>(
+    sink: &mut W,
+    count: usize,
+    words: WordIter<'_, E>,
+    most: Option<u64>,
+) -> Result<(), WriteFailed>
+    ensures { Sends W.told W.failures sink.old sink.new result (counted_lines count (first_words most words.entry)) }
+{
+    text::write_number(sink, count as u64)?;
+    match most {
+        None => lists::write_feasible(sink, words),
+        Some(most) => lists::write_first_feasible(sink, words, most),
+    }
+}
+
+/// The known word at a place among those as long as the light of a name.
+fn word_at<E: Feasible>(engine: &E, name: LightName, place: usize) -> &[Letter]
+    ensures { result.now ≡ known_word_at (E.state engine.now) name place }
+{
+    let size = match light_named(engine.lights(), name) {
+        Some(light) => light.size as usize,
+        None => 0,
+    };
+    let bank = engine.bank();
+    if place < bank.known(size) {
+        bank.word(size, place)
+    } else {
+        &[]
+    }
+}
+
+/// Writes what is proposed.
+fn write_suggestion<E: Feasible, W: Sink>(
+    sink: &mut W,
+    engine: &E,
+    suggestion: Suggestion,
+) -> Result<(), WriteFailed>
+    ensures { Sends W.told W.failures sink.old sink.new result (suggestion_line (E.state engine.now) suggestion) }
+{
+    match suggestion {
+        Suggestion::Dead(light) => text::write_named(sink, b"dead", light),
+        Suggestion::Done => text::write_line(sink, &[b"done"]),
+        Suggestion::Try { light, word } => {
+            text::write_named_word(sink, b"try", light, word_at(engine, light, word))
+        }
+        Suggestion::NoWord(light) => text::write_named(sink, b"noword", light),
+    }
+}
+
+fn filling_name(filling: Filling) -> &'static str
+    ensures { result.now ≡ name_of_filling filling }
+{
+    match filling {
+        Filling::Filled => "filled",
+        Filling::NoFill => "nofill",
+        Filling::Limit => "limit",
+    }
+}
+
+fn write_filling<W: Sink>(sink: &mut W, filling: Filling) -> Result<(), WriteFailed>
+    ensures { Sends W.told W.failures sink.old sink.new result (word_line (name_of_filling filling)) }
+{
+    text::write_line(sink, &[filling_name(filling).as_bytes()])
+}
+
+/// Answers a search for a fill that was done or refused.
+fn end_filling<W: Sink>(
+    sink: &mut W,
+    filled: Result<Filling, EditRefusal>,
+) -> Result<Step, WriteFailed>
+    ensures sends { (state : State) → Sends W.told W.failures sink.old sink.new result (text_of (fill_reply filled state)) }
+    ensures step { (state : State) → IfOk result (λ step. step ≡ step_of (fill_reply filled state)) }
+{
+    match filled {
+        Ok(filling) => {
+            write_filling(sink, filling)?;
+            end_answer(sink, Ok(()))
+        }
+        Err(refusal) => end_answer(sink, Err(Refusal::from(refusal))),
+    }
+}
+
+impl<E: Feasible> Session<E> {
+    ghost use Rattle.xw_session.specs.declared.command.Command.TheVariants as commands;
+
+    /// Answers the words that a pattern fits.
+    pub(crate) fn answer_match<W: Sink>(
+        &self,
+        pattern: &[u8],
+        sink: &mut W,
+    ) -> Result<Step, WriteFailed>
+        ensures { AnswersTo W.told W.failures self.now (commands.Match pattern.now) result self.now sink.old sink.new }
+    {
+        match self.engine.bank().matching(pattern) {
+            Ok(words) => {
+                lists::write_words(sink, words)?;
+                end_answer(sink, Ok(()))
+            }
+            Err(fault) => end_answer(sink, Err(Refusal::Word(fault))),
+        }
+    }
+
+    /// Answers the grid.
+    pub(crate) fn answer_show<W: Sink>(&self, sink: &mut W) -> Result<Step, WriteFailed>
+        ensures { AnswersTo W.told W.failures self.now commands.Show result self.now sink.old sink.new }
+    {
+        show::write_grid(sink, self.engine.grid())?;
+        end_answer(sink, Ok(()))
+    }
+
+    /// Answers the lights.
+    pub(crate) fn answer_lights<W: Sink>(&self, sink: &mut W) -> Result<Step, WriteFailed>
+        ensures { AnswersTo W.told W.failures self.now commands.Lights result self.now sink.old sink.new }
+    {
+        lists::write_lights(sink, self.engine.grid(), self.engine.lights())?;
+        end_answer(sink, Ok(()))
+    }
+
+    /// Answers the open cells that are circled.
+    pub(crate) fn answer_circles<W: Sink>(&self, sink: &mut W) -> Result<Step, WriteFailed>
+        ensures { AnswersTo W.told W.failures self.now commands.Circles result self.now sink.old sink.new }
+    {
+        lists::write_circles(sink, self.engine.grid(), &self.circles)?;
+        end_answer(sink, Ok(()))
+    }
+
+    /// The feasible words of a light, and how many they are.
+    fn counted_by(&self, name: LightName) -> Option<(usize, WordIter<'_, E>)>
+        ensures some { IfSome result (λ found. (light : ℕ) × (place_named (lights_of self.now.position.grid) name ≡ Some light)
+            × (found.0 ≡ length (feasible_words (position_of self.now.position) light))
+            × (found.1 ≡ feasible_words (position_of self.now.position) light)) }
+        ensures none { IfNone result (place_named (lights_of self.now.position.grid) name ≡ None) }
+    {
+        match (self.engine.word_count(name), words(&self.engine, name)) {
+            (Ok(count), Ok(found)) => Some((count, found)),
+            _ => None,
+        }
+    }
+
+    /// The same of the light that a line names.
+    fn counted_words(&self, named: Named) -> Option<(usize, WordIter<'_, E>)>
+        ensures some { IfSome result (λ found. (light : ℕ) × (place_named (lights_of self.now.position.grid) (name_of_light named) ≡ Some light)
+            × (found.0 ≡ length (feasible_words (position_of self.now.position) light))
+            × (found.1 ≡ feasible_words (position_of self.now.position) light)) }
+        ensures none { IfNone result (place_named (lights_of self.now.position.grid) (name_of_light named) ≡ None) }
+    {
+        self.engine.grid().well_formed();
+        match light_name(named) {
+            Some(name) => self.counted_by(name),
+            None => None,
+        }
+    }
+
+    /// Answers the feasible words of a light.
+    pub(crate) fn answer_words<W: Sink>(
+        &self,
+        named: Named,
+        most: Option<u64>,
+        sink: &mut W,
+    ) -> Result<Step, WriteFailed>
+        ensures { AnswersTo W.told W.failures self.now (commands.Words named most) result self.now sink.old sink.new }
+    {
+        match self.counted_words(named) {
+            Some((count, found)) => {
+                write_counted(sink, count, found, most)?;
+                end_answer(sink, Ok(()))
+            }
+            None => end_answer(sink, Err(Refusal::NoLight)),
+        }
+    }
+
+    /// The feasible letters of a cell.
+    fn letters(&self, spot: Spot) -> Result<LetterSet, Refusal>
+        ensures ok { IfOk result (λ set. lettered self.now (cell_of spot) ≡ shown self.now (letters_line (letters_in set))) }
+        ensures refused { IfErr result (λ refusal. lettered self.now (cell_of spot) ≡ Err refusal) }
+    {
+        let cell = self.cell(spot)?;
+        let letters = self.engine.letters(cell)?;
+        Ok(letters)
+    }
+
+    /// Answers the feasible letters of a cell.
+    pub(crate) fn answer_letters<W: Sink>(
+        &self,
+        spot: Spot,
+        sink: &mut W,
+    ) -> Result<Step, WriteFailed>
+        ensures { AnswersTo W.told W.failures self.now (commands.Letters spot) result self.now sink.old sink.new }
+    {
+        match self.letters(spot) {
+            Ok(letters) => {
+                text::write_letter_set(sink, letters)?;
+                end_answer(sink, Ok(()))
+            }
+            Err(refusal) => end_answer(sink, Err(refusal)),
+        }
+    }
+
+    /// Answers the lights that spell what earlier ones do.
+    pub(crate) fn answer_duplicates<W: Sink>(&self, sink: &mut W) -> Result<Step, WriteFailed>
+        ensures { AnswersTo W.told W.failures self.now commands.Duplicates result self.now sink.old sink.new }
+    {
+        match duplicates(self.alloc, &self.engine) {
+            Ok(found) => {
+                lists::write_duplicates(sink, self.engine.grid(), self.engine.lights(), &found)?;
+                end_answer(sink, Ok(()))
+            }
+            Err(refusal) => end_answer(sink, Err(Refusal::from(refusal))),
+        }
+    }
+
+    /// Answers the lights that spell what the dictionary lacks.
+    pub(crate) fn answer_unlisted<W: Sink>(&self, sink: &mut W) -> Result<Step, WriteFailed>
+        ensures { AnswersTo W.told W.failures self.now commands.Unlisted result self.now sink.old sink.new }
+    {
+        match unlisted(self.alloc, &self.engine) {
+            Ok(found) => {
+                lists::write_unlisted(sink, self.engine.grid(), self.engine.lights(), &found)?;
+                end_answer(sink, Ok(()))
+            }
+            Err(refusal) => end_answer(sink, Err(Refusal::from(refusal))),
+        }
+    }
+
+    /// Answers a proposal of a next word.
+    pub(crate) fn answer_suggestion<W: Sink>(&mut self, sink: &mut W) -> Result<Step, WriteFailed>
+        ensures { AnswersTo W.told W.failures self.old commands.Suggest result self.new sink.old sink.new }
+    {
+        let suggestion = suggest(&mut self.engine);
+        write_suggestion(sink, &self.engine, suggestion)?;
+        end_answer(sink, Ok(()))
+    }
+
+    /// Fills the grid, if that can be done within so many placements, and answers whether it was.
+    pub(crate) fn answer_fill<W: Sink>(
+        &mut self,
+        limit: u64,
+        sink: &mut W,
+    ) -> Result<Step, WriteFailed>
+        ensures { AnswersTo W.told W.failures self.old (commands.Fill limit) result self.new sink.old sink.new }
+    {
+        let filled = fill(self.alloc, &mut self.engine, limit);
+        end_filling(sink, filled)
+    }
+}
