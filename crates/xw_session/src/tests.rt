@@ -1,5 +1,6 @@
 //! Scripts answered over memory, and over devices that fail.
 mod devices;
+mod examples;
 mod scripts;
 
 use crate::Session;
@@ -9,6 +10,9 @@ use xw_feas::feasible::Feasible;
 use xw_feas::plain::Plain;
 use xw_grid::Grid;
 use xw_words::Bank;
+
+/// Lines, each with its answer.
+type Script = &'static [(&'static str, &'static str)];
 
 /// A session that begins as the program's does: 15 by 15 cells, and no words.
 fn session(alloc: Global) -> Result<Session<Plain>, Fail> {
