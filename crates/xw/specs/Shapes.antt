@@ -7,8 +7,22 @@ use Rattle.clap.specs.Simple.{on_top}
 abbrev pub option : Text → Rule
 option name = record (new_rule name) { long = Some name; value_names = 1 }
 
+-- a file that has to be named, by its place
+abbrev pub operand : Text → Rule
+operand name = record (new_rule name) { value_names = 1; required = true }
+
 abbrev pub edit : App
-edit = with_rule (new_app (codes "edit")) (option (codes "dict"))
+edit = with_rule (with_rule (with_rule (new_app (codes "edit")) (option (codes "dict"))) (option (codes "from"))) (option (codes "to"))
+
+abbrev pub convert : App
+convert = with_rule (with_rule (new_app (codes "convert")) (operand (codes "from"))) (operand (codes "to"))
+
+abbrev pub check : App
+check = with_rule (new_app (codes "check")) (operand (codes "file"))
+
+-- the program, but for its subcommands
+abbrev pub top : App
+top = on_top (λ s. record s { subcommand_required = true }) (new_app (codes "xw"))
 
 abbrev pub xw : App
-xw = with_subcommand (on_top (λ s. record s { subcommand_required = true }) (new_app (codes "xw"))) edit.top
+xw = with_subcommand (with_subcommand (with_subcommand top edit.top) convert.top) check.top

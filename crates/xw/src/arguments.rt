@@ -10,10 +10,41 @@ use clap::{Arg, ArgMatches, Command, Error};
 use std::alloc::{AllocError, Global};
 use std::convert::AsStr;
 
+/// What the help shows of a session.
+const EXAMPLE: &str = "Example:
+  $ xw edit --dict words.txt --to mine.puz
+  size 3 1
+  ok
+  add cat
+  ok
+  words 1 across
+  1
+  CAT
+  ok
+  fill 10
+  filled
+  ok
+  clue 1 across It purrs
+  ok";
+
 /// What the program is to do.
 #[derive(Clone, Copy, Debug, PartialEq, Eq)]
 pub enum Call<'a> {
-    Edit { dict: Option<&'a str> },
+    /// Answers commands over a word list and a puzzle, each where it is named, and writes the puzzle where a file is named.
+    Edit {
+        dict: Option<&'a str>,
+        from_file: Option<&'a str>,
+        to_file: Option<&'a str>,
+    },
+    /// Writes the puzzle of a file into another.
+    Convert {
+        from_file: &'a str,
+        to_file: &'a str,
+    },
+    /// Tells of the puzzle of a file.
+    Check {
+        file: &'a str,
+    },
 }
 
 /// Why there is no call, with the text to show.
@@ -35,23 +66,79 @@ fn option<'a>(alloc: Global, name: &'a str, help: &'a str) -> Arg<'a>
         .help(help)
 }
 
+/// A file that has to be named.
+fn operand<'a>(alloc: Global, name: &'a str, shown: &'a str, help: &'a str) -> Arg<'a>
+    ensures rule { rule_of result ≡ shapes.operand name.entry.now }
+    ensures local { result.global ≡ false }
+{
+    Arg::new(alloc, name)
+        .value_name(shown)
+        .help(help)
+        .required(true)
+}
+
 fn edit<'a>(alloc: Global) -> Result<Command<'a>, AllocError>
     ensures shape { IfOk result (λ command. app_of command ≡ shapes.edit) }
     ensures local { IfOk result (λ command. (fields_of command).has_globals ≡ false) }
 {
     Command::new(alloc, "edit")
         .about("Answer the commands on standard input, a line each")
-        .arg(option(alloc, "dict", "The word list to start with, a word a line"))
+        .after_help(EXAMPLE)
+        .arg(option(alloc, "dict", "The word list to start with, a word a line"))?
+        .arg(option(
+            alloc,
+            "from",
+            "The puzzle to start with, .puz or text [default: 15 by 15 cells, all empty]",
+        ))?
+        .arg(option(
+            alloc,
+            "to",
+            "Where to write the puzzle at the end, as .puz if it is called so, else as text",
+        ))
+}
+
+fn convert<'a>(alloc: Global) -> Result<Command<'a>, AllocError>
+    ensures shape { IfOk result (λ command. app_of command ≡ shapes.convert) }
+    ensures local { IfOk result (λ command. (fields_of command).has_globals ≡ false) }
+{
+    Command::new(alloc, "convert")
+        .about("Read a puzzle file and write it in another format")
+        .arg(operand(alloc, "from", "FROM", "The puzzle to read, .puz or text"))?
+        .arg(operand(
+            alloc,
+            "to",
+            "TO",
+            "Where to write it, as .puz if it is called so, else as text",
+        ))
+}
+
+fn check<'a>(alloc: Global) -> Result<Command<'a>, AllocError>
+    ensures shape { IfOk result (λ command. app_of command ≡ shapes.check) }
+    ensures local { IfOk result (λ command. (fields_of command).has_globals ≡ false) }
+{
+    Command::new(alloc, "check")
+        .about("Read a puzzle file and tell its format, size and number of lights")
+        .arg(operand(alloc, "file", "FILE", "The puzzle to read, .puz or text"))
+}
+
+/// The program as it is called, but for its subcommands.
+fn top<'a>(alloc: Global) -> Command<'a>
+    ensures shape { app_of result ≡ shapes.top }
+    ensures local { (fields_of result).has_globals ≡ false }
+{
+    Command::new(alloc, "xw")
+        .about("A crossword construction engine")
+        .after_help(EXAMPLE)
+        .subcommand_required(true)
 }
 
 fn command<'a>(alloc: Global) -> Result<Command<'a>, AllocError>
     ensures shape { IfOk result (λ command. app_of command ≡ shapes.xw) }
     ensures local { IfOk result (λ command. (fields_of command).has_globals ≡ false) }
 {
-    let top = Command::new(alloc, "xw")
-        .about("A crossword construction engine")
-        .subcommand_required(true);
-    top.subcommand(edit(alloc)?)
+    let top = top(alloc).subcommand(edit(alloc)?)?;
+    let top = top.subcommand(convert(alloc)?)?;
+    top.subcommand(check(alloc)?)
 }
 
 /// The call that the words are, of which the first is the program's name.
@@ -66,11 +153,11 @@ pub fn arguments<'a, S: AsStr>(alloc: Global, words: &'a [S]) -> Result<Call<'a>
     };
     match call_of(&matches) {
         Some(call) => Ok(call),
-        None => Err(Usage::Wrong(String::from_str(alloc, "xw: no such call\n")?)),
+        None => Err(Usage::Wrong(String::from_str(alloc, "xw: a file is missing\n")?)),
     }
 }
 
-/// The call of the matches.
+/// The call of the matches, or `None` where they lack a file.
 fn call_of<'a>(matches: &ArgMatches<'a>) -> Option<Call<'a>>
     ensures { IfSome result (λ call. IsCall call (subcommand_rows_of matches.now)) }
 {
@@ -78,6 +165,15 @@ fn call_of<'a>(matches: &ArgMatches<'a>) -> Option<Call<'a>>
     match name {
         "edit" => Some(Call::Edit {
             dict: files.get_str("dict"),
+            from_file: files.get_str("from"),
+            to_file: files.get_str("to"),
+        }),
+        "convert" => Some(Call::Convert {
+            from_file: files.get_str("from")?,
+            to_file: files.get_str("to")?,
+        }),
+        "check" => Some(Call::Check {
+            file: files.get_str("file")?,
         }),
         _ => None,
     }

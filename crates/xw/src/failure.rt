@@ -47,6 +47,8 @@ pub enum Failure {
     Memory,
     #[error("xw: {file}: cannot read")]
     CannotRead { file: String },
+    #[error("xw: {file}: cannot write")]
+    CannotWrite { file: String },
     #[error("xw: {file}: {name}")]
     File { file: String, name: &'static str },
 }
@@ -54,10 +56,8 @@ pub enum Failure {
 impl Failure {
     pub fn status(&self) -> Status {
         match self {
-            Failure::Input | Failure::Output | Failure::Memory | Failure::CannotRead { .. } => {
-                Status::Failed
-            }
             Failure::File { .. } => Status::Format,
+            _ => Status::Failed,
         }
     }
 }

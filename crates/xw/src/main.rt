@@ -3,6 +3,7 @@
 
 mod arguments;
 mod failure;
+mod files;
 mod perform;
 #[cfg(test)]
 mod tests;

@@ -1,15 +1,15 @@
 //! Doing what a call asks for.
 use crate::arguments::{Call, Usage};
 use crate::failure::{Failure, Status};
+use crate::files;
 use std::alloc::Global;
 use std::rt::Files;
-use std::{fs, io};
 use xw_feas::feasible::Feasible;
 use xw_feas::plain::Plain;
-use xw_grid::Grid;
-use xw_session::refusal::{self, Refusal};
+use xw_files::Kind;
+use xw_grid::{Grid, Lights};
 use xw_session::{RunEnd, Session, Sink, Source, device};
-use xw_words::{Bank, WordFault};
+use xw_words::Bank;
 
 /// What works out the feasible words and letters.
 type Engine = Plain;
@@ -82,50 +82,62 @@ fn run<R: Files + AllocGlobal, I: Source, O: Sink, E: Sink>(
     errors: &mut E,
 ) -> Result<Status, Failure> {
     match call {
-        Call::Edit { dict } => {
-            let bank = dictionary(rt, dict, errors)?;
-            edit(rt.alloc(), bank, input, output)
+        Call::Edit {
+            dict,
+            from_file,
+            to_file,
+        } => {
+            let mut session = open(rt, dict, from_file, errors)?;
+            let status = answer(&mut session, input, output)?;
+            if let Some(file) = to_file {
+                keep(rt, file, &session)?;
+            }
+            Ok(status)
+        }
+        Call::Convert { from_file, to_file } => {
+            let (_, puzzle) = files::read_puzzle(rt, from_file)?;
+            files::write_puzzle(rt, to_file, &puzzle)?;
+            Ok(Status::Accepted)
+        }
+        Call::Check { file } => {
+            check(rt, file, output)?;
+            Ok(Status::Accepted)
         }
     }
 }
 
-/// The dictionary of a word list, or one of no words.
-fn dictionary<R: Files + AllocGlobal, E: Sink>(
+/// A session over a word list and a puzzle, each where it is named; the word list is read first.
+fn open<R: Files + AllocGlobal, E: Sink>(
     rt: &R,
     dict: Option<&str>,
+    from_file: Option<&str>,
     errors: &mut E,
-) -> Result<Bank, Failure> {
+) -> Result<Session<Engine>, Failure> {
     let alloc = rt.alloc();
-    let Some(file) = dict else {
-        return Bank::new(alloc).map_err(|_| Failure::Memory);
+    let bank = match dict {
+        Some(file) => files::read_dictionary(rt, file, errors)?,
+        None => Bank::new(alloc).map_err(|_| Failure::Memory)?,
     };
-    let bytes = read_file(rt, file)?;
-    match Bank::load_list(alloc, bytes.as_slice()) {
-        Ok((bank, loaded)) => {
-            let (added, skipped) = (loaded.added, loaded.skipped);
-            let text = format!(in alloc; "xw: {file}: {added} added, {skipped} skipped\n")?;
-            let _ = device::write_all(errors, text.as_bytes());
-            Ok(bank)
+    match from_file {
+        Some(file) => {
+            let (_, puzzle) = files::read_puzzle(rt, file)?;
+            let engine = Engine::open(alloc, puzzle.grid, bank).map_err(|_| Failure::Memory)?;
+            Ok(Session::open(engine, puzzle.texts, puzzle.clues, puzzle.circles))
         }
-        Err(WordFault::Memory) => Err(Failure::Memory),
-        Err(fault) => {
-            let file = String::from_str(alloc, file)?;
-            let name = refusal::name(Refusal::Word(fault));
-            Err(Failure::File { file, name })
+        None => {
+            let grid = Grid::new(alloc, START, START).map_err(|_| Failure::Memory)?;
+            let engine = Engine::open(alloc, grid, bank).map_err(|_| Failure::Memory)?;
+            Ok(Session::new(alloc, engine))
         }
     }
 }
 
 /// Answers the commands of the input.
-fn edit<I: Source, O: Sink>(
-    alloc: Global,
-    bank: Bank,
+fn answer<I: Source, O: Sink>(
+    session: &mut Session<Engine>,
     input: &mut I,
     output: &mut O,
 ) -> Result<Status, Failure> {
-    let grid = Grid::new(alloc, START, START).map_err(|_| Failure::Memory)?;
-    let engine = Engine::open(alloc, grid, bank).map_err(|_| Failure::Memory)?;
-    let mut session = Session::new(alloc, engine);
     match session.run_lines(input, output) {
         RunEnd::Done { refused: 0 } => Ok(Status::Accepted),
         RunEnd::Done { .. } => Ok(Status::Refused),
@@ -135,15 +147,32 @@ fn edit<I: Source, O: Sink>(
     }
 }
 
-fn read_file<R: Files + AllocGlobal>(rt: &R, file: &str) -> Result<Vec<u8>, Failure> {
-    match fs::read(rt, file) {
-        Ok(bytes) => Ok(bytes),
-        Err(error) => {
-            if error.kind() == io::ErrorKind::OutOfMemory {
-                return Err(Failure::Memory);
-            }
-            let file = String::from_str(rt.alloc(), file)?;
-            Err(Failure::CannotRead { file })
-        }
+/// Writes the puzzle of a session into a file.
+fn keep<R: Files + AllocGlobal>(
+    rt: &R,
+    file: &str,
+    session: &Session<Engine>,
+) -> Result<(), Failure> {
+    match session.puzzle() {
+        Ok(puzzle) => files::write_puzzle(rt, file, &puzzle),
+        Err(_) => Err(Failure::Memory),
     }
+}
+
+/// Tells the format of a puzzle file, its size and its number of lights.
+fn check<R: Files + AllocGlobal, O: Sink>(
+    rt: &R,
+    file: &str,
+    output: &mut O,
+) -> Result<(), Failure> {
+    let alloc = rt.alloc();
+    let (kind, puzzle) = files::read_puzzle(rt, file)?;
+    let lights = Lights::of(alloc, &puzzle.grid).map_err(|_| Failure::Memory)?;
+    let kind = match kind {
+        Kind::Puz => "puz",
+        Kind::Text => "text",
+    };
+    let (width, height, count) = (puzzle.grid.width(), puzzle.grid.height(), lights.len());
+    let line = format!(in alloc; "{kind} {width}x{height} {count} lights\n")?;
+    show(output, line.as_bytes())
 }

@@ -1,4 +1,8 @@
 //! Runs of the program.
+mod devices;
+mod puzzles;
+mod samples;
+
 use crate::arguments::{Call, Usage, arguments};
 use crate::failure::Status;
 use crate::perform::{explain, perform};
@@ -83,6 +87,13 @@ fn wrong_words(rt: HostRuntime) -> Result<(), Fail> {
         &["xw", "edit", "--dict"],
         &["xw", "edit", "--dict", "a", "--dict", "b"],
         &["xw", "edit", "--frob"],
+        &["xw", "edit", "--to", "a", "--to", "b"],
+        &["xw", "edit", "--from"],
+        &["xw", "convert"],
+        &["xw", "convert", "a"],
+        &["xw", "convert", "a", "b", "c"],
+        &["xw", "check"],
+        &["xw", "check", "a", "b"],
     ] {
         assert!(rt;
             matches!(arguments(rt.alloc(), words), Err(Usage::Wrong(_))),
@@ -95,6 +106,8 @@ fn wrong_words(rt: HostRuntime) -> Result<(), Fail> {
         &["xw", "help"],
         &["xw", "edit", "-h"],
         &["xw", "edit", "--help"],
+        &["xw", "convert", "-h"],
+        &["xw", "check", "--help"],
     ] {
         assert!(rt;
             matches!(arguments(rt.alloc(), words), Err(Usage::Help(_))),
@@ -102,6 +115,15 @@ fn wrong_words(rt: HostRuntime) -> Result<(), Fail> {
         );
     }
     let words = ["xw", "edit"];
-    assert!(rt; matches!(arguments(rt.alloc(), &words), Ok(Call::Edit { dict: None })));
+    assert!(rt;
+        matches!(
+            arguments(rt.alloc(), &words),
+            Ok(Call::Edit {
+                dict: None,
+                from_file: None,
+                to_file: None
+            })
+        )
+    );
     Ok(())
 }

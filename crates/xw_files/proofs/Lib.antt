@@ -1,0 +1,2 @@
+pub mod PuzLemmas
+pub mod TextLemmas

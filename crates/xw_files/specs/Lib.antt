@@ -1,1 +1,3 @@
 pub mod Puzzle
+pub mod Puz
+pub mod Text

@@ -2,4 +2,14 @@
 #![tactic(auto)]
 
 pub mod fault;
+pub mod kind;
+pub mod puz;
 pub mod puzzle;
+#[cfg(test)]
+mod tests;
+pub mod text;
+
+pub use kind::{Kind, kind_of};
+pub use puz::{read_puz, write_puz};
+pub use puzzle::{Puzzle, Texts};
+pub use text::{read_text, write_text};

@@ -272,7 +272,8 @@ fn previous(direction: Direction, cell: Cell) -> Cell
     }
 }
 
-fn begins(grid: &Grid, direction: Direction, cell: Cell) -> bool
+/// Whether a light of a direction begins at a cell.
+pub fn begins(grid: &Grid, direction: Direction, cell: Cell) -> bool
     ensures { result ≡ begins_light grid.now direction cell }
 {
     is_joined(grid, direction, cell) && !is_joined(grid, direction, previous(direction, cell))

@@ -16,7 +16,12 @@ type Script = &'static [(&'static str, &'static str)];
 
 /// A session that begins as the program's does: 15 by 15 cells, and no words.
 fn session(alloc: Global) -> Result<Session<Plain>, Fail> {
-    let grid = Grid::new(alloc, 15, 15)?;
+    session_of(alloc, 15)
+}
+
+/// A session of no words on a square of so many rows.
+fn session_of(alloc: Global, rows: u32) -> Result<Session<Plain>, Fail> {
+    let grid = Grid::new(alloc, rows, rows)?;
     let engine = Plain::open(alloc, grid, Bank::new(alloc)?)?;
     Ok(Session::new(alloc, engine))
 }

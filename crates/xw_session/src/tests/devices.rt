@@ -1,7 +1,7 @@
 //! Runs over readers and writers that fail.
 ghost use Rattle.std.specs.Prelude.{◌≡◌, ◌≤◌, ◌<◌, length, take, true, false};
 
-use crate::tests::session;
+use crate::tests::{session, session_of};
 use crate::{DeviceFault, RunEnd, Session, Sink, Source, Step};
 use std::process::Abort;
 use std::test::Fail;
@@ -46,13 +46,13 @@ impl Source for Script<'_> {
 /// A writer into a fixed buffer, by pieces, that fails at one of its calls.
 #[derive(Drop)]
 struct Buffer {
-    bytes: [u8; 256],
+    bytes: [u8; 512],
     taken: usize,
     piece: usize,
     calls_left: u64,
     failures: u64,
     is_flushed: bool,
-    ghost within: { taken ≤ 256 },
+    ghost within: { taken ≤ 512 },
 }
 
 impl Sink for Buffer {
@@ -68,7 +68,7 @@ impl Sink for Buffer {
             return Err(DeviceFault);
         }
         self.calls_left -= 1;
-        let count = bytes.len().min(256 - self.taken).min(self.piece);
+        let count = bytes.len().min(512 - self.taken).min(self.piece);
         self.bytes[self.taken..self.taken + count].copy_from_slice(&bytes[..count]);
         self.taken += count;
         self.is_flushed = false;
@@ -115,7 +115,7 @@ fn runs(rt: &(impl Abort + AllocGlobal), lines: &[u8], case: Case) -> Result<Ses
         is_at_end: false,
     };
     let mut sink = Buffer {
-        bytes: [0; 256],
+        bytes: [0; 512],
         taken: 0,
         piece: case.piece,
         calls_left: case.writes,
@@ -132,9 +132,9 @@ fn runs(rt: &(impl Abort + AllocGlobal), lines: &[u8], case: Case) -> Result<Ses
 /// Whether a session has the word CAT: adding it is then refused.
 fn has_cat(mut session: Session<Plain>) -> bool {
     let mut told = Buffer {
-        bytes: [0; 256],
+        bytes: [0; 512],
         taken: 0,
-        piece: 256,
+        piece: 512,
         calls_left: 9,
         failures: 0,
         is_flushed: true,
@@ -230,7 +230,7 @@ fn writer_takes_none(rt: HostRuntime) -> Result<(), Fail> {
         is_at_end: false,
     };
     let mut sink = Buffer {
-        bytes: [0; 256],
+        bytes: [0; 512],
         taken: 0,
         piece: 0,
         calls_left: 100,
@@ -265,5 +265,79 @@ fn cut_off(rt: HostRuntime) -> Result<(), Fail> {
         written: 1,
     };
     assert!(rt; has_cat(runs(&rt, b"add CAT\n", writer)?));
+    Ok(())
+}
+
+/// The square of AS, AT, SO, TO and IN: asked, with one entry, emptied and restored, filled, and with repeats; lines and answers.
+const SQUARES: [(&[u8], &[u8]); 5] = [
+    (
+        b"size 2 2\nadd AS\nadd AT\nadd SO\nadd TO\nadd IN\nlights\nwords 1 across\nwords 1 down\nwords 2 down\nwords 3 across\nletters 1 1\nletters 1 2\nletters 2 1\nletters 2 2\nsuggest\n",
+        b"ok\nok\nok\nok\nok\nok\n1 across 1 1 ..\n1 down 1 1 ..\n2 down 1 2 ..\n3 across 2 1 ..\nok\n2\nAS\nAT\nok\n2\nAS\nAT\nok\n2\nSO\nTO\nok\n2\nSO\nTO\nok\nA\nok\nST\nok\nST\nok\nO\nok\ntry 1 across AS\nok\n",
+    ),
+    (
+        b"size 2 2\nadd AS\nadd AT\nadd SO\nadd TO\nadd IN\nwatch on\nset 1 2 T\nwords 1 across\nwords 2 down\nwords 1 down\nwords 3 across\nset 1 2 S\nwords 1 across\nwords 2 down\n",
+        b"ok\nok\nok\nok\nok\nok\nok\ncell 1 2 T\nok\n1\nAT\nok\n1\nTO\nok\n2\nAS\nAT\nok\n2\nSO\nTO\nok\ncell 1 2 S\nok\n1\nAS\nok\n1\nSO\nok\n",
+    ),
+    (
+        b"size 2 2\nadd AS\nadd AT\nadd SO\nadd TO\nadd IN\nwatch on\nset 1 1 X\nwords 1 across\nwords 1 down\nwords 2 down\nwords 3 across\nsuggest\nclear 1 1\nwords 1 across\nwords 1 down\nwords 2 down\nwords 3 across\nsuggest\n",
+        b"ok\nok\nok\nok\nok\nok\nok\ncell 1 1 -\ncell 1 2 -\ncell 2 1 -\ncell 2 2 -\nok\n0\nok\n0\nok\n0\nok\n0\nok\ndead 1 across\nok\ncell 1 1 A\ncell 1 2 ST\ncell 2 1 ST\ncell 2 2 O\nok\n2\nAS\nAT\nok\n2\nAS\nAT\nok\n2\nSO\nTO\nok\n2\nSO\nTO\nok\ntry 1 across AS\nok\n",
+    ),
+    (
+        b"size 2 2\nadd AS\nadd AT\nadd SO\nadd TO\nadd IN\nfill 3\nshow\nfill 4\nshow\n",
+        b"ok\nok\nok\nok\nok\nok\nlimit\nok\n- -\n- -\nok\nfilled\nok\nA S\nT O\nok\n",
+    ),
+    (
+        b"size 2 2\nadd AS\nadd AT\nadd SO\nadd TO\nadd IN\nstrike SO\nfill 100\nshow\nplace 1 across AT\nplace 3 across TO\ndups\nunlisted\n",
+        b"ok\nok\nok\nok\nok\nok\nok\nnofill\nok\n- -\n- -\nok\nok\nok\n1 down 1 across AT\n3 across 2 down TO\nok\nok\n",
+    ),
+];
+
+/// Runs lines over devices that give so many calls, and compares: what went out is a beginning of the answers.
+fn begins(
+    rt: &(impl Abort + AllocGlobal),
+    (lines, answers): (&[u8], &[u8]),
+    (reads, writes): (u64, u64),
+) -> Result<(RunEnd, usize), Fail> {
+    let mut session = session_of(rt.alloc(), 1)?;
+    let mut source = Script {
+        bytes: lines,
+        given: 0,
+        piece: 16,
+        calls_left: reads,
+        failures: 0,
+        is_at_end: false,
+    };
+    let mut sink = Buffer {
+        bytes: [0; 512],
+        taken: 0,
+        piece: 512,
+        calls_left: writes,
+        failures: 0,
+        is_flushed: true,
+    };
+    let end = session.run_lines(&mut source, &mut sink);
+    assert!(rt; answers.starts_with(&sink.bytes[..sink.taken]));
+    Ok((end, sink.taken))
+}
+
+/// The writer, or the reader, fails at each of its calls in turn, until it has enough of them.
+#[test]
+fn squares_broken_off(rt: HostRuntime) -> Result<(), Fail> {
+    for (lines, answers) in SQUARES {
+        for calls in 0..400 {
+            let (end, written) = begins(&rt, (lines, answers), (100, calls))?;
+            let is_whole = end == RunEnd::Done { refused: 0 };
+            assert!(&rt; is_whole || end == RunEnd::WriteFailed, "{end:?}");
+            assert!(&rt; !is_whole || written == answers.len());
+            assert!(&rt; calls < 399 || is_whole);
+        }
+        for calls in 0..100 {
+            let (end, written) = begins(&rt, (lines, answers), (calls, 1000))?;
+            let is_whole = end == RunEnd::Done { refused: 0 };
+            assert!(&rt; is_whole || end == RunEnd::ReadFailed, "{end:?}");
+            assert!(&rt; !is_whole || written == answers.len());
+            assert!(&rt; calls < 99 || is_whole);
+        }
+    }
     Ok(())
 }

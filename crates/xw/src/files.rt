@@ -1,0 +1,144 @@
+//! The files of the program: word lists and puzzles.
+use crate::failure::Failure;
+use std::rt::Files;
+use std::{fs, io};
+use xw_files::fault::{ReadFault, WriteFault};
+use xw_files::puzzle::Puzzle;
+use xw_files::{Kind, kind_of, read_puz, read_text, write_puz, write_text};
+use xw_session::refusal::{self, Refusal};
+use xw_session::{Sink, device};
+use xw_words::{Bank, WordFault};
+
+/// The bytes of a file.
+fn read_file<R: Files + AllocGlobal>(rt: &R, file: &str) -> Result<Vec<u8>, Failure> {
+    match fs::read(rt, file) {
+        Ok(bytes) => Ok(bytes),
+        Err(error) => {
+            if error.kind() == io::ErrorKind::OutOfMemory {
+                return Err(Failure::Memory);
+            }
+            let file = String::from_str(rt.alloc(), file)?;
+            Err(Failure::CannotRead { file })
+        }
+    }
+}
+
+/// The dictionary of a word list, of which the number of words is told.
+pub fn read_dictionary<R: Files + AllocGlobal, E: Sink>(
+    rt: &R,
+    file: &str,
+    errors: &mut E,
+) -> Result<Bank, Failure> {
+    let alloc = rt.alloc();
+    let bytes = read_file(rt, file)?;
+    match Bank::load_list(alloc, bytes.as_slice()) {
+        Ok((bank, loaded)) => {
+            let (added, skipped) = (loaded.added, loaded.skipped);
+            let text = format!(in alloc; "xw: {file}: {added} added, {skipped} skipped\n")?;
+            let _ = device::write_all(errors, text.as_bytes());
+            Ok(bank)
+        }
+        Err(WordFault::Memory) => Err(Failure::Memory),
+        Err(fault) => {
+            let file = String::from_str(alloc, file)?;
+            let name = refusal::name(Refusal::Word(fault));
+            Err(Failure::File { file, name })
+        }
+    }
+}
+
+/// The puzzle of a file, and the format that the file is of.
+pub fn read_puzzle<R: Files + AllocGlobal>(rt: &R, file: &str) -> Result<(Kind, Puzzle), Failure> {
+    let alloc = rt.alloc();
+    let bytes = read_file(rt, file)?;
+    let kind = kind_of(bytes.as_slice());
+    let read = match kind {
+        Kind::Puz => read_puz(alloc, bytes.as_slice()),
+        Kind::Text => read_text(alloc, bytes.as_slice()),
+    };
+    match read {
+        Ok(puzzle) => Ok((kind, puzzle)),
+        Err(ReadFault::Memory) => Err(Failure::Memory),
+        Err(fault) => {
+            let file = String::from_str(alloc, file)?;
+            let name = read_fault_name(fault);
+            Err(Failure::File { file, name })
+        }
+    }
+}
+
+/// Writes a puzzle into a file, which is not opened before all its bytes are made.
+pub fn write_puzzle<R: Files + AllocGlobal>(
+    rt: &R,
+    file: &str,
+    puzzle: &Puzzle,
+) -> Result<(), Failure> {
+    let alloc = rt.alloc();
+    let made = match kind_by_name(file) {
+        Kind::Puz => write_puz(alloc, puzzle),
+        Kind::Text => write_text(alloc, puzzle),
+    };
+    let bytes = match made {
+        Ok(bytes) => bytes,
+        Err(WriteFault::Memory) => return Err(Failure::Memory),
+        Err(fault) => {
+            let file = String::from_str(alloc, file)?;
+            let name = write_fault_name(fault);
+            return Err(Failure::File { file, name });
+        }
+    };
+    match fs::write(rt, file, bytes.as_slice()) {
+        Ok(()) => Ok(()),
+        Err(_) => {
+            let file = String::from_str(alloc, file)?;
+            Err(Failure::CannotWrite { file })
+        }
+    }
+}
+
+/// The format in which a file of this name is written.
+fn kind_by_name(name: &str) -> Kind {
+    let name = name.as_bytes();
+    let ending = &name[name.len().saturating_sub(4)..];
+    if ending.eq_ignore_ascii_case(b".puz") {
+        Kind::Puz
+    } else {
+        Kind::Text
+    }
+}
+
+/// The name of a fault of a file that was read, without its place.
+fn read_fault_name(fault: ReadFault) -> &'static str {
+    match fault {
+        ReadFault::Short(_) => "Short",
+        ReadFault::Magic => "Magic",
+        ReadFault::Version => "Version",
+        ReadFault::Scrambled => "Scrambled",
+        ReadFault::Size => "Size",
+        ReadFault::NoNul(_) => "NoNul",
+        ReadFault::BadSum(_) => "BadSum",
+        ReadFault::BadCell(_) => "BadCell",
+        ReadFault::ClueCount => "ClueCount",
+        ReadFault::Memory => "Memory",
+        ReadFault::Header => "Header",
+        ReadFault::Tag(_) => "Tag",
+        ReadFault::SizeLine => "SizeLine",
+        ReadFault::GridLine(_) => "GridLine",
+        ReadFault::AcrossCount => "AcrossCount",
+        ReadFault::DownCount => "DownCount",
+        ReadFault::NulByte(_) => "NulByte",
+        ReadFault::GextSize => "GextSize",
+        ReadFault::GextSum => "GextSum",
+    }
+}
+
+/// The name of a fault of a puzzle that is to be written, without its place.
+fn write_fault_name(fault: WriteFault) -> &'static str {
+    match fault {
+        WriteFault::Barred => "Barred",
+        WriteFault::NotFilled(_) => "NotFilled",
+        WriteFault::Field(_) => "Field",
+        WriteFault::Memory => "Memory",
+        WriteFault::Circled(_) => "Circled",
+    }
+}

@@ -1,0 +1,23 @@
+-- What a chain of tests that passes says.
+use Rattle.std.proofs.Common.{◌≡◌, Bool, true, false, cond, refl, Ok, Err}
+use Rattle.std.specs.Prelude.{Result}
+use Rattle.xw_files.specs.Puz.Reading.{◌>>=◌}
+use Rattle.xw_files.specs.declared.fault.ReadFault.{ReadFault}
+
+pub ok_is : {A : Type 0} (x y : A) → let R : Type 0 = Result A ReadFault in let l : R = Ok x in let r : R = Ok y in l ≡ r → x ≡ y
+ok_is x y e = cc
+
+-- a chain that passes went on from what was found first
+pub bind_ok : {A B : Type 0} (r : Result A ReadFault) (f : A → Result B ReadFault) (y : B) → (r >>= f) ≡ Ok y → (x : A) × (r ≡ Ok x) × (f x ≡ Ok y)
+bind_ok (Ok x) f y e = (x, refl, e)
+bind_ok (Err fault) f y e = cc
+
+-- a test that had to hold
+pub passed : {A : Type 0} (b : Bool) (r : Result A ReadFault) (fault : ReadFault) (y : A) → cond b r (Err fault) ≡ Ok y → (b ≡ true) × (r ≡ Ok y)
+passed true r fault y e = (refl, e)
+passed false r fault y e = cc
+
+-- a test that must not hold
+pub avoided : {A : Type 0} (b : Bool) (r : Result A ReadFault) (fault : ReadFault) (y : A) → cond b (Err fault) r ≡ Ok y → (b ≡ false) × (r ≡ Ok y)
+avoided true r fault y e = cc
+avoided false r fault y e = (refl, e)

@@ -1,0 +1,22 @@
+-- Lemmas on text files.
+pub mod Lines
+pub mod Numbers
+pub mod Shapes
+pub mod Squares
+pub mod Plains
+pub mod Clues
+pub mod Places
+pub mod Scans
+pub mod Writes
+pub mod Again
+pub mod Lookups
+pub mod Round
+pub mod Bars
+pub mod Laws
+pub mod Cuts
+pub mod Fine
+pub mod Sizes
+pub mod Whole
+pub mod Writer
+pub mod Takes
+pub mod Found

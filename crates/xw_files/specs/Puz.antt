@@ -1,0 +1,10 @@
+pub mod Reading
+pub mod Gives
+pub mod Spelling
+pub mod Sums
+pub mod Sections
+pub mod Board
+pub mod Relation
+pub mod Writing
+pub mod View
+pub mod Laws

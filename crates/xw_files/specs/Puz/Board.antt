@@ -1,0 +1,70 @@
+-- What a file's parts make of a puzzle, or their first fault.
+use Rattle.std.specs.Prelude.{ℕ, ◌+◌, ◌==◌, List, [], ◌∷◌, length, Option, Some, None, option_map, Result, Ok, Err, if◌then◌else◌}
+use Rattle.xw_words.specs.Letter.{letter_of}
+use Rattle.xw_grid.specs.declared.cell.Square.{Square}
+use Rattle.xw_grid.specs.declared.cell.Square.TheVariants.{Block, Open}
+use Rattle.xw_grid.specs.declared.lights.Light.{Light}
+use Rattle.xw_grid.specs.Grid.{Grid, cell_in}
+use Rattle.xw_grid.specs.Edit.{grid_of}
+use Rattle.xw_grid.specs.Light.{lights_of}
+use Rattle.xw_grid.specs.Clue.{ClueMap, no_clues, with_clue}
+use Rattle.xw_files.specs.Puzzle.{PuzzleShown}
+use Rattle.xw_files.specs.declared.fault.ReadFault.{ReadFault}
+use Rattle.xw_files.specs.declared.fault.ReadFault.TheVariants.{BadCell, BadSum, ClueCount}
+use Rattle.xw_files.specs.declared.fault.SumName.{SumName}
+use Rattle.xw_files.specs.Puz.Reading.{Fields, ◌>>=◌, fields_at}
+use Rattle.xw_files.specs.Puz.Sums.{sums_of, wrong_sum}
+use Rattle.xw_files.specs.Puz.Sections.{gext_in, circles_by}
+
+-- ---- the solution
+
+-- the square that a byte stands for
+abbrev pub square_of : ℕ → Option Square
+square_of byte = if byte == 46 then Some Block else if byte == 45 then Some (Open None) else option_map (λ letter. Open (Some letter)) (letter_of byte)
+
+abbrev pub square_or_fault : ℕ → ℕ → Option Square → Result Square ReadFault
+square_or_fault width place (Some square) = Ok square
+square_or_fault width place None = Err (BadCell (cell_in width place))
+
+-- the squares that bytes stand for, the first of them at a place
+abbrev pub squares_at : ℕ → ℕ → List ℕ → Result (List Square) ReadFault
+squares_at width place [] = Ok []
+squares_at width place (byte ∷ bytes) = square_or_fault width place (square_of byte) >>= λ square. (squares_at width (place + 1) bytes >>= λ others. Ok (square ∷ others))
+
+abbrev pub grid_at : Fields → Result Grid ReadFault
+grid_at fields = squares_at fields.header.width 0 fields.solution >>= λ squares. Ok (grid_of fields.header.width fields.header.height squares)
+
+-- ---- the clues
+
+-- clues after those of lights, one for each, have been set
+abbrev pub with_clues : ClueMap → List Light → List (List ℕ) → ClueMap
+with_clues clues lights [] = clues
+with_clues clues [] (text ∷ texts) = clues
+with_clues clues (light ∷ lights) (text ∷ texts) = with_clues (with_clue clues light.start light.name.direction text) lights texts
+
+abbrev pub clues_in : List Light → Fields → Result (ClueMap) ReadFault
+clues_in lights fields = if fields.header.clue_count == length lights then Ok (with_clues no_clues lights fields.clues) else Err ClueCount
+
+-- ---- the whole
+
+abbrev pub no_wrong : Option SumName → Result (Unit {0}) ReadFault
+no_wrong None = Ok tt
+no_wrong (Some sum) = Err (BadSum sum)
+
+-- the puzzle that fields spell, or their first fault
+abbrev pub puzzle_of : Fields → Result PuzzleShown ReadFault
+puzzle_of fields =
+    no_wrong (wrong_sum fields.header (sums_of fields)) >>= λ _.
+    (grid_at fields >>= λ grid.
+    (clues_in (lights_of grid) fields >>= λ clues.
+    (circles_by grid (gext_in fields.rest) >>= λ circles.
+    Ok (record {
+      grid = grid;
+      texts = record { title = fields.title; author = fields.author; copyright = fields.copyright; notes = fields.notes };
+      clues = clues;
+      circles = circles;
+    }))))
+
+-- the puzzle of a file, or its first fault
+abbrev pub puzzle_at : List ℕ → Result PuzzleShown ReadFault
+puzzle_at bytes = fields_at bytes >>= puzzle_of

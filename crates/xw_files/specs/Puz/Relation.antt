@@ -1,0 +1,40 @@
+-- When a `.puz` file and a puzzle belong together.
+use Rattle.std.specs.Prelude.{◌≡◌, ℕ, ◌*◌, false, List, [], map, length, Option, Some, None}
+use Rattle.xw_grid.specs.declared.cell.Cell.{Cell}
+use Rattle.xw_grid.specs.declared.cell.Side.{Side}
+use Rattle.xw_grid.specs.Grid.{is_barred}
+use Rattle.xw_files.specs.Puzzle.{TextsShown, PuzzleShown, light_clues, circled_cells}
+use Rattle.xw_files.specs.Puz.Reading.{Fields}
+use Rattle.xw_files.specs.Puz.Spelling.{FitsFile, spelled}
+use Rattle.xw_files.specs.Puz.Sums.{sum_from, sums_of, HasSums}
+use Rattle.xw_files.specs.Puz.Sections.{Section, AreSections, first_gext, marked_cells}
+use Rattle.xw_files.specs.Puz.Board.{square_of}
+
+-- the open cells that are circled are those that the first section named GEXT marks
+abbrev pub AreMarked : PuzzleShown → Option Section → Type 0
+AreMarked puzzle None = circled_cells puzzle ≡ []
+AreMarked puzzle (Some section) =
+    (length section.body ≡ puzzle.grid.width * puzzle.grid.height) × (section.sum ≡ sum_from 0 section.body) × (circled_cells puzzle ≡ marked_cells puzzle.grid section.body)
+
+abbrev pub texts_of : Fields → TextsShown
+texts_of fields = record { title = fields.title; author = fields.author; copyright = fields.copyright; notes = fields.notes }
+
+-- The bytes can be cut into a header, some bytes of it reserved, two boards, texts with a NUL each, sections
+-- that stand whole and a tail; no fault holds of them; and the puzzle has no bar and is what these parts spell.
+pub record IsPuz (bytes : List ℕ) (puzzle : PuzzleShown) : Type 0 where
+  pub fields : Fields
+  pub reserved : List ℕ
+  pub sections : List Section
+  pub tail : List ℕ
+  pub reserved_long : length reserved ≡ 16
+  pub fits : FitsFile fields
+  pub cut : bytes ≡ spelled fields reserved
+  pub cut_rest : AreSections fields.rest sections tail
+  pub sums : HasSums fields.header (sums_of fields)
+  pub width : puzzle.grid.width ≡ fields.header.width
+  pub height : puzzle.grid.height ≡ fields.header.height
+  pub no_bar : (cell : Cell) (side : Side) → is_barred puzzle.grid cell side ≡ false
+  pub squares : map square_of fields.solution ≡ map (λ square. Some square) puzzle.grid.squares
+  pub texts : puzzle.texts ≡ texts_of fields
+  pub clues : light_clues puzzle ≡ fields.clues
+  pub circles : AreMarked puzzle (first_gext sections)

@@ -1,0 +1,151 @@
+-- What is written of a puzzle, or why it is not written.
+use Rattle.std.specs.Prelude.{ℕ, ◌+◌, Bool, true, false, ◌&&◌, ◌||◌, ◌==◌, List, [], ◌∷◌, map, length, replicate, find, Option, Some, None, Result, Ok, Err, if◌then◌else◌, codes}
+use Rattle.std.specs.List.{list_any}
+use Rattle.xw_grid.specs.declared.cell.Cell.{Cell}
+use Rattle.xw_grid.specs.declared.cell.Square.{Square}
+use Rattle.xw_grid.specs.declared.cell.Square.TheVariants.{Block, Open}
+use Rattle.xw_grid.specs.declared.cell.Side.TheVariants.{Right, Below}
+use Rattle.xw_grid.specs.Grid.{Grid, cells, is_open, is_barred, square_at}
+use Rattle.xw_grid.specs.Light.{lights_of}
+use Rattle.xw_grid.specs.Clue.{is_circled}
+use Rattle.xw_files.specs.declared.fault.WriteFault.{WriteFault}
+use Rattle.xw_files.specs.declared.fault.WriteFault.TheVariants.{Barred, NotFilled, Field}
+use Rattle.xw_files.specs.declared.fault.TextName.{TextName}
+use Rattle.xw_files.specs.declared.fault.TextName.TheVariants.{Title, Author, Copyright, Clue, Notes}
+use Rattle.xw_files.specs.declared.puz.header.Header.{Header}
+use Rattle.xw_files.specs.declared.puz.sums.Sums.{Sums}
+use Rattle.xw_files.specs.Puz.Reading.{Fields}
+use Rattle.xw_files.specs.Puzzle.{PuzzleShown, light_clues}
+use Rattle.xw_files.specs.Puz.Sums.{sum_from, sums_of, masked_of}
+use Rattle.xw_files.specs.Puz.Spelling.{spelled}
+use Rattle.xw_files.specs.Puz.Sections.{Section, section_bytes}
+
+-- ---- the boards
+
+abbrev pub solution_byte : Square → ℕ
+solution_byte Block = 46
+solution_byte (Open None) = 45
+solution_byte (Open (Some letter)) = letter
+
+abbrev pub state_byte : Square → ℕ
+state_byte Block = 46
+state_byte (Open entered) = 45
+
+-- ---- circles
+
+abbrev pub is_circled_open : Grid → List Cell → Cell → Bool
+is_circled_open grid circles cell = is_open grid cell && is_circled circles cell
+
+abbrev pub mark_of : Grid → List Cell → Cell → ℕ
+mark_of grid circles cell = if is_circled_open grid circles cell then 128 else 0
+
+abbrev pub marks_of : Grid → List Cell → List ℕ
+marks_of grid circles = map (mark_of grid circles) (cells grid)
+
+-- the section named GEXT of such bytes
+abbrev pub gext_of : List ℕ → Section
+gext_of marks = record { name = codes "GEXT"; sum = sum_from 0 marks; body = marks }
+
+abbrev pub gext_bytes : List ℕ → List ℕ
+gext_bytes marks = section_bytes (gext_of marks)
+
+-- the section of the circled open cells, where there are any
+abbrev pub circles_section : Grid → List Cell → List ℕ
+circles_section grid circles = if list_any (is_circled_open grid circles) (cells grid) then gext_bytes (marks_of grid circles) else []
+
+-- ---- the fields
+
+-- a header that says nothing of sums
+abbrev pub unsealed : ℕ → ℕ → ℕ → Header
+unsealed width height count = record {
+  file_sum = 0;
+  cib_sum = 0;
+  masked = replicate 8 0;
+  width = width;
+  height = height;
+  clue_count = count;
+  bitmask = 1;
+}
+
+abbrev pub unsealed_fields : PuzzleShown → Fields
+unsealed_fields puzzle = record {
+  header = unsealed puzzle.grid.width puzzle.grid.height (length (lights_of puzzle.grid));
+  solution = map solution_byte puzzle.grid.squares;
+  state = map state_byte puzzle.grid.squares;
+  title = puzzle.texts.title;
+  author = puzzle.texts.author;
+  copyright = puzzle.texts.copyright;
+  clues = light_clues puzzle;
+  notes = puzzle.texts.notes;
+  rest = circles_section puzzle.grid puzzle.circles;
+}
+
+-- the fields with their own sums in the header
+abbrev pub sealed_by : Fields → Sums → Fields
+sealed_by fields sums = record fields { header = record fields.header { file_sum = sums.file; cib_sum = sums.cib; masked = masked_of sums } }
+
+abbrev pub sealed : Fields → Fields
+sealed fields = sealed_by fields (sums_of fields)
+
+abbrev pub fields_of : PuzzleShown → Fields
+fields_of puzzle = sealed (unsealed_fields puzzle)
+
+-- the bytes of a puzzle
+abbrev pub spelled_puzzle : PuzzleShown → List ℕ
+spelled_puzzle puzzle = spelled (fields_of puzzle) (replicate 16 0)
+
+-- ---- faults
+
+abbrev pub has_bar : Grid → Cell → Bool
+has_bar grid cell = is_barred grid cell Right || is_barred grid cell Below
+
+abbrev pub is_empty_square : Option Square → Bool
+is_empty_square None = false
+is_empty_square (Some Block) = false
+is_empty_square (Some (Open None)) = true
+is_empty_square (Some (Open (Some letter))) = false
+
+abbrev pub is_empty_cell : Grid → Cell → Bool
+is_empty_cell grid cell = is_empty_square (square_at grid cell)
+
+abbrev pub has_nul : List ℕ → Bool
+has_nul text = list_any (λ byte. byte == 0) text
+
+-- the first clue with a NUL, the first of them the k-th
+abbrev pub clue_with_nul : ℕ → List (List ℕ) → Option TextName
+clue_with_nul k [] = None
+clue_with_nul k (clue ∷ clues) = if has_nul clue then Some (Clue k) else clue_with_nul (k + 1) clues
+
+abbrev pub or_notes : List ℕ → Option TextName → Option TextName
+or_notes notes (Some text) = Some text
+or_notes notes None = if has_nul notes then Some Notes else None
+
+-- the first text with a NUL
+abbrev pub text_with_nul : PuzzleShown → Option TextName
+text_with_nul puzzle =
+    if has_nul puzzle.texts.title then Some Title
+    else if has_nul puzzle.texts.author then Some Author
+    else if has_nul puzzle.texts.copyright then Some Copyright
+    else or_notes puzzle.texts.notes (clue_with_nul 1 (light_clues puzzle))
+
+abbrev pub field_fault : Option TextName → Option WriteFault
+field_fault (Some text) = Some (Field text)
+field_fault None = None
+
+abbrev pub filled_fault : PuzzleShown → Option Cell → Option WriteFault
+filled_fault puzzle (Some cell) = Some (NotFilled cell)
+filled_fault puzzle None = field_fault (text_with_nul puzzle)
+
+-- the first reason for which a puzzle is not written
+abbrev pub write_fault : PuzzleShown → Option WriteFault
+write_fault puzzle =
+    if list_any (has_bar puzzle.grid) (cells puzzle.grid) then Some Barred
+    else filled_fault puzzle (find (is_empty_cell puzzle.grid) (cells puzzle.grid))
+
+abbrev written_by : PuzzleShown → Option WriteFault → Result (List ℕ) WriteFault
+written_by puzzle (Some fault) = Err fault
+written_by puzzle None = Ok (spelled_puzzle puzzle)
+
+-- the bytes of a puzzle, or why it is not written
+abbrev pub written : PuzzleShown → Result (List ℕ) WriteFault
+written puzzle = written_by puzzle (write_fault puzzle)

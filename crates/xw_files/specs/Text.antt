@@ -1,0 +1,7 @@
+-- Text files.
+pub mod Lines
+pub mod Tag
+pub mod Starts
+pub mod Shape
+pub mod Written
+pub mod Relation

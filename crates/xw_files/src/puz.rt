@@ -1,0 +1,17 @@
+//! The `.puz` format.
+mod board;
+mod circles;
+mod fields;
+mod header;
+pub mod laws;
+mod read;
+mod refusal;
+mod sections;
+mod spell;
+mod sums;
+mod text;
+mod write;
+
+pub(crate) use header::has_magic;
+pub use read::read_puz;
+pub use write::write_puz;

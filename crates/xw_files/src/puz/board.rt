@@ -1,0 +1,67 @@
+// The solution board.
+ghost use Rattle.std.specs.Prelude.{◌≡◌, ◌≤◌, ◌<◌, ◌+◌, ◌*◌, length};
+ghost use Rattle.xw_grid.specs.Grid.{cell_in};
+ghost use Rattle.xw_files.specs.Puz.Board.{square_of, squares_at, grid_at};
+ghost use Rattle.xw_files.specs.Puz.Gives.{GivesOrLacksMemory};
+ghost use Rattle.xw_files.specs.Puz.View.{view};
+
+use crate::fault::ReadFault;
+use crate::puz::fields::Fields;
+use std::alloc::Global;
+use xw_grid::cell::{Cell, Square};
+use xw_grid::grid::Grid;
+use xw_words::letter::Letter;
+
+/// The square that a byte stands for.
+fn square_of(byte: u8) -> Option<Square>
+    ensures { result ≡ square_of byte }
+{
+    match byte {
+        b'.' => Some(Square::Block),
+        b'-' => Some(Square::Open(None)),
+        _ => Some(Square::Open(Some(Letter::of(byte)?))),
+    }
+}
+
+/// The cell at a place in reading order.
+fn cell_in(width: u8, index: usize) -> Cell
+    requires wide { 1 ≤ width }
+    requires few { index < 65025 }
+    ensures { result ≡ cell_in width index }
+{
+    let width = usize::from(width);
+    Cell {
+        row: (index / width) as u32 + 1,
+        col: (index % width) as u32 + 1,
+    }
+}
+
+/// The squares that bytes stand for.
+fn squares_of(alloc: Global, width: u8, bytes: &[u8]) -> Result<Vec<Square>, ReadFault>
+    requires wide { 1 ≤ width }
+    requires few { length bytes.now ≤ 65025 }
+    ensures { GivesOrLacksMemory (λ squares. squares.items) result (squares_at width 0 bytes.now) }
+{
+    let mut squares = Vec::new(alloc);
+    for (index, byte) in bytes.iter().enumerate() {
+        match square_of(*byte) {
+            Some(square) => squares.extend_from_slice(&[square])?,
+            None => return Err(ReadFault::BadCell(cell_in(width, index))),
+        }
+    }
+    Ok(squares)
+}
+
+/// The grid that the solution board makes.
+pub fn grid_of(alloc: Global, fields: &Fields<'_>) -> Result<Grid, ReadFault>
+    requires wide { 1 ≤ fields.now.header.width }
+    requires high { 1 ≤ fields.now.header.height }
+    requires solution { length fields.now.solution.now ≡ fields.now.header.width * fields.now.header.height }
+    ensures { GivesOrLacksMemory (λ grid. grid) result (grid_at (view fields.now)) }
+{
+    let header = &fields.header;
+    let _ = header.cell_count();
+    let squares = squares_of(alloc, header.width, fields.solution)?;
+    let (width, height) = (u32::from(header.width), u32::from(header.height));
+    Ok(Grid::of_squares(alloc, width, height, squares)?)
+}

@@ -1,0 +1,106 @@
+// Reading a puzzle.
+ghost use Rattle.std.specs.Prelude.{Ok, ◌≡◌, ◌≤◌, ◌*◌, length, [], map, IfOk, IsOkUnless};
+ghost use Rattle.xw_grid.specs.Light.{lights_of};
+ghost use Rattle.xw_grid.specs.Clue.{no_clues};
+ghost use Rattle.xw_files.specs.Puz.Board.{with_clues, clues_in, no_wrong, puzzle_of, puzzle_at};
+ghost use Rattle.xw_files.specs.Puz.Relation.{IsPuz};
+ghost use Rattle.xw_files.specs.Puz.Sums.{wrong_sum, sums_of};
+ghost use Rattle.xw_files.specs.Puz.Gives.{GivesOrLacksMemory};
+ghost use Rattle.xw_files.specs.Puzzle.{PuzzleShown, puzzle_view, part_of};
+ghost use Rattle.xw_files.specs.Puz.View.{view};
+ghost use Rattle.xw_grid.specs.declared.cell.Symmetry.TheVariants as Symmetry;
+ghost use Rattle.xw_files.specs.declared.fault.ReadFault.TheVariants as faults;
+
+use crate::fault::ReadFault;
+use crate::puz::fields::{self, Fields};
+use crate::puz::sums::Sums;
+use crate::puz::{board, sections};
+use crate::puzzle::{Puzzle, Texts};
+use std::alloc::Global;
+use xw_grid::clues::Clues;
+use xw_grid::grid::Grid;
+use xw_grid::lights::Lights;
+
+/// The puzzle that a file spells; it has no symmetry, and no clue or circle but those of the file.
+pub fn read_puz(alloc: Global, bytes: &[u8]) -> Result<Puzzle, ReadFault>
+    ensures symmetry { IfOk result (λ puzzle. puzzle.grid.symmetry ≡ Symmetry.None) }
+    // What is read belongs to the file.
+    ensures found { IfOk result (λ puzzle. IsPuz bytes.entry.now (puzzle_view puzzle)) }
+    // A file to which a puzzle belongs is read, unless memory runs out, and what it holds of that puzzle.
+    ensures only { (puzzle : PuzzleShown) → IsPuz bytes.entry.now puzzle → IfOk result (λ read. part_of (puzzle_view read) ≡ part_of puzzle) × IsOkUnless result faults.Memory }
+    // Which fault it is, each only where none before it holds.
+    ensures exact { GivesOrLacksMemory puzzle_view result (puzzle_at bytes.entry.now) }
+{
+    read_fields(alloc, bytes)
+}
+
+fn read_fields(alloc: Global, bytes: &[u8]) -> Result<Puzzle, ReadFault>
+    ensures exact { GivesOrLacksMemory puzzle_view result (puzzle_at bytes.entry.now) }
+{
+    let fields = fields::fields_of(alloc, bytes)?;
+    puzzle_of(alloc, &fields)
+}
+
+/// The puzzle that fields spell.
+fn puzzle_of(alloc: Global, fields: &Fields<'_>) -> Result<Puzzle, ReadFault>
+    requires wide { 1 ≤ fields.now.header.width }
+    requires high { 1 ≤ fields.now.header.height }
+    requires solution { length fields.now.solution.now ≡ fields.now.header.width * fields.now.header.height }
+    ensures { GivesOrLacksMemory puzzle_view result (puzzle_of (view fields.now)) }
+{
+    if let Some(sum) = Sums::of(fields).wrong_in(&fields.header) {
+        return Err(ReadFault::BadSum(sum));
+    }
+    let grid = board::grid_of(alloc, fields)?;
+    let clues = clues_of(alloc, &grid, fields)?;
+    let circles = sections::circles_of(alloc, &grid, fields.rest)?;
+    let texts = texts_of(alloc, fields)?;
+    Ok(Puzzle {
+        grid,
+        texts,
+        clues,
+        circles,
+    })
+}
+
+/// The clues of the lights of a grid, one each.
+fn clues_of(alloc: Global, grid: &Grid, fields: &Fields<'_>) -> Result<Clues, ReadFault>
+    ensures { GivesOrLacksMemory (λ clues. clues) result (clues_in (lights_of grid.now) (view fields.now)) }
+{
+    let lights = Lights::of(alloc, grid)?;
+    if usize::from(fields.header.clue_count) != lights.len() {
+        return Err(ReadFault::ClueCount);
+    }
+    clues_by(alloc, &lights, &fields.clues)
+}
+
+/// The clues with these texts for these lights.
+fn clues_by(alloc: Global, lights: &Lights, texts: &[&[u8]]) -> Result<Clues, ReadFault>
+    ensures ok { IfOk result (λ clues. clues ≡ with_clues no_clues lights.now (map (λ text. text.now) texts.now)) }
+    ensures memory { IsOkUnless result faults.Memory }
+{
+    let mut clues = Clues::new(alloc);
+    for (index, text) in texts.iter().enumerate() {
+        let Some(light) = lights.get(index) else {
+            return Ok(clues);
+        };
+        clues.set(light.start, light.name.direction, text)?;
+    }
+    Ok(clues)
+}
+
+/// The texts of a file but for its clues.
+fn texts_of(alloc: Global, fields: &Fields<'_>) -> Result<Texts, ReadFault>
+    ensures title { IfOk result (λ texts. texts.title.items ≡ fields.now.title.now) }
+    ensures author { IfOk result (λ texts. texts.author.items ≡ fields.now.author.now) }
+    ensures copyright { IfOk result (λ texts. texts.copyright.items ≡ fields.now.copyright.now) }
+    ensures notes { IfOk result (λ texts. texts.notes.items ≡ fields.now.notes.now) }
+    ensures memory { IsOkUnless result faults.Memory }
+{
+    Ok(Texts {
+        title: Vec::from_slice(alloc, fields.title)?,
+        author: Vec::from_slice(alloc, fields.author)?,
+        copyright: Vec::from_slice(alloc, fields.copyright)?,
+        notes: Vec::from_slice(alloc, fields.notes)?,
+    })
+}

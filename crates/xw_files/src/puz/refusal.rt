@@ -1,0 +1,141 @@
+// Why a puzzle is not written; none of it takes memory.
+ghost use Rattle.std.specs.Prelude.{◌≡◌, ◌==◌, ◌+◌, ◌≤◌, ◌++◌, List, map, find, Some, IfOk, IfErr};
+ghost use Rattle.std.specs.List.{list_any};
+ghost use Rattle.xw_grid.specs.declared.lights.Light.{Light};
+ghost use Rattle.xw_grid.specs.Grid.{IsGrid, cells, is_inside};
+ghost use Rattle.xw_grid.specs.Light.{light_from, lights_at, lights_of};
+ghost use Rattle.xw_files.specs.Puzzle.{puzzle_view, clue_of};
+ghost use Rattle.xw_files.specs.Puz.Writing.{has_bar, is_empty_cell, has_nul, clue_with_nul, text_with_nul, write_fault};
+
+use crate::fault::{TextName, WriteFault};
+use crate::puzzle::Puzzle;
+use xw_grid::cell::{Cell, Direction, Side};
+use xw_grid::clues::Clues;
+use xw_grid::grid::Grid;
+use xw_grid::lights;
+
+/// The first reason for which a puzzle is not written.
+pub fn fault_of(puzzle: &Puzzle) -> Option<WriteFault>
+    ensures fault { result ≡ write_fault (puzzle_view puzzle.now) }
+    ensures grid { IsGrid puzzle.now.grid }
+{
+    let grid = &puzzle.grid;
+    grid.well_formed();
+    if is_barred(grid) {
+        return Some(WriteFault::Barred);
+    }
+    if let Some(cell) = empty_cell(grid) {
+        return Some(WriteFault::NotFilled(cell));
+    }
+    Some(WriteFault::Field(text_with_nul(puzzle)?))
+}
+
+/// Whether a bar is in a grid.
+fn is_barred(grid: &Grid) -> bool
+    ensures { result ≡ list_any (has_bar grid.now) (cells grid.now) }
+{
+    for index in 0..grid.size() {
+        if has_bar(grid, grid.cell_at(index)) {
+            return true;
+        }
+    }
+    false
+}
+
+fn has_bar(grid: &Grid, cell: Cell) -> bool
+    ensures { result ≡ has_bar grid.now cell }
+{
+    grid.is_barred(cell, Side::Right) || grid.is_barred(cell, Side::Below)
+}
+
+/// The first empty cell in reading order.
+fn empty_cell(grid: &Grid) -> Option<Cell>
+    ensures { result ≡ find (is_empty_cell grid.now) (cells grid.now) }
+{
+    for index in 0..grid.size() {
+        let cell = grid.cell_at(index);
+        if is_empty(grid, cell) {
+            return Some(cell);
+        }
+    }
+    None
+}
+
+fn is_empty(grid: &Grid, cell: Cell) -> bool
+    ensures { result ≡ is_empty_cell grid.now cell }
+{
+    grid.is_open(cell) && grid.entry(cell).is_none()
+}
+
+/// The first text with a NUL, in the order of the file.
+fn text_with_nul(puzzle: &Puzzle) -> Option<TextName>
+    ensures { result ≡ text_with_nul (puzzle_view puzzle.now) }
+{
+    let texts = &puzzle.texts;
+    if has_nul(&texts.title) {
+        return Some(TextName::Title);
+    }
+    if has_nul(&texts.author) {
+        return Some(TextName::Author);
+    }
+    if has_nul(&texts.copyright) {
+        return Some(TextName::Copyright);
+    }
+    if let Some(text) = clue_with_nul(&puzzle.grid, &puzzle.clues) {
+        return Some(text);
+    }
+    has_nul(&texts.notes).then_some(TextName::Notes)
+}
+
+fn has_nul(text: &[u8]) -> bool
+    ensures { result ≡ has_nul text.now }
+{
+    text.iter().any(|byte| *byte == 0)
+}
+
+/// The first clue with a NUL, in light order.
+fn clue_with_nul(grid: &Grid, clues: &Clues) -> Option<TextName>
+    ensures { result ≡ clue_with_nul 1 (map (clue_of clues.now) (lights_of grid.now)) }
+{
+    let mut place = 1;
+    for index in 0..grid.size() {
+        match pass_cell(grid, clues, grid.cell_at(index), place) {
+            Ok(next) => place = next,
+            Err(text) => return Some(text),
+        }
+    }
+    None
+}
+
+/// The place after the lights that begin at a cell, unless the clue of one has a NUL.
+fn pass_cell(grid: &Grid, clues: &Clues, cell: Cell, place: usize) -> Result<usize, TextName>
+    requires { place ≤ 131072 }
+    ensures passed { IfOk result (λ next. (lights : List Light) → clue_with_nul place (map (clue_of clues.now) (lights_at grid.now cell ++ lights)) ≡ clue_with_nul next (map (clue_of clues.now) lights)) }
+    ensures stopped { IfErr result (λ text. (lights : List Light) → clue_with_nul place (map (clue_of clues.now) (lights_at grid.now cell ++ lights)) ≡ Some text) }
+    ensures small { IfOk result (λ next. next ≤ place + 2) }
+{
+    let place = pass_light(grid, clues, Direction::Across, cell, place)?;
+    pass_light(grid, clues, Direction::Down, cell, place)
+}
+
+/// The place after the light that begins at a cell in a direction, if one does, unless its clue has a NUL.
+fn pass_light(
+    grid: &Grid,
+    clues: &Clues,
+    direction: Direction,
+    cell: Cell,
+    place: usize,
+) -> Result<usize, TextName>
+    requires { place ≤ 131073 }
+    ensures passed { IfOk result (λ next. (lights : List Light) → clue_with_nul place (map (clue_of clues.now) (light_from grid.now cell direction ++ lights)) ≡ clue_with_nul next (map (clue_of clues.now) lights)) }
+    ensures stopped { IfErr result (λ text. (lights : List Light) → clue_with_nul place (map (clue_of clues.now) (light_from grid.now cell direction ++ lights)) ≡ Some text) }
+    ensures small { IfOk result (λ next. next ≤ place + 1) }
+{
+    if !lights::begins(grid, direction, cell) {
+        return Ok(place);
+    }
+    if has_nul(clues.get(cell, direction)) {
+        return Err(TextName::Clue(place));
+    }
+    Ok(place + 1)
+}

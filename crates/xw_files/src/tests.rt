@@ -1,0 +1,2 @@
+//! Worked examples of files.
+mod puz;

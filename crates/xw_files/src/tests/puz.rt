@@ -1,0 +1,25 @@
+//! `.puz` files read, written and told from text.
+mod files;
+mod reading;
+mod sections;
+mod writing;
+
+use crate::fault::ReadFault;
+use crate::puz::{read_puz, write_puz};
+use std::process::Abort;
+use xw_grid::cell::Cell;
+
+fn cell(row: u32, col: u32) -> Cell {
+    Cell { row, col }
+}
+
+fn fault_of(rt: &(impl Abort + AllocGlobal), bytes: &[u8]) -> Option<ReadFault> {
+    read_puz(rt.alloc(), bytes).err()
+}
+
+/// Reads a file, and writes what was read.
+fn writes(rt: &(impl Abort + AllocGlobal), bytes: &[u8], want: &[u8]) {
+    let puzzle = read_puz(rt.alloc(), bytes).expect(rt, "the file is read");
+    let written = write_puz(rt.alloc(), &puzzle).expect(rt, "the puzzle is written");
+    assert_eq!(rt; written.as_slice(), want);
+}

@@ -1,0 +1,221 @@
+//! What is read, and which fault is told first.
+use crate::fault::{Piece, ReadFault, SumName, TextName};
+use crate::kind::{Kind, kind_of};
+use crate::puz::read_puz;
+use crate::tests::puz::files::{
+    ALL_TEXTS, BAD_CELL, BAD_CELL_AND_COUNT, CIRCLED, CLUE_COUNT, CORNERS, EMPTY_CELL, LOWER_CASE,
+    MORE_CLUES, NO_CLUE, ONE_CELL, PLAIN, STARTED, TITLED, UNUSUAL, WITH_NOTES,
+};
+use crate::tests::puz::{cell, fault_of, writes};
+use std::process::Abort;
+use std::test::Fail;
+use xw_grid::cell::{Direction, Symmetry};
+use xw_words::letter::Letter;
+
+#[test]
+fn reads_the_plain_puzzle(rt: HostRuntime) -> Result<(), Fail> {
+    for bytes in [PLAIN, STARTED, LOWER_CASE, UNUSUAL] {
+        let puzzle = read_puz(rt.alloc(), bytes)?;
+        assert_eq!(rt; puzzle.grid.width(), 2);
+        assert_eq!(rt; puzzle.grid.height(), 2);
+        assert_eq!(rt; puzzle.grid.symmetry(), Symmetry::None);
+        for (row, col, letter) in [(1, 1, b'A'), (1, 2, b'T'), (2, 1, b'S'), (2, 2, b'O')] {
+            assert_eq!(rt; puzzle.grid.entry(cell(row, col)), Letter::of(letter));
+            assert!(rt; !puzzle.circles.has(cell(row, col)));
+        }
+        for (row, col, direction, clue) in [
+            (1, 1, Direction::Across, b"a".as_slice()),
+            (1, 1, Direction::Down, b"b"),
+            (1, 2, Direction::Down, b"c"),
+            (2, 1, Direction::Across, b"d"),
+            (2, 1, Direction::Down, b""),
+        ] {
+            assert_eq!(rt; puzzle.clues.get(cell(row, col), direction), clue);
+        }
+        assert_eq!(rt; puzzle.texts.title.as_slice(), b"".as_slice());
+        assert_eq!(rt; puzzle.texts.author.as_slice(), b"".as_slice());
+        assert_eq!(rt; puzzle.texts.copyright.as_slice(), b"".as_slice());
+        assert_eq!(rt; puzzle.texts.notes.as_slice(), b"".as_slice());
+    }
+    Ok(())
+}
+
+#[test]
+fn reads_texts(rt: HostRuntime) -> Result<(), Fail> {
+    let puzzle = read_puz(rt.alloc(), ALL_TEXTS)?;
+    assert_eq!(rt; puzzle.texts.title.as_slice(), b"T".as_slice());
+    assert_eq!(rt; puzzle.texts.author.as_slice(), b"by \xE9\xFF".as_slice());
+    assert_eq!(rt; puzzle.texts.copyright.as_slice(), b"(c)".as_slice());
+    assert_eq!(rt; puzzle.texts.notes.as_slice(), b"two\nlines".as_slice());
+    assert_eq!(rt;
+        read_puz(rt.alloc(), TITLED)?.texts.title.as_slice(),
+        b"T".as_slice()
+    );
+    assert_eq!(rt;
+        read_puz(rt.alloc(), WITH_NOTES)?.texts.notes.as_slice(),
+        b"n".as_slice()
+    );
+    Ok(())
+}
+
+#[test]
+fn reads_blocks_and_empty_cells(rt: HostRuntime) -> Result<(), Fail> {
+    let corners = read_puz(rt.alloc(), CORNERS)?;
+    assert!(rt; corners.grid.is_block(cell(1, 1)));
+    assert!(rt; corners.grid.is_block(cell(3, 3)));
+    assert_eq!(rt; corners.grid.entry(cell(2, 2)), Letter::of(b'D'));
+    assert_eq!(rt;
+        corners.clues.get(cell(3, 1), Direction::Across),
+        b"four across".as_slice()
+    );
+    let empty = read_puz(rt.alloc(), EMPTY_CELL)?;
+    assert!(rt; empty.grid.is_open(cell(1, 2)));
+    assert_eq!(rt; empty.grid.entry(cell(1, 2)), None);
+    let single = read_puz(rt.alloc(), ONE_CELL)?;
+    assert_eq!(rt; single.grid.entry(cell(1, 1)), Letter::of(b'Z'));
+    Ok(())
+}
+
+#[test]
+fn writes_what_was_read(rt: HostRuntime) {
+    for bytes in [
+        PLAIN, TITLED, WITH_NOTES, CIRCLED, CORNERS, NO_CLUE, ONE_CELL, ALL_TEXTS,
+    ] {
+        writes(&rt, bytes, bytes);
+    }
+    for bytes in [STARTED, LOWER_CASE, UNUSUAL] {
+        writes(&rt, bytes, PLAIN);
+    }
+}
+
+fn fault_of_cut(length: usize) -> ReadFault {
+    match length {
+        0..=51 => ReadFault::Short(Piece::Header),
+        52..=59 => ReadFault::Short(Piece::Boards),
+        60 => ReadFault::NoNul(TextName::Title),
+        61 => ReadFault::NoNul(TextName::Author),
+        62 => ReadFault::NoNul(TextName::Copyright),
+        63 | 64 => ReadFault::NoNul(TextName::Clue(1)),
+        65 | 66 => ReadFault::NoNul(TextName::Clue(2)),
+        67 | 68 => ReadFault::NoNul(TextName::Clue(3)),
+        69 | 70 => ReadFault::NoNul(TextName::Clue(4)),
+        _ => ReadFault::NoNul(TextName::Notes),
+    }
+}
+
+#[test]
+fn refuses_cut_files(rt: HostRuntime) {
+    for length in 0..72 {
+        assert_eq!(rt;
+            fault_of(&rt, &PLAIN[..length]),
+            Some(fault_of_cut(length)),
+            "at {length}"
+        );
+    }
+}
+
+/// The plain file with one byte exclusive-or another.
+fn changed(rt: &(impl Abort + AllocGlobal), offset: usize, bits: u8) -> Vec<u8> {
+    let mut bytes = Vec::from_slice(rt.alloc(), PLAIN).expect(rt, "a copy");
+    if let Some(byte) = bytes.get_mut(offset) {
+        *byte ^= bits;
+    }
+    bytes
+}
+
+fn fault_of_altered(offset: usize) -> Option<ReadFault> {
+    match offset {
+        0x00..=0x01 => Some(ReadFault::BadSum(SumName::File)),
+        0x02..=0x0D => Some(ReadFault::Magic),
+        0x0E..=0x0F => Some(ReadFault::BadSum(SumName::Cib)),
+        0x10..=0x17 => Some(ReadFault::BadSum(SumName::Masked(offset - 0x0F))),
+        0x18..=0x1B => Some(ReadFault::Version),
+        0x1C..=0x2B => None,
+        0x2C..=0x2D => Some(ReadFault::Short(Piece::Boards)),
+        0x2E..=0x2F => Some(ReadFault::NoNul(TextName::Clue(6))),
+        0x30..=0x31 => Some(ReadFault::BadSum(SumName::Cib)),
+        0x32..=0x33 => Some(ReadFault::Scrambled),
+        0x34..=0x3B | 0x3F | 0x41 | 0x43 | 0x45 => Some(ReadFault::BadSum(SumName::File)),
+        _ => Some(ReadFault::NoNul(TextName::Notes)),
+    }
+}
+
+#[test]
+fn refuses_altered_files(rt: HostRuntime) {
+    for offset in 0..72 {
+        let bytes = changed(&rt, offset, 0xFF);
+        assert_eq!(rt;
+            fault_of(&rt, &bytes),
+            fault_of_altered(offset),
+            "at {offset}"
+        );
+        if fault_of_altered(offset).is_none() {
+            writes(&rt, &bytes, PLAIN);
+        }
+    }
+    for (offset, bits, fault) in [
+        (0x13, 1, ReadFault::BadSum(SumName::Masked(4))),
+        (0x32, 4, ReadFault::Scrambled),
+        (0x1A, b'3' ^ b'4', ReadFault::Version),
+        (0x00, 1, ReadFault::BadSum(SumName::File)),
+        (0x2C, 2, ReadFault::Size),
+        (0x2D, 2, ReadFault::Size),
+    ] {
+        assert_eq!(rt;
+            fault_of(&rt, &changed(&rt, offset, bits)),
+            Some(fault),
+            "at {offset}"
+        );
+    }
+}
+
+#[test]
+fn tells_the_first_fault(rt: HostRuntime) {
+    assert_eq!(rt; fault_of(&rt, CLUE_COUNT), Some(ReadFault::ClueCount));
+    assert_eq!(rt; fault_of(&rt, MORE_CLUES), Some(ReadFault::ClueCount));
+    assert_eq!(rt;
+        fault_of(&rt, BAD_CELL),
+        Some(ReadFault::BadCell(cell(2, 1)))
+    );
+    assert_eq!(rt;
+        fault_of(&rt, BAD_CELL_AND_COUNT),
+        Some(ReadFault::BadCell(cell(2, 1)))
+    );
+    // Each time the fault that was told is mended.
+    let mut bytes = changed(&rt, 0x02, 1);
+    for (offset, bits) in [(0x1A, 7), (0x32, 4), (0x2D, 2), (0x10, 1)] {
+        if let Some(byte) = bytes.get_mut(offset) {
+            *byte ^= bits;
+        }
+    }
+    for (offset, bits, fault) in [
+        (0x02, 1, ReadFault::Magic),
+        (0x1A, 7, ReadFault::Version),
+        (0x32, 4, ReadFault::Scrambled),
+        (0x2D, 2, ReadFault::Size),
+        (0x10, 1, ReadFault::BadSum(SumName::Masked(1))),
+    ] {
+        assert_eq!(rt; fault_of(&rt, &bytes), Some(fault), "at {offset}");
+        if let Some(byte) = bytes.get_mut(offset) {
+            *byte ^= bits;
+        }
+    }
+    writes(&rt, &bytes, PLAIN);
+}
+
+#[test]
+fn tells_kinds(rt: HostRuntime) {
+    for (bytes, kind) in [
+        (PLAIN, Kind::Puz),
+        (&PLAIN[..14], Kind::Puz),
+        (&PLAIN[..13], Kind::Text),
+        (&PLAIN[2..], Kind::Text),
+        (b"", Kind::Text),
+        (b"<ACROSS PUZZLE>", Kind::Text),
+        (b"??ACROSS&DOWN\0", Kind::Puz),
+        (b"??ACROSS&DOWN\n", Kind::Text),
+        (b"??Across&Down\0", Kind::Text),
+    ] {
+        assert_eq!(rt; kind_of(bytes), kind);
+    }
+}

@@ -1,0 +1,207 @@
+//! Why a puzzle has no text.
+ghost use Rattle.std.specs.Prelude.{◌≡◌, ◌≢◌, ◌<◌, ◌+◌, ◌^◌, ◌≤◌, ◌*◌, not, ◌&&◌, length, OnOk, IfErr, IfSome, Ok, Err, position, find};
+ghost use Rattle.std.specs.List.{list_any, list_all};
+ghost use Rattle.std.specs.Option.{option_copied};
+ghost use Rattle.xw_grid.specs.Grid.{cells};
+ghost use Rattle.xw_grid.specs.Light.{begins as begins_light, lights_at, lights_of};
+ghost use Rattle.xw_grid.specs.Clue.{clue_at};
+ghost use Rattle.xw_files.specs.Puzzle.{puzzle_view};
+ghost use Rattle.xw_files.specs.Text.Written.{is_line_end, is_blank_at as is_blank_there, is_spelled as is_spelled_text, is_clue as is_clue_text, are_notes as are_notes_text, pieces, is_empty_square, is_barred_cell, has_bar as has_bar_anywhere, is_circled_open, place_at as place_at_cell, bad_clue as bad_clue_of, bad_field as bad_field_of, texted, written};
+
+use crate::fault::{TextName, WriteFault};
+use crate::puzzle::Puzzle;
+use crate::text::lines::is_blank;
+use crate::text::tag::is_tag_line;
+use xw_grid::cell::{Cell, Direction, Side, Square};
+use xw_grid::circles::Circles;
+use xw_grid::clues::Clues;
+use xw_grid::grid::Grid;
+use xw_grid::lights::begins;
+
+fn has_line_end(text: &[u8]) -> bool
+    ensures { result ≡ list_any is_line_end text.now }
+{
+    text.iter().any(|byte| matches!(byte, 0 | b'\n' | b'\r'))
+}
+
+fn is_blank_at(byte: Option<&u8>) -> bool
+    ensures { result ≡ is_blank_there (option_copied byte.entry) }
+{
+    match byte {
+        Some(byte) => is_blank(*byte),
+        None => false,
+    }
+}
+
+/// Whether a text can stand in a line of its own.
+#[tactic(auto, unfolding(crate::specs::Text::Written::is_spelled))]
+fn is_spelled(text: &[u8]) -> bool
+    ensures { result ≡ is_spelled_text text.now }
+{
+    !has_line_end(text)
+        && !is_blank_at(text.first())
+        && !is_blank_at(text.last())
+        && !is_tag_line(text)
+}
+
+#[tactic(auto, unfolding(crate::specs::Text::Written::is_clue))]
+fn is_clue(text: &[u8]) -> bool
+    ensures { result ≡ is_clue_text text.now }
+{
+    !text.is_empty() && is_spelled(text)
+}
+
+#[tactic(auto, unfolding(crate::specs::Text::Written::are_notes))]
+fn are_notes(notes: &[u8]) -> bool
+    ensures { result ≡ are_notes_text notes.now }
+{
+    notes.is_empty() || are_clues(notes)
+}
+
+fn are_clues(notes: &[u8]) -> bool
+    ensures { result ≡ list_all is_clue_text (pieces notes.now) }
+{
+    notes
+        .split(|byte| *byte == b'\n')
+        .all(|piece| is_clue(piece))
+}
+
+fn is_barred(grid: &Grid, cell: Cell) -> bool
+    ensures { result ≡ is_barred_cell grid.now cell }
+{
+    grid.is_barred(cell, Side::Right) || grid.is_barred(cell, Side::Below)
+}
+
+/// Whether an inner edge is barred.
+fn has_bar(grid: &Grid) -> bool
+    ensures { result ≡ has_bar_anywhere grid.now }
+{
+    for index in 0..grid.size() {
+        if is_barred(grid, grid.cell_at(index)) {
+            return true;
+        }
+    }
+    false
+}
+
+/// The place of the first cell that is empty.
+fn empty_square(squares: &[Square]) -> Option<usize>
+    ensures place { result ≡ position is_empty_square squares.now }
+    ensures within { IfSome result (λ place. place < length squares.now) }
+{
+    squares
+        .iter()
+        .position(|square| matches!(square, Square::Open(None)))
+}
+
+fn is_circled(grid: &Grid, circles: &Circles, cell: Cell) -> bool
+    ensures { result ≡ is_circled_open grid.now circles.now cell }
+{
+    grid.is_open(cell) && circles.has(cell)
+}
+
+/// The first open cell that is circled.
+fn circled(grid: &Grid, circles: &Circles) -> Option<Cell>
+    ensures { result ≡ find (is_circled_open grid.now circles.now) (cells grid.now) }
+{
+    for index in 0..grid.size() {
+        let cell = grid.cell_at(index);
+        if is_circled(grid, circles, cell) {
+            return Some(cell);
+        }
+    }
+    None
+}
+
+/// How many lights begin at a cell.
+fn light_count(grid: &Grid, cell: Cell) -> usize
+    ensures count { result ≡ length (lights_at grid.now cell) }
+    ensures few { result ≤ 2 }
+{
+    usize::from(begins(grid, Direction::Across, cell))
+        + usize::from(begins(grid, Direction::Down, cell))
+}
+
+/// Whether a light begins at a cell whose clue cannot be spelled.
+fn has_bad_clue(grid: &Grid, clues: &Clues, direction: Direction, cell: Cell) -> bool
+    ensures { result ≡ (begins_light grid.now direction cell && not (is_clue_text (clue_at clues.now cell direction))) }
+{
+    begins(grid, direction, cell) && !is_clue(clues.get(cell, direction))
+}
+
+/// How many lights begin at a cell before the one of a direction.
+fn place_at(grid: &Grid, direction: Direction, cell: Cell) -> usize
+    ensures place { result ≡ place_at_cell grid.now direction cell }
+    ensures few { result < 2 }
+{
+    match direction {
+        Direction::Across => 0,
+        Direction::Down => usize::from(begins(grid, Direction::Across, cell)),
+    }
+}
+
+/// The place in light order of the first light of a direction whose clue cannot be spelled.
+fn bad_clue(grid: &Grid, clues: &Clues, direction: Direction) -> Option<usize>
+    ensures place { result ≡ bad_clue_of direction clues.now (lights_of grid.now) }
+    ensures small { IfSome result (λ place. place + 1 < 2 ^ 64) }
+{
+    let mut before = 0;
+    for index in 0..grid.size() {
+        let cell = grid.cell_at(index);
+        if has_bad_clue(grid, clues, direction, cell) {
+            return Some(before + place_at(grid, direction, cell));
+        }
+        before += light_count(grid, cell);
+    }
+    None
+}
+
+/// The first text that cannot be spelled.
+#[tactic(auto, unfolding(crate::specs::Text::Written::bad_field))]
+fn bad_field(puzzle: &Puzzle) -> Option<TextName>
+    ensures { result ≡ bad_field_of (puzzle_view puzzle.now) }
+{
+    let texts = &puzzle.texts;
+    if !is_spelled(&texts.title) {
+        return Some(TextName::Title);
+    }
+    if !is_spelled(&texts.author) {
+        return Some(TextName::Author);
+    }
+    if !is_spelled(&texts.copyright) {
+        return Some(TextName::Copyright);
+    }
+    if let Some(place) = bad_clue(&puzzle.grid, &puzzle.clues, Direction::Across) {
+        return Some(TextName::Clue(place + 1));
+    }
+    if let Some(place) = bad_clue(&puzzle.grid, &puzzle.clues, Direction::Down) {
+        return Some(TextName::Clue(place + 1));
+    }
+    if !are_notes(&texts.notes) {
+        return Some(TextName::Notes);
+    }
+    None
+}
+
+/// The first reason why a puzzle has no text.
+#[tactic(auto, unfolding(crate::specs::Text::Written::written))]
+pub(crate) fn judge(puzzle: &Puzzle) -> Result<(), WriteFault>
+    ensures ok { OnOk result (written (puzzle_view puzzle.now) ≡ Ok (texted (puzzle_view puzzle.now))) }
+    ensures refused { IfErr result (λ fault. written (puzzle_view puzzle.now) ≡ Err fault) }
+    ensures other { IfErr result (λ fault. fault ≢ WriteFault.Memory) }
+{
+    let grid = &puzzle.grid;
+    if has_bar(grid) {
+        return Err(WriteFault::Barred);
+    }
+    if let Some(place) = empty_square(grid.squares()) {
+        return Err(WriteFault::NotFilled(grid.cell_at(place)));
+    }
+    if let Some(field) = bad_field(puzzle) {
+        return Err(WriteFault::Field(field));
+    }
+    if let Some(cell) = circled(grid, &puzzle.circles) {
+        return Err(WriteFault::Circled(cell));
+    }
+    Ok(())
+}

@@ -1,0 +1,100 @@
+//! The lines of a text file.
+ghost use Rattle.std.specs.Prelude.{◌≡◌, ℕ, ◌<◌, length, [], ◌∷◌, MatchOption, None};
+ghost use Rattle.std.specs.Option.{option_copied};
+ghost use Rattle.bstr.specs.Text.{lines_of, without_terminator};
+ghost use Rattle.xw_files.specs.Text.Lines.{is_blank as is_blank_byte, trimmed, shown, text_lines, first_of, without_mark as unmarked};
+
+use bstr::{ByteSlice, Lines};
+use std::marker::Model;
+
+/// What may stand before the first line.
+const MARK: [u8; 3] = [0xEF, 0xBB, 0xBF];
+
+pub(crate) fn is_blank(byte: u8) -> bool
+    ensures { result ≡ is_blank_byte byte }
+{
+    matches!(byte, b' ' | b'\t')
+}
+
+/// A line without the spaces and tabs at its ends.
+pub(crate) fn trim(line: &[u8]) -> &[u8]
+    ensures { result.now ≡ trimmed line.now }
+{
+    let mut rest = line;
+    while let [first, after @ ..] = rest
+        && is_blank(*first)
+    {
+        rest = after;
+    }
+    while let [before @ .., last] = rest
+        && is_blank(*last)
+    {
+        rest = before;
+    }
+    rest
+}
+
+fn without_mark(bytes: &[u8]) -> &[u8]
+    ensures { result.now ≡ unmarked bytes.now }
+{
+    if bytes.starts_with(&MARK) {
+        &bytes[MARK.len()..]
+    } else {
+        bytes
+    }
+}
+
+/// The next line that is not blank, trimmed.
+fn next_shown<'a>(lines: &mut Lines<'a>) -> Option<&'a [u8]>
+    ensures { MatchOption result ((shown lines.old ≡ []) × (shown lines.new ≡ [])) (λ line. shown lines.old ≡ line.now ∷ shown lines.new) }
+{
+    while let Some(line) = lines.next() {
+        let line = trim(line);
+        if !line.is_empty() {
+            return Some(line);
+        }
+    }
+    None
+}
+
+/// The lines that are left, trimmed, with no blank ones among them.
+#[derive(Drop)]
+pub(crate) struct TextLines<'a> {
+    next: Option<&'a [u8]>,
+    rest: Lines<'a>,
+}
+
+impl<'a> Model for TextLines<'a> {
+    ghost use Rattle.std.specs.Prelude.{◌≡◌, List, ℕ, ◌++◌, [], None};
+    ghost use Rattle.xw_files.specs.Text.Lines.{with_next, shown};
+
+    ghost Value = { List (List ℕ) };
+
+    ghost view = { λ lines. with_next lines.next (shown lines.rest) };
+
+    ghost invariant = { λ lines. lines.next ≡ None → shown lines.rest ≡ [] };
+}
+
+impl<'a> TextLines<'a> {
+    pub(crate) fn new(bytes: &'a [u8]) -> TextLines<'a>
+        ensures { result ≡ text_lines bytes.now }
+    {
+        let mut rest = without_mark(bytes).lines();
+        let next = next_shown(&mut rest);
+        TextLines { next, rest }
+    }
+
+    pub(crate) fn peek(&self) -> Option<&'a [u8]>
+        ensures { option_copied result ≡ first_of self.now }
+    {
+        self.next
+    }
+
+    pub(crate) fn next(&mut self) -> Option<&'a [u8]>
+        ensures { MatchOption result ((self.old ≡ []) × (self.new ≡ [])) (λ line. self.old ≡ line.now ∷ self.new) }
+    {
+        let line = self.next;
+        self.next = next_shown(&mut self.rest);
+        line
+    }
+}

@@ -1,0 +1,364 @@
+//! Reading text files.
+ghost use Rattle.std.specs.Prelude.{◌≡◌, ℕ, true, false, ◌<◌, ◌≤◌, length, List, [], ◌++◌, IfSome, IfOk, OnOk, IfErr, map, position, filter, Ok, Some, None, take, ◌+◌, ◌*◌};
+ghost use Rattle.std.specs.Option.{option_copied};
+ghost use Rattle.std.specs.List.{list_all};
+ghost use Rattle.std.specs.Char.{is_ascii_digit};
+ghost use Rattle.std.specs.Str.Parse.{digits_value};
+ghost use Rattle.std.specs.List.{join_with_byte};
+ghost use Rattle.xw_grid.specs.Light.{lights_of};
+ghost use Rattle.xw_files.specs.Text.Relation.{IsText, HasOnePart};
+ghost use Rattle.xw_files.specs.Puzzle.{PuzzleShown, puzzle_view, texts_view, part_of};
+ghost use Rattle.xw_files.specs.Text.Starts.{starts};
+ghost use Rattle.xw_files.specs.Text.Shape.{Gives, header_at, tag_at, plain_at, text_at, texts_at, is_numeral as is_numeral_text, side_of, is_times, sides_of, size_at, square_of, is_bad_square as is_bad, with_front, AreSides, row_squares, squares_after, row_at, rows_at, grid_at, clue_at_start, clues_at, both_clues_at, notes_at, shape, is_nul, all_of};
+
+use crate::fault::{ReadFault, Tag};
+use crate::puzzle::{Puzzle, Texts};
+use crate::text::lines::{TextLines, trim};
+use crate::text::tag::{header as header_line, is_tag_line, names};
+use std::alloc::{AllocError, Global};
+use xw_grid::cell::{Cell, Direction, Square};
+use xw_grid::circles::Circles;
+use xw_grid::clues::Clues;
+use xw_grid::grid::Grid;
+use xw_grid::lights::begins;
+use xw_words::letter::Letter;
+
+/// The longest side of a grid.
+const LONGEST: u32 = 255;
+
+#[tactic(auto, unfolding(crate::specs::Text::Shape::header_at))]
+fn header(lines: &mut TextLines<'_>) -> Result<(), ReadFault>
+    ensures { Gives (λ _. lines.new) result (header_at lines.old) }
+{
+    match lines.next() {
+        Some(line) if names(line, header_line()) => Ok(()),
+        _ => Err(ReadFault::Header),
+    }
+}
+
+#[tactic(auto, unfolding(crate::specs::Text::Shape::tag_at))]
+fn tag(lines: &mut TextLines<'_>, tag: Tag) -> Result<(), ReadFault>
+    ensures { Gives (λ _. lines.new) result (tag_at tag lines.old) }
+{
+    match lines.next() {
+        Some(line) if names(line, tag.name()) => Ok(()),
+        _ => Err(ReadFault::Tag(tag)),
+    }
+}
+
+/// The next line, if it is no tag line.
+fn plain<'a>(lines: &mut TextLines<'a>) -> Option<&'a [u8]>
+    ensures { plain_at lines.old ≡ (option_copied result, lines.new) }
+{
+    match lines.peek() {
+        Some(line) if !is_tag_line(line) => lines.next(),
+        _ => None,
+    }
+}
+
+/// A text: one line or none.
+#[tactic(auto, unfolding(crate::specs::Text::Shape::text_at))]
+fn text(alloc: Global, lines: &mut TextLines<'_>) -> Result<Vec<u8>, ReadFault>
+    ensures { Gives (λ text. (text.items, lines.new)) result (text_at lines.old) }
+{
+    match plain(lines) {
+        Some(line) => Ok(Vec::from_slice(alloc, line)?),
+        None => Ok(Vec::new(alloc)),
+    }
+}
+
+/// The three texts above the grid; the notes come last in a file.
+#[tactic(auto, unfolding(crate::specs::Text::Shape::texts_at))]
+fn texts(alloc: Global, lines: &mut TextLines<'_>) -> Result<Texts, ReadFault>
+    ensures { Gives (λ texts. (texts_view texts, lines.new)) result (texts_at lines.old) }
+{
+    tag(lines, Tag::Title)?;
+    let title = text(alloc, lines)?;
+    tag(lines, Tag::Author)?;
+    let author = text(alloc, lines)?;
+    tag(lines, Tag::Copyright)?;
+    let copyright = text(alloc, lines)?;
+    Ok(Texts {
+        title,
+        author,
+        copyright,
+        notes: Vec::new(alloc),
+    })
+}
+
+fn are_digits(bytes: &[u8]) -> bool
+    ensures { result ≡ list_all is_ascii_digit bytes.now }
+{
+    bytes.iter().all(|byte| byte.is_ascii_digit())
+}
+
+fn is_numeral(digits: &[u8]) -> bool
+    ensures { result ≡ is_numeral_text digits.now }
+{
+    (1..=3).contains(&digits.len()) && are_digits(digits)
+}
+
+/// The number that 1 to 3 digits write.
+fn number(digits: &[u8]) -> u32
+    requires { is_numeral_text digits.now ≡ true }
+    ensures { result ≡ digits_value 10 digits.now }
+{
+    let mut number = 0;
+    for digit in digits {
+        number = number * 10 + u32::from(*digit - b'0');
+    }
+    number
+}
+
+/// A side of the grid, in 1 to 3 digits.
+fn side(digits: &[u8]) -> Option<u32>
+    ensures number { result ≡ side_of digits.now }
+    ensures range { IfSome result (λ side. (1 ≤ side) × (side ≤ 255)) }
+{
+    if !is_numeral(digits) {
+        return None;
+    }
+    let number = number(digits);
+    if (1..=LONGEST).contains(&number) {
+        Some(number)
+    } else {
+        None
+    }
+}
+
+/// The place of the x between two sides.
+fn times(line: &[u8]) -> Option<usize>
+    ensures place { result ≡ position is_times line.now }
+    ensures within { IfSome result (λ place. place < length line.now) }
+{
+    line.iter().position(|byte| matches!(byte, b'x' | b'X'))
+}
+
+#[tactic(auto, unfolding(crate::specs::Text::Shape::sides_of))]
+fn sides(line: &[u8]) -> Option<(u32, u32)>
+    ensures numbers { result ≡ sides_of line.now }
+    ensures range { IfSome result AreSides }
+{
+    let place = times(line)?;
+    let width = side(trim(&line[..place]))?;
+    let height = side(trim(&line[place + 1..]))?;
+    Some((width, height))
+}
+
+#[tactic(auto, unfolding(crate::specs::Text::Shape::size_at))]
+fn size(lines: &mut TextLines<'_>) -> Result<(u32, u32), ReadFault>
+    ensures exact { Gives (λ sides. (sides, lines.new)) result (size_at lines.old) }
+    ensures range { IfOk result AreSides }
+{
+    match plain(lines) {
+        Some(line) => sides(line).ok_or(ReadFault::SizeLine),
+        None => Err(ReadFault::SizeLine),
+    }
+}
+
+/// Adds what the bytes of a line stand for.
+fn push_squares(squares: &mut Vec<Square>, row: u32, line: &[u8]) -> Result<(), ReadFault>
+    requires { length line.now ≤ 255 }
+    ensures { Gives (λ _. squares.new.items) result (squares_after squares.old.items (row_squares row line.now)) }
+{
+    for (place, byte) in line.iter().enumerate() {
+        let square = match *byte {
+            b'.' => Square::Block,
+            b'-' => Square::Open(None),
+            byte => match Letter::of(byte) {
+                Some(letter) => Square::Open(Some(letter)),
+                None => {
+                    let col = place as u32 + 1;
+                    return Err(ReadFault::BadCell(Cell { row, col }));
+                }
+            },
+        };
+        squares.push(square)?;
+    }
+    Ok(())
+}
+
+/// Adds the squares of a row to those above it.
+#[tactic(auto, unfolding(crate::specs::Text::Shape::row_at))]
+fn row(
+    lines: &mut TextLines<'_>,
+    squares: &mut Vec<Square>,
+    width: u32,
+    row: u32,
+) -> Result<(), ReadFault>
+    requires { width ≤ 255 }
+    ensures { Gives (λ _. (squares.new.items, lines.new)) result (with_front squares.old.items (row_at width row lines.old)) }
+{
+    let line = plain(lines).ok_or(ReadFault::GridLine(row))?;
+    if line.len() != width as usize {
+        return Err(ReadFault::GridLine(row));
+    }
+    push_squares(squares, row, line)
+}
+
+fn rows(
+    alloc: Global,
+    lines: &mut TextLines<'_>,
+    width: u32,
+    height: u32,
+) -> Result<Vec<Square>, ReadFault>
+    requires wide { width ≤ 255 }
+    requires high { height ≤ 255 }
+    ensures { Gives (λ squares. (squares.items, lines.new)) result (rows_at width 1 height lines.old) }
+{
+    let mut squares = Vec::new(alloc);
+    for above in 0..height {
+        row(lines, &mut squares, width, above + 1)?;
+    }
+    Ok(squares)
+}
+
+#[tactic(auto, unfolding(crate::specs::Text::Shape::grid_at))]
+fn grid(alloc: Global, lines: &mut TextLines<'_>) -> Result<Grid, ReadFault>
+    ensures { Gives (λ grid. (grid, lines.new)) result (grid_at lines.old) }
+{
+    tag(lines, Tag::Size)?;
+    let (width, height) = size(lines)?;
+    tag(lines, Tag::Grid)?;
+    let squares = rows(alloc, lines, width, height)?;
+    Ok(Grid::of_squares(alloc, width, height, squares)?)
+}
+
+/// Takes the clue of the light that begins at a cell from its line.
+#[tactic(auto, unfolding(crate::specs::Text::Shape::clue_at_start))]
+fn add_clue(
+    lines: &mut TextLines<'_>,
+    clues: &mut Clues,
+    start: Cell,
+    direction: Direction,
+    fault: ReadFault,
+) -> Result<(), ReadFault>
+    ensures { Gives (λ _. (clues.new, lines.new)) result (clue_at_start fault direction start clues.old lines.old) }
+{
+    let line = plain(lines).ok_or(fault)?;
+    clues.set(start, direction, line)?;
+    Ok(())
+}
+
+/// Takes a line for each light of a direction, in order, and no further one.
+fn add_clues(
+    lines: &mut TextLines<'_>,
+    clues: &mut Clues,
+    grid: &Grid,
+    direction: Direction,
+    fault: ReadFault,
+) -> Result<(), ReadFault>
+    ensures { Gives (λ _. (clues.new, lines.new)) result (clues_at fault direction (starts grid.now direction) clues.old lines.old) }
+{
+    for index in 0..grid.size() {
+        let cell = grid.cell_at(index);
+        if begins(grid, direction, cell) {
+            add_clue(lines, clues, cell, direction, fault)?;
+        }
+    }
+    match plain(lines) {
+        Some(_) => Err(fault),
+        None => Ok(()),
+    }
+}
+
+#[tactic(auto, unfolding(crate::specs::Text::Shape::both_clues_at))]
+fn clues(alloc: Global, lines: &mut TextLines<'_>, grid: &Grid) -> Result<Clues, ReadFault>
+    ensures { Gives (λ clues. (clues, lines.new)) result (both_clues_at grid.now lines.old) }
+{
+    let mut clues = Clues::new(alloc);
+    tag(lines, Tag::Across)?;
+    add_clues(
+        lines,
+        &mut clues,
+        grid,
+        Direction::Across,
+        ReadFault::AcrossCount,
+    )?;
+    tag(lines, Tag::Down)?;
+    add_clues(
+        lines,
+        &mut clues,
+        grid,
+        Direction::Down,
+        ReadFault::DownCount,
+    )?;
+    Ok(clues)
+}
+
+/// All lines that are left, with a line feed between each and the next.
+fn joined(alloc: Global, lines: &mut TextLines<'_>) -> Result<Vec<u8>, AllocError>
+    ensures { IfOk result (λ text. text.items ≡ join_with_byte 10 lines.old) }
+{
+    let mut text = Vec::new(alloc);
+    let Some(first) = lines.next() else {
+        return Ok(text);
+    };
+    text.extend_from_slice(first)?;
+    while let Some(line) = lines.next() {
+        text.push(b'\n')?;
+        text.extend_from_slice(line)?;
+    }
+    Ok(text)
+}
+
+#[tactic(auto, unfolding(crate::specs::Text::Shape::notes_at))]
+fn notes(alloc: Global, lines: &mut TextLines<'_>) -> Result<Vec<u8>, ReadFault>
+    ensures { Gives (λ notes. notes.items) result (notes_at lines.old) }
+{
+    match lines.next() {
+        None => Ok(Vec::new(alloc)),
+        Some(line) if names(line, Tag::Notepad.name()) => Ok(joined(alloc, lines)?),
+        Some(_) => Err(ReadFault::Tag(Tag::Notepad)),
+    }
+}
+
+#[tactic(auto, unfolding(crate::specs::Text::Shape::shape))]
+fn puzzle(alloc: Global, lines: &mut TextLines<'_>) -> Result<Puzzle, ReadFault>
+    ensures { Gives puzzle_view result (shape lines.old) }
+{
+    header(lines)?;
+    let mut texts = texts(alloc, lines)?;
+    let grid = grid(alloc, lines)?;
+    let clues = clues(alloc, lines, &grid)?;
+    texts.notes = notes(alloc, lines)?;
+    Ok(Puzzle {
+        grid,
+        texts,
+        clues,
+        circles: Circles::new(alloc),
+    })
+}
+
+fn first_nul(bytes: &[u8]) -> Option<usize>
+    ensures { result ≡ position is_nul bytes.now }
+{
+    bytes.iter().position(|byte| *byte == 0)
+}
+
+#[tactic(auto, unfolding(crate::specs::Text::Shape::all_of))]
+fn all(alloc: Global, bytes: &[u8]) -> Result<Puzzle, ReadFault>
+    ensures { Gives puzzle_view result (all_of bytes.now) }
+{
+    if let Some(offset) = first_nul(bytes) {
+        return Err(ReadFault::NulByte(offset));
+    }
+    puzzle(alloc, &mut TextLines::new(bytes))
+}
+
+/// The puzzle that a text file spells, or the first place at which it leaves its shape.
+pub fn read_text(alloc: Global, bytes: &[u8]) -> Result<Puzzle, ReadFault>
+    // What is read is a text file of the puzzle.
+    ensures found { IfOk result (λ read. IsText bytes.now (puzzle_view read)) }
+    // What is a text file of a puzzle is read as one with the same file part, unless memory runs out.
+    ensures only { (puzzle : PuzzleShown) → IsText bytes.now puzzle → Gives (λ read. part_of (puzzle_view read)) result (Ok (part_of puzzle)) }
+    // Which fault it is.
+    ensures exact { Gives puzzle_view result (all_of bytes.now) }
+{
+    all(alloc, bytes)
+}
+
+/// Bytes are a text file of one file part.
+pub fn text_has_one_part()
+    ensures { HasOnePart }
+{}

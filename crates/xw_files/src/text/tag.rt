@@ -1,0 +1,45 @@
+//! Tag lines.
+ghost use Rattle.std.specs.Prelude.{◌≡◌, IsTrue, ◌↔◌, codes};
+ghost use Rattle.xw_files.specs.Text.Tag.{name_of, is_tag_line as is_tag, names as is_named};
+
+use crate::fault::Tag;
+
+/// The first line of a text file.
+const HEADER: &[u8] = b"<ACROSS PUZZLE>";
+
+impl Tag {
+    /// How the tag is written.
+    pub(crate) fn name(self) -> &'static [u8]
+        ensures { result.now ≡ name_of self }
+    {
+        match self {
+            Tag::Title => b"<TITLE>",
+            Tag::Author => b"<AUTHOR>",
+            Tag::Copyright => b"<COPYRIGHT>",
+            Tag::Size => b"<SIZE>",
+            Tag::Grid => b"<GRID>",
+            Tag::Across => b"<ACROSS>",
+            Tag::Down => b"<DOWN>",
+            Tag::Notepad => b"<NOTEPAD>",
+        }
+    }
+}
+
+/// Whether a line names a tag, in letters of either case.
+pub(crate) fn names(line: &[u8], tag: &[u8]) -> bool
+    ensures { result ≡ is_named line.now tag.now }
+{
+    line.eq_ignore_ascii_case(tag)
+}
+
+pub(crate) fn is_tag_line(line: &[u8]) -> bool
+    ensures { result ≡ is_tag line.now }
+{
+    matches!(line, [b'<', ..])
+}
+
+pub(crate) fn header() -> &'static [u8]
+    ensures { result.now ≡ codes "<ACROSS PUZZLE>" }
+{
+    HEADER
+}
