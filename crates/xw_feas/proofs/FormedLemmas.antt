@@ -3,6 +3,7 @@ use Rattle.std.proofs.Common.{◌≡◌, ℕ, ◌+◌, ◌<◌, ◌≤◌, true,
 use Rattle.std.specs.List.{range_with_len}
 use Rattle.std.proofs.lemmas.Bool.{cases_lt}
 use Rattle.std.proofs.lemmas.List.{get_or-map, get_or_past, length-map}
+use Rattle.std.proofs.lemmas.List.Elements.{Contains-get_or}
 use Rattle.std.proofs.lemmas.List.FromFn.{length-map-range_with_len, get_or-map-range_with_len}
 use Rattle.xw_words.specs.Dictionary.{Dictionary, IsDictionary}
 use Rattle.xw_grid.specs.declared.cell.Cell.{Cell}
@@ -14,11 +15,12 @@ use Rattle.xw_grid.specs.Grid.{is_open as is_open_cell}
 use Rattle.std.specs.Prelude.{slice_get, None}
 use Rattle.xw_grid.specs.Light.{step, lights_of, no_light}
 use Rattle.xw_grid.proofs.GridLemmas.{cell_at-index_of}
-use Rattle.xw_grid.proofs.LightLemmas.{lights_are_lights, inside_from_open, cells_of_are_open, size_of_light}
+use Rattle.xw_grid.proofs.LightLemmas.{inside_from_open, cells_of_are_open, size_of_light}
+use Rattle.xw_grid.proofs.OrderLemmas.{lights_meet_once}
 use Rattle.xw_feas.specs.Board.{board_of, light_at, is_open}
 use Rattle.xw_feas.specs.WellFormed.{HasLetterEntries, IsLaidOut, IsWellFormed}
 use Rattle.xw_feas.proofs.BoardLemmas.{length-open_cells, length-lights, length-entries, light_at-board, light_fits, is_open-square}
-use Rattle.xw_feas.proofs.LightsLemmas.{names_apart, lights_meet_once}
+use Rattle.xw_feas.proofs.LightsLemmas.{names_apart}
 
 abbrev light_in : Grid → ℕ → Light
 light_in grid place = get_or (lights_of grid) place no_light
@@ -76,9 +78,14 @@ meet_once : (grid : Grid) (light other i j k l : ℕ) → (light ≡ other → �
 meet_once grid light other i j k l apart below_i below_k below_j below_l first second =
     let within = within_lights grid light i below_i in
     let within' = within_lights grid other j below_j in
-    lights_meet_once grid (light_in grid light) (light_in grid other) (lights_are_lights grid light no_light within) (lights_are_lights grid other no_light within')
-    (λ same. apart (names_apart grid light other no_light within within' same)) i j k l (omega (arith, length-light_at grid light within)) (omega (arith, length-light_at grid other within'))
-    (same_cell_in grid light other i j below_i below_j first) (same_cell_in grid light other k l below_k below_l second)
+    let size = length-light_at grid light within in
+    let size' = length-light_at grid other within' in
+    elim (lights_meet_once grid (light_in grid light) (light_in grid other) i j k l (Contains-get_or (lights_of grid) light no_light within) (Contains-get_or (lights_of grid) other no_light within')
+    (omega (arith, size)) (omega (arith, size)) (omega (arith, size')) (omega (arith, size'))
+    (same_cell_in grid light other i j below_i below_j first) (same_cell_in grid light other k l below_k below_l second)) [
+      | inl same ↦ absurd (apart (names_apart grid light other no_light within within' (ap (λ (found : Light). found.name) same)))
+      | inr shared ↦ steps_apart (light_in grid light).name.direction (light_in grid light).start i k shared
+    ]
 
 open_in_board : (grid : Grid) (light k : ℕ) → k < length (light_at (board_of grid) light) → is_open (board_of grid) (get_or (light_at (board_of grid) light) k 0) ≡ true
 open_in_board grid light k below =

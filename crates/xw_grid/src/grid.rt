@@ -2,14 +2,13 @@
 ghost use Rattle.std.specs.Prelude.{◌≡◌, ◌≢◌, ◌^◌, ◌<◌, ◌≤◌, ◌*◌, true, length, map, All, fold, slice_set, Some, Ok, Err, IfOk, OnOk, IfErr, OnErr, IfSome, IsOk, IsOkUnless, if◌then◌else◌};
 ghost use Rattle.xw_grid.specs.Grid.{IsGrid, IsSquare, cell_at as cell_in_place, is_inside, index_of, is_open as is_open_cell, is_block as is_block_cell, entry as letter_at, square_at, is_edge, is_barred as is_barred_edge, beyond as cell_beyond};
 ghost use Rattle.xw_grid.specs.Edit.{new_grid, grid_of, set_entry, with_orbit, is_occupied as is_occupied_orbit, toggle_block as block_toggled, toggle_bar as bar_toggled, with_bar, with_edges, set_symmetry as symmetry_set};
-ghost use Rattle.xw_grid.specs.Orbit.{moved as moved_cell, images_of, AreNeighbours, IsEdgeBetween, AreEdgesBetween, orbit_of, OrbitIsLeast, OrbitsAreSmall, EdgeOrbitsAreSmall};
-ghost use Rattle.xw_grid.specs.EditLaws.{LettersKeepShape, SymmetryKeepsShape, BlocksChangeOrbits, BarsChangeOrbits};
+ghost use Rattle.xw_grid.specs.Orbit.{moved as moved_cell, images_of, IsEdgeBetween, AreEdgesBetween, orbit_of};
 ghost use Rattle.xw_grid.specs.declared.cell.Square.TheVariants.{Open};
 ghost use Rattle.xw_words.specs.Letter.{IsLetter};
 
 use crate::cell::{Cell, Edge, Side, Square, Symmetry};
 use crate::fault::GridFault;
-use crate::orbit::Orbit;
+use crate::orbit::{Orbit, edge_between};
 use std::alloc::Global;
 use std::marker::Model;
 use xw_words::letter::Letter;
@@ -481,20 +480,6 @@ impl Grid {
     }
 }
 
-/// The edge between two neighbours.
-fn edge_between(a: Cell, b: Cell) -> Edge
-    requires { AreNeighbours a b }
-    ensures { IsEdgeBetween a b result }
-{
-    let side = if a.row == b.row {
-        Side::Right
-    } else {
-        Side::Below
-    };
-    let cell = if a.row < b.row || a.col < b.col { a } else { b };
-    Edge { cell, side }
-}
-
 /// Writes a value to several places.
 fn write_each<T: Copy>(items: &mut [T], indices: &[usize], value: T)
     requires { All (λ index. index < length items.old) indices.now }
@@ -504,38 +489,3 @@ fn write_each<T: Copy>(items: &mut [T], indices: &[usize], value: T)
         items[*index] = value;
     }
 }
-
-/// The orbit of a cell is the least set that holds it and, with each member, its image.
-pub fn orbit_is_least()
-    ensures { OrbitIsLeast }
-{}
-
-/// No orbit has more than four cells.
-pub fn orbits_are_small()
-    ensures { OrbitsAreSmall }
-{}
-
-/// A letter that is entered or taken away changes no light and opens no cell.
-pub fn letters_keep_shape()
-    ensures { LettersKeepShape }
-{}
-
-/// A change of symmetry changes no light and opens no cell.
-pub fn symmetry_keeps_shape()
-    ensures { SymmetryKeepsShape }
-{}
-
-/// A toggled block makes its orbit the opposite of what the named cell was, and leaves the rest.
-pub fn blocks_change_orbits()
-    ensures { BlocksChangeOrbits }
-{}
-
-/// A toggled bar makes its orbit the opposite of what the named edge was, and leaves the rest.
-pub fn bars_change_orbits()
-    ensures { BarsChangeOrbits }
-{}
-
-/// No orbit has more than four edges.
-pub fn edge_orbits_are_small()
-    ensures { EdgeOrbitsAreSmall }
-{}

@@ -3,10 +3,11 @@ ghost use Rattle.std.specs.Prelude.{◌≡◌, ℕ, ◌<◌, ◌≤◌, ◌||◌
 ghost use Rattle.std.specs.Iterator.{YieldsFirst, item_count};
 ghost use Rattle.std.specs.List.{list_any};
 ghost use Rattle.xw_grid.specs.Grid.{cell_in};
-ghost use Rattle.xw_grid.specs.Orbit.{cells_among};
+ghost use Rattle.xw_grid.specs.Orbit.{cells_among, AreNeighbours, IsEdgeBetween, OrbitIsLeast, OrbitsAreSmall, EdgeOrbitsAreSmall};
+ghost use Rattle.xw_grid.specs.EditLaws.{BlocksChangeOrbits, BarsChangeOrbits};
 ghost use Rattle.xw_grid.specs.Places.{IsLeastFrom, nearer as nearer_place};
 
-use crate::cell::Cell;
+use crate::cell::{Cell, Edge, Side};
 use std::marker::Model;
 
 /// The cells of an orbit in reading order, four at most.
@@ -111,3 +112,42 @@ fn cell_of(width: u32, place: usize) -> Cell
         col: (place % width) as u32 + 1,
     }
 }
+
+/// The edge between two neighbours.
+pub(crate) fn edge_between(a: Cell, b: Cell) -> Edge
+    requires { AreNeighbours a b }
+    ensures { IsEdgeBetween a b result }
+{
+    let side = if a.row == b.row {
+        Side::Right
+    } else {
+        Side::Below
+    };
+    let cell = if a.row < b.row || a.col < b.col { a } else { b };
+    Edge { cell, side }
+}
+
+/// The orbit of a cell is the least set that holds it and, with each member, its image.
+pub fn orbit_is_least()
+    ensures { OrbitIsLeast }
+{}
+
+/// No orbit has more than four cells.
+pub fn orbits_are_small()
+    ensures { OrbitsAreSmall }
+{}
+
+/// No orbit has more than four edges.
+pub fn edge_orbits_are_small()
+    ensures { EdgeOrbitsAreSmall }
+{}
+
+/// A toggled block makes its orbit the opposite of what the named cell was, and leaves the rest.
+pub fn blocks_change_orbits()
+    ensures { BlocksChangeOrbits }
+{}
+
+/// A toggled bar makes its orbit the opposite of what the named edge was, and leaves the rest.
+pub fn bars_change_orbits()
+    ensures { BarsChangeOrbits }
+{}

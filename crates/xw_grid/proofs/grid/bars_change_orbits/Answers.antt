@@ -1,5 +1,0 @@
-use Rattle.xw_grid.proofs.ChangeLemmas.{bars_change_orbits}
-use Rattle.xw_grid.proofs.grid.bars_change_orbits.Goals as goal
-
-pub returns : goal.returns
-returns c = bars_change_orbits

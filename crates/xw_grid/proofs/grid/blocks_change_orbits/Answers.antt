@@ -1,5 +1,0 @@
-use Rattle.xw_grid.proofs.ChangeLemmas.{blocks_change_orbits}
-use Rattle.xw_grid.proofs.grid.blocks_change_orbits.Goals as goal
-
-pub returns : goal.returns
-returns c = blocks_change_orbits

@@ -1,5 +1,0 @@
-use Rattle.xw_grid.proofs.ChangeLemmas.{letters_keep_shape}
-use Rattle.xw_grid.proofs.grid.letters_keep_shape.Goals as goal
-
-pub returns : goal.returns
-returns c = letters_keep_shape
