@@ -1,4 +1,5 @@
 -- Lemmas on text files.
+pub mod Alls
 pub mod Lines
 pub mod Numbers
 pub mod Shapes

@@ -12,4 +12,4 @@ pub mod text;
 pub use kind::{Kind, kind_of};
 pub use puz::{read_puz, write_puz};
 pub use puzzle::{Puzzle, Texts};
-pub use text::{read_text, write_text};
+pub use text::{read_text, text_has_one_part, write_text};

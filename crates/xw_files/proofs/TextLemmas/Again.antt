@@ -1,5 +1,5 @@
 -- What is spelled is read again.
-use Rattle.std.proofs.Common.{◌≡◌, ℕ, zero, suc, ◌+◌, ◌<◌, true, false, List, [], ◌∷◌, ◌++◌, length, Option, Some, None, Ok, map, get_or, refl, sym, ap, ◌∙◌, arith}
+use Rattle.std.proofs.Common.{◌≡◌, ℕ, ◌+◌, true, false, List, [], ◌∷◌, ◌++◌, length, Option, Some, None, Ok, map, refl, sym, ap, ◌∙◌, arith}
 use Rattle.std.specs.Prelude.{position}
 use Rattle.std.specs.List.{flat_map, AllByRecursion}
 use Rattle.std.proofs.lemmas.Bool.{cond-true, cond-false, eq-eqb}
@@ -13,6 +13,7 @@ use Rattle.xw_files.specs.Text.Tag.{header, names}
 use Rattle.xw_files.specs.Text.Shape.{◌>>=◌, Lines, header_at, tag_at, plain_at, text_at, size_at, sides_of, is_bad_square, square_of, row_at, rows_at, with_clues, clues_at, notes_at}
 use Rattle.xw_files.specs.Text.Relation.{IsTag, IsPlain, AreText, IsRow, AreNotes}
 use Rattle.xw_files.proofs.TextLemmas.Clues.{clue_next_is, clues_done_is}
+use Rattle.xw_files.proofs.TextLemmas.Alls.{all_at}
 
 pub header_again : (line : List ℕ) (rest : Lines) → names line header ≡ true → header_at (line ∷ rest) ≡ Ok rest
 unfolding header_at
@@ -40,15 +41,10 @@ pub size_again : (line : List ℕ) (rest : Lines) (width height : ℕ) → IsPla
 unfolding size_at
 size_again line rest width height plain is = rw (plain_again line rest plain, is) refl
 
-good_at : (line : List ℕ) → AllByRecursion (λ byte. is_bad_square byte ≡ false) line → (k : ℕ) → k < length line → is_bad_square (get_or line k 0) ≡ false
-good_at [] good k lt = absurd (omega arith)
-good_at (byte ∷ line) good zero lt = good.0
-good_at (byte ∷ line) good (suc k) lt = good_at line good.1 k (omega arith)
-
 pub row_again : (width row : ℕ) (line : List ℕ) (rest : Lines) → IsRow width line → row_at width row (line ∷ rest) ≡ Ok (map square_of line, rest)
 unfolding row_at
 row_again width row line rest is =
-    let none : position is_bad_square line ≡ None = position_is_none is_bad_square line 0 (good_at line is.good) in
+    let none : position is_bad_square line ≡ None = position_is_none is_bad_square line 0 (λ k lt. all_at (λ byte. is_bad_square byte ≡ false) line is.good k 0 lt) in
     rw (plain_again line rest is.plain, eq-eqb (length line) width is.wide, none) refl
 
 pub rows_again : (width row : ℕ) (lines rest : Lines) → AllByRecursion (IsRow width) lines → rows_at width row (length lines) (lines ++ rest) ≡ Ok (flat_map (map square_of) lines, rest)

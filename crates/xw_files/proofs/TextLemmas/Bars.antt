@@ -2,7 +2,7 @@
 use Rattle.std.proofs.Common.{◌≡◌, ℕ, zero, suc, ◌+◌, ◌*◌, ◌<◌, Bool, true, false, not, ◌&&◌, List, [], ◌∷◌, length, get_or, take, refl, sym, ap, subst, ◌∙◌, inl, inr, arith}
 use Rattle.std.specs.Prelude.{replicate, count_by, flat_map}
 use Rattle.std.specs.List.{list_any, prefix_len}
-use Rattle.std.proofs.lemmas.Bool.{cases_Bool, or_parts}
+use Rattle.std.proofs.lemmas.Bool.{cases_Bool, or_parts, and_right}
 use Rattle.xw_grid.specs.declared.cell.Cell.{Cell}
 use Rattle.xw_grid.specs.declared.cell.Side.{Side}
 use Rattle.xw_grid.specs.declared.cell.Side.TheVariants.{Right, Below}
@@ -43,13 +43,9 @@ all_false zero k = refl
 all_false (suc n) zero = refl
 all_false (suc n) (suc k) = all_false n k
 
-and_false_right : (a b : Bool) → b ≡ false → (a && b) ≡ false
-and_false_right true b e = e
-and_false_right false b e = refl
-
 pub plain_bar : (grid : Grid) (cell : Cell) (side : Side) → is_barred (plain_of grid) cell side ≡ false
-plain_bar grid cell Right = and_false_right _ _ (all_false (grid.width * grid.height) (index_of grid cell))
-plain_bar grid cell Below = and_false_right _ _ (all_false (grid.width * grid.height) (index_of grid cell))
+plain_bar grid cell Right = and_right _ _ (all_false (grid.width * grid.height) (index_of grid cell))
+plain_bar grid cell Below = and_right _ _ (all_false (grid.width * grid.height) (index_of grid cell))
 
 joined_same : (grid : Grid) (direction : Direction) (cell : Cell) → has_bar grid ≡ false → is_joined grid direction cell ≡ is_joined (plain_of grid) direction cell
 joined_same grid direction cell none =

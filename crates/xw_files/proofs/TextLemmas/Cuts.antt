@@ -1,5 +1,5 @@
 -- What was written line by line is cut into those lines.
-use Rattle.std.proofs.Common.{◌≡◌, ℕ, zero, suc, ◌+◌, ◌-◌, ◌<◌, true, false, eqb, ltb, List, [], ◌∷◌, ◌++◌, length, map, get_or, take, drop, refl, sym, ap, subst, ◌∙◌, inl, inr, append_assoc, length-append, arith}
+use Rattle.std.proofs.Common.{◌≡◌, ℕ, suc, ◌+◌, ◌-◌, true, false, eqb, ltb, List, [], ◌∷◌, ◌++◌, length, map, get_or, take, drop, refl, sym, ap, subst, ◌∙◌, inl, inr, append_assoc, length-append, arith}
 use Rattle.std.specs.Prelude.{filter, slice_get}
 use Rattle.std.specs.List.{flat_map, AllByRecursion, list_any, list_all}
 use Rattle.std.proofs.lemmas.Bool.{or_parts, and_parts, and_right, false≢true, cond-false, lt-ltb, not-true, ne_eqb}
@@ -15,22 +15,19 @@ use Rattle.xw_files.specs.Text.Tag.{header, name_of, is_tag_line}
 use Rattle.xw_files.specs.Text.Shape.{Lines, is_nul}
 use Rattle.xw_files.specs.Text.Written.{is_line_end, is_blank_at, is_spelled, is_clue, line, tag_line, tag}
 use Rattle.xw_files.proofs.TextLemmas.Lines.{trim_front-none, trim_back-none}
+use Rattle.xw_files.proofs.TextLemmas.Alls.{all_at}
 
 -- no byte that ends a line, and no NUL
 abbrev pub NoEnds : List ℕ → Type 0
 NoEnds text = AllByRecursion (λ byte. is_line_end byte ≡ false) text
 
-ends_at : (text : List ℕ) (k : ℕ) → NoEnds text → k < length text → is_line_end (get_or text k 0) ≡ false
-ends_at [] k none lt = absurd (omega arith)
-ends_at (byte ∷ text) zero none lt = none.0
-ends_at (byte ∷ text) (suc k) none lt = ends_at text k none.1 (omega arith)
-
 line_len_is : (raw rest : List ℕ) → NoEnds raw → line_len (raw ++ 10 ∷ rest) ≡ length raw + 1
 unfolding line_len
 line_len_is [] rest none = refl
 line_len_is (byte ∷ raw) rest none =
+    let longer : suc (length raw + 1) ≡ length (byte ∷ raw) + 1 = omega arith in
     let no_feed : eqb byte 10 ≡ false = (or_parts _ _ (or_parts _ _ none.0).0).1 in
-    cond-false _ _ _ no_feed ∙ ap suc (line_len_is raw rest none.1) ∙ omega arith
+    cond-false _ _ _ no_feed ∙ ap suc (line_len_is raw rest none.1) ∙ longer
 
 first_line : (raw rest : List ℕ) → NoEnds raw → lines_of (raw ++ 10 ∷ rest) ≡ (raw ++ 10 ∷ []) ∷ lines_of rest
 first_line raw rest none =
@@ -50,7 +47,7 @@ keeps : (raw : List ℕ) → NoEnds raw → no_cr raw ≡ raw
 keeps [] none = refl
 keeps (byte ∷ raw) none =
     let k = length (byte ∷ raw) - 1 in
-    let last : eqb (get_or (byte ∷ raw) k 0) 13 ≡ false = (or_parts _ _ (ends_at (byte ∷ raw) k none (omega arith))).1 in
+    let last : eqb (get_or (byte ∷ raw) k 0) 13 ≡ false = (or_parts _ _ (all_at (λ other. is_line_end other ≡ false) (byte ∷ raw) none k 0 (omega arith))).1 in
     cond-false _ _ _ (and_right _ _ last)
 
 unended : (raw : List ℕ) → NoEnds raw → without_terminator (raw ++ 10 ∷ []) ≡ raw

@@ -12,6 +12,7 @@ use Rattle.xw_files.specs.Text.Shape.{Lines, is_bad_square, square_of}
 use Rattle.xw_files.specs.Text.Written.{is_line_end, byte_of, line, row_texts}
 use Rattle.xw_files.specs.Text.Relation.{IsRow}
 use Rattle.xw_files.proofs.TextLemmas.Cuts.{NoEnds, IsSpelled, Shows, shows_then, line_shows, shown_text}
+use Rattle.xw_files.proofs.TextLemmas.Alls.{all_from}
 
 -- a byte that can stand anywhere in a line
 abbrev pub IsFine : ℕ → Type 0
@@ -33,10 +34,6 @@ fine_plain (byte ∷ text) all = all.0.1.1
 pub fine_text : (text : List ℕ) → AllByRecursion IsFine text → IsSpelled text
 fine_text text all = record { ends = fine_ends text all; front = fine_blank text 0 all; back = fine_blank text (length text - 1) all; plain = fine_plain text all }
 
-pub fine_append : (a b : List ℕ) → AllByRecursion IsFine a → AllByRecursion IsFine b → AllByRecursion IsFine (a ++ b)
-fine_append [] b p q = q
-fine_append (byte ∷ a) b p q = (p.0, fine_append a b p.1 q)
-
 -- ---- squares
 
 -- the squares of a grid hold letters A to Z
@@ -44,8 +41,7 @@ abbrev pub AreLetters : List Square → Type 0
 AreLetters squares = AllByRecursion IsSquare squares
 
 pub are_letters : (squares : List Square) → All IsSquare squares → AreLetters squares
-are_letters [] all = tt
-are_letters (square ∷ squares) all = (all 0 square (omega arith), are_letters squares (λ k d lt. all (suc k) d (omega arith)))
+are_letters squares all = all_from IsSquare squares all
 
 pub record IsSquareByte (square : Square) : Type 0 where
   pub fine : IsFine (byte_of square)

@@ -1,7 +1,8 @@
 -- What is read stands in the relation.
-use Rattle.std.proofs.Common.{◌≡◌, ℕ, suc, ◌<◌, Bool, true, false, ◌&&◌, List, [], ◌∷◌, ◌++◌, length, Option, Some, None, Result, Ok, Err, map, get_or, refl, sym, ap, subst, ◌∙◌, arith}
+use Rattle.std.proofs.Common.{◌≡◌, ℕ, Bool, true, false, List, [], ◌∷◌, ◌++◌, length, Option, Some, None, Result, Ok, Err, map, refl, sym, ap, subst, ◌∙◌}
 use Rattle.std.specs.Prelude.{position, filter, IfOk}
 use Rattle.std.specs.List.{flat_map, AllByRecursion, list_any}
+use Rattle.std.proofs.Math.Bool.{and-false}
 use Rattle.xw_words.proofs.Position.{position-None}
 use Rattle.xw_grid.specs.declared.cell.Cell.{Cell}
 use Rattle.xw_grid.specs.declared.cell.Square.{Square}
@@ -20,12 +21,13 @@ use Rattle.xw_files.specs.Text.Starts.{starts}
 use Rattle.xw_grid.specs.Edit.{grid_of}
 use Rattle.xw_files.specs.Text.Shape.{Lines, Gives, header_at, tag_at, text_at, texts_at, size_at, sides_of, rows_at, square_of, grid_at, with_clues, clues_at, both_clues_at, notes_at, shape, shaped, is_nul, all_of}
 use Rattle.xw_files.specs.Text.Written.{has_bar, is_barred_cell, is_circled_open, clue_texts}
-use Rattle.xw_files.specs.Text.Relation.{IsTag, IsPlain, AreText, AreNotes, IsRow, IsSizeLine, Spells, IsText}
+use Rattle.xw_files.specs.Text.Relation.{IsTag, IsPlain, AreText, AreNotes, IsRow, IsSizeLine, Spells, IsText, IsBare}
 use Rattle.xw_files.proofs.TextLemmas.Shapes.{bind_ok, ok_is}
 use Rattle.xw_files.proofs.TextLemmas.Round.{clues_read, clues_read_across, clues_read_down}
 use Rattle.xw_files.proofs.TextLemmas.Sizes.{sides_line}
 use Rattle.xw_files.proofs.TextLemmas.Bars.{plain_bar}
 use Rattle.xw_files.proofs.TextLemmas.Takes.{header_takes, tag_takes, text_takes, size_takes, rows_take, clues_take, notes_takes}
+use Rattle.xw_files.proofs.TextLemmas.Alls.{all_from}
 
 -- the texts above the grid were taken
 pub record TakesTexts (lines rest : Lines) (texts : TextsShown) : Type 0 where
@@ -200,7 +202,7 @@ made_of lines after below last first texts grid clues notes width height squares
       notes_there = end;
     }
 
-pub shape_takes : (lines : Lines) (puzzle : PuzzleShown) → shape lines ≡ Ok puzzle → Spells lines puzzle × (has_bar puzzle.grid ≡ false) × (puzzle.circles ≡ [])
+pub shape_takes : (lines : Lines) (puzzle : PuzzleShown) → shape lines ≡ Ok puzzle → Spells lines puzzle × (has_bar puzzle.grid ≡ false) × IsBare puzzle
 unfolding shape
 shape_takes lines puzzle e =
     let a = bind_ok (header_at lines) _ puzzle e in
@@ -211,16 +213,12 @@ shape_takes lines puzzle e =
     let first = header_takes lines a.0 a.1 in
     let rows = grid_take texts.0.1 grid.0.1 grid.0.0 grid.1 in
     let made : PuzzleShown = record { grid = grid.0.0; texts = record texts.0.0 { notes = notes.0 }; clues = clues.0.0; circles = [] } in
-    subst (λ (p : PuzzleShown). Spells lines p × (has_bar p.grid ≡ false) × (p.circles ≡ [])) (ok_is made puzzle notes.2) (
+    subst (λ (p : PuzzleShown). Spells lines p × (has_bar p.grid ≡ false) × IsBare p) (ok_is made puzzle notes.2) (
       made_of lines a.0 texts.0.1 clues.0.1 first.0 texts.0.0 grid.0.0 clues.0.0 notes.0 rows.0 rows.1 rows.2 first.1 first.2 (texts_take a.0 texts.0.1 texts.0.0 texts.1) rows.3 grid.0.1 rows.4
           (both_take grid.0.0 grid.0.1 clues.0.1 clues.0.0 clues.1) (notes_takes clues.0.1 notes.0 notes.1),
       subst (λ (g : Grid). has_bar g ≡ false) rows.3 (no_bar_read rows.0 rows.1 rows.2),
-      refl,
+      (ap (λ (g : Grid). g.symmetry) (sym rows.3), refl),
     )
-
-no_nul : (bytes : List ℕ) → ((k : ℕ) → k < length bytes → is_nul (get_or bytes k 0) ≡ false) → AllByRecursion (λ byte. is_nul byte ≡ false) bytes
-no_nul [] none = tt
-no_nul (byte ∷ bytes) none = (none 0 (omega arith), no_nul bytes (λ k lt. none (suc k) (omega arith)))
 
 shaped_is : (offset : Option ℕ) (bytes : List ℕ) (puzzle : PuzzleShown) → shaped offset bytes ≡ Ok puzzle → (offset ≡ None) × (shape (text_lines bytes) ≡ Ok puzzle)
 shaped_is None bytes puzzle e = (refl, e)
@@ -230,22 +228,22 @@ none_found : (p : Cell → Bool) → ((c : Cell) → p c ≡ false) → (cs : Li
 none_found p fails [] = refl
 none_found p fails (c ∷ cs) = rw (fails c) (none_found p fails cs)
 
-and_none : (b : Bool) → (b && false) ≡ false
-and_none true = refl
-and_none false = refl
-
 pub none_circled : (puzzle : PuzzleShown) → puzzle.circles ≡ [] → circled_cells puzzle ≡ []
 none_circled puzzle none =
     ap (λ (circles : List Cell). circled_cells (record puzzle { circles = circles })) none
-    ∙ none_found (is_circled_open puzzle.grid []) (λ c. and_none (is_open puzzle.grid c)) (cells puzzle.grid)
+    ∙ none_found (is_circled_open puzzle.grid []) (λ c. and-false (is_open puzzle.grid c)) (cells puzzle.grid)
 
-pub all_takes : (bytes : List ℕ) (puzzle : PuzzleShown) → all_of bytes ≡ Ok puzzle → IsText bytes puzzle
+pub all_takes : (bytes : List ℕ) (puzzle : PuzzleShown) → all_of bytes ≡ Ok puzzle → IsText bytes puzzle × IsBare puzzle
 unfolding all_of
 all_takes bytes puzzle e =
     let parts = shaped_is (position is_nul bytes) bytes puzzle e in
     let spelled = shape_takes (text_lines bytes) puzzle parts.1 in
-    record { no_nul = no_nul bytes (λ k lt. position-None is_nul bytes parts.0 k 0 lt); lines = spelled.0; no_bar = spelled.1; no_circle = none_circled puzzle spelled.2 }
+    (record { no_nul = all_from (λ byte. is_nul byte ≡ false) bytes (position-None is_nul bytes parts.0); lines = spelled.0; no_bar = spelled.1; no_circle = none_circled puzzle spelled.2.1 }, spelled.2)
 
 pub is_found : (bytes : List ℕ) (result : Result Puzzle ReadFault) → Gives puzzle_view result (all_of bytes) → IfOk result (λ read. IsText bytes (puzzle_view read))
-is_found bytes (Ok read) given = all_takes bytes (puzzle_view read) given
+is_found bytes (Ok read) given = (all_takes bytes (puzzle_view read) given).0
 is_found bytes (Err fault) given = tt
+
+pub is_bare : (bytes : List ℕ) (result : Result Puzzle ReadFault) → Gives puzzle_view result (all_of bytes) → IfOk result (λ read. IsBare (puzzle_view read))
+is_bare bytes (Ok read) given = (all_takes bytes (puzzle_view read) given).1
+is_bare bytes (Err fault) given = tt

@@ -1,7 +1,6 @@
 -- The laws of reading.
-use Rattle.std.proofs.Common.{◌≡◌, ℕ, zero, suc, ◌<◌, false, List, [], ◌∷◌, ◌++◌, cond, length, None, Result, Ok, Err, get_or, map, refl, sym, ap, ◌∙◌, arith}
+use Rattle.std.proofs.Common.{◌≡◌, ℕ, false, List, [], ◌∷◌, ◌++◌, cond, length, None, Result, Ok, Err, map, refl, sym, ap, ◌∙◌}
 use Rattle.std.specs.Prelude.{position}
-use Rattle.std.specs.List.{AllByRecursion}
 use Rattle.std.proofs.lemmas.List.{length-map}
 use Rattle.xw_words.proofs.Position.{position_is_none}
 use Rattle.xw_grid.specs.declared.cell.Direction.TheVariants.{Across, Down}
@@ -21,16 +20,12 @@ use Rattle.xw_files.specs.Text.Relation.{IsText, HasOnePart}
 use Rattle.xw_files.proofs.TextLemmas.Round.{plain_of, read_back, shape_again, clues_read, clues_read_across, clues_read_down}
 use Rattle.xw_files.proofs.TextLemmas.Found.{none_circled}
 use Rattle.xw_files.proofs.TextLemmas.Bars.{lights_same}
-
-none_nul : (bytes : List ℕ) → AllByRecursion (λ byte. is_nul byte ≡ false) bytes → (k : ℕ) → k < length bytes → is_nul (get_or bytes k 0) ≡ false
-none_nul [] all k lt = absurd (omega arith)
-none_nul (byte ∷ bytes) all zero lt = all.0
-none_nul (byte ∷ bytes) all (suc k) lt = none_nul bytes all.1 k (omega arith)
+use Rattle.xw_files.proofs.TextLemmas.Alls.{all_at}
 
 pub all_again : (bytes : List ℕ) (puzzle : PuzzleShown) → IsText bytes puzzle → all_of bytes ≡ Ok (read_back puzzle)
 unfolding all_of
 all_again bytes puzzle is =
-    let none : position is_nul bytes ≡ None = position_is_none is_nul bytes 0 (none_nul bytes is.no_nul) in
+    let none : position is_nul bytes ≡ None = position_is_none is_nul bytes 0 (λ k lt. all_at (λ byte. is_nul byte ≡ false) bytes is.no_nul k 0 lt) in
     rw none (shape_again (text_lines bytes) puzzle (λ direction. ap (starts_in direction) (lights_same puzzle.grid is.no_bar)) is.lines)
 
 -- the clues of either direction

@@ -2,7 +2,7 @@
 use Rattle.std.proofs.Common.{◌≡◌, ℕ, zero, suc, ◌+◌, ◌*◌, ◌<◌, Bool, true, false, ◌&&◌, cond, List, [], ◌∷◌, ◌++◌, length, map, refl, sym, ap, subst, ◌∙◌, inl, inr, arith}
 use Rattle.std.specs.Prelude.{filter}
 use Rattle.std.specs.List.{flat_map, AllByRecursion, range_with_len}
-use Rattle.std.proofs.lemmas.Bool.{cases_Bool, cond-false, false≢true, false_from_ne_true}
+use Rattle.std.proofs.lemmas.Bool.{cases_Bool, cond-false, and_right, false≢true, false_from_ne_true}
 use Rattle.std.proofs.lemmas.List.Concat.{flat_map-append}
 use Rattle.xw_grid.specs.declared.cell.Cell.{Cell}
 use Rattle.xw_grid.specs.declared.cell.Direction.{Direction}
@@ -39,19 +39,12 @@ AreDistinct (cell ∷ others) = NotIn cell others × AreDistinct others
 apart_from : (a b : Cell) → same_cell a b ≡ false → same_cell b a ≡ false
 apart_from a b apart = false_from_ne_true (same_cell b a) (λ same. false≢true (sym apart ∙ subst (λ (c : Cell). same_cell a c ≡ true) (sym (cells_same b a same)) (same_cell_itself a)))
 
-and_false : (a b : Bool) → a ≡ false → (a && b) ≡ false
-and_false a b e = rw e refl
-
-and_false_right : (a b : Bool) → b ≡ false → (a && b) ≡ false
-and_false_right true b e = e
-and_false_right false b e = refl
-
 pub clues_kept : (direction towards : Direction) (starts : List Cell) (texts : Lines) (clues : ClueMap) (other : Cell) → NotIn other starts → clue_at (with_clues direction starts texts clues) other towards ≡ clue_at clues other towards
 clues_kept direction towards [] texts clues other apart = refl
 clues_kept direction towards (start ∷ starts) [] clues other apart = refl
 clues_kept direction towards (start ∷ starts) (text ∷ texts) clues other apart =
     clues_kept direction towards starts texts (with_clue clues start direction text) other apart.1
-    ∙ clue_kept clues start other direction towards text (and_false_right (same_direction direction towards) (same_cell start other) (apart_from other start apart.0))
+    ∙ clue_kept clues start other direction towards text (and_right (same_direction direction towards) (same_cell start other) (apart_from other start apart.0))
 
 -- setting clues of one direction leaves those of the other
 pub clues_of_other : (direction towards : Direction) (starts : List Cell) (texts : Lines) (clues : ClueMap) (other : Cell) → same_direction direction towards ≡ false → clue_at (with_clues direction starts texts clues) other towards ≡ clue_at clues other towards
@@ -59,7 +52,7 @@ clues_of_other direction towards [] texts clues other apart = refl
 clues_of_other direction towards (start ∷ starts) [] clues other apart = refl
 clues_of_other direction towards (start ∷ starts) (text ∷ texts) clues other apart =
     clues_of_other direction towards starts texts (with_clue clues start direction text) other apart
-    ∙ clue_kept clues start other direction towards text (and_false (same_direction direction towards) (same_cell start other) apart)
+    ∙ clue_kept clues start other direction towards text (ap (λ (b : Bool). b && same_cell start other) apart)
 
 pub clues_found : (direction : Direction) (starts : List Cell) (texts : Lines) (clues : ClueMap) → AreDistinct starts → length texts ≡ length starts → map (λ start. clue_at (with_clues direction starts texts clues) start direction) starts ≡ texts
 clues_found direction [] [] clues distinct same = refl

@@ -3,6 +3,7 @@ use Rattle.std.proofs.Common.{◌≡◌, ℕ, ◌+◌, ◌*◌, ◌<◌, ◌≤�
 use Rattle.std.specs.Prelude.{position, option_map}
 use Rattle.std.specs.List.{flat_map, position_or_len}
 use Rattle.std.proofs.lemmas.Bool.{cases_lt, lt-ltb, le-ltb, and_parts}
+use Rattle.std.proofs.Math.Bool.{and-false}
 use Rattle.xw_grid.specs.declared.cell.Cell.{Cell}
 use Rattle.xw_grid.specs.declared.cell.Direction.{Direction}
 use Rattle.xw_grid.specs.declared.cell.Direction.TheVariants.{Across, Down}
@@ -61,10 +62,6 @@ none_bad p across down false false rest one two = sym (shifted_by_none (position
 abbrev pub is_bad_at : Grid → ClueMap → Direction → Cell → Bool
 is_bad_at grid clues direction cell = begins grid direction cell && not (is_clue (clue_at clues cell direction))
 
-and_false : (b : Bool) → (b && false) ≡ false
-and_false true = refl
-and_false false = refl
-
 bad_here : (grid : Grid) (clues : ClueMap) (direction : Direction) (cell : Cell) (rest : List Light) → is_bad_at grid clues direction cell ≡ true → position (is_bad_clue direction clues) (lights_at grid cell ++ rest) ≡ Some (place_at grid direction cell)
 bad_here grid clues Across cell rest bad =
     let both = and_parts (begins grid Across cell) (not (is_clue (clue_at clues cell Across))) bad in
@@ -75,8 +72,8 @@ bad_here grid clues Down cell rest bad =
 
 none_here : (grid : Grid) (clues : ClueMap) (direction : Direction) (cell : Cell) (rest : List Light) → is_bad_at grid clues direction cell ≡ false
     → position (is_bad_clue direction clues) (lights_at grid cell ++ rest) ≡ shifted (length (lights_at grid cell)) (position (is_bad_clue direction clues) rest)
-none_here grid clues Across cell rest fine = none_bad (is_bad_clue Across clues) (light_at grid Across cell) (light_at grid Down cell) (begins grid Across cell) (begins grid Down cell) rest fine (and_false (begins grid Down cell))
-none_here grid clues Down cell rest fine = none_bad (is_bad_clue Down clues) (light_at grid Across cell) (light_at grid Down cell) (begins grid Across cell) (begins grid Down cell) rest (and_false (begins grid Across cell)) fine
+none_here grid clues Across cell rest fine = none_bad (is_bad_clue Across clues) (light_at grid Across cell) (light_at grid Down cell) (begins grid Across cell) (begins grid Down cell) rest fine (and-false (begins grid Down cell))
+none_here grid clues Down cell rest fine = none_bad (is_bad_clue Down clues) (light_at grid Across cell) (light_at grid Down cell) (begins grid Across cell) (begins grid Down cell) rest (and-false (begins grid Across cell)) fine
 
 -- ---- the loop
 

@@ -1,5 +1,5 @@
 -- The line of the size.
-use Rattle.std.proofs.Common.{◌≡◌, ℕ, zero, suc, ◌+◌, ◌<◌, ◌≤◌, true, false, ◌&&◌, cond, eqb, List, [], ◌∷◌, ◌++◌, length, Option, Some, None, get_or, take, drop, refl, sym, ap, subst, ◌∙◌, inl, inr, take-append-drop, drop-cons, append_assoc, length-append, ◌-◌, Bool, arith}
+use Rattle.std.proofs.Common.{◌≡◌, ℕ, zero, suc, ◌+◌, ◌<◌, ◌≤◌, true, false, ◌&&◌, cond, eqb, List, [], ◌∷◌, ◌++◌, length, Option, Some, None, get_or, take, drop, refl, sym, ap, subst, ◌∙◌, inl, inr, take-append-drop, drop-cons, append_assoc, length-append, ◌-◌, arith}
 use Rattle.std.specs.Prelude.{position, decimal}
 use Rattle.std.specs.List.{AllByRecursion, list_all}
 use Rattle.std.specs.Char.{is_ascii_digit, digit_value}
@@ -17,17 +17,10 @@ use Rattle.xw_files.specs.Text.Shape.{is_numeral, is_side, side_of, is_times, bo
 use Rattle.xw_files.specs.Text.Relation.{AreDigitsOf, IsSizeLine}
 use Rattle.xw_files.proofs.TextLemmas.Lines.{trim_front-none, trim_back-none}
 use Rattle.xw_files.proofs.TextLemmas.Plains.{cases_option}
-use Rattle.xw_files.proofs.TextLemmas.Fine.{IsFine, fine_append, fine_blank}
+use Rattle.xw_files.proofs.TextLemmas.Fine.{IsFine, fine_blank}
+use Rattle.xw_files.proofs.TextLemmas.Alls.{all_at, all_append, all_pass, pass_all}
 
 -- ---- one side
-
-all_pass : {X : Type 0} (p : X → Bool) (xs : List X) → list_all p xs ≡ true → AllByRecursion (λ x. p x ≡ true) xs
-all_pass p [] all = tt
-all_pass p (x ∷ xs) all = let parts = and_parts (p x) (list_all p xs) all in (parts.0, all_pass p xs parts.1)
-
-pass_all : {X : Type 0} (p : X → Bool) (xs : List X) → AllByRecursion (λ x. p x ≡ true) xs → list_all p xs ≡ true
-pass_all p [] all = refl
-pass_all p (x ∷ xs) all = rw (all.0, pass_all p xs all.1) refl
 
 -- what the test of a side says
 side_digits : (digits : List ℕ) (side : ℕ) → side_of digits ≡ Some side → AreDigitsOf side digits
@@ -72,8 +65,8 @@ sides_line line width height e =
       | inl found ↦
           let place = found.0 in
           let there = position-Some is_times line place 0 found.1 in
-          let two = both_are _ _ width height (rw found.1 at e) in
           let next : suc place ≡ place + 1 = omega arith in
+          let two = both_are _ _ width height (rw found.1 at e) in
           record {
             left = take place line;
             times = get_or line place 0;
@@ -121,11 +114,6 @@ back_no_times : (line : List ℕ) → NoTimes (trim_back line) → NoTimes line
 back_no_times [] none = tt
 back_no_times (byte ∷ line) none = let parts = last_no_times byte (trim_back line) none in (parts.0, back_no_times line parts.1)
 
-no_times_at : (line : List ℕ) → NoTimes line → (k : ℕ) → k < length line → is_times (get_or line k 0) ≡ false
-no_times_at [] none k lt = absurd (omega arith)
-no_times_at (byte ∷ line) none zero lt = none.0
-no_times_at (byte ∷ line) none (suc k) lt = no_times_at line none.1 k (omega arith)
-
 left_at : (a b : List ℕ) (k : ℕ) → k < length a → get_or (a ++ b) k 0 ≡ get_or a k 0
 left_at [] b k lt = absurd (omega arith)
 left_at (x ∷ a) b zero lt = refl
@@ -143,7 +131,7 @@ sides_parted left right times width height is wide high =
     let none = front_no_times left (back_no_times (trim_front left) (digits_no_times (trimmed left) wide.each)) in
     let place : position is_times line ≡ Some (length left) =
     position_is_some is_times line (length left) 0 (omega (arith, length-append left (times ∷ right)))
-    (λ k lt. ap is_times (left_at left (times ∷ right) k lt) ∙ no_times_at left none k lt)
+    (λ k lt. ap is_times (left_at left (times ∷ right) k lt) ∙ all_at (λ byte. is_times byte ≡ false) left none k 0 lt)
     (ap is_times (middle_is left times right) ∙ is) in
     let back : drop (length left + 1) line ≡ right = ap (drop (length left + 1)) (sym (append_assoc left (times ∷ []) right)) ∙ drop_at (left ++ times ∷ []) right (length left + 1) (length-append left (times ∷ [])) in
     let one : side_of (trimmed (take (length left) line)) ≡ Some width = ap (λ (t : List ℕ). side_of (trimmed t)) (take_at left (times ∷ right) (length left) refl) ∙ digits_side (trimmed left) width wide in
@@ -194,6 +182,6 @@ pub size_is : (width height : ℕ) → (1 ≤ width) × (width ≤ 255) → (1 �
 size_is width height wide high =
     let left = digits_are (decimal width) (decimal_is_IsNumeral width (omega arith)).0.1 in
     let right = digits_are (decimal height) (decimal_is_IsNumeral height (omega arith)).0.1 in (
-      fine_append (decimal width) (120 ∷ decimal height) left.fine ((refl, (refl, refl)), right.fine),
+      all_append IsFine (decimal width) (120 ∷ decimal height) left.fine ((refl, (refl, refl)), right.fine),
       record { left = decimal width; times = 120; right = decimal height; parts = refl; is_times = refl; width_there = side_written width wide; height_there = side_written height high },
     )

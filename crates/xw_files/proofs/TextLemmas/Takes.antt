@@ -1,5 +1,5 @@
 -- What is read is spelled.
-use Rattle.std.proofs.Common.{◌≡◌, ℕ, zero, suc, ◌+◌, ◌<◌, true, false, eqb, List, [], ◌∷◌, ◌++◌, length, Option, Some, None, Result, Ok, Err, map, get_or, refl, sym, ap, subst, ◌∙◌, inl, inr, arith}
+use Rattle.std.proofs.Common.{◌≡◌, ℕ, zero, suc, ◌+◌, true, false, eqb, List, [], ◌∷◌, ◌++◌, length, Option, Some, None, Result, Ok, Err, map, refl, sym, ap, subst, ◌∙◌, inl, inr}
 use Rattle.std.specs.Prelude.{position}
 use Rattle.std.specs.List.{flat_map, All, AllByRecursion}
 use Rattle.std.proofs.lemmas.Bool.{eqb-true}
@@ -20,6 +20,7 @@ use Rattle.xw_files.proofs.TextLemmas.Shapes.{bind_ok, ok_is, chosen}
 use Rattle.xw_files.proofs.TextLemmas.Squares.{square_good}
 use Rattle.xw_files.proofs.TextLemmas.Plains.{plain_takes, no_plain, cases_option, line_due}
 use Rattle.xw_files.proofs.TextLemmas.Clues.{clue_next_is, clue_missing_is, clues_done_is, clues_over_is}
+use Rattle.xw_files.proofs.TextLemmas.Alls.{all_at, all_from, all_append}
 
 pub header_takes : (lines rest : Lines) → header_at lines ≡ Ok rest → (line : List ℕ) × (lines ≡ line ∷ rest) × (names line header ≡ true)
 unfolding header_at
@@ -75,10 +76,6 @@ size_takes lines rest size e =
       | inr none ↦ absurd (no_size (plain_at lines).1 (size, rest) (rw none at e))
     ]
 
-good_all : (line : List ℕ) → ((k : ℕ) → k < length line → is_bad_square (get_or line k 0) ≡ false) → AllByRecursion (λ byte. is_bad_square byte ≡ false) line
-good_all [] good = tt
-good_all (byte ∷ line) good = (good 0 (omega arith), good_all line (λ k lt. good (suc k) (omega arith)))
-
 squares_are : (row : ℕ) (place : Option ℕ) (line : List ℕ) (squares : List Square) → squares_in row place line ≡ Ok squares → (place ≡ None) × (map square_of line ≡ squares)
 squares_are row None line squares e = (refl, ok_is _ squares e)
 squares_are row (Some place) line squares e = absurd cc
@@ -89,7 +86,7 @@ row_is width row line after rest squares plain e =
     let own = bind_ok (row_squares row line) (λ own. Ok (own, after)) (squares, rest) right.1 in
     let both = ok_is (own.0, after) (squares, rest) own.2 in
     let good = squares_are row (position is_bad_square line) line own.0 own.1 in (
-      record { plain = plain; wide = eqb-true _ _ right.0; good = good_all line (λ k lt. position-None is_bad_square line good.0 k 0 lt) },
+      record { plain = plain; wide = eqb-true _ _ right.0; good = all_from (λ byte. is_bad_square byte ≡ false) line (position-None is_bad_square line good.0) },
       good.1 ∙ ap (λ (p : List Square × Lines). p.0) both,
       ap (λ (p : List Square × Lines). p.1) both,
     )
@@ -134,10 +131,6 @@ rows_take width row (suc count) lines rest squares e =
       meaning = sym (ap (λ (p : List Square × Lines). p.0) both) ∙ ap (λ (t : List Square). t ++ others.0.0) (sym one.3) ∙ ap (λ (t : List Square). map square_of one.0 ++ t) more.meaning;
     }
 
-all_append : {X : Type 0} (P : X → Type 0) (xs ys : List X) → AllByRecursion P xs → AllByRecursion P ys → AllByRecursion P (xs ++ ys)
-all_append P [] ys all more = more
-all_append P (x ∷ xs) ys all more = (all.0, all_append P xs ys all.1 more)
-
 line_squares : (line : List ℕ) → AllByRecursion (λ byte. is_bad_square byte ≡ false) line → AllByRecursion IsSquare (map square_of line)
 line_squares [] good = tt
 line_squares (byte ∷ line) good = (square_good byte good.0, line_squares line good.1)
@@ -146,16 +139,11 @@ row_squares_are : (width : ℕ) (rows : Lines) → AllByRecursion (IsRow width) 
 row_squares_are width [] are = tt
 row_squares_are width (row ∷ rows) are = all_append IsSquare (map square_of row) (flat_map (map square_of) rows) (line_squares row are.0.good) (row_squares_are width rows are.1)
 
-each_square : (squares : List Square) → AllByRecursion IsSquare squares → All IsSquare squares
-each_square [] all k d lt = absurd (omega arith)
-each_square (square ∷ squares) all zero d lt = all.0
-each_square (square ∷ squares) all (suc k) d lt = each_square squares all.1 k d (omega arith)
-
 -- the rows hold letters A to Z
 pub rows_letters : (width row count : ℕ) (lines rest : Lines) (squares : List Square) → rows_at width row count lines ≡ Ok (squares, rest) → All IsSquare squares
 rows_letters width row count lines rest squares e =
     let taken = rows_take width row count lines rest squares e in
-    each_square squares (subst (AllByRecursion IsSquare) (sym taken.meaning) (row_squares_are width taken.rows taken.are))
+    all_at IsSquare squares (subst (AllByRecursion IsSquare) (sym taken.meaning) (row_squares_are width taken.rows taken.are))
 
 -- a clue was taken for each start
 pub record TakesClues (direction : Direction) (starts : List Cell) (clues new : ClueMap) (lines rest : Lines) : Type 0 where

@@ -1,7 +1,6 @@
 -- A puzzle that is written can be read again.
-use Rattle.std.proofs.Common.{◌≡◌, ℕ, suc, ◌<◌, Bool, true, false, not, ◌&&◌, cond, List, [], ◌∷◌, length, Option, Some, None, Result, Ok, Err, map, get_or, refl, subst, inl, inr, arith}
-use Rattle.std.specs.Prelude.{position, find, filter, IfOk}
-use Rattle.std.specs.Global.{Vec}
+use Rattle.std.proofs.Common.{◌≡◌, ℕ, suc, ◌<◌, Bool, true, false, not, ◌&&◌, cond, List, [], ◌∷◌, length, Option, Some, None, Result, Ok, Err, map, get_or, refl, inl, inr, arith}
+use Rattle.std.specs.Prelude.{position, find, filter}
 use Rattle.std.specs.List.{list_all}
 use Rattle.std.proofs.lemmas.Bool.{cases_Bool}
 use Rattle.xw_words.proofs.Position.{position-None}
@@ -18,7 +17,7 @@ use Rattle.xw_files.specs.declared.fault.WriteFault.{WriteFault}
 use Rattle.xw_files.specs.declared.fault.WriteFault.TheVariants as faults
 use Rattle.xw_files.specs.Puzzle.{PuzzleShown}
 use Rattle.xw_files.specs.Text.Starts.{starts_in}
-use Rattle.xw_files.specs.Text.Written.{is_spelled, is_clue, are_notes, is_empty_square, has_bar, is_circled_open, is_bad_clue, bad_clue, named_clue, bad_field, clue_texts, texted, unless_circled, unless_field, unless_empty, written, Writes}
+use Rattle.xw_files.specs.Text.Written.{is_spelled, is_clue, are_notes, is_empty_square, has_bar, is_circled_open, is_bad_clue, bad_clue, named_clue, bad_field, clue_texts, texted, unless_circled, unless_field, unless_empty, written}
 use Rattle.xw_files.specs.Text.Relation.{IsText}
 use Rattle.xw_files.proofs.TextLemmas.Whole.{CanBeWritten, is_text}
 
@@ -101,8 +100,6 @@ can_be_written puzzle text grid e =
       circled.1,
     )
 
-pub is_again : (puzzle : PuzzleShown) (result : Result (Vec ℕ) WriteFault) → IsGrid puzzle.grid → Writes (λ text. text.items) result (written puzzle) → IfOk result (λ text. IsText text.items puzzle)
-is_again puzzle (Ok text) grid wrote =
-    let can = can_be_written puzzle text.items grid wrote in
-    subst (λ (t : List ℕ). IsText t puzzle) can.1 (is_text puzzle can.0)
-is_again puzzle (Err fault) grid wrote = tt
+-- the text that is written is a text file of the puzzle
+pub is_again : (puzzle : PuzzleShown) → IsGrid puzzle.grid → written puzzle ≡ Ok (texted puzzle) → IsText (texted puzzle) puzzle
+is_again puzzle grid wrote = is_text puzzle (can_be_written puzzle (texted puzzle) grid wrote).0

@@ -4,6 +4,7 @@ use Rattle.std.specs.Char.{is_ascii_digit}
 use Rattle.std.specs.Str.Parse.{digits_value}
 use Rattle.std.specs.List.{AllByRecursion, join_with_byte}
 use Rattle.xw_grid.specs.declared.cell.Direction.TheVariants as directions
+use Rattle.xw_grid.specs.declared.cell.Symmetry.TheVariants as kinds
 use Rattle.xw_files.specs.declared.fault.Tag.{Tag}
 use Rattle.xw_files.specs.declared.fault.Tag.TheVariants as tags
 use Rattle.xw_files.specs.Text.Lines.{trimmed, text_lines}
@@ -92,6 +93,10 @@ pub record IsText (bytes : List ℕ) (puzzle : PuzzleShown) : Type 0 where
   pub lines : Spells (text_lines bytes) puzzle
   pub no_bar : has_bar puzzle.grid ≡ false
   pub no_circle : circled_cells puzzle ≡ []
+
+-- nothing in a puzzle that a text file cannot hold: no symmetry and no circle
+abbrev pub IsBare : PuzzleShown → Type 0
+IsBare puzzle = (puzzle.grid.symmetry ≡ kinds.None) × (puzzle.circles ≡ [])
 
 -- a text file has one file part
 abbrev pub HasOnePart : Type 0

@@ -1,5 +1,5 @@
 //! Why a puzzle has no text.
-ghost use Rattle.std.specs.Prelude.{◌≡◌, ◌≢◌, ◌<◌, ◌+◌, ◌^◌, ◌≤◌, ◌*◌, not, ◌&&◌, length, OnOk, IfErr, IfSome, Ok, Err, position, find};
+ghost use Rattle.std.specs.Prelude.{◌≡◌, ◌≢◌, ◌<◌, ◌+◌, ◌^◌, ◌≤◌, not, ◌&&◌, length, OnOk, IfErr, IfSome, Ok, Err, position, find};
 ghost use Rattle.std.specs.List.{list_any, list_all};
 ghost use Rattle.std.specs.Option.{option_copied};
 ghost use Rattle.xw_grid.specs.Grid.{cells};

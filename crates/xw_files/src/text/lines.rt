@@ -1,7 +1,6 @@
 //! The lines of a text file.
-ghost use Rattle.std.specs.Prelude.{◌≡◌, ℕ, ◌<◌, length, [], ◌∷◌, MatchOption, None};
+ghost use Rattle.std.specs.Prelude.{◌≡◌, ℕ, [], ◌∷◌, MatchOption, None};
 ghost use Rattle.std.specs.Option.{option_copied};
-ghost use Rattle.bstr.specs.Text.{lines_of, without_terminator};
 ghost use Rattle.xw_files.specs.Text.Lines.{is_blank as is_blank_byte, trimmed, shown, text_lines, first_of, without_mark as unmarked};
 
 use bstr::{ByteSlice, Lines};

@@ -1,15 +1,14 @@
 //! Reading text files.
-ghost use Rattle.std.specs.Prelude.{◌≡◌, ℕ, true, false, ◌<◌, ◌≤◌, length, List, [], ◌++◌, IfSome, IfOk, OnOk, IfErr, map, position, filter, Ok, Some, None, take, ◌+◌, ◌*◌};
+ghost use Rattle.std.specs.Prelude.{◌≡◌, true, ◌<◌, ◌≤◌, length, IfSome, IfOk, position, Ok};
 ghost use Rattle.std.specs.Option.{option_copied};
 ghost use Rattle.std.specs.List.{list_all};
 ghost use Rattle.std.specs.Char.{is_ascii_digit};
 ghost use Rattle.std.specs.Str.Parse.{digits_value};
 ghost use Rattle.std.specs.List.{join_with_byte};
-ghost use Rattle.xw_grid.specs.Light.{lights_of};
-ghost use Rattle.xw_files.specs.Text.Relation.{IsText, HasOnePart};
+ghost use Rattle.xw_files.specs.Text.Relation.{IsText, IsBare, HasOnePart};
 ghost use Rattle.xw_files.specs.Puzzle.{PuzzleShown, puzzle_view, texts_view, part_of};
 ghost use Rattle.xw_files.specs.Text.Starts.{starts};
-ghost use Rattle.xw_files.specs.Text.Shape.{Gives, header_at, tag_at, plain_at, text_at, texts_at, is_numeral as is_numeral_text, side_of, is_times, sides_of, size_at, square_of, is_bad_square as is_bad, with_front, AreSides, row_squares, squares_after, row_at, rows_at, grid_at, clue_at_start, clues_at, both_clues_at, notes_at, shape, is_nul, all_of};
+ghost use Rattle.xw_files.specs.Text.Shape.{Gives, header_at, tag_at, plain_at, text_at, texts_at, is_numeral as is_numeral_text, side_of, is_times, sides_of, size_at, with_front, AreSides, row_squares, squares_after, row_at, rows_at, grid_at, clue_at_start, clues_at, both_clues_at, notes_at, shape, is_nul, all_of};
 
 use crate::fault::{ReadFault, Tag};
 use crate::puzzle::{Puzzle, Texts};
@@ -350,6 +349,8 @@ fn all(alloc: Global, bytes: &[u8]) -> Result<Puzzle, ReadFault>
 pub fn read_text(alloc: Global, bytes: &[u8]) -> Result<Puzzle, ReadFault>
     // What is read is a text file of the puzzle.
     ensures found { IfOk result (λ read. IsText bytes.now (puzzle_view read)) }
+    // It has no symmetry and no circle.
+    ensures bare { IfOk result (λ read. IsBare (puzzle_view read)) }
     // What is a text file of a puzzle is read as one with the same file part, unless memory runs out.
     ensures only { (puzzle : PuzzleShown) → IsText bytes.now puzzle → Gives (λ read. part_of (puzzle_view read)) result (Ok (part_of puzzle)) }
     // Which fault it is.

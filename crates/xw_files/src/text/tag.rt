@@ -1,5 +1,5 @@
 //! Tag lines.
-ghost use Rattle.std.specs.Prelude.{◌≡◌, IsTrue, ◌↔◌, codes};
+ghost use Rattle.std.specs.Prelude.{◌≡◌, codes};
 ghost use Rattle.xw_files.specs.Text.Tag.{name_of, is_tag_line as is_tag, names as is_named};
 
 use crate::fault::Tag;

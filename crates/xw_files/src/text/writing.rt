@@ -1,6 +1,5 @@
 //! Writing text files.
 ghost use Rattle.std.specs.Prelude.{◌≡◌, ◌++◌, ◌<◌, ◌*◌, length, OnOk, IfOk, IfSome, IsOk, Err, position, map, flat_map, decimal};
-ghost use Rattle.xw_grid.specs.Grid.{IsGrid};
 ghost use Rattle.xw_files.specs.Puzzle.{puzzle_view, texts_view};
 ghost use Rattle.xw_files.specs.Text.Written.{is_line_feed, pieces, line, tag_line, tag, texts_text, size_text, byte_of as byte_of_square, row_texts, grid_text, clue_texts, direction_text, clues_text, notes_text, texted, written, Writes};
 ghost use Rattle.xw_files.specs.Text.Relation.{IsText};
@@ -206,16 +205,6 @@ fn text_of(alloc: Global, puzzle: &Puzzle) -> Result<Vec<u8>, AllocError>
     Ok(out)
 }
 
-fn answer(alloc: Global, puzzle: &Puzzle) -> Result<Vec<u8>, WriteFault>
-    ensures exact { Writes (λ text. text.items) result (written (puzzle_view puzzle.now)) }
-    ensures memory { result ≡ Err WriteFault.Memory → IsOk (written (puzzle_view puzzle.now)) }
-    ensures grid { IsGrid puzzle.now.grid }
-{
-    puzzle.grid.well_formed();
-    judge(puzzle)?;
-    Ok(text_of(alloc, puzzle)?)
-}
-
 /// The text of a puzzle, or why it has none.
 pub fn write_text(alloc: Global, puzzle: &Puzzle) -> Result<Vec<u8>, WriteFault>
     // What is written is a text file of the puzzle.
@@ -225,5 +214,7 @@ pub fn write_text(alloc: Global, puzzle: &Puzzle) -> Result<Vec<u8>, WriteFault>
     // Memory runs out only where no other fault holds.
     ensures memory { result ≡ Err WriteFault.Memory → IsOk (written (puzzle_view puzzle.now)) }
 {
-    answer(alloc, puzzle)
+    puzzle.grid.well_formed();
+    judge(puzzle)?;
+    Ok(text_of(alloc, puzzle)?)
 }
