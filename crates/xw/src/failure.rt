@@ -1,5 +1,6 @@
 //! What ends a run, and the statuses that a run may have.
 ghost use Rattle.std.specs.Prelude.{◌≡◌};
+ghost use Rattle.xw.specs.Status.{code_of, status_of};
 
 use std::alloc::AllocError;
 use std::process::ExitCode;
@@ -21,7 +22,9 @@ pub enum Status {
 }
 
 impl Status {
-    pub fn code(self) -> u8 {
+    pub fn code(self) -> u8
+        ensures { result ≡ code_of self }
+    {
         match self {
             Status::Accepted => 0,
             Status::Refused => 1,
@@ -54,7 +57,9 @@ pub enum Failure {
 }
 
 impl Failure {
-    pub fn status(&self) -> Status {
+    pub fn status(&self) -> Status
+        ensures { result ≡ status_of self.now }
+    {
         match self {
             Failure::File { .. } => Status::Format,
             _ => Status::Failed,

@@ -19,12 +19,14 @@ use Rattle.xw_files.specs.Puz.Sums.{summed, sum_from, sums_of, text_bytes}
 use Rattle.xw_files.specs.Puz.Sections.{Section, AreBytes, AreSections, HasNoGext, first_gext}
 use Rattle.xw_files.specs.Puz.Board.{square_of}
 use Rattle.xw_files.specs.Puz.Relation.{AreMarked, IsPuz}
-use Rattle.xw_files.specs.Puz.Writing.{solution_byte, state_byte, is_circled_open, mark_of, marks_of, gext_of, gext_bytes, unsealed_fields, fields_of, spelled_puzzle, has_bar, is_empty_cell, has_nul, clue_with_nul, or_notes, text_with_nul, field_fault, filled_fault, write_fault}
+use Rattle.xw_files.specs.Puz.Writing.{solution_byte, state_byte, is_circled_open, mark_of, marks_of, gext_of, gext_bytes, unsealed_fields, fields_of, spelled_puzzle, written_by, has_bar, is_empty_cell, has_nul, clue_with_nul, or_notes, text_with_nul, field_fault, filled_fault, write_fault}
+use Rattle.xw_files.specs.Puz.Laws.{WrittenIsRead}
 use Rattle.xw_files.proofs.PuzLemmas.SumsAndSquares.{square-again}
 use Rattle.xw_files.proofs.PuzLemmas.PlainLights.{or-false, no_bar}
 use Rattle.xw_files.proofs.PuzLemmas.CellLemmas.{length-map-cells}
 use Rattle.xw_files.proofs.PuzLemmas.CircleLemmas.{none-filtered, marked-written}
-use Rattle.xw_files.proofs.PuzLemmas.Cuts.{Cut, cut-of, one-more}
+use Rattle.xw_files.proofs.PuzLemmas.Cuts.{Cut, cut-of, one-more, bytes-after}
+use Rattle.xw_files.proofs.PuzLemmas.Related.{readable, found, one_part}
 
 -- ---- no NUL
 
@@ -173,3 +175,15 @@ pub gives-again : {Z : Type 0} (result : Result (Vec ℕ Z) WriteFault) (puzzle 
     → IfOk result (λ bytes. (tail : List ℕ) → AreBytes tail → (circled_cells puzzle ≡ [] → HasNoGext tail) → IsPuz (bytes.items ++ tail) puzzle)
 gives-again (Ok bytes) puzzle is right e = λ tail small none. subst (λ xs. IsPuz (xs ++ tail) puzzle) (sym e) (written_again puzzle tail is right small none)
 gives-again (Err fault) puzzle is right e = tt
+
+-- a puzzle whose bytes are given has no fault
+unfaulted : (puzzle : PuzzleShown) (fault : Option WriteFault) (bytes : List ℕ) → written_by puzzle fault ≡ Ok bytes → (fault ≡ None) × (spelled_puzzle puzzle ≡ bytes)
+unfaulted puzzle (Some fault) bytes e = cc
+unfaulted puzzle None bytes e = (refl, cc)
+
+pub written_is_read : WrittenIsRead
+written_is_read puzzle bytes tail is e small none =
+    let right = unfaulted puzzle (write_fault puzzle) bytes e in
+    let file : IsPuz (bytes ++ tail) puzzle = subst (λ xs. IsPuz (xs ++ tail) puzzle) right.1 (written_again puzzle tail is right.0 (bytes-after bytes tail small) none) in
+    let read = readable (bytes ++ tail) puzzle small file in
+    (read.0, read.1, one_part (bytes ++ tail) read.0 puzzle (found (bytes ++ tail) read.0 small read.1) file)

@@ -142,7 +142,7 @@ write_fault puzzle =
     if list_any (has_bar puzzle.grid) (cells puzzle.grid) then Some Barred
     else filled_fault puzzle (find (is_empty_cell puzzle.grid) (cells puzzle.grid))
 
-abbrev written_by : PuzzleShown → Option WriteFault → Result (List ℕ) WriteFault
+abbrev pub written_by : PuzzleShown → Option WriteFault → Result (List ℕ) WriteFault
 written_by puzzle (Some fault) = Err fault
 written_by puzzle None = Ok (spelled_puzzle puzzle)
 

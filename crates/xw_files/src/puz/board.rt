@@ -1,5 +1,5 @@
-// The solution board.
-ghost use Rattle.std.specs.Prelude.{◌≡◌, ◌≤◌, ◌<◌, ◌+◌, ◌*◌, length};
+//! The solution board.
+ghost use Rattle.std.specs.Prelude.{◌≡◌, ◌≤◌, ◌<◌, ◌*◌, length};
 ghost use Rattle.xw_grid.specs.Grid.{cell_in};
 ghost use Rattle.xw_files.specs.Puz.Board.{square_of, squares_at, grid_at};
 ghost use Rattle.xw_files.specs.Puz.Gives.{GivesOrLacksMemory};
@@ -60,6 +60,7 @@ pub fn grid_of(alloc: Global, fields: &Fields<'_>) -> Result<Grid, ReadFault>
     ensures { GivesOrLacksMemory (λ grid. grid) result (grid_at (view fields.now)) }
 {
     let header = &fields.header;
+    // No board has more cells than `cell_count` says, so that each has a row and a column.
     let _ = header.cell_count();
     let squares = squares_of(alloc, header.width, fields.solution)?;
     let (width, height) = (u32::from(header.width), u32::from(header.height));

@@ -1,5 +1,5 @@
-// The section that circles are written as.
-ghost use Rattle.std.specs.Prelude.{◌≡◌, ◌==◌, ◌<◌, ◌^◌, [], length, IfOk};
+//! The section that circles are written as.
+ghost use Rattle.std.specs.Prelude.{◌≡◌, ◌==◌, ◌<◌, ◌^◌, length, IfOk};
 ghost use Rattle.std.specs.List.{list_any};
 ghost use Rattle.xw_files.specs.Puz.Writing.{mark_of, marks_of, gext_bytes, circles_section};
 

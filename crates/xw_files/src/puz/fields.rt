@@ -1,4 +1,4 @@
-// The fields of a whole file.
+//! The fields of a whole file.
 ghost use Rattle.std.specs.Prelude.{◌≡◌, ◌*◌, ◌≤◌, length, map};
 ghost use Rattle.xw_files.specs.Puz.Reading.{cells_of, clues_at, texts_at, boards_at, fields_at};
 ghost use Rattle.xw_files.specs.Puz.Gives.{GivesOrLacksMemory};

@@ -1,4 +1,4 @@
-// The header of a file.
+//! The header of a file.
 ghost use Rattle.std.specs.Prelude.{◌≡◌, ◌≤◌, ◌/◌, ◌%◌, length};
 ghost use Rattle.xw_files.specs.Puz.Reading.{cells_of, has_magic, header_at, sized_header_at};
 ghost use Rattle.xw_files.specs.Puz.Spelling.{cib_bytes};

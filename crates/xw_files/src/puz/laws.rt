@@ -1,5 +1,5 @@
 //! What is true of `.puz` files.
-ghost use Rattle.xw_files.specs.Puz.Laws.{FilesHaveOnePart, BytesAreCut, CutsAreOne};
+ghost use Rattle.xw_files.specs.Puz.Laws.{FilesHaveOnePart, BytesAreCut, CutsAreOne, WrittenIsRead};
 
 /// Puzzles to which one file belongs differ in nothing that a file can hold.
 pub fn files_have_one_part()
@@ -10,4 +10,9 @@ pub fn files_have_one_part()
 pub fn sections_are_cut_once()
     ensures some { BytesAreCut }
     ensures one { CutsAreOne }
+{}
+
+/// What was written is read again as a puzzle of the same file part, with what may follow it.
+pub fn what_is_written_is_read()
+    ensures { WrittenIsRead }
 {}

@@ -1,10 +1,9 @@
-// Reading a puzzle.
-ghost use Rattle.std.specs.Prelude.{Ok, ◌≡◌, ◌≤◌, ◌*◌, length, [], map, IfOk, IsOkUnless};
+//! Reading a puzzle.
+ghost use Rattle.std.specs.Prelude.{◌≡◌, ◌≤◌, ◌*◌, length, map, IfOk, IsOkUnless};
 ghost use Rattle.xw_grid.specs.Light.{lights_of};
 ghost use Rattle.xw_grid.specs.Clue.{no_clues};
-ghost use Rattle.xw_files.specs.Puz.Board.{with_clues, clues_in, no_wrong, puzzle_of, puzzle_at};
+ghost use Rattle.xw_files.specs.Puz.Board.{with_clues, clues_in, puzzle_of, puzzle_at};
 ghost use Rattle.xw_files.specs.Puz.Relation.{IsPuz};
-ghost use Rattle.xw_files.specs.Puz.Sums.{wrong_sum, sums_of};
 ghost use Rattle.xw_files.specs.Puz.Gives.{GivesOrLacksMemory};
 ghost use Rattle.xw_files.specs.Puzzle.{PuzzleShown, puzzle_view, part_of};
 ghost use Rattle.xw_files.specs.Puz.View.{view};

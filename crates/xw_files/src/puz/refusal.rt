@@ -1,8 +1,8 @@
-// Why a puzzle is not written; none of it takes memory.
-ghost use Rattle.std.specs.Prelude.{◌≡◌, ◌==◌, ◌+◌, ◌≤◌, ◌++◌, List, map, find, Some, IfOk, IfErr};
+//! Why a puzzle is not written; none of it takes memory.
+ghost use Rattle.std.specs.Prelude.{◌≡◌, ◌+◌, ◌≤◌, ◌++◌, List, map, find, Some, IfOk, IfErr};
 ghost use Rattle.std.specs.List.{list_any};
 ghost use Rattle.xw_grid.specs.declared.lights.Light.{Light};
-ghost use Rattle.xw_grid.specs.Grid.{IsGrid, cells, is_inside};
+ghost use Rattle.xw_grid.specs.Grid.{IsGrid, cells};
 ghost use Rattle.xw_grid.specs.Light.{light_from, lights_at, lights_of};
 ghost use Rattle.xw_files.specs.Puzzle.{puzzle_view, clue_of};
 ghost use Rattle.xw_files.specs.Puz.Writing.{has_bar, is_empty_cell, has_nul, clue_with_nul, text_with_nul, write_fault};

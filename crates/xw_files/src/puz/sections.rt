@@ -1,4 +1,4 @@
-// Sections after the notes, and the circles of the one named GEXT.
+//! Sections after the notes, and the circles of the one named GEXT.
 ghost use Rattle.std.specs.Prelude.{◌≡◌, ◌≤◌, ◌<◌, ◌+◌, ◌*◌, ◌^◌, length, [], option_map, IfOk, OnOk, IsOkUnless};
 ghost use Rattle.xw_files.specs.Puz.Sections.{section_at, section_sized, section_in, is_gext, gext_in, with_mark, with_marks, circles_by};
 ghost use Rattle.xw_files.specs.declared.fault.ReadFault.TheVariants as faults;

@@ -1,4 +1,4 @@
-// The bytes of fields.
+//! The bytes of fields.
 ghost use Rattle.std.specs.Prelude.{◌≡◌, ◌++◌, [], map, replicate, OnOk, IfOk};
 ghost use Rattle.byteorder.specs.Endian.{little_bytes};
 ghost use Rattle.xw_files.specs.Puz.Spelling.{spelled, texts_bytes, header_bytes, ended, with_nuls};

@@ -1,6 +1,6 @@
-// The sums of a file.
+//! The sums of a file.
 ghost use Rattle.std.specs.Prelude.{◌≡◌, flat_map, map};
-ghost use Rattle.xw_files.specs.Puz.Sums.{rotated, summed, sum_from, counted, text_bytes, sums_of, masked_of, wrong_masked, wrong_sum};
+ghost use Rattle.xw_files.specs.Puz.Sums.{summed, sum_from, counted, text_bytes, sums_of, masked_of, wrong_masked, wrong_sum};
 ghost use Rattle.xw_files.specs.Puz.View.{view};
 
 use crate::fault::SumName;

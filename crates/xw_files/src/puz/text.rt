@@ -1,5 +1,4 @@
-// Texts that a NUL ends.
-ghost use Rattle.std.specs.Prelude.{◌≡◌};
+//! Texts that a NUL ends.
 ghost use Rattle.xw_files.specs.Puz.Reading.{text_at};
 ghost use Rattle.xw_files.specs.Puz.Gives.{Gives};
 

@@ -1,4 +1,4 @@
-// Writing a puzzle.
+//! Writing a puzzle.
 ghost use Rattle.std.specs.Prelude.{◌≡◌, ◌≢◌, ℕ, [], List, map, Ok, Err, IfOk, IfErr, IsOk, IsOkUnless, ◌++◌};
 ghost use Rattle.xw_files.specs.Puzzle.{puzzle_view, clue_of, circled_cells};
 ghost use Rattle.xw_files.specs.Puz.View.{view};

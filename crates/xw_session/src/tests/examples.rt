@@ -50,7 +50,12 @@ fn says(rt: &(impl Abort + AllocGlobal), first: Script, then: Script) -> Result<
     let mut answers = Vec::new(rt.alloc());
     let before = gather(&mut lines, &mut answers, first)?;
     let after = gather(&mut lines, &mut answers, then)?;
-    answers_are(rt, lines.as_slice(), answers.as_slice(), before.saturating_add(after))
+    answers_are(
+        rt,
+        lines.as_slice(),
+        answers.as_slice(),
+        before.saturating_add(after),
+    )
 }
 
 #[test]

@@ -1,6 +1,6 @@
 //! What is written, and what refuses.
 use crate::fault::{TextName, WriteFault};
-use crate::puz::write_puz;
+use crate::puz::{read_puz, write_puz};
 use crate::puzzle::{Puzzle, Texts};
 use crate::tests::puz::cell;
 use crate::tests::puz::files::{CIRCLED, NO_CLUE, PLAIN, TITLED, WITH_NOTES};
@@ -102,6 +102,41 @@ fn leaves_out_what_is_hidden(rt: HostRuntime) -> Result<(), Fail> {
         blocked.get(0x34..),
         Some(b"ATS.---.\0\0\0a\0\0\0".as_slice())
     );
+    Ok(())
+}
+
+/// The largest grid with one letter in each cell, and a circle in the last.
+fn largest(alloc: Global, letter: Letter) -> Result<Puzzle, Fail> {
+    let mut puzzle = Puzzle {
+        grid: Grid::new(alloc, 255, 255)?,
+        texts: Texts {
+            title: Vec::new(alloc),
+            author: Vec::new(alloc),
+            copyright: Vec::new(alloc),
+            notes: Vec::new(alloc),
+        },
+        clues: Clues::new(alloc),
+        circles: Circles::new(alloc),
+    };
+    for row in 1..256 {
+        for col in 1..256 {
+            puzzle.grid.set(cell(row, col), letter)?;
+        }
+    }
+    puzzle.circles.set(cell(255, 255), true)?;
+    Ok(puzzle)
+}
+
+#[test]
+fn keeps_the_largest_grid(rt: HostRuntime) -> Result<(), Fail> {
+    let puzzle = largest(rt.alloc(), Letter::first())?;
+    let bytes = write_puz(rt.alloc(), &puzzle)?;
+    // A header, three bytes for each cell, a NUL for each of four texts and 510 clues, and those of a section.
+    assert_eq!(rt; bytes.len(), 52 + 3 * 65025 + 4 + 510 + 9);
+    let read = read_puz(rt.alloc(), &bytes)?;
+    assert!(rt; read.circles.has(cell(255, 255)));
+    assert!(rt; !read.circles.has(cell(255, 254)));
+    assert_eq!(rt; read.grid.entry(cell(255, 255)), Some(Letter::first()));
     Ok(())
 }
 

@@ -1,0 +1,22 @@
+-- How a run went, and the exit status that tells it.
+use Rattle.std.specs.Prelude.{ℕ}
+use Rattle.xw.specs.declared.failure.Status.{Status}
+use Rattle.xw.specs.declared.failure.Status.TheVariants.{Accepted, Refused, Usage, Format, Failed}
+use Rattle.xw.specs.declared.failure.Failure.{Failure}
+use Rattle.xw.specs.declared.failure.Failure.TheVariants as failures
+
+abbrev pub code_of : Status → ℕ
+code_of Accepted = 0
+code_of Refused = 1
+code_of Usage = 2
+code_of Format = 3
+code_of Failed = 4
+
+-- a fault of a file's format, or else of memory or of a device
+abbrev pub status_of : Failure → Status
+status_of failures.Input = Failed
+status_of failures.Output = Failed
+status_of failures.Memory = Failed
+status_of (failures.CannotRead file) = Failed
+status_of (failures.CannotWrite file) = Failed
+status_of (failures.File file name) = Format
