@@ -1,5 +1,5 @@
 //! The readers and writers of std, as a `Source` and a `Sink`.
-ghost use Rattle.std.specs.Prelude.{◌≡◌, ◌≤◌, [], length, IfOk, false};
+ghost use Rattle.std.specs.Prelude.{◌≡◌, ◌≤◌, [], length, IfOk, true, false};
 
 use crate::device::{DeviceFault, Sink, Source};
 use crate::history::History;
@@ -18,6 +18,7 @@ impl<R: Read> FromRead<R> {
     pub fn new(reader: R) -> FromRead<R>
         ensures told { result.told.bytes ≡ [] }
         ensures failures { result.failures ≡ 0 }
+        ensures end { result.is_at_end ≡ false }
     {
         FromRead {
             reader,
@@ -82,6 +83,7 @@ impl<W: Write> ToWrite<W> {
     pub fn new(writer: W) -> ToWrite<W>
         ensures told { result.told.bytes ≡ [] }
         ensures failures { result.failures ≡ 0 }
+        ensures flushed { result.is_flushed ≡ true }
     {
         ToWrite {
             writer,

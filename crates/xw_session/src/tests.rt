@@ -1,6 +1,7 @@
 //! Scripts answered over memory, and over devices that fail.
 mod devices;
 mod examples;
+mod puzzles;
 mod scripts;
 
 use crate::Session;
@@ -16,12 +17,11 @@ type Script = &'static [(&'static str, &'static str)];
 
 /// A session that begins as the program's does: 15 by 15 cells, and no words.
 fn session(alloc: Global) -> Result<Session<Plain>, Fail> {
-    session_of(alloc, 15)
+    Ok(Session::new(alloc, engine_of(alloc, 15)?))
 }
 
-/// A session of no words on a square of so many rows.
-fn session_of(alloc: Global, rows: u32) -> Result<Session<Plain>, Fail> {
+/// An engine of no words on a square of so many rows.
+fn engine_of(alloc: Global, rows: u32) -> Result<Plain, Fail> {
     let grid = Grid::new(alloc, rows, rows)?;
-    let engine = Plain::open(alloc, grid, Bank::new(alloc)?)?;
-    Ok(Session::new(alloc, engine))
+    Ok(Plain::open(alloc, grid, Bank::new(alloc)?)?)
 }

@@ -1,7 +1,7 @@
 //! Runs over readers and writers that fail.
 ghost use Rattle.std.specs.Prelude.{◌≡◌, ◌≤◌, ◌<◌, length, take, true, false};
 
-use crate::tests::{session, session_of};
+use crate::tests::{engine_of, session};
 use crate::{DeviceFault, RunEnd, Session, Sink, Source, Step};
 use std::process::Abort;
 use std::test::Fail;
@@ -298,7 +298,7 @@ fn begins(
     (lines, answers): (&[u8], &[u8]),
     (reads, writes): (u64, u64),
 ) -> Result<(RunEnd, usize), Fail> {
-    let mut session = session_of(rt.alloc(), 1)?;
+    let mut session = Session::new(rt.alloc(), engine_of(rt.alloc(), 1)?);
     let mut source = Script {
         bytes: lines,
         given: 0,
