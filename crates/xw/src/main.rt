@@ -11,7 +11,7 @@ mod tests;
 use crate::arguments::Usage;
 use crate::failure::Status;
 use crate::perform::{explain, perform};
-use std::io::{self, BufWriter};
+use std::io::{self, BufWriter, ErrorKind};
 use std::process::ExitCode;
 use xw_session::{FromRead, Sink, ToWrite};
 
@@ -29,7 +29,14 @@ fn main(rt: HostRuntime) -> ExitCode {
 /// The whole program, where memory for its set-up is not wanting.
 fn start<E: Sink>(rt: &HostRuntime, errors: &mut E) -> io::Result<Status> {
     let mut output = ToWrite::new(BufWriter::with_capacity(rt.alloc(), GATHERED, rt.stdout())?);
-    let words: Vec<String> = std::env::args(rt)?.collect(rt.alloc())?;
+    let words: Vec<String> = match std::env::args(rt) {
+        Ok(words) => words.collect(rt.alloc())?,
+        Err(error) if error.kind() == ErrorKind::OutOfMemory => return Err(error),
+        Err(_) => {
+            let text = String::from_str(rt.alloc(), "xw: the arguments are no text\n")?;
+            return Ok(explain(&Usage::Wrong(text), &mut output, errors));
+        }
+    };
     match arguments::arguments(rt.alloc(), words.as_slice()) {
         Ok(call) => Ok(perform(
             rt,
