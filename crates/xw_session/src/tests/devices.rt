@@ -326,17 +326,21 @@ fn squares_broken_off(rt: HostRuntime) -> Result<(), Fail> {
     for (lines, answers) in SQUARES {
         for calls in 0..400 {
             let (end, written) = begins(&rt, (lines, answers), (100, calls))?;
-            let is_whole = end == RunEnd::Done { refused: 0 };
-            assert!(&rt; is_whole || end == RunEnd::WriteFailed, "{end:?}");
-            assert!(&rt; !is_whole || written == answers.len());
-            assert!(&rt; calls < 399 || is_whole);
+            if end == (RunEnd::Done { refused: 0 }) {
+                assert_eq!(&rt; written, answers.len());
+                break;
+            }
+            assert_eq!(&rt; end, RunEnd::WriteFailed);
+            assert!(&rt; calls < 399);
         }
         for calls in 0..100 {
             let (end, written) = begins(&rt, (lines, answers), (calls, 1000))?;
-            let is_whole = end == RunEnd::Done { refused: 0 };
-            assert!(&rt; is_whole || end == RunEnd::ReadFailed, "{end:?}");
-            assert!(&rt; !is_whole || written == answers.len());
-            assert!(&rt; calls < 99 || is_whole);
+            if end == (RunEnd::Done { refused: 0 }) {
+                assert_eq!(&rt; written, answers.len());
+                break;
+            }
+            assert_eq!(&rt; end, RunEnd::ReadFailed);
+            assert!(&rt; calls < 99);
         }
     }
     Ok(())
