@@ -7,15 +7,12 @@ pub mod Fronts
 pub mod SectionLemmas
 pub mod ClueLemmas
 pub mod BoardLemmas
-pub mod Chains
 pub mod Taken
-pub mod CellLemmas
 pub mod Pushed
 pub mod Written
 pub mod Cuts
 pub mod CircleLemmas
 pub mod LightClues
-pub mod PlainLights
 pub mod SumsAndSquares
 pub mod Related
 pub mod Refused

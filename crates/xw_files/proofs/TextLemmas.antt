@@ -7,12 +7,10 @@ pub mod Squares
 pub mod Plains
 pub mod Clues
 pub mod Places
-pub mod Scans
 pub mod Writes
 pub mod Again
 pub mod Lookups
 pub mod Round
-pub mod Bars
 pub mod Laws
 pub mod Cuts
 pub mod Fine

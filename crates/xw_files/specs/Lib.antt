@@ -1,3 +1,5 @@
 pub mod Puzzle
+pub mod Finished
+pub mod Steps
 pub mod Puz
 pub mod Text

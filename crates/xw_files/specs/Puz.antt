@@ -1,5 +1,4 @@
 pub mod Reading
-pub mod Gives
 pub mod Spelling
 pub mod Sums
 pub mod Sections

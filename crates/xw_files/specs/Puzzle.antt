@@ -1,5 +1,5 @@
 -- A puzzle as its readers and writers see it, and what a file can hold of it.
-use Rattle.std.specs.Prelude.{ℕ, ◌&&◌, List, map, filter}
+use Rattle.std.specs.Prelude.{ℕ, Bool, ◌&&◌, List, map, filter}
 use Rattle.xw_grid.specs.declared.cell.Cell.{Cell}
 use Rattle.xw_grid.specs.declared.cell.Square.{Square}
 use Rattle.xw_grid.specs.declared.lights.Light.{Light}
@@ -39,9 +39,12 @@ clue_of clues light = clue_at clues light.start light.name.direction
 abbrev pub light_clues : PuzzleShown → List (List ℕ)
 light_clues puzzle = map (clue_of puzzle.clues) (lights_of puzzle.grid)
 
+abbrev pub is_circled_open : Grid → List Cell → Cell → Bool
+is_circled_open grid circles cell = is_open grid cell && is_circled circles cell
+
 -- the open cells that are circled, in reading order
 abbrev pub circled_cells : PuzzleShown → List Cell
-circled_cells puzzle = filter (λ cell. is_open puzzle.grid cell && is_circled puzzle.circles cell) (cells puzzle.grid)
+circled_cells puzzle = filter (is_circled_open puzzle.grid puzzle.circles) (cells puzzle.grid)
 
 -- size, blocks and letters, the texts, the clues of the lights and the circles of open cells
 pub record FilePart : Type 0 where

@@ -2,6 +2,7 @@
 #![tactic(auto)]
 
 pub mod fault;
+mod finished;
 pub mod kind;
 pub mod puz;
 pub mod puzzle;

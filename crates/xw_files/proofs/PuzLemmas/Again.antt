@@ -1,6 +1,6 @@
 -- A puzzle that is written stands in the relation with its bytes, and with what may follow them.
 use Rattle.std.proofs.Common.{◌≡◌, ◌≢◌, ℕ, suc, ◌+◌, ◌*◌, ◌<◌, ◌^◌, Bool, true, false, cond, List, [], ◌∷◌, ◌++◌, map, length, replicate, nat_eq, refl, sym, ap, ◌∙◌, subst, arith, append_assoc, Ok, Err}
-use Rattle.std.specs.Prelude.{Result, Option, Some, None, find, All, IfOk}
+use Rattle.std.specs.Prelude.{Result, Option, Some, None, All, IfOk}
 use Rattle.std.specs.List.{list_any}
 use Rattle.std.specs.declared.vec.Vec.{Vec}
 use Rattle.std.proofs.lemmas.List.{length-map}
@@ -12,18 +12,19 @@ use Rattle.xw_grid.specs.Light.{lights_of}
 use Rattle.xw_grid.proofs.CountLemmas.{lights_are_few}
 use Rattle.xw_files.specs.declared.fault.TextName.{TextName}
 use Rattle.xw_files.specs.declared.fault.WriteFault.{WriteFault}
-use Rattle.xw_files.specs.Puzzle.{PuzzleShown, clue_of, light_clues, circled_cells}
+use Rattle.xw_files.specs.Puzzle.{PuzzleShown, clue_of, light_clues, is_circled_open, circled_cells}
+use Rattle.xw_files.specs.Finished.{has_bar, empty_cell, square_byte}
 use Rattle.xw_files.specs.Puz.Reading.{Fields}
 use Rattle.xw_files.specs.Puz.Spelling.{HasNoNul, AllHaveNoNul, with_nuls, header_bytes, cib_bytes}
 use Rattle.xw_files.specs.Puz.Sums.{summed, sum_from, sums_of, text_bytes}
 use Rattle.xw_files.specs.Puz.Sections.{Section, AreBytes, AreSections, HasNoGext, first_gext}
 use Rattle.xw_files.specs.Puz.Board.{square_of}
 use Rattle.xw_files.specs.Puz.Relation.{AreMarked, IsPuz}
-use Rattle.xw_files.specs.Puz.Writing.{solution_byte, state_byte, is_circled_open, mark_of, marks_of, gext_of, gext_bytes, unsealed_fields, fields_of, spelled_puzzle, written_by, has_bar, is_empty_cell, has_nul, clue_with_nul, or_notes, text_with_nul, field_fault, filled_fault, write_fault}
+use Rattle.xw_files.specs.Puz.Writing.{state_byte, mark_of, marks_of, gext_of, gext_bytes, unsealed_fields, fields_of, spelled_puzzle, written_by, has_nul, clue_with_nul, or_notes, text_with_nul, field_fault, filled_fault, write_fault}
 use Rattle.xw_files.specs.Puz.Laws.{WrittenIsRead}
 use Rattle.xw_files.proofs.PuzLemmas.SumsAndSquares.{square-again}
-use Rattle.xw_files.proofs.PuzLemmas.PlainLights.{or-false, no_bar}
-use Rattle.xw_files.proofs.PuzLemmas.CellLemmas.{length-map-cells}
+use Rattle.xw_files.proofs.PlainLights.{or-false}
+use Rattle.xw_files.proofs.CellLemmas.{length-map-cells}
 use Rattle.xw_files.proofs.PuzLemmas.CircleLemmas.{none-filtered, marked-written}
 use Rattle.xw_files.proofs.PuzLemmas.Cuts.{Cut, cut-of, one-more, bytes-after}
 use Rattle.xw_files.proofs.PuzLemmas.Related.{readable, found, one_part}
@@ -64,7 +65,7 @@ sum-small : (start : ℕ) (bytes : List ℕ) → start < 2 ^ 16 → sum_from sta
 sum-small start [] h = h
 sum-small start (b ∷ bytes) h = sum-small (summed start b) bytes (omega arith)
 
-squares-same : (squares : List Square) → All IsSquare squares → map square_of (map solution_byte squares) ≡ map (λ square. Some square) squares
+squares-same : (squares : List Square) → All IsSquare squares → map square_of (map square_byte squares) ≡ map (λ square. Some square) squares
 squares-same [] h = refl
 squares-same (square ∷ squares) h = rw (square-again square (h 0 square (omega arith)), squares-same squares (λ k d l. h (suc k) d (omega arith))) refl
 
@@ -124,8 +125,8 @@ written_again puzzle tail is right small none =
     let grid = puzzle.grid in
     let lights = lights_of grid in
     let written = unsealed_fields puzzle in
-    let bars = passed_over (list_any (has_bar grid) (cells grid)) (filled_fault puzzle (find (is_empty_cell grid) (cells grid))) _ right in
-    let nuls = all_filled puzzle (find (is_empty_cell grid) (cells grid)) bars.1 in
+    let bars = passed_over (has_bar grid) (filled_fault puzzle (empty_cell grid)) _ right in
+    let nuls = all_filled puzzle (empty_cell grid) bars.1 in
     let title = passed_over (has_nul puzzle.texts.title) _ _ nuls in
     let author = passed_over (has_nul puzzle.texts.author) _ _ title.1 in
     let copyright = passed_over (has_nul puzzle.texts.copyright) _ _ author.1 in
@@ -149,7 +150,7 @@ written_again puzzle tail is right small none =
           width = is.wide.0;
           height = is.high.0;
         };
-        solution = length-map grid.squares solution_byte ∙ is.squares;
+        solution = length-map grid.squares square_byte ∙ is.squares;
         state = length-map grid.squares state_byte ∙ is.squares;
         title = no_nul puzzle.texts.title title.0;
         author = no_nul puzzle.texts.author author.0;
@@ -163,7 +164,7 @@ written_again puzzle tail is right small none =
       sums = record { cib = refl; file = refl; masked = refl };
       width = refl;
       height = refl;
-      no_bar = no_bar grid bars.0;
+      no_bar = bars.0;
       squares = squares-same grid.squares is.letters;
       texts = refl;
       clues = refl;

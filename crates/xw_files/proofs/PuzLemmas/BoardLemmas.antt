@@ -7,7 +7,7 @@ use Rattle.xw_grid.specs.Grid.{IsSquare}
 use Rattle.xw_grid.specs.declared.cell.Square.TheVariants.{Block, Open}
 use Rattle.xw_grid.specs.declared.cell.Square.{Square}
 use Rattle.xw_files.specs.Puz.Board.{square_of, square_or_fault, squares_at}
-use Rattle.xw_files.proofs.PuzLemmas.Chains.{bind_ok, ok_is}
+use Rattle.xw_files.proofs.StepLemmas.{bind_ok, ok_is}
 
 pub square-found : (width place : ℕ) (read : Option Square) (square : Square) → square_or_fault width place read ≡ Ok square → read ≡ Some square
 square-found width place (Some x) square e = ap (λ s. Some s) (ok_is x square e)

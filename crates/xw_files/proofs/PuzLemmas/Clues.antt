@@ -1,7 +1,8 @@
 -- Clues, one after another.
 use Rattle.std.proofs.Common.{◌≡◌, ℕ, suc, ◌+◌, List, [], ◌∷◌, ◌++◌, refl, sym, ap, append_assoc, Ok, Err}
 use Rattle.std.specs.Prelude.{Result}
-use Rattle.xw_files.specs.Puz.Reading.{text_at, clues_at, ◌>>=◌}
+use Rattle.xw_files.specs.Steps.{◌>>=◌}
+use Rattle.xw_files.specs.Puz.Reading.{text_at, clues_at}
 use Rattle.xw_files.specs.declared.fault.TextName.TheVariants.{Clue}
 use Rattle.xw_files.specs.declared.fault.ReadFault.{ReadFault}
 

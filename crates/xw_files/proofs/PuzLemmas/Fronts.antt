@@ -1,7 +1,7 @@
 -- What was read before, and then what is read.
 use Rattle.std.proofs.Common.{◌≡◌, List, [], ◌∷◌, ◌++◌, refl, sym, ap, append_assoc, Ok, Err}
 use Rattle.std.specs.Prelude.{Result}
-use Rattle.xw_files.specs.Puz.Reading.{◌>>=◌}
+use Rattle.xw_files.specs.Steps.{◌>>=◌}
 use Rattle.xw_files.specs.declared.fault.ReadFault.{ReadFault}
 
 abbrev pub after : {A : Type 0} → List A → Result (List A) ReadFault → Result (List A) ReadFault

@@ -10,7 +10,7 @@ use Rattle.xw_grid.specs.Clue.{ClueMap}
 use Rattle.xw_files.specs.declared.fault.TextName.{TextName}
 use Rattle.xw_files.specs.Puzzle.{clue_of}
 use Rattle.xw_files.specs.Puz.Writing.{clue_with_nul}
-use Rattle.xw_files.proofs.PuzLemmas.CellLemmas.{cells-step, cells-end}
+use Rattle.xw_files.proofs.CellLemmas.{cells-step, cells-end}
 
 -- the first with a NUL among the clues of lights
 abbrev nul_in : ClueMap → ℕ → List Light → Option TextName

@@ -5,7 +5,7 @@ use Rattle.std.proofs.lemmas.List.{length-map}
 use Rattle.xw_grid.specs.declared.cell.Cell.{Cell}
 use Rattle.xw_grid.specs.declared.cell.Square.{Square}
 use Rattle.xw_grid.specs.declared.cell.Symmetry.TheVariants as kinds
-use Rattle.xw_grid.specs.Grid.{Grid, cells, is_open, is_barred}
+use Rattle.xw_grid.specs.Grid.{Grid, cells, is_open}
 use Rattle.xw_grid.specs.Edit.{grid_of}
 use Rattle.xw_grid.specs.Light.{lights_of}
 use Rattle.xw_grid.specs.Clue.{ClueMap, no_clues}
@@ -14,22 +14,24 @@ use Rattle.xw_files.specs.declared.fault.ReadFault.TheVariants as faults
 use Rattle.xw_files.specs.declared.fault.SumName.{SumName}
 use Rattle.xw_files.specs.declared.puzzle.Puzzle.{Puzzle}
 use Rattle.xw_files.specs.Puzzle.{PuzzleShown, puzzle_view, clue_of, circled_cells, part_of}
-use Rattle.xw_files.specs.Puz.Reading.{Fields, ◌>>=◌, fields_at, part_at}
-use Rattle.xw_files.specs.Puz.Gives.{GivesOrLacksMemory}
+use Rattle.xw_files.specs.Finished.{has_bar}
+use Rattle.xw_files.specs.Steps.{◌>>=◌}
+use Rattle.xw_files.specs.Puz.Reading.{Fields, fields_at, part_at}
+use Rattle.xw_files.specs.Steps.{GivesOrLacksMemory}
 use Rattle.xw_files.specs.Puz.Spelling.{with_nuls, spelled, header_bytes}
 use Rattle.xw_files.specs.Puz.Sums.{sum_from, sums_of, wrong_sum}
 use Rattle.xw_files.specs.Puz.Sections.{Section, AreBytes, AreSections, first_gext, marked_cells, gext_in, with_marks, circles_by}
 use Rattle.xw_files.specs.Puz.Board.{square_of, no_wrong, squares_at, grid_at, clues_in, with_clues, puzzle_of, puzzle_at}
 use Rattle.xw_files.specs.Puz.Relation.{AreMarked, IsPuz, texts_of}
 use Rattle.xw_files.specs.Puz.Laws.{FilesHaveOnePart}
-use Rattle.xw_files.proofs.PuzLemmas.Chains.{ok_is, bind_ok, passed}
+use Rattle.xw_files.proofs.StepLemmas.{ok_is, bind_ok, passed}
 use Rattle.xw_files.proofs.PuzLemmas.Files.{fields_at-again}
 use Rattle.xw_files.proofs.PuzLemmas.Taken.{fields_at-takes}
 use Rattle.xw_files.proofs.PuzLemmas.SumsAndSquares.{right_sums, passing_sums, squares_found, squares-from, same_from, same, part-length, cons-same}
 use Rattle.xw_files.proofs.PuzLemmas.Cuts.{bytes-after, one-cut, gext-is, cut-of}
 use Rattle.xw_files.proofs.PuzLemmas.CircleLemmas.{marked-read}
 use Rattle.xw_files.proofs.PuzLemmas.LightClues.{light-clues-back}
-use Rattle.xw_files.proofs.PuzLemmas.PlainLights.{plain_bar, plain_lights}
+use Rattle.xw_files.proofs.PlainLights.{no_bar_made, plain_lights}
 
 -- ---- what is read stands in the relation
 
@@ -100,7 +102,7 @@ found bytes puzzle small e =
       sums = passing_sums fields.header (sums_of fields) taken.fits.header.masked (nothing_wrong _ sums.0 sums.1);
       width = sym (ap (λ (g : Grid). g.width) grid_is);
       height = sym (ap (λ (g : Grid). g.height) grid_is);
-      no_bar = λ cell side. subst (λ (g : Grid). is_barred g cell side ≡ false) grid_is (plain_bar (grid_of fields.header.width fields.header.height squares.0) cell side);
+      no_bar = subst (λ (g : Grid). has_bar g ≡ false) grid_is (no_bar_made fields.header.width fields.header.height squares.0);
       squares = squares_found fields.header.width 0 fields.solution squares.0 squares.1 ∙ ap (λ (g : Grid). map (λ square. Some square) g.squares) grid_is;
       texts = refl;
       clues = subst (λ (cs : ClueMap). map (clue_of cs) (lights_of grid.0) ≡ fields.clues) (ok_is _ clues.0 counted.1) (light-clues-back grid.0 no_clues fields.clues count);

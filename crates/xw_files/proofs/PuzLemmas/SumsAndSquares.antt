@@ -10,8 +10,8 @@ use Rattle.xw_files.specs.declared.puz.header.Header.{Header}
 use Rattle.xw_files.specs.declared.puz.sums.Sums.{Sums}
 use Rattle.xw_files.specs.Puz.Sums.{masked_of, wrong_masked, wrong_sum, HasSums}
 use Rattle.xw_files.specs.Puz.Board.{square_of, square_or_fault, squares_at}
-use Rattle.xw_files.specs.Puz.Writing.{solution_byte}
-use Rattle.xw_files.proofs.PuzLemmas.Chains.{bind_ok, ok_is}
+use Rattle.xw_files.specs.Finished.{square_byte}
+use Rattle.xw_files.proofs.StepLemmas.{bind_ok, ok_is}
 use Rattle.xw_files.proofs.PuzLemmas.BoardLemmas.{square-found}
 
 pub same : (n : ℕ) → nat_eq n n ≡ true
@@ -67,7 +67,7 @@ at_most m n h = grind (arith, nat_tests)
 not_at_most : (m n : ℕ) → n < m → nat_le m n ≡ false
 not_at_most m n h = grind (arith, nat_tests)
 
-pub square-again : (square : Square) → IsSquare square → square_of (solution_byte square) ≡ Some square
+pub square-again : (square : Square) → IsSquare square → square_of (square_byte square) ≡ Some square
 square-again Block h = refl
 square-again (Open None) h = refl
 square-again (Open (Some letter)) h = rw (other_than 46 letter (omega (arith, h.0)), other_than 45 letter (omega (arith, h.0)), at_most 65 letter h.0, at_most letter 90 h.1, not_at_most 97 letter (omega (arith, h.1))) refl

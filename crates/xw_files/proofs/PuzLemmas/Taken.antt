@@ -8,7 +8,7 @@ use Rattle.xw_files.specs.Puz.Reading.{Fields, magic, version, part_at, number_a
 use Rattle.xw_files.specs.Puz.Spelling.{header_bytes, FitsHeader, FitsFile, HasNoNul, AllHaveNoNul, with_nuls, spelled}
 use Rattle.xw_files.specs.Puz.Sections.{AreBytes}
 use Rattle.xw_files.specs.declared.puz.header.Header.{Header}
-use Rattle.xw_files.proofs.PuzLemmas.Chains.{ok_is, bind_ok, passed, avoided}
+use Rattle.xw_files.proofs.StepLemmas.{ok_is, bind_ok, passed, avoided}
 use Rattle.xw_files.proofs.PuzLemmas.Texts.{text_at-takes}
 use Rattle.xw_files.specs.declared.fault.TextName.TheVariants.{Title, Author, Copyright, Clue, Notes}
 use Rattle.xw_files.proofs.PuzLemmas.Headers.{items_from, first_items}

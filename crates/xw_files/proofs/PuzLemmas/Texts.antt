@@ -3,7 +3,8 @@ use Rattle.std.proofs.Common.{◌≡◌, ◌≢◌, ℕ, zero, suc, ◌+◌, ◌
 use Rattle.std.specs.Prelude.{Result}
 use Rattle.std.proofs.lemmas.Grind.{common_steps}
 use Rattle.xw_files.specs.Puz.Spelling.{HasNoNul}
-use Rattle.xw_files.specs.Puz.Reading.{text_at, ◌>>=◌}
+use Rattle.xw_files.specs.Steps.{◌>>=◌}
+use Rattle.xw_files.specs.Puz.Reading.{text_at}
 use Rattle.xw_files.specs.declared.fault.TextName.{TextName}
 use Rattle.xw_files.specs.declared.fault.ReadFault.{ReadFault}
 use Rattle.xw_files.specs.declared.fault.ReadFault.TheVariants.{NoNul}

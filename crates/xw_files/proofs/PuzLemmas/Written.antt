@@ -4,7 +4,8 @@ use Rattle.xw_grid.specs.Light.{lights_of}
 use Rattle.xw_files.specs.Puz.Reading.{Fields}
 use Rattle.xw_files.specs.Puzzle.{PuzzleShown, light_clues}
 use Rattle.xw_files.specs.Puz.Spelling.{spelled}
-use Rattle.xw_files.specs.Puz.Writing.{solution_byte, state_byte, circles_section, unsealed, unsealed_fields, sealed, spelled_puzzle}
+use Rattle.xw_files.specs.Finished.{square_byte}
+use Rattle.xw_files.specs.Puz.Writing.{state_byte, circles_section, unsealed, unsealed_fields, sealed, spelled_puzzle}
 use Rattle.xw_files.specs.declared.puz.header.Header.{Header}
 
 abbrev pub fields_with : Header → List ℕ → List ℕ → List ℕ → List ℕ → List ℕ → List (List ℕ) → List ℕ → List ℕ → Fields
@@ -21,7 +22,7 @@ fields_with header solution state title author copyright clues notes rest = reco
 }
 
 pub unsealed-same : (puzzle : PuzzleShown) (header : Header) (solution state title author copyright notes rest : List ℕ) (clues : List (List ℕ))
-    → header ≡ unsealed puzzle.grid.width puzzle.grid.height (length (lights_of puzzle.grid)) → solution ≡ map solution_byte puzzle.grid.squares → state ≡ map state_byte puzzle.grid.squares
+    → header ≡ unsealed puzzle.grid.width puzzle.grid.height (length (lights_of puzzle.grid)) → solution ≡ map square_byte puzzle.grid.squares → state ≡ map state_byte puzzle.grid.squares
     → title ≡ puzzle.texts.title → author ≡ puzzle.texts.author → copyright ≡ puzzle.texts.copyright → clues ≡ light_clues puzzle → notes ≡ puzzle.texts.notes → rest ≡ circles_section puzzle.grid puzzle.circles
     → fields_with header solution state title author copyright clues notes rest ≡ unsealed_fields puzzle
 unsealed-same puzzle header solution state title author copyright notes rest clues h s st t a c k n r = rw (h, s, st, t, a, c, k, n, r) refl

@@ -10,7 +10,8 @@ use Rattle.xw_grid.specs.Clue.{ClueMap, with_clue}
 use Rattle.xw_files.specs.declared.fault.Tag.{Tag}
 use Rattle.xw_files.specs.declared.fault.ReadFault.{ReadFault}
 use Rattle.xw_files.specs.Text.Tag.{header, names}
-use Rattle.xw_files.specs.Text.Shape.{◌>>=◌, Lines, header_at, tag_at, plain_at, text_at, size_at, sides_of, is_bad_square, square_of, row_at, rows_at, with_clues, clues_at, notes_at}
+use Rattle.xw_files.specs.Steps.{◌>>=◌}
+use Rattle.xw_files.specs.Text.Shape.{Lines, header_at, tag_at, plain_at, text_at, size_at, sides_of, is_bad_square, square_of, row_at, rows_at, with_clues, clues_at, notes_at}
 use Rattle.xw_files.specs.Text.Relation.{IsTag, IsPlain, AreText, IsRow, AreNotes}
 use Rattle.xw_files.proofs.TextLemmas.Clues.{clue_next_is, clues_done_is}
 use Rattle.xw_files.proofs.TextLemmas.Alls.{all_at}

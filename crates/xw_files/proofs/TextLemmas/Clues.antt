@@ -12,9 +12,9 @@ use Rattle.xw_files.specs.declared.fault.ReadFault.{ReadFault}
 use Rattle.xw_files.specs.Text.Tag.{is_tag_line}
 use Rattle.xw_files.specs.Text.Shape.{Lines, is_plain, plain_at, clues_at, clue_in, clue_at_start}
 use Rattle.xw_files.specs.Text.Relation.{IsPlain}
-use Rattle.xw_files.proofs.TextLemmas.Shapes.{ok_is}
+use Rattle.xw_files.proofs.StepLemmas.{ok_is}
 use Rattle.xw_files.proofs.TextLemmas.Plains.{line_due, no_plain}
-use Rattle.xw_files.proofs.TextLemmas.Scans.{cells_drop, cells_past}
+use Rattle.xw_files.proofs.CellLemmas.{cells_drop, cells_past}
 
 -- ---- one light more
 

@@ -9,7 +9,8 @@ use Rattle.xw_grid.specs.declared.cell.Square.TheVariants.{Block, Open}
 use Rattle.xw_files.specs.Text.Lines.{is_blank}
 use Rattle.xw_files.specs.Text.Tag.{is_tag_line}
 use Rattle.xw_files.specs.Text.Shape.{Lines, is_bad_square, square_of}
-use Rattle.xw_files.specs.Text.Written.{is_line_end, byte_of, line, row_texts}
+use Rattle.xw_files.specs.Finished.{square_byte}
+use Rattle.xw_files.specs.Text.Written.{is_line_end, line, row_texts}
 use Rattle.xw_files.specs.Text.Relation.{IsRow}
 use Rattle.xw_files.proofs.TextLemmas.Cuts.{NoEnds, IsSpelled, Shows, shows_then, line_shows, shown_text}
 use Rattle.xw_files.proofs.TextLemmas.Alls.{all_from}
@@ -44,14 +45,14 @@ pub are_letters : (squares : List Square) → All IsSquare squares → AreLetter
 are_letters squares all = all_from IsSquare squares all
 
 pub record IsSquareByte (square : Square) : Type 0 where
-  pub fine : IsFine (byte_of square)
-  pub good : is_bad_square (byte_of square) ≡ false
-  pub back : square_of (byte_of square) ≡ square
+  pub fine : IsFine (square_byte square)
+  pub good : is_bad_square (square_byte square) ≡ false
+  pub back : square_of (square_byte square) ≡ square
 
-pub square_byte : (square : Square) → IsSquare square → IsSquareByte square
-square_byte Block stood = record { fine = (refl, (refl, refl)); good = refl; back = refl }
-square_byte (Open None) stood = record { fine = (refl, (refl, refl)); good = refl; back = refl }
-square_byte (Open (Some letter)) stood =
+pub square_stands : (square : Square) → IsSquare square → IsSquareByte square
+square_stands Block stood = record { fine = (refl, (refl, refl)); good = refl; back = refl }
+square_stands (Open None) stood = record { fine = (refl, (refl, refl)); good = refl; back = refl }
+square_stands (Open (Some letter)) stood =
     let apart : (n : ℕ) → n < 65 → eqb letter n ≡ false = λ n lt. ne_eqb letter n (λ e. omega (arith, stood.0)) in
     record {
       fine = (rw (apart 0 (omega arith), apart 10 (omega arith), apart 13 (omega arith)) refl, (rw (apart 32 (omega arith), apart 9 (omega arith)) refl, apart 60 (omega arith)));
@@ -69,19 +70,19 @@ letters_drop zero squares all = all
 letters_drop (suc n) [] all = tt
 letters_drop (suc n) (square ∷ squares) all = letters_drop n squares all.1
 
-row_fine : (row : List Square) → AreLetters row → AllByRecursion IsFine (map byte_of row)
+row_fine : (row : List Square) → AreLetters row → AllByRecursion IsFine (map square_byte row)
 row_fine [] all = tt
-row_fine (square ∷ row) all = ((square_byte square all.0).fine, row_fine row all.1)
+row_fine (square ∷ row) all = ((square_stands square all.0).fine, row_fine row all.1)
 
-row_good : (row : List Square) → AreLetters row → AllByRecursion (λ byte. is_bad_square byte ≡ false) (map byte_of row)
+row_good : (row : List Square) → AreLetters row → AllByRecursion (λ byte. is_bad_square byte ≡ false) (map square_byte row)
 row_good [] all = tt
-row_good (square ∷ row) all = ((square_byte square all.0).good, row_good row all.1)
+row_good (square ∷ row) all = ((square_stands square all.0).good, row_good row all.1)
 
-row_back : (row : List Square) → AreLetters row → map square_of (map byte_of row) ≡ row
+row_back : (row : List Square) → AreLetters row → map square_of (map square_byte row) ≡ row
 row_back [] all = refl
-row_back (square ∷ row) all = rw ((square_byte square all.0).back, row_back row all.1) refl
+row_back (square ∷ row) all = rw ((square_stands square all.0).back, row_back row all.1) refl
 
-row_shown : (row : List Square) → 0 < length row → shown_text (map byte_of row) ≡ map byte_of row ∷ []
+row_shown : (row : List Square) → 0 < length row → shown_text (map square_byte row) ≡ map square_byte row ∷ []
 row_shown [] some = absurd (omega arith)
 row_shown (square ∷ row) some = refl
 
@@ -106,11 +107,11 @@ rows_are width (suc count) squares wide size letters =
     let row_size : length row ≡ width = omega (arith, length-take width squares, size) in
     let rest = rows_are width count after wide (omega (arith, length-drop width squares, size)) (letters_drop width squares letters) in
     let own = letters_take width squares letters in
-    let spelled = fine_text (map byte_of row) (row_fine row own) in
+    let spelled = fine_text (map square_byte row) (row_fine row own) in
     record {
-      shown = subst (λ (t : Lines). Shows (line (map byte_of row) ++ flat_map line (row_texts width count after)) (t ++ row_texts width count after)) (row_shown row (omega (arith, row_size)))
-          (shows_then (line (map byte_of row)) (flat_map line (row_texts width count after)) (shown_text (map byte_of row)) (row_texts width count after) (line_shows (map byte_of row) spelled) rest.shown);
-      rows = (record { plain = spelled.plain; wide = length-map row byte_of ∙ row_size; good = row_good row own }, rest.rows);
+      shown = subst (λ (t : Lines). Shows (line (map square_byte row) ++ flat_map line (row_texts width count after)) (t ++ row_texts width count after)) (row_shown row (omega (arith, row_size)))
+          (shows_then (line (map square_byte row)) (flat_map line (row_texts width count after)) (shown_text (map square_byte row)) (row_texts width count after) (line_shows (map square_byte row) spelled) rest.shown);
+      rows = (record { plain = spelled.plain; wide = length-map row square_byte ∙ row_size; good = row_good row own }, rest.rows);
       many = ap suc rest.many;
       back = rw (row_back row own, rest.back) (take-append-drop width squares);
     }

@@ -1,12 +1,11 @@
 -- What is read stands in the relation.
 use Rattle.std.proofs.Common.{◌≡◌, ℕ, Bool, true, false, List, [], ◌∷◌, ◌++◌, length, Option, Some, None, Result, Ok, Err, map, refl, sym, ap, subst, ◌∙◌}
 use Rattle.std.specs.Prelude.{position, filter, IfOk}
-use Rattle.std.specs.List.{flat_map, AllByRecursion, list_any}
+use Rattle.std.specs.List.{flat_map, AllByRecursion}
 use Rattle.std.proofs.Math.Bool.{and-false}
 use Rattle.xw_words.proofs.Position.{position-None}
 use Rattle.xw_grid.specs.declared.cell.Cell.{Cell}
 use Rattle.xw_grid.specs.declared.cell.Square.{Square}
-use Rattle.xw_grid.specs.declared.cell.Side.TheVariants.{Right, Below}
 use Rattle.xw_grid.specs.declared.cell.Direction.TheVariants.{Across, Down}
 use Rattle.xw_grid.specs.Grid.{Grid, cells, is_open}
 use Rattle.xw_grid.specs.Clue.{ClueMap, no_clues}
@@ -16,16 +15,18 @@ use Rattle.xw_files.specs.declared.fault.ReadFault.TheVariants as faults
 use Rattle.xw_files.specs.declared.puzzle.Puzzle.{Puzzle}
 use Rattle.xw_files.specs.Text.Lines.{text_lines}
 use Rattle.xw_files.specs.Text.Tag.{header, names}
-use Rattle.xw_files.specs.Puzzle.{PuzzleShown, TextsShown, puzzle_view, circled_cells}
+use Rattle.xw_files.specs.Puzzle.{PuzzleShown, TextsShown, puzzle_view, is_circled_open, circled_cells}
 use Rattle.xw_files.specs.Text.Starts.{starts}
 use Rattle.xw_grid.specs.Edit.{grid_of}
-use Rattle.xw_files.specs.Text.Shape.{Lines, Gives, header_at, tag_at, text_at, texts_at, size_at, sides_of, rows_at, square_of, grid_at, with_clues, clues_at, both_clues_at, notes_at, shape, shaped, is_nul, all_of}
-use Rattle.xw_files.specs.Text.Written.{has_bar, is_barred_cell, is_circled_open, clue_texts}
+use Rattle.xw_files.specs.Steps.{GivesOrLacksMemory}
+use Rattle.xw_files.specs.Text.Shape.{Lines, header_at, tag_at, text_at, texts_at, size_at, sides_of, rows_at, square_of, grid_at, with_clues, clues_at, both_clues_at, notes_at, shape, shaped, is_nul, all_of}
+use Rattle.xw_files.specs.Finished.{has_bar}
+use Rattle.xw_files.specs.Text.Written.{clue_texts}
 use Rattle.xw_files.specs.Text.Relation.{IsTag, IsPlain, AreText, AreNotes, IsRow, IsSizeLine, Spells, IsText, IsBare}
-use Rattle.xw_files.proofs.TextLemmas.Shapes.{bind_ok, ok_is}
+use Rattle.xw_files.proofs.StepLemmas.{bind_ok, ok_is}
 use Rattle.xw_files.proofs.TextLemmas.Round.{clues_read, clues_read_across, clues_read_down}
 use Rattle.xw_files.proofs.TextLemmas.Sizes.{sides_line}
-use Rattle.xw_files.proofs.TextLemmas.Bars.{plain_bar}
+use Rattle.xw_files.proofs.PlainLights.{no_bar_made}
 use Rattle.xw_files.proofs.TextLemmas.Takes.{header_takes, tag_takes, text_takes, size_takes, rows_take, clues_take, notes_takes}
 use Rattle.xw_files.proofs.TextLemmas.Alls.{all_from}
 
@@ -151,15 +152,6 @@ both_take grid lines rest clues e =
       meaning = fourth.meaning ∙ ap (λ (c : ClueMap). with_clues Down (starts grid Down) fourth.texts c) second.meaning;
     }
 
-none_pass : (p : Cell → Bool) → ((c : Cell) → p c ≡ false) → (cs : List Cell) → list_any p cs ≡ false
-none_pass p fails [] = refl
-none_pass p fails (c ∷ cs) = rw (fails c) (none_pass p fails cs)
-
-no_bar_read : (width height : ℕ) (squares : List Square) → has_bar (grid_of width height squares) ≡ false
-no_bar_read width height squares =
-    let grid : Grid = grid_of width height squares in
-    none_pass (is_barred_cell grid) (λ c. rw (plain_bar grid c Right, plain_bar grid c Below) refl) (cells grid)
-
 -- the parts, one after another, are a text file's lines
 made_of : (lines after below last : Lines) (first : List ℕ) (texts : TextsShown) (grid : Grid) (clues : ClueMap) (notes : List ℕ) (width height : ℕ) (squares : List Square)
     → lines ≡ first ∷ after → names first header ≡ true → TakesTexts after below texts → grid_of width height squares ≡ grid → (middle : Lines) → TakesGrid below middle width height squares → TakesBoth grid middle last clues → AreNotes notes last
@@ -216,7 +208,7 @@ shape_takes lines puzzle e =
     subst (λ (p : PuzzleShown). Spells lines p × (has_bar p.grid ≡ false) × IsBare p) (ok_is made puzzle notes.2) (
       made_of lines a.0 texts.0.1 clues.0.1 first.0 texts.0.0 grid.0.0 clues.0.0 notes.0 rows.0 rows.1 rows.2 first.1 first.2 (texts_take a.0 texts.0.1 texts.0.0 texts.1) rows.3 grid.0.1 rows.4
           (both_take grid.0.0 grid.0.1 clues.0.1 clues.0.0 clues.1) (notes_takes clues.0.1 notes.0 notes.1),
-      subst (λ (g : Grid). has_bar g ≡ false) rows.3 (no_bar_read rows.0 rows.1 rows.2),
+      subst (λ (g : Grid). has_bar g ≡ false) rows.3 (no_bar_made rows.0 rows.1 rows.2),
       (ap (λ (g : Grid). g.symmetry) (sym rows.3), refl),
     )
 
@@ -240,10 +232,10 @@ all_takes bytes puzzle e =
     let spelled = shape_takes (text_lines bytes) puzzle parts.1 in
     (record { no_nul = all_from (λ byte. is_nul byte ≡ false) bytes (position-None is_nul bytes parts.0); lines = spelled.0; no_bar = spelled.1; no_circle = none_circled puzzle spelled.2.1 }, spelled.2)
 
-pub is_found : (bytes : List ℕ) (result : Result Puzzle ReadFault) → Gives puzzle_view result (all_of bytes) → IfOk result (λ read. IsText bytes (puzzle_view read))
+pub is_found : (bytes : List ℕ) (result : Result Puzzle ReadFault) → GivesOrLacksMemory puzzle_view result (all_of bytes) → IfOk result (λ read. IsText bytes (puzzle_view read))
 is_found bytes (Ok read) given = (all_takes bytes (puzzle_view read) given).0
 is_found bytes (Err fault) given = tt
 
-pub is_bare : (bytes : List ℕ) (result : Result Puzzle ReadFault) → Gives puzzle_view result (all_of bytes) → IfOk result (λ read. IsBare (puzzle_view read))
+pub is_bare : (bytes : List ℕ) (result : Result Puzzle ReadFault) → GivesOrLacksMemory puzzle_view result (all_of bytes) → IfOk result (λ read. IsBare (puzzle_view read))
 is_bare bytes (Ok read) given = (all_takes bytes (puzzle_view read) given).1
 is_bare bytes (Err fault) given = tt

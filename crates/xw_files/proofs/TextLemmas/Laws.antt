@@ -14,19 +14,21 @@ use Rattle.xw_files.specs.declared.puzzle.Puzzle.{Puzzle}
 use Rattle.xw_files.specs.Text.Lines.{text_lines}
 use Rattle.xw_files.specs.Puzzle.{PuzzleShown, FilePart, part_of, light_clues, clue_of, puzzle_view}
 use Rattle.xw_files.specs.Text.Starts.{starts, starts_in}
-use Rattle.xw_files.specs.Text.Shape.{Gives, is_nul, all_of}
-use Rattle.xw_files.specs.Text.Written.{has_bar, clue_texts}
+use Rattle.xw_files.specs.Steps.{GivesOrLacksMemory}
+use Rattle.xw_files.specs.Text.Shape.{is_nul, all_of}
+use Rattle.xw_files.specs.Finished.{has_bar}
+use Rattle.xw_files.specs.Text.Written.{clue_texts}
 use Rattle.xw_files.specs.Text.Relation.{IsText, HasOnePart}
-use Rattle.xw_files.proofs.TextLemmas.Round.{plain_of, read_back, shape_again, clues_read, clues_read_across, clues_read_down}
+use Rattle.xw_files.proofs.TextLemmas.Round.{read_back, shape_again, clues_read, clues_read_across, clues_read_down}
 use Rattle.xw_files.proofs.TextLemmas.Found.{none_circled}
-use Rattle.xw_files.proofs.TextLemmas.Bars.{lights_same}
+use Rattle.xw_files.proofs.PlainLights.{plain_of, plain_lights}
 use Rattle.xw_files.proofs.TextLemmas.Alls.{all_at}
 
 pub all_again : (bytes : List ℕ) (puzzle : PuzzleShown) → IsText bytes puzzle → all_of bytes ≡ Ok (read_back puzzle)
 unfolding all_of
 all_again bytes puzzle is =
     let none : position is_nul bytes ≡ None = position_is_none is_nul bytes 0 (λ k lt. all_at (λ byte. is_nul byte ≡ false) bytes is.no_nul k 0 lt) in
-    rw none (shape_again (text_lines bytes) puzzle (λ direction. ap (starts_in direction) (lights_same puzzle.grid is.no_bar)) is.lines)
+    rw none (shape_again (text_lines bytes) puzzle (λ direction. ap (starts_in direction) (plain_lights puzzle.grid is.no_bar)) is.lines)
 
 -- the clues of either direction
 abbrev clues_towards : ClueMap → List Light → Direction → List (List ℕ)
@@ -59,7 +61,7 @@ clues_again puzzle none =
     let down = clue_texts Down puzzle.clues puzzle.grid in
     let plain = plain_of puzzle.grid in
     let read = clues_read plain across down in
-    let same : lights_of puzzle.grid ≡ lights_of plain = lights_same puzzle.grid none in
+    let same : lights_of puzzle.grid ≡ lights_of plain = plain_lights puzzle.grid none in
     let many_across : length across ≡ length (starts plain Across) = length-map (starts puzzle.grid Across) _ ∙ ap (λ (ls : List Light). length (starts_in Across ls)) same in
     let many_down : length down ≡ length (starts plain Down) = length-map (starts puzzle.grid Down) _ ∙ ap (λ (ls : List Light). length (starts_in Down ls)) same in
     let of_plain : (d : Direction) → clue_texts d puzzle.clues puzzle.grid ≡ clue_texts d puzzle.clues plain = λ d. ap (λ (ls : List Light). map (λ start. clue_at puzzle.clues start d) (starts_in d ls)) same in
@@ -78,7 +80,7 @@ part_again bytes puzzle is =
 same_ok : {A : Type 0} (r : Result A ReadFault) (x y : A) → r ≡ Ok x → r ≡ Ok y → x ≡ y
 same_ok r x y e f = cc
 
-pub is_only : (bytes : List ℕ) (result : Result Puzzle ReadFault) → Gives puzzle_view result (all_of bytes) → (puzzle : PuzzleShown) → IsText bytes puzzle → Gives (λ read. part_of (puzzle_view read)) result (Ok (part_of puzzle))
+pub is_only : (bytes : List ℕ) (result : Result Puzzle ReadFault) → GivesOrLacksMemory puzzle_view result (all_of bytes) → (puzzle : PuzzleShown) → IsText bytes puzzle → GivesOrLacksMemory (λ read. part_of (puzzle_view read)) result (Ok (part_of puzzle))
 is_only bytes (Ok read) given puzzle is =
     let same : read_back puzzle ≡ puzzle_view read = same_ok (all_of bytes) (read_back puzzle) (puzzle_view read) (all_again bytes puzzle is) given in
     ap (λ (part : FilePart). Ok part) (sym (part_again bytes puzzle is) ∙ ap part_of same)

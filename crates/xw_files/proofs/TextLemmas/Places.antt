@@ -12,7 +12,7 @@ use Rattle.xw_grid.specs.Grid.{Grid, cells, cell_at}
 use Rattle.xw_grid.specs.Light.{begins, light_at, lights_at, lights_of}
 use Rattle.xw_grid.specs.Clue.{ClueMap, clue_at}
 use Rattle.xw_files.specs.Text.Written.{is_clue, is_bad_clue, bad_clue, place_at}
-use Rattle.xw_files.proofs.TextLemmas.Scans.{cells_drop, cells_past}
+use Rattle.xw_files.proofs.CellLemmas.{cells_drop, cells_past}
 
 -- a place so many further on
 abbrev pub shifted : ℕ → Option ℕ → Option ℕ

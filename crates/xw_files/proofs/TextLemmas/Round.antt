@@ -19,10 +19,12 @@ use Rattle.xw_files.specs.Text.Tag.{names, is_tag_line}
 use Rattle.xw_files.specs.Puzzle.{PuzzleShown, TextsShown}
 use Rattle.xw_files.specs.Text.Starts.{starts}
 use Rattle.xw_grid.specs.Edit.{grid_of}
-use Rattle.xw_files.specs.Text.Shape.{◌>>=◌, Lines, tag_at, text_at, texts_at, sides_of, square_of, grid_at, with_clues, both_clues_at, shape}
+use Rattle.xw_files.specs.Steps.{◌>>=◌}
+use Rattle.xw_files.specs.Text.Shape.{Lines, tag_at, text_at, texts_at, sides_of, square_of, grid_at, with_clues, both_clues_at, shape}
 use Rattle.xw_files.specs.Text.Written.{clue_texts}
 use Rattle.xw_files.specs.Text.Relation.{IsTag, IsPlain, AreText, AreNotes, IsRow, Spells}
 use Rattle.xw_files.proofs.TextLemmas.Again.{header_again, tag_again, Stops, text_again, size_again, rows_again, clues_again, notes_again}
+use Rattle.xw_files.proofs.PlainLights.{plain_of}
 use Rattle.xw_files.proofs.TextLemmas.Sizes.{line_sides}
 use Rattle.xw_files.proofs.TextLemmas.Lookups.{clues_found, clues_of_other, starts_distinct}
 
@@ -104,10 +106,6 @@ clues_read_across grid across down many =
 
 pub clues_read_down : (grid : Grid) (across down : Lines) → length down ≡ length (starts grid Down) → clue_texts Down (clues_read grid across down) grid ≡ down
 clues_read_down grid across down many = clues_found Down (starts grid Down) down (with_clues Across (starts grid Across) across no_clues) (starts_distinct grid Down) many
-
--- the grid with no bar and no symmetry
-abbrev pub plain_of : Grid → Grid
-plain_of grid = grid_of grid.width grid.height grid.squares
 
 -- a puzzle as reading gives it back
 abbrev pub read_back : PuzzleShown → PuzzleShown

@@ -6,18 +6,9 @@ use Rattle.std.proofs.lemmas.List.{length-map, append-nil}
 use Rattle.xw_grid.specs.declared.cell.Square.{Square}
 use Rattle.xw_files.specs.declared.fault.ReadFault.{ReadFault}
 use Rattle.xw_files.specs.declared.fault.ReadFault.TheVariants as faults
-use Rattle.xw_files.specs.Text.Shape.{◌>>=◌, Lines, with_front, plain_at, is_bad_square, square_of, squares_in, row_squares, cells_at, row_at, rows_at}
-
--- the value of a step that did not fail
-pub bind_ok : {A B : Type 0} (r : Result A ReadFault) (f : A → Result B ReadFault) (y : B) → (r >>= f) ≡ Ok y → (x : A) × (r ≡ Ok x) × (f x ≡ Ok y)
-bind_ok (Ok x) f y e = (x, refl, e)
-bind_ok (Err d) f y e = absurd cc
-
-abbrev done : {A : Type 0} → A → Result A ReadFault
-done x = Ok x
-
-pub ok_is : {A : Type 0} (x y : A) → done x ≡ done y → x ≡ y
-ok_is x y e = cc
+use Rattle.xw_files.specs.Steps.{◌>>=◌}
+use Rattle.xw_files.proofs.StepLemmas.{bind_ok, ok_is}
+use Rattle.xw_files.specs.Text.Shape.{Lines, with_front, plain_at, is_bad_square, square_of, squares_in, row_squares, cells_at, row_at, rows_at}
 
 -- ---- rows
 

@@ -14,9 +14,11 @@ use Rattle.xw_files.specs.declared.fault.Tag.TheVariants as tags
 use Rattle.xw_files.specs.declared.fault.ReadFault.{ReadFault}
 use Rattle.xw_files.specs.declared.fault.ReadFault.TheVariants as faults
 use Rattle.xw_files.specs.Text.Tag.{header, name_of, names}
-use Rattle.xw_files.specs.Text.Shape.{◌>>=◌, Lines, header_at, tag_at, plain_at, text_at, sized, sides_at, size_at, sides_of, is_bad_square, square_of, squares_in, row_squares, cells_at, row_at, rows_at, with_clues, clues_at, notes_at}
+use Rattle.xw_files.specs.Steps.{◌>>=◌}
+use Rattle.xw_files.specs.Text.Shape.{Lines, header_at, tag_at, plain_at, text_at, sized, sides_at, size_at, sides_of, is_bad_square, square_of, squares_in, row_squares, cells_at, row_at, rows_at, with_clues, clues_at, notes_at}
 use Rattle.xw_files.specs.Text.Relation.{IsTag, IsPlain, AreText, IsRow, AreNotes}
-use Rattle.xw_files.proofs.TextLemmas.Shapes.{bind_ok, ok_is, chosen}
+use Rattle.xw_files.proofs.StepLemmas.{bind_ok, ok_is}
+use Rattle.xw_files.proofs.TextLemmas.Shapes.{chosen}
 use Rattle.xw_files.proofs.TextLemmas.Squares.{square_good}
 use Rattle.xw_files.proofs.TextLemmas.Plains.{plain_takes, no_plain, cases_option, line_due}
 use Rattle.xw_files.proofs.TextLemmas.Clues.{clue_next_is, clue_missing_is, clues_done_is, clues_over_is}

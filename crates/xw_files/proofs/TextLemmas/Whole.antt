@@ -18,7 +18,8 @@ use Rattle.xw_files.specs.Text.Lines.{without_mark, text_lines, shown, cut}
 use Rattle.xw_files.specs.Text.Tag.{header, name_of, names}
 use Rattle.xw_files.specs.Puzzle.{PuzzleShown, TextsShown, circled_cells}
 use Rattle.xw_files.specs.Text.Shape.{Lines}
-use Rattle.xw_files.specs.Text.Written.{is_spelled, is_clue, are_notes, pieces, line, tag, tag_line, size_text, grid_text, texts_text, direction_text, clues_text, notes_text, row_texts, clue_texts, texted, has_bar}
+use Rattle.xw_files.specs.Finished.{has_bar}
+use Rattle.xw_files.specs.Text.Written.{is_spelled, is_clue, are_notes, pieces, line, tag, tag_line, size_text, grid_text, texts_text, direction_text, clues_text, notes_text, row_texts, clue_texts, texted}
 use Rattle.xw_files.specs.Text.Relation.{IsText, Spells, AreText, AreNotes}
 use Rattle.xw_files.proofs.TextLemmas.Cuts.{IsSpelled, Shows, shows_then, header_shows, tag_shows, line_shows, shown_text, spelled_text, clues_show, all_plain}
 use Rattle.xw_files.proofs.TextLemmas.Fine.{are_letters, rows_are, fine_text}

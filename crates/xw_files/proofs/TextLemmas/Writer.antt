@@ -1,6 +1,6 @@
 -- A puzzle that is written can be read again.
 use Rattle.std.proofs.Common.{◌≡◌, ℕ, suc, ◌<◌, Bool, true, false, not, ◌&&◌, cond, List, [], ◌∷◌, length, Option, Some, None, Result, Ok, Err, map, get_or, refl, inl, inr, arith}
-use Rattle.std.specs.Prelude.{position, find, filter}
+use Rattle.std.specs.Prelude.{find, filter}
 use Rattle.std.specs.List.{list_all}
 use Rattle.std.proofs.lemmas.Bool.{cases_Bool}
 use Rattle.xw_words.proofs.Position.{position-None}
@@ -8,16 +8,17 @@ use Rattle.xw_grid.specs.declared.cell.Cell.{Cell}
 use Rattle.xw_grid.specs.declared.cell.Direction.{Direction}
 use Rattle.xw_grid.specs.declared.cell.Direction.TheVariants.{Across, Down}
 use Rattle.xw_grid.specs.declared.lights.Light.{Light}
-use Rattle.xw_grid.specs.Grid.{Grid, IsGrid, cells}
+use Rattle.xw_grid.specs.Grid.{IsGrid, cells}
 use Rattle.xw_grid.specs.Light.{lights_of, same_direction, no_light}
 use Rattle.xw_grid.specs.Clue.{ClueMap, clue_at}
 use Rattle.xw_files.specs.declared.fault.TextName.{TextName}
 use Rattle.xw_files.specs.declared.fault.TextName.TheVariants as fields
 use Rattle.xw_files.specs.declared.fault.WriteFault.{WriteFault}
 use Rattle.xw_files.specs.declared.fault.WriteFault.TheVariants as faults
-use Rattle.xw_files.specs.Puzzle.{PuzzleShown}
+use Rattle.xw_files.specs.Puzzle.{PuzzleShown, is_circled_open}
 use Rattle.xw_files.specs.Text.Starts.{starts_in}
-use Rattle.xw_files.specs.Text.Written.{is_spelled, is_clue, are_notes, is_empty_square, has_bar, is_circled_open, is_bad_clue, bad_clue, named_clue, bad_field, clue_texts, texted, unless_circled, unless_field, unless_empty, written}
+use Rattle.xw_files.specs.Finished.{has_bar, empty_cell}
+use Rattle.xw_files.specs.Text.Written.{is_spelled, is_clue, are_notes, is_bad_clue, bad_clue, named_clue, bad_field, clue_texts, texted, unless_circled, unless_field, unless_empty, written}
 use Rattle.xw_files.specs.Text.Relation.{IsText}
 use Rattle.xw_files.proofs.TextLemmas.Whole.{CanBeWritten, is_text}
 
@@ -25,9 +26,9 @@ not_refused : {A : Type 0} (b : Bool) (d : WriteFault) (r : Result A WriteFault)
 not_refused true d r y e = absurd cc
 not_refused false d r y e = (refl, e)
 
-not_empty : (place : Option ℕ) (grid : Grid) (r : Result (List ℕ) WriteFault) (y : List ℕ) → unless_empty place grid r ≡ Ok y → r ≡ Ok y
-not_empty None grid r y e = e
-not_empty (Some place) grid r y e = absurd cc
+not_empty : (cell : Option Cell) (r : Result (List ℕ) WriteFault) (y : List ℕ) → unless_empty cell r ≡ Ok y → r ≡ Ok y
+not_empty None r y e = e
+not_empty (Some cell) r y e = absurd cc
 
 no_field : (field : Option TextName) (r : Result (List ℕ) WriteFault) (y : List ℕ) → unless_field field r ≡ Ok y → (field ≡ None) × (r ≡ Ok y)
 no_field None r y e = (refl, e)
@@ -78,7 +79,7 @@ pub can_be_written : (puzzle : PuzzleShown) (text : List ℕ) → IsGrid puzzle.
 unfolding written bad_field
 can_be_written puzzle text grid e =
     let one = not_refused (has_bar puzzle.grid) faults.Barred _ text e in
-    let two = not_empty (position is_empty_square puzzle.grid.squares) puzzle.grid _ text one.1 in
+    let two = not_empty (empty_cell puzzle.grid) _ text one.1 in
     let three = no_field (bad_field puzzle) _ text two in
     let title = good_field (is_spelled puzzle.texts.title) fields.Title _ three.0 in
     let author = good_field (is_spelled puzzle.texts.author) fields.Author _ title.1 in

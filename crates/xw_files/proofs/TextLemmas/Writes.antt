@@ -14,7 +14,8 @@ use Rattle.xw_grid.specs.Light.{begins}
 use Rattle.xw_grid.specs.Clue.{ClueMap, clue_at}
 use Rattle.xw_files.proofs.TextLemmas.Clues.{starts_after, start_here, no_start, no_more_starts}
 use Rattle.xw_grid.specs.declared.cell.Square.{Square}
-use Rattle.xw_files.specs.Text.Written.{line, byte_of, row_texts, is_line_feed, pieces}
+use Rattle.xw_files.specs.Finished.{square_byte}
+use Rattle.xw_files.specs.Text.Written.{line, row_texts, is_line_feed, pieces}
 
 -- the clues of some starts as lines
 abbrev pub clues_after : ClueMap → Direction → List Cell → List ℕ
@@ -37,16 +38,16 @@ row_fits width height above rest lt size =
     omega (arith, e)
 
 pub rows_left : (width height above : ℕ) (front : List ℕ) (squares : List Square) (out new : List ℕ) (rest : List Square) → above < height → RowsLeft width height above front squares out rest
-    → new ≡ out ++ line (map byte_of (take width rest)) → RowsLeft width height (above + 1) front squares new (drop width rest)
+    → new ≡ out ++ line (map square_byte (take width rest)) → RowsLeft width height (above + 1) front squares new (drop width rest)
 unfolding row_texts
 rows_left width height above front squares out new rest lt so_far put =
     let left : height - above ≡ suc (height - (above + 1)) = omega arith in
     let e : length rest ≡ width * suc (height - (above + 1)) = so_far.size ∙ ap (λ (k : ℕ). width * k) left in
-    let more : flat_map line (row_texts width (height - above) rest) ≡ line (map byte_of (take width rest)) ++ flat_map line (row_texts width (height - (above + 1)) (drop width rest)) = rw left refl in
+    let more : flat_map line (row_texts width (height - above) rest) ≡ line (map square_byte (take width rest)) ++ flat_map line (row_texts width (height - (above + 1)) (drop width rest)) = rw left refl in
     record {
       size = omega (arith, e, length-drop width rest);
       text = ap (λ (t : List ℕ). t ++ flat_map line (row_texts width (height - (above + 1)) (drop width rest))) put
-          ∙ append_assoc out (line (map byte_of (take width rest))) (flat_map line (row_texts width (height - (above + 1)) (drop width rest)))
+          ∙ append_assoc out (line (map square_byte (take width rest))) (flat_map line (row_texts width (height - (above + 1)) (drop width rest)))
           ∙ ap (λ (t : List ℕ). out ++ t) (sym more) ∙ so_far.text;
     }
 

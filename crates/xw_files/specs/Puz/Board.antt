@@ -12,7 +12,8 @@ use Rattle.xw_files.specs.Puzzle.{PuzzleShown}
 use Rattle.xw_files.specs.declared.fault.ReadFault.{ReadFault}
 use Rattle.xw_files.specs.declared.fault.ReadFault.TheVariants.{BadCell, BadSum, ClueCount}
 use Rattle.xw_files.specs.declared.fault.SumName.{SumName}
-use Rattle.xw_files.specs.Puz.Reading.{Fields, ◌>>=◌, fields_at}
+use Rattle.xw_files.specs.Steps.{◌>>=◌}
+use Rattle.xw_files.specs.Puz.Reading.{Fields, fields_at}
 use Rattle.xw_files.specs.Puz.Sums.{sums_of, wrong_sum}
 use Rattle.xw_files.specs.Puz.Sections.{gext_in, circles_by}
 

@@ -1,9 +1,7 @@
 -- When a `.puz` file and a puzzle belong together.
 use Rattle.std.specs.Prelude.{◌≡◌, ℕ, ◌*◌, false, List, [], map, length, Option, Some, None}
-use Rattle.xw_grid.specs.declared.cell.Cell.{Cell}
-use Rattle.xw_grid.specs.declared.cell.Side.{Side}
-use Rattle.xw_grid.specs.Grid.{is_barred}
 use Rattle.xw_files.specs.Puzzle.{TextsShown, PuzzleShown, light_clues, circled_cells}
+use Rattle.xw_files.specs.Finished.{has_bar}
 use Rattle.xw_files.specs.Puz.Reading.{Fields}
 use Rattle.xw_files.specs.Puz.Spelling.{FitsFile, spelled}
 use Rattle.xw_files.specs.Puz.Sums.{sum_from, sums_of, HasSums}
@@ -33,7 +31,7 @@ pub record IsPuz (bytes : List ℕ) (puzzle : PuzzleShown) : Type 0 where
   pub sums : HasSums fields.header (sums_of fields)
   pub width : puzzle.grid.width ≡ fields.header.width
   pub height : puzzle.grid.height ≡ fields.header.height
-  pub no_bar : (cell : Cell) (side : Side) → is_barred puzzle.grid cell side ≡ false
+  pub no_bar : has_bar puzzle.grid ≡ false
   pub squares : map square_of fields.solution ≡ map (λ square. Some square) puzzle.grid.squares
   pub texts : puzzle.texts ≡ texts_of fields
   pub clues : light_clues puzzle ≡ fields.clues

@@ -1,13 +1,11 @@
 -- What is written of a puzzle, or why it is not written.
-use Rattle.std.specs.Prelude.{ℕ, ◌+◌, Bool, true, false, ◌&&◌, ◌||◌, ◌==◌, List, [], ◌∷◌, map, length, replicate, find, Option, Some, None, Result, Ok, Err, if◌then◌else◌, codes}
+use Rattle.std.specs.Prelude.{ℕ, ◌+◌, Bool, ◌==◌, List, [], ◌∷◌, map, length, replicate, Option, Some, None, Result, Ok, Err, if◌then◌else◌, codes}
 use Rattle.std.specs.List.{list_any}
 use Rattle.xw_grid.specs.declared.cell.Cell.{Cell}
 use Rattle.xw_grid.specs.declared.cell.Square.{Square}
 use Rattle.xw_grid.specs.declared.cell.Square.TheVariants.{Block, Open}
-use Rattle.xw_grid.specs.declared.cell.Side.TheVariants.{Right, Below}
-use Rattle.xw_grid.specs.Grid.{Grid, cells, is_open, is_barred, square_at}
+use Rattle.xw_grid.specs.Grid.{Grid, cells}
 use Rattle.xw_grid.specs.Light.{lights_of}
-use Rattle.xw_grid.specs.Clue.{is_circled}
 use Rattle.xw_files.specs.declared.fault.WriteFault.{WriteFault}
 use Rattle.xw_files.specs.declared.fault.WriteFault.TheVariants.{Barred, NotFilled, Field}
 use Rattle.xw_files.specs.declared.fault.TextName.{TextName}
@@ -15,26 +13,19 @@ use Rattle.xw_files.specs.declared.fault.TextName.TheVariants.{Title, Author, Co
 use Rattle.xw_files.specs.declared.puz.header.Header.{Header}
 use Rattle.xw_files.specs.declared.puz.sums.Sums.{Sums}
 use Rattle.xw_files.specs.Puz.Reading.{Fields}
-use Rattle.xw_files.specs.Puzzle.{PuzzleShown, light_clues}
+use Rattle.xw_files.specs.Puzzle.{PuzzleShown, light_clues, is_circled_open}
+use Rattle.xw_files.specs.Finished.{has_bar, empty_cell, square_byte}
 use Rattle.xw_files.specs.Puz.Sums.{sum_from, sums_of, masked_of}
 use Rattle.xw_files.specs.Puz.Spelling.{spelled}
 use Rattle.xw_files.specs.Puz.Sections.{Section, section_bytes}
 
 -- ---- the boards
 
-abbrev pub solution_byte : Square → ℕ
-solution_byte Block = 46
-solution_byte (Open None) = 45
-solution_byte (Open (Some letter)) = letter
-
 abbrev pub state_byte : Square → ℕ
 state_byte Block = 46
 state_byte (Open entered) = 45
 
 -- ---- circles
-
-abbrev pub is_circled_open : Grid → List Cell → Cell → Bool
-is_circled_open grid circles cell = is_open grid cell && is_circled circles cell
 
 abbrev pub mark_of : Grid → List Cell → Cell → ℕ
 mark_of grid circles cell = if is_circled_open grid circles cell then 128 else 0
@@ -70,7 +61,7 @@ unsealed width height count = record {
 abbrev pub unsealed_fields : PuzzleShown → Fields
 unsealed_fields puzzle = record {
   header = unsealed puzzle.grid.width puzzle.grid.height (length (lights_of puzzle.grid));
-  solution = map solution_byte puzzle.grid.squares;
+  solution = map square_byte puzzle.grid.squares;
   state = map state_byte puzzle.grid.squares;
   title = puzzle.texts.title;
   author = puzzle.texts.author;
@@ -95,18 +86,6 @@ abbrev pub spelled_puzzle : PuzzleShown → List ℕ
 spelled_puzzle puzzle = spelled (fields_of puzzle) (replicate 16 0)
 
 -- ---- faults
-
-abbrev pub has_bar : Grid → Cell → Bool
-has_bar grid cell = is_barred grid cell Right || is_barred grid cell Below
-
-abbrev pub is_empty_square : Option Square → Bool
-is_empty_square None = false
-is_empty_square (Some Block) = false
-is_empty_square (Some (Open None)) = true
-is_empty_square (Some (Open (Some letter))) = false
-
-abbrev pub is_empty_cell : Grid → Cell → Bool
-is_empty_cell grid cell = is_empty_square (square_at grid cell)
 
 abbrev pub has_nul : List ℕ → Bool
 has_nul text = list_any (λ byte. byte == 0) text
@@ -139,8 +118,8 @@ filled_fault puzzle None = field_fault (text_with_nul puzzle)
 -- the first reason for which a puzzle is not written
 abbrev pub write_fault : PuzzleShown → Option WriteFault
 write_fault puzzle =
-    if list_any (has_bar puzzle.grid) (cells puzzle.grid) then Some Barred
-    else filled_fault puzzle (find (is_empty_cell puzzle.grid) (cells puzzle.grid))
+    if has_bar puzzle.grid then Some Barred
+    else filled_fault puzzle (empty_cell puzzle.grid)
 
 abbrev pub written_by : PuzzleShown → Option WriteFault → Result (List ℕ) WriteFault
 written_by puzzle (Some fault) = Err fault

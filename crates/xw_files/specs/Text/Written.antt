@@ -1,17 +1,15 @@
 -- The one text of a puzzle, or why it has none.
-use Rattle.std.specs.Prelude.{◌≡◌, ◌≢◌, ℕ, zero, suc, ◌+◌, ◌-◌, Bool, true, false, not, ◌&&◌, ◌||◌, ◌==◌, List, [], ◌∷◌, ◌++◌, length, map, take, drop, Option, Some, None, Result, Ok, Err, if◌then◌else◌, position, slice_get, flat_map, find, decimal}
+use Rattle.std.specs.Prelude.{◌≡◌, ◌≢◌, ℕ, zero, suc, ◌+◌, ◌-◌, Bool, false, not, ◌&&◌, ◌||◌, ◌==◌, List, [], ◌∷◌, ◌++◌, length, map, take, drop, Option, Some, None, Result, Ok, Err, if◌then◌else◌, position, slice_get, flat_map, find, decimal}
 use Rattle.std.specs.List.{list_all, list_any, slice_split}
 use Rattle.xw_grid.specs.declared.cell.Cell.{Cell}
 use Rattle.xw_grid.specs.declared.cell.Square.{Square}
-use Rattle.xw_grid.specs.declared.cell.Square.TheVariants.{Block, Open}
-use Rattle.xw_grid.specs.declared.cell.Side.TheVariants.{Right, Below}
 use Rattle.xw_grid.specs.declared.cell.Direction.{Direction}
 use Rattle.xw_grid.specs.declared.cell.Direction.TheVariants as directions
 use Rattle.xw_grid.specs.declared.cell.Direction.TheVariants.{Across, Down}
 use Rattle.xw_grid.specs.declared.lights.Light.{Light}
-use Rattle.xw_grid.specs.Grid.{Grid, cells, cell_at, is_open, is_barred}
+use Rattle.xw_grid.specs.Grid.{Grid, cells}
 use Rattle.xw_grid.specs.Light.{begins, lights_of, same_direction}
-use Rattle.xw_grid.specs.Clue.{ClueMap, clue_at, is_circled}
+use Rattle.xw_grid.specs.Clue.{ClueMap, clue_at}
 use Rattle.xw_files.specs.declared.fault.Tag.{Tag}
 use Rattle.xw_files.specs.declared.fault.Tag.TheVariants as tags
 use Rattle.xw_files.specs.declared.fault.TextName.{TextName}
@@ -20,7 +18,8 @@ use Rattle.xw_files.specs.declared.fault.WriteFault.{WriteFault}
 use Rattle.xw_files.specs.declared.fault.WriteFault.TheVariants as faults
 use Rattle.xw_files.specs.Text.Lines.{is_blank}
 use Rattle.xw_files.specs.Text.Tag.{header, name_of, is_tag_line}
-use Rattle.xw_files.specs.Puzzle.{PuzzleShown, TextsShown}
+use Rattle.xw_files.specs.Puzzle.{PuzzleShown, TextsShown, is_circled_open}
+use Rattle.xw_files.specs.Finished.{has_bar, empty_cell, square_byte}
 use Rattle.xw_files.specs.Text.Starts.{starts}
 
 -- ---- what can be spelled
@@ -49,20 +48,6 @@ unfoldable pub are_notes : List ℕ → Bool
 are_notes notes = (length notes == 0) || list_all is_clue (pieces notes)
 
 -- ---- faults
-
-abbrev pub is_empty_square : Square → Bool
-is_empty_square Block = false
-is_empty_square (Open None) = true
-is_empty_square (Open (Some letter)) = false
-
-abbrev pub is_barred_cell : Grid → Cell → Bool
-is_barred_cell grid cell = is_barred grid cell Right || is_barred grid cell Below
-
-abbrev pub has_bar : Grid → Bool
-has_bar grid = list_any (is_barred_cell grid) (cells grid)
-
-abbrev pub is_circled_open : Grid → List Cell → Cell → Bool
-is_circled_open grid circles cell = is_open grid cell && is_circled circles cell
 
 abbrev pub is_bad_clue : Direction → ClueMap → Light → Bool
 is_bad_clue direction clues light = same_direction light.name.direction direction && not (is_clue (clue_at clues light.start direction))
@@ -101,15 +86,10 @@ tag_line name = name ++ 10 ∷ []
 abbrev pub tag : Tag → List ℕ
 tag which = tag_line (name_of which)
 
-abbrev pub byte_of : Square → ℕ
-byte_of Block = 46
-byte_of (Open None) = 45
-byte_of (Open (Some letter)) = letter
-
 -- so many rows of squares as text
 unfoldable pub row_texts : ℕ → ℕ → List Square → List (List ℕ)
 row_texts width zero squares = []
-row_texts width (suc count) squares = map byte_of (take width squares) ∷ row_texts width count (drop width squares)
+row_texts width (suc count) squares = map square_byte (take width squares) ∷ row_texts width count (drop width squares)
 
 abbrev pub clue_texts : Direction → ClueMap → Grid → List (List ℕ)
 clue_texts direction clues grid = map (λ start. clue_at clues start direction) (starts grid direction)
@@ -147,14 +127,14 @@ abbrev pub unless_field : Option TextName → Result (List ℕ) WriteFault → R
 unless_field (Some field) rest = Err (faults.Field field)
 unless_field None rest = rest
 
-abbrev pub unless_empty : Option ℕ → Grid → Result (List ℕ) WriteFault → Result (List ℕ) WriteFault
-unless_empty (Some place) grid rest = Err (faults.NotFilled (cell_at grid place))
-unless_empty None grid rest = rest
+abbrev pub unless_empty : Option Cell → Result (List ℕ) WriteFault → Result (List ℕ) WriteFault
+unless_empty (Some cell) rest = Err (faults.NotFilled cell)
+unless_empty None rest = rest
 
 unfoldable pub written : PuzzleShown → Result (List ℕ) WriteFault
 written puzzle =
     if has_bar puzzle.grid then Err faults.Barred
-    else unless_empty (position is_empty_square puzzle.grid.squares) puzzle.grid
+    else unless_empty (empty_cell puzzle.grid)
     (unless_field (bad_field puzzle) (unless_circled (find (is_circled_open puzzle.grid puzzle.circles) (cells puzzle.grid)) (texted puzzle)))
 
 -- What a function returned is what writing gives, unless memory ran out.

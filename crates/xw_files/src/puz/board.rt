@@ -2,7 +2,7 @@
 ghost use Rattle.std.specs.Prelude.{◌≡◌, ◌≤◌, ◌<◌, ◌*◌, length};
 ghost use Rattle.xw_grid.specs.Grid.{cell_in};
 ghost use Rattle.xw_files.specs.Puz.Board.{square_of, squares_at, grid_at};
-ghost use Rattle.xw_files.specs.Puz.Gives.{GivesOrLacksMemory};
+ghost use Rattle.xw_files.specs.Steps.{GivesOrLacksMemory};
 ghost use Rattle.xw_files.specs.Puz.View.{view};
 
 use crate::fault::ReadFault;

@@ -3,6 +3,7 @@ ghost use Rattle.std.specs.Prelude.{◌≡◌, ◌==◌, ◌<◌, ◌^◌, lengt
 ghost use Rattle.std.specs.List.{list_any};
 ghost use Rattle.xw_files.specs.Puz.Writing.{mark_of, marks_of, gext_bytes, circles_section};
 
+use crate::finished::is_circled;
 use crate::puz::sections::CIRCLED;
 use crate::puz::spell::{push_number, push_text};
 use crate::puz::sums::sum_from;
@@ -44,7 +45,7 @@ fn marks_of(alloc: Global, grid: &Grid, circles: &Circles) -> Result<Vec<u8>, Al
 fn mark_of(grid: &Grid, circles: &Circles, cell: Cell) -> u8
     ensures { result ≡ mark_of grid.now circles.now cell }
 {
-    if grid.is_open(cell) && circles.has(cell) {
+    if is_circled(grid, circles, cell) {
         CIRCLED
     } else {
         0

@@ -1,7 +1,7 @@
 //! The fields of a whole file.
 ghost use Rattle.std.specs.Prelude.{◌≡◌, ◌*◌, ◌≤◌, length, map};
 ghost use Rattle.xw_files.specs.Puz.Reading.{cells_of, clues_at, texts_at, boards_at, fields_at};
-ghost use Rattle.xw_files.specs.Puz.Gives.{GivesOrLacksMemory};
+ghost use Rattle.xw_files.specs.Steps.{GivesOrLacksMemory};
 ghost use Rattle.xw_files.specs.Puz.View.{view};
 
 use crate::fault::{Piece, ReadFault, TextName};

@@ -4,7 +4,7 @@ ghost use Rattle.xw_grid.specs.Light.{lights_of};
 ghost use Rattle.xw_grid.specs.Clue.{no_clues};
 ghost use Rattle.xw_files.specs.Puz.Board.{with_clues, clues_in, puzzle_of, puzzle_at};
 ghost use Rattle.xw_files.specs.Puz.Relation.{IsPuz};
-ghost use Rattle.xw_files.specs.Puz.Gives.{GivesOrLacksMemory};
+ghost use Rattle.xw_files.specs.Steps.{GivesOrLacksMemory};
 ghost use Rattle.xw_files.specs.Puzzle.{PuzzleShown, puzzle_view, part_of};
 ghost use Rattle.xw_files.specs.Puz.View.{view};
 ghost use Rattle.xw_grid.specs.declared.cell.Symmetry.TheVariants as Symmetry;

@@ -1,15 +1,15 @@
 //! Why a puzzle is not written; none of it takes memory.
-ghost use Rattle.std.specs.Prelude.{◌≡◌, ◌+◌, ◌≤◌, ◌++◌, List, map, find, Some, IfOk, IfErr};
-ghost use Rattle.std.specs.List.{list_any};
+ghost use Rattle.std.specs.Prelude.{◌≡◌, ◌+◌, ◌≤◌, ◌++◌, List, map, Some, IfOk, IfErr};
 ghost use Rattle.xw_grid.specs.declared.lights.Light.{Light};
-ghost use Rattle.xw_grid.specs.Grid.{IsGrid, cells};
+ghost use Rattle.xw_grid.specs.Grid.{IsGrid};
 ghost use Rattle.xw_grid.specs.Light.{light_from, lights_at, lights_of};
 ghost use Rattle.xw_files.specs.Puzzle.{puzzle_view, clue_of};
-ghost use Rattle.xw_files.specs.Puz.Writing.{has_bar, is_empty_cell, has_nul, clue_with_nul, text_with_nul, write_fault};
+ghost use Rattle.xw_files.specs.Puz.Writing.{has_nul, clue_with_nul, text_with_nul, write_fault};
 
 use crate::fault::{TextName, WriteFault};
+use crate::finished::{empty_cell, has_bar};
 use crate::puzzle::Puzzle;
-use xw_grid::cell::{Cell, Direction, Side};
+use xw_grid::cell::{Cell, Direction};
 use xw_grid::clues::Clues;
 use xw_grid::grid::Grid;
 use xw_grid::lights;
@@ -21,50 +21,13 @@ pub fn fault_of(puzzle: &Puzzle) -> Option<WriteFault>
 {
     let grid = &puzzle.grid;
     grid.well_formed();
-    if is_barred(grid) {
+    if has_bar(grid) {
         return Some(WriteFault::Barred);
     }
     if let Some(cell) = empty_cell(grid) {
         return Some(WriteFault::NotFilled(cell));
     }
     Some(WriteFault::Field(text_with_nul(puzzle)?))
-}
-
-/// Whether a bar is in a grid.
-fn is_barred(grid: &Grid) -> bool
-    ensures { result ≡ list_any (has_bar grid.now) (cells grid.now) }
-{
-    for index in 0..grid.size() {
-        if has_bar(grid, grid.cell_at(index)) {
-            return true;
-        }
-    }
-    false
-}
-
-fn has_bar(grid: &Grid, cell: Cell) -> bool
-    ensures { result ≡ has_bar grid.now cell }
-{
-    grid.is_barred(cell, Side::Right) || grid.is_barred(cell, Side::Below)
-}
-
-/// The first empty cell in reading order.
-fn empty_cell(grid: &Grid) -> Option<Cell>
-    ensures { result ≡ find (is_empty_cell grid.now) (cells grid.now) }
-{
-    for index in 0..grid.size() {
-        let cell = grid.cell_at(index);
-        if is_empty(grid, cell) {
-            return Some(cell);
-        }
-    }
-    None
-}
-
-fn is_empty(grid: &Grid, cell: Cell) -> bool
-    ensures { result ≡ is_empty_cell grid.now cell }
-{
-    grid.is_open(cell) && grid.entry(cell).is_none()
 }
 
 /// The first text with a NUL, in the order of the file.

@@ -2,7 +2,7 @@
 ghost use Rattle.std.specs.Prelude.{◌≡◌, ◌≤◌, ◌<◌, ◌+◌, ◌*◌, ◌^◌, length, [], option_map, IfOk, OnOk, IsOkUnless};
 ghost use Rattle.xw_files.specs.Puz.Sections.{section_at, section_sized, section_in, is_gext, gext_in, with_mark, with_marks, circles_by};
 ghost use Rattle.xw_files.specs.declared.fault.ReadFault.TheVariants as faults;
-ghost use Rattle.xw_files.specs.Puz.Gives.{GivesOrLacksMemory};
+ghost use Rattle.xw_files.specs.Steps.{GivesOrLacksMemory};
 ghost use Rattle.xw_files.specs.Puz.View.{section_view};
 
 use crate::fault::ReadFault;

@@ -1,6 +1,6 @@
 //! Texts that a NUL ends.
 ghost use Rattle.xw_files.specs.Puz.Reading.{text_at};
-ghost use Rattle.xw_files.specs.Puz.Gives.{Gives};
+ghost use Rattle.xw_files.specs.Steps.{Gives};
 
 use crate::fault::{ReadFault, TextName};
 

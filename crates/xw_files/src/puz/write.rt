@@ -1,13 +1,15 @@
 //! Writing a puzzle.
 ghost use Rattle.std.specs.Prelude.{◌≡◌, ◌≢◌, ℕ, [], List, map, Ok, Err, IfOk, IfErr, IsOk, IsOkUnless, ◌++◌};
 ghost use Rattle.xw_files.specs.Puzzle.{puzzle_view, clue_of, circled_cells};
+ghost use Rattle.xw_files.specs.Finished.{square_byte};
 ghost use Rattle.xw_files.specs.Puz.View.{view};
 ghost use Rattle.xw_files.specs.Puz.Sections.{AreBytes, HasNoGext};
 ghost use Rattle.xw_files.specs.Puz.Relation.{IsPuz};
-ghost use Rattle.xw_files.specs.Puz.Writing.{solution_byte, state_byte, unsealed, sealed, spelled_puzzle, written};
+ghost use Rattle.xw_files.specs.Puz.Writing.{state_byte, unsealed, sealed, spelled_puzzle, written};
 ghost use Rattle.xw_files.specs.declared.fault.WriteFault.TheVariants as faults;
 
 use crate::fault::WriteFault;
+use crate::finished::square_byte;
 use crate::puz::fields::Fields;
 use crate::puz::header::Header;
 use crate::puz::sums::Sums;
@@ -92,22 +94,12 @@ fn sealed_header(fields: &Fields<'_>) -> Header
 }
 
 fn solution_of(alloc: Global, grid: &Grid) -> Result<Vec<u8>, AllocError>
-    ensures { IfOk result (λ bytes. bytes.items ≡ map solution_byte grid.now.squares) }
+    ensures { IfOk result (λ bytes. bytes.items ≡ map square_byte grid.now.squares) }
 {
     grid.squares()
         .iter()
-        .map(|square| solution_byte(*square))
+        .map(|square| square_byte(*square))
         .collect(alloc)
-}
-
-fn solution_byte(square: Square) -> u8
-    ensures { result ≡ solution_byte square }
-{
-    match square {
-        Square::Block => b'.',
-        Square::Open(None) => b'-',
-        Square::Open(Some(letter)) => letter.byte(),
-    }
 }
 
 fn state_of(alloc: Global, grid: &Grid) -> Result<Vec<u8>, AllocError>

@@ -1,18 +1,19 @@
 //! Why a puzzle has no text.
-ghost use Rattle.std.specs.Prelude.{◌≡◌, ◌≢◌, ◌<◌, ◌+◌, ◌^◌, ◌≤◌, not, ◌&&◌, length, OnOk, IfErr, IfSome, Ok, Err, position, find};
+ghost use Rattle.std.specs.Prelude.{◌≡◌, ◌≢◌, ◌<◌, ◌+◌, ◌^◌, ◌≤◌, not, ◌&&◌, length, OnOk, IfErr, IfSome, Ok, Err, find};
 ghost use Rattle.std.specs.List.{list_any, list_all};
 ghost use Rattle.std.specs.Option.{option_copied};
 ghost use Rattle.xw_grid.specs.Grid.{cells};
 ghost use Rattle.xw_grid.specs.Light.{begins as begins_light, lights_at, lights_of};
 ghost use Rattle.xw_grid.specs.Clue.{clue_at};
-ghost use Rattle.xw_files.specs.Puzzle.{puzzle_view};
-ghost use Rattle.xw_files.specs.Text.Written.{is_line_end, is_blank_at as is_blank_there, is_spelled as is_spelled_text, is_clue as is_clue_text, are_notes as are_notes_text, pieces, is_empty_square, is_barred_cell, has_bar as has_bar_anywhere, is_circled_open, place_at as place_at_cell, bad_clue as bad_clue_of, bad_field as bad_field_of, texted, written};
+ghost use Rattle.xw_files.specs.Puzzle.{puzzle_view, is_circled_open};
+ghost use Rattle.xw_files.specs.Text.Written.{is_line_end, is_blank_at as is_blank_there, is_spelled as is_spelled_text, is_clue as is_clue_text, are_notes as are_notes_text, pieces, place_at as place_at_cell, bad_clue as bad_clue_of, bad_field as bad_field_of, texted, written};
 
 use crate::fault::{TextName, WriteFault};
+use crate::finished::{empty_cell, has_bar, is_circled};
 use crate::puzzle::Puzzle;
 use crate::text::lines::is_blank;
 use crate::text::tag::is_tag_line;
-use xw_grid::cell::{Cell, Direction, Side, Square};
+use xw_grid::cell::{Cell, Direction};
 use xw_grid::circles::Circles;
 use xw_grid::clues::Clues;
 use xw_grid::grid::Grid;
@@ -64,40 +65,6 @@ fn are_clues(notes: &[u8]) -> bool
     notes
         .split(|byte| *byte == b'\n')
         .all(|piece| is_clue(piece))
-}
-
-fn is_barred(grid: &Grid, cell: Cell) -> bool
-    ensures { result ≡ is_barred_cell grid.now cell }
-{
-    grid.is_barred(cell, Side::Right) || grid.is_barred(cell, Side::Below)
-}
-
-/// Whether an inner edge is barred.
-fn has_bar(grid: &Grid) -> bool
-    ensures { result ≡ has_bar_anywhere grid.now }
-{
-    for index in 0..grid.size() {
-        if is_barred(grid, grid.cell_at(index)) {
-            return true;
-        }
-    }
-    false
-}
-
-/// The place of the first cell that is empty.
-fn empty_square(squares: &[Square]) -> Option<usize>
-    ensures place { result ≡ position is_empty_square squares.now }
-    ensures within { IfSome result (λ place. place < length squares.now) }
-{
-    squares
-        .iter()
-        .position(|square| matches!(square, Square::Open(None)))
-}
-
-fn is_circled(grid: &Grid, circles: &Circles, cell: Cell) -> bool
-    ensures { result ≡ is_circled_open grid.now circles.now cell }
-{
-    grid.is_open(cell) && circles.has(cell)
 }
 
 /// The first open cell that is circled.
@@ -194,8 +161,8 @@ pub(crate) fn judge(puzzle: &Puzzle) -> Result<(), WriteFault>
     if has_bar(grid) {
         return Err(WriteFault::Barred);
     }
-    if let Some(place) = empty_square(grid.squares()) {
-        return Err(WriteFault::NotFilled(grid.cell_at(place)));
+    if let Some(cell) = empty_cell(grid) {
+        return Err(WriteFault::NotFilled(cell));
     }
     if let Some(field) = bad_field(puzzle) {
         return Err(WriteFault::Field(field));

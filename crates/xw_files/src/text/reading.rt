@@ -8,7 +8,8 @@ ghost use Rattle.std.specs.List.{join_with_byte};
 ghost use Rattle.xw_files.specs.Text.Relation.{IsText, IsBare, HasOnePart};
 ghost use Rattle.xw_files.specs.Puzzle.{PuzzleShown, puzzle_view, texts_view, part_of};
 ghost use Rattle.xw_files.specs.Text.Starts.{starts};
-ghost use Rattle.xw_files.specs.Text.Shape.{Gives, header_at, tag_at, plain_at, text_at, texts_at, is_numeral as is_numeral_text, side_of, is_times, sides_of, size_at, with_front, AreSides, row_squares, squares_after, row_at, rows_at, grid_at, clue_at_start, clues_at, both_clues_at, notes_at, shape, is_nul, all_of};
+ghost use Rattle.xw_files.specs.Steps.{GivesOrLacksMemory};
+ghost use Rattle.xw_files.specs.Text.Shape.{header_at, tag_at, plain_at, text_at, texts_at, is_numeral as is_numeral_text, side_of, is_times, sides_of, size_at, with_front, AreSides, row_squares, squares_after, row_at, rows_at, grid_at, clue_at_start, clues_at, both_clues_at, notes_at, shape, is_nul, all_of};
 
 use crate::fault::{ReadFault, Tag};
 use crate::puzzle::{Puzzle, Texts};
@@ -27,7 +28,7 @@ const LONGEST: u32 = 255;
 
 #[tactic(auto, unfolding(crate::specs::Text::Shape::header_at))]
 fn header(lines: &mut TextLines<'_>) -> Result<(), ReadFault>
-    ensures { Gives (λ _. lines.new) result (header_at lines.old) }
+    ensures { GivesOrLacksMemory (λ _. lines.new) result (header_at lines.old) }
 {
     match lines.next() {
         Some(line) if names(line, header_line()) => Ok(()),
@@ -37,7 +38,7 @@ fn header(lines: &mut TextLines<'_>) -> Result<(), ReadFault>
 
 #[tactic(auto, unfolding(crate::specs::Text::Shape::tag_at))]
 fn tag(lines: &mut TextLines<'_>, tag: Tag) -> Result<(), ReadFault>
-    ensures { Gives (λ _. lines.new) result (tag_at tag lines.old) }
+    ensures { GivesOrLacksMemory (λ _. lines.new) result (tag_at tag lines.old) }
 {
     match lines.next() {
         Some(line) if names(line, tag.name()) => Ok(()),
@@ -58,7 +59,7 @@ fn plain<'a>(lines: &mut TextLines<'a>) -> Option<&'a [u8]>
 /// A text: one line or none.
 #[tactic(auto, unfolding(crate::specs::Text::Shape::text_at))]
 fn text(alloc: Global, lines: &mut TextLines<'_>) -> Result<Vec<u8>, ReadFault>
-    ensures { Gives (λ text. (text.items, lines.new)) result (text_at lines.old) }
+    ensures { GivesOrLacksMemory (λ text. (text.items, lines.new)) result (text_at lines.old) }
 {
     match plain(lines) {
         Some(line) => Ok(Vec::from_slice(alloc, line)?),
@@ -69,7 +70,7 @@ fn text(alloc: Global, lines: &mut TextLines<'_>) -> Result<Vec<u8>, ReadFault>
 /// The three texts above the grid; the notes come last in a file.
 #[tactic(auto, unfolding(crate::specs::Text::Shape::texts_at))]
 fn texts(alloc: Global, lines: &mut TextLines<'_>) -> Result<Texts, ReadFault>
-    ensures { Gives (λ texts. (texts_view texts, lines.new)) result (texts_at lines.old) }
+    ensures { GivesOrLacksMemory (λ texts. (texts_view texts, lines.new)) result (texts_at lines.old) }
 {
     tag(lines, Tag::Title)?;
     let title = text(alloc, lines)?;
@@ -146,7 +147,7 @@ fn sides(line: &[u8]) -> Option<(u32, u32)>
 
 #[tactic(auto, unfolding(crate::specs::Text::Shape::size_at))]
 fn size(lines: &mut TextLines<'_>) -> Result<(u32, u32), ReadFault>
-    ensures exact { Gives (λ sides. (sides, lines.new)) result (size_at lines.old) }
+    ensures exact { GivesOrLacksMemory (λ sides. (sides, lines.new)) result (size_at lines.old) }
     ensures range { IfOk result AreSides }
 {
     match plain(lines) {
@@ -158,7 +159,7 @@ fn size(lines: &mut TextLines<'_>) -> Result<(u32, u32), ReadFault>
 /// Adds what the bytes of a line stand for.
 fn push_squares(squares: &mut Vec<Square>, row: u32, line: &[u8]) -> Result<(), ReadFault>
     requires { length line.now ≤ 255 }
-    ensures { Gives (λ _. squares.new.items) result (squares_after squares.old.items (row_squares row line.now)) }
+    ensures { GivesOrLacksMemory (λ _. squares.new.items) result (squares_after squares.old.items (row_squares row line.now)) }
 {
     for (place, byte) in line.iter().enumerate() {
         let square = match *byte {
@@ -186,7 +187,7 @@ fn row(
     row: u32,
 ) -> Result<(), ReadFault>
     requires { width ≤ 255 }
-    ensures { Gives (λ _. (squares.new.items, lines.new)) result (with_front squares.old.items (row_at width row lines.old)) }
+    ensures { GivesOrLacksMemory (λ _. (squares.new.items, lines.new)) result (with_front squares.old.items (row_at width row lines.old)) }
 {
     let line = plain(lines).ok_or(ReadFault::GridLine(row))?;
     if line.len() != width as usize {
@@ -203,7 +204,7 @@ fn rows(
 ) -> Result<Vec<Square>, ReadFault>
     requires wide { width ≤ 255 }
     requires high { height ≤ 255 }
-    ensures { Gives (λ squares. (squares.items, lines.new)) result (rows_at width 1 height lines.old) }
+    ensures { GivesOrLacksMemory (λ squares. (squares.items, lines.new)) result (rows_at width 1 height lines.old) }
 {
     let mut squares = Vec::new(alloc);
     for above in 0..height {
@@ -214,7 +215,7 @@ fn rows(
 
 #[tactic(auto, unfolding(crate::specs::Text::Shape::grid_at))]
 fn grid(alloc: Global, lines: &mut TextLines<'_>) -> Result<Grid, ReadFault>
-    ensures { Gives (λ grid. (grid, lines.new)) result (grid_at lines.old) }
+    ensures { GivesOrLacksMemory (λ grid. (grid, lines.new)) result (grid_at lines.old) }
 {
     tag(lines, Tag::Size)?;
     let (width, height) = size(lines)?;
@@ -232,7 +233,7 @@ fn add_clue(
     direction: Direction,
     fault: ReadFault,
 ) -> Result<(), ReadFault>
-    ensures { Gives (λ _. (clues.new, lines.new)) result (clue_at_start fault direction start clues.old lines.old) }
+    ensures { GivesOrLacksMemory (λ _. (clues.new, lines.new)) result (clue_at_start fault direction start clues.old lines.old) }
 {
     let line = plain(lines).ok_or(fault)?;
     clues.set(start, direction, line)?;
@@ -247,7 +248,7 @@ fn add_clues(
     direction: Direction,
     fault: ReadFault,
 ) -> Result<(), ReadFault>
-    ensures { Gives (λ _. (clues.new, lines.new)) result (clues_at fault direction (starts grid.now direction) clues.old lines.old) }
+    ensures { GivesOrLacksMemory (λ _. (clues.new, lines.new)) result (clues_at fault direction (starts grid.now direction) clues.old lines.old) }
 {
     for index in 0..grid.size() {
         let cell = grid.cell_at(index);
@@ -263,7 +264,7 @@ fn add_clues(
 
 #[tactic(auto, unfolding(crate::specs::Text::Shape::both_clues_at))]
 fn clues(alloc: Global, lines: &mut TextLines<'_>, grid: &Grid) -> Result<Clues, ReadFault>
-    ensures { Gives (λ clues. (clues, lines.new)) result (both_clues_at grid.now lines.old) }
+    ensures { GivesOrLacksMemory (λ clues. (clues, lines.new)) result (both_clues_at grid.now lines.old) }
 {
     let mut clues = Clues::new(alloc);
     tag(lines, Tag::Across)?;
@@ -303,7 +304,7 @@ fn joined(alloc: Global, lines: &mut TextLines<'_>) -> Result<Vec<u8>, AllocErro
 
 #[tactic(auto, unfolding(crate::specs::Text::Shape::notes_at))]
 fn notes(alloc: Global, lines: &mut TextLines<'_>) -> Result<Vec<u8>, ReadFault>
-    ensures { Gives (λ notes. notes.items) result (notes_at lines.old) }
+    ensures { GivesOrLacksMemory (λ notes. notes.items) result (notes_at lines.old) }
 {
     match lines.next() {
         None => Ok(Vec::new(alloc)),
@@ -314,7 +315,7 @@ fn notes(alloc: Global, lines: &mut TextLines<'_>) -> Result<Vec<u8>, ReadFault>
 
 #[tactic(auto, unfolding(crate::specs::Text::Shape::shape))]
 fn puzzle(alloc: Global, lines: &mut TextLines<'_>) -> Result<Puzzle, ReadFault>
-    ensures { Gives puzzle_view result (shape lines.old) }
+    ensures { GivesOrLacksMemory puzzle_view result (shape lines.old) }
 {
     header(lines)?;
     let mut texts = texts(alloc, lines)?;
@@ -337,7 +338,7 @@ fn first_nul(bytes: &[u8]) -> Option<usize>
 
 #[tactic(auto, unfolding(crate::specs::Text::Shape::all_of))]
 fn all(alloc: Global, bytes: &[u8]) -> Result<Puzzle, ReadFault>
-    ensures { Gives puzzle_view result (all_of bytes.now) }
+    ensures { GivesOrLacksMemory puzzle_view result (all_of bytes.now) }
 {
     if let Some(offset) = first_nul(bytes) {
         return Err(ReadFault::NulByte(offset));
@@ -352,9 +353,9 @@ pub fn read_text(alloc: Global, bytes: &[u8]) -> Result<Puzzle, ReadFault>
     // It has no symmetry and no circle.
     ensures bare { IfOk result (λ read. IsBare (puzzle_view read)) }
     // What is a text file of a puzzle is read as one with the same file part, unless memory runs out.
-    ensures only { (puzzle : PuzzleShown) → IsText bytes.now puzzle → Gives (λ read. part_of (puzzle_view read)) result (Ok (part_of puzzle)) }
+    ensures only { (puzzle : PuzzleShown) → IsText bytes.now puzzle → GivesOrLacksMemory (λ read. part_of (puzzle_view read)) result (Ok (part_of puzzle)) }
     // Which fault it is.
-    ensures exact { Gives puzzle_view result (all_of bytes.now) }
+    ensures exact { GivesOrLacksMemory puzzle_view result (all_of bytes.now) }
 {
     all(alloc, bytes)
 }

@@ -1,10 +1,12 @@
 //! Writing text files.
 ghost use Rattle.std.specs.Prelude.{◌≡◌, ◌++◌, ◌<◌, ◌*◌, length, OnOk, IfOk, IfSome, IsOk, Err, position, map, flat_map, decimal};
 ghost use Rattle.xw_files.specs.Puzzle.{puzzle_view, texts_view};
-ghost use Rattle.xw_files.specs.Text.Written.{is_line_feed, pieces, line, tag_line, tag, texts_text, size_text, byte_of as byte_of_square, row_texts, grid_text, clue_texts, direction_text, clues_text, notes_text, texted, written, Writes};
+ghost use Rattle.xw_files.specs.Finished.{square_byte};
+ghost use Rattle.xw_files.specs.Text.Written.{is_line_feed, pieces, line, tag_line, tag, texts_text, size_text, row_texts, grid_text, clue_texts, direction_text, clues_text, notes_text, texted, written, Writes};
 ghost use Rattle.xw_files.specs.Text.Relation.{IsText};
 
 use crate::fault::{Tag, WriteFault};
+use crate::finished::square_byte;
 use crate::puzzle::{Puzzle, Texts};
 use crate::text::judging::judge;
 use crate::text::tag::header;
@@ -68,18 +70,8 @@ fn put_size(alloc: Global, out: &mut Vec<u8>, grid: &Grid) -> Result<(), AllocEr
     Ok(())
 }
 
-fn byte_of(square: Square) -> u8
-    ensures { result ≡ byte_of_square square }
-{
-    match square {
-        Square::Block => b'.',
-        Square::Open(None) => b'-',
-        Square::Open(Some(letter)) => letter.byte(),
-    }
-}
-
 fn put_row(out: &mut Vec<u8>, row: &[Square]) -> Result<(), AllocError>
-    ensures { OnOk result (out.new.items ≡ out.old.items ++ line (map byte_of_square row.now)) }
+    ensures { OnOk result (out.new.items ≡ out.old.items ++ line (map square_byte row.now)) }
 {
     out.push(b'\t')?;
     put_squares(out, row)?;
@@ -88,10 +80,10 @@ fn put_row(out: &mut Vec<u8>, row: &[Square]) -> Result<(), AllocError>
 }
 
 fn put_squares(out: &mut Vec<u8>, row: &[Square]) -> Result<(), AllocError>
-    ensures { OnOk result (out.new.items ≡ out.old.items ++ map byte_of_square row.now) }
+    ensures { OnOk result (out.new.items ≡ out.old.items ++ map square_byte row.now) }
 {
     for square in row {
-        out.push(byte_of(*square))?;
+        out.push(square_byte(*square))?;
     }
     Ok(())
 }

@@ -1,5 +1,5 @@
 use Rattle.std.proofs.Common.{sym, ◌∙◌, arith}
-use Rattle.xw_files.proofs.PuzLemmas.CellLemmas.{map-more, map-end, length-map-cells}
+use Rattle.xw_files.proofs.CellLemmas.{map-more, map-end, length-map-cells}
 use Rattle.xw_files.specs.Puz.Writing.{mark_of}
 use Rattle.xw_files.proofs.puz.circles.marks_of.Goals as goal
 

@@ -1,10 +1,13 @@
--- What a chain of tests that passes says.
+-- What steps that pass say.
 use Rattle.std.proofs.Common.{◌≡◌, Bool, true, false, cond, refl, Ok, Err}
 use Rattle.std.specs.Prelude.{Result}
-use Rattle.xw_files.specs.Puz.Reading.{◌>>=◌}
+use Rattle.xw_files.specs.Steps.{◌>>=◌}
 use Rattle.xw_files.specs.declared.fault.ReadFault.{ReadFault}
 
-pub ok_is : {A : Type 0} (x y : A) → let R : Type 0 = Result A ReadFault in let l : R = Ok x in let r : R = Ok y in l ≡ r → x ≡ y
+abbrev done : {A : Type 0} → A → Result A ReadFault
+done x = Ok x
+
+pub ok_is : {A : Type 0} (x y : A) → done x ≡ done y → x ≡ y
 ok_is x y e = cc
 
 -- a chain that passes went on from what was found first

@@ -1,5 +1,5 @@
 -- Loops over the cells of a grid, and over lights.
-use Rattle.std.proofs.Common.{◌≡◌, ℕ, zero, suc, ◌+◌, ◌*◌, ◌<◌, ◌≤◌, Bool, true, false, List, [], ◌∷◌, ◌++◌, map, take, drop, length, refl, ap, ◌∙◌, arith}
+use Rattle.std.proofs.Common.{◌≡◌, ℕ, zero, suc, ◌+◌, ◌*◌, ◌<◌, ◌≤◌, Bool, true, false, List, [], ◌∷◌, ◌++◌, map, take, drop, length, refl, sym, ap, ◌∙◌, arith}
 use Rattle.std.specs.List.{list_any}
 use Rattle.std.specs.Prelude.{find, Some, None, slice_get}
 use Rattle.std.proofs.lemmas.List.{at_drop_more, at_drop_all, map-append, length-map}
@@ -16,6 +16,13 @@ cells-step F grid i h =
 
 pub cells-end : {Y : Type 0} (F : List Cell → Y) (grid : Grid) (i : ℕ) → grid.width * grid.height ≤ i → F (drop i (cells grid)) ≡ F []
 cells-end F grid i h = at_drop_all F (cells grid) i (omega (arith, length-cells grid))
+
+-- the cells from a place on
+pub cells_drop : (grid : Grid) (size k : ℕ) (cell : Cell) → size ≡ grid.width * grid.height → k < size → cell ≡ cell_at grid k → drop k (cells grid) ≡ cell ∷ drop (k + 1) (cells grid)
+cells_drop grid size k cell is lt at = cells-step (λ cs. cs) grid k (omega (arith, is)) ∙ ap (λ c. c ∷ drop (k + 1) (cells grid)) (sym at)
+
+pub cells_past : (grid : Grid) (size k : ℕ) → size ≡ grid.width * grid.height → size ≤ k → drop k (cells grid) ≡ []
+cells_past grid size k is le = cells-end (λ cs. cs) grid k (omega (arith, is))
 
 pub any-true : (p : Cell → Bool) (grid : Grid) (i : ℕ) → i < grid.width * grid.height → p (cell_at grid i) ≡ true → list_any p (drop i (cells grid)) ≡ true
 any-true p grid i h e = cells-step (list_any p) grid i h ∙ rw e refl

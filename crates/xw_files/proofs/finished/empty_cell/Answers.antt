@@ -1,8 +1,8 @@
 use Rattle.std.proofs.Common.{sym, ◌∙◌, arith, ap}
 use Rattle.std.specs.Prelude.{Some}
-use Rattle.xw_files.proofs.PuzLemmas.CellLemmas.{find-some, find-more, find-end}
-use Rattle.xw_files.specs.Puz.Writing.{is_empty_cell}
-use Rattle.xw_files.proofs.puz.refusal.empty_cell.Goals as goal
+use Rattle.xw_files.proofs.CellLemmas.{find-some, find-more, find-end}
+use Rattle.xw_files.specs.Finished.{is_empty_cell}
+use Rattle.xw_files.proofs.finished.empty_cell.Goals as goal
 
 pub returns-then-is_empty : goal.returns-then-is_empty
 returns-then-is_empty c = ap (λ cell. Some cell) c.cell_at-cell.ensures.cell ∙ sym (find-some (is_empty_cell c.args.grid.now) c.args.grid.now c.loop-index.index (omega arith) (ap (is_empty_cell c.args.grid.now) (sym c.cell_at-cell.ensures.cell) ∙ sym c.is_empty.ensures ∙ c.if-is_empty.true)) ∙ c.loop-index.invariant

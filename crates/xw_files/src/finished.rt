@@ -1,0 +1,64 @@
+//! What every file wants of a grid, and what its squares and circles are in one; none of it takes memory.
+ghost use Rattle.std.specs.Prelude.{◌≡◌, find};
+ghost use Rattle.std.specs.List.{list_any};
+ghost use Rattle.xw_grid.specs.Grid.{cells};
+ghost use Rattle.xw_files.specs.Puzzle.{is_circled_open};
+ghost use Rattle.xw_files.specs.Finished.{is_barred_cell, has_bar, is_empty_cell, empty_cell, square_byte};
+
+use xw_grid::cell::{Cell, Side, Square};
+use xw_grid::circles::Circles;
+use xw_grid::grid::Grid;
+
+/// Whether a bar is in a grid.
+pub(crate) fn has_bar(grid: &Grid) -> bool
+    ensures { result ≡ has_bar grid.now }
+{
+    for index in 0..grid.size() {
+        if is_barred(grid, grid.cell_at(index)) {
+            return true;
+        }
+    }
+    false
+}
+
+fn is_barred(grid: &Grid, cell: Cell) -> bool
+    ensures { result ≡ is_barred_cell grid.now cell }
+{
+    grid.is_barred(cell, Side::Right) || grid.is_barred(cell, Side::Below)
+}
+
+/// The first empty cell in reading order.
+pub(crate) fn empty_cell(grid: &Grid) -> Option<Cell>
+    ensures { result ≡ empty_cell grid.now }
+{
+    for index in 0..grid.size() {
+        let cell = grid.cell_at(index);
+        if is_empty(grid, cell) {
+            return Some(cell);
+        }
+    }
+    None
+}
+
+fn is_empty(grid: &Grid, cell: Cell) -> bool
+    ensures { result ≡ is_empty_cell grid.now cell }
+{
+    grid.is_open(cell) && grid.entry(cell).is_none()
+}
+
+/// Whether a cell is open and circled.
+pub(crate) fn is_circled(grid: &Grid, circles: &Circles, cell: Cell) -> bool
+    ensures { result ≡ is_circled_open grid.now circles.now cell }
+{
+    grid.is_open(cell) && circles.has(cell)
+}
+
+pub(crate) fn square_byte(square: Square) -> u8
+    ensures { result ≡ square_byte square }
+{
+    match square {
+        Square::Block => b'.',
+        Square::Open(None) => b'-',
+        Square::Open(Some(letter)) => letter.byte(),
+    }
+}
