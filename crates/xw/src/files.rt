@@ -1,4 +1,7 @@
 //! The files of the program: word lists and puzzles.
+ghost use Rattle.std.specs.Prelude.{◌≡◌};
+ghost use Rattle.xw.specs.Names.{read_fault, write_fault};
+
 use crate::failure::Failure;
 use std::rt::Files;
 use std::{fs, io};
@@ -89,7 +92,10 @@ pub fn write_puzzle<R: Files + AllocGlobal>(
     };
     match fs::write(rt, file, bytes.as_slice()) {
         Ok(()) => Ok(()),
-        Err(_) => {
+        Err(error) => {
+            if error.kind() == io::ErrorKind::OutOfMemory {
+                return Err(Failure::Memory);
+            }
             let file = String::from_str(alloc, file)?;
             Err(Failure::CannotWrite { file })
         }
@@ -108,7 +114,9 @@ fn kind_by_name(name: &str) -> Kind {
 }
 
 /// The name of a fault of a file that was read, without its place.
-fn read_fault_name(fault: ReadFault) -> &'static str {
+fn read_fault_name(fault: ReadFault) -> &'static str
+    ensures { result.now ≡ read_fault fault }
+{
     match fault {
         ReadFault::Short(_) => "Short",
         ReadFault::Magic => "Magic",
@@ -133,7 +141,9 @@ fn read_fault_name(fault: ReadFault) -> &'static str {
 }
 
 /// The name of a fault of a puzzle that is to be written, without its place.
-fn write_fault_name(fault: WriteFault) -> &'static str {
+fn write_fault_name(fault: WriteFault) -> &'static str
+    ensures { result.now ≡ write_fault fault }
+{
     match fault {
         WriteFault::Barred => "Barred",
         WriteFault::NotFilled(_) => "NotFilled",

@@ -78,6 +78,36 @@ fn word_list_of_five_lines(rt: HostRuntime) -> Result<(), Fail> {
     Ok(())
 }
 
+/// Shows what a call comes to that asks for nothing to be done, and compares its status and where it was told.
+fn explains(
+    rt: &(impl Abort + AllocGlobal),
+    usage: &Usage,
+    status: Status,
+    output: &[u8],
+    errors: &[u8],
+) {
+    let mut told = Vec::new(rt.alloc());
+    let mut faults = Vec::new(rt.alloc());
+    let shown = explain(
+        usage,
+        &mut ToWrite::new(&mut told),
+        &mut ToWrite::new(&mut faults),
+    );
+    assert_eq!(rt; shown, status);
+    assert_eq!(rt; told.as_slice(), output);
+    assert_eq!(rt; faults.as_slice(), errors);
+}
+
+#[test]
+fn usage_explained(rt: HostRuntime) -> Result<(), Fail> {
+    let text = String::from_str(rt.alloc(), "help")?;
+    explains(&rt, &Usage::Help(text), Status::Accepted, b"help", b"");
+    let text = String::from_str(rt.alloc(), "wrong")?;
+    explains(&rt, &Usage::Wrong(text), Status::Usage, b"", b"wrong");
+    explains(&rt, &Usage::Memory, Status::Failed, b"", b"xw: memory\n");
+    Ok(())
+}
+
 #[test]
 fn wrong_words(rt: HostRuntime) -> Result<(), Fail> {
     for words in [

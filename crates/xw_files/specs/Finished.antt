@@ -1,4 +1,4 @@
--- What every file wants of a grid, that no bar is in it and no cell is empty, and what its squares and circles are.
+-- What a puzzle must be to be written, without a bar and without an empty cell, and the byte of a square.
 use Rattle.std.specs.Prelude.{ℕ, Bool, true, false, ◌||◌, find, Option, Some, None}
 use Rattle.std.specs.List.{list_any}
 use Rattle.xw_grid.specs.declared.cell.Cell.{Cell}

@@ -63,7 +63,7 @@ pub enum ReadFault {
     /// This tag is due.
     Tag(Tag),
     SizeLine,
-    /// This row, from 1, has no line of its width.
+    /// This row, from 1, has no line of its width, or one that begins with `<`.
     GridLine(u32),
     AcrossCount,
     DownCount,

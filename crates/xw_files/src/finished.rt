@@ -1,4 +1,4 @@
-//! What every file wants of a grid, and what its squares and circles are in one; none of it takes memory.
+//! What a puzzle must be to be written, and what its squares and circles are in a file; none of it takes memory.
 ghost use Rattle.std.specs.Prelude.{◌≡◌, find};
 ghost use Rattle.std.specs.List.{list_any};
 ghost use Rattle.xw_grid.specs.Grid.{cells};

@@ -17,7 +17,7 @@ use Rattle.xw_grid.specs.declared.fault.GridFault.TheVariants.{OutOfGrid, OnBloc
 use Rattle.xw_grid.specs.declared.lights.Light.{Light}
 use Rattle.xw_grid.specs.Grid.{Grid, IsGrid, is_inside, is_open, is_block, is_open_square, is_block_square, is_barred, bars, index_of, cells, square_at}
 use Rattle.xw_grid.specs.Light.{side_towards, next, previous, line, extent, lights_of}
-use Rattle.xw_grid.specs.Edit.{with_entry, set_entry, with_orbit, with_edges, bars_with, opposite, square_of}
+use Rattle.xw_grid.specs.Edit.{with_entry, set_entry, with_orbit, with_edges, bars_with, turned, square_of}
 use Rattle.xw_grid.specs.Orbit.{is_in_orbit, is_in_edge_orbit}
 use Rattle.xw_grid.specs.EditLaws.{SameShape, LettersKeepShape, SymmetryKeepsShape, BlocksChangeOrbits, BarsChangeOrbits}
 use Rattle.xw_grid.proofs.GridLemmas.{and-true, index_of-lt, length-cells, get_or-map-cells, cell_at-index_of}
@@ -129,10 +129,16 @@ symmetry_keeps_shape grid new kind ok = by_test _ ok where
 
 -- ---- orbits
 
+-- a square that is turned again is as it was after the first time
+pub turned_twice : (blocked : Bool) (square : Square) → turned blocked (turned blocked square) ≡ turned blocked square
+turned_twice true square = refl
+turned_twice false Block = refl
+turned_twice false (Open entered) = refl
+
 -- a square after its orbit was painted
-painted : (grid : Grid) (cell other : Cell) (square : Square) → is_inside grid other ≡ true → square_at (with_orbit grid cell square) other ≡ Some (cond (is_in_orbit grid cell other) square (square_of grid other))
-painted grid cell other square inside =
-    let value = λ (at : Cell). cond (is_in_orbit grid cell at) square (square_of grid at) in
+painted : (grid : Grid) (cell other : Cell) (blocked : Bool) → is_inside grid other ≡ true → square_at (with_orbit grid cell blocked) other ≡ Some (cond (is_in_orbit grid cell other) (turned blocked (square_of grid other)) (square_of grid other))
+painted grid cell other blocked inside =
+    let value = λ (at : Cell). cond (is_in_orbit grid cell at) (turned blocked (square_of grid at)) (square_of grid at) in
     let within : index_of grid other < grid.width * grid.height = index_of-lt grid other inside in
     let long : length (map value (cells grid)) ≡ grid.width * grid.height = length-map (cells grid) value ∙ length-cells grid in
     ap (λ b. cond b (slice_get (map value (cells grid)) (index_of grid other)) None) inside
@@ -141,12 +147,12 @@ painted grid cell other square inside =
 
 pub blocks_change_orbits : BlocksChangeOrbits
 blocks_change_orbits old new cell other is ok inside = by_tests _ _ ok where
-  by_tests : (out occupied : Bool) → cond {A = Result Grid GridFault} out (Err OutOfGrid) (cond occupied (Err Occupied) (Ok (with_orbit old cell (opposite old cell)))) ≡ Ok new → square_at new other ≡ Some (cond (is_in_orbit old cell other) (opposite old cell) (square_of old other))
+  by_tests : (out occupied : Bool) → cond {A = Result Grid GridFault} out (Err OutOfGrid) (cond occupied (Err Occupied) (Ok (with_orbit old cell (not (is_block old cell))))) ≡ Ok new → square_at new other ≡ Some (cond (is_in_orbit old cell other) (turned (not (is_block old cell)) (square_of old other)) (square_of old other))
   by_tests true occupied h = cc
   by_tests false true h = cc
   by_tests false false h =
-      let is_new : with_orbit old cell (opposite old cell) ≡ new = cc in
-      ap (λ g. square_at g other) (sym is_new) ∙ painted old cell other (opposite old cell) inside
+      let is_new : with_orbit old cell (not (is_block old cell)) ≡ new = cc in
+      ap (λ g. square_at g other) (sym is_new) ∙ painted old cell other (not (is_block old cell)) inside
 
 -- an edge after its orbit was barred or freed
 barred_at : (grid : Grid) (cell other : Cell) (side towards : Side) (barred : Bool) → is_inside grid other ≡ true → get_or (bars_with grid cell side barred towards) (index_of grid other) false ≡ cond (is_in_edge_orbit grid cell side other towards) barred (get_or (bars grid towards) (index_of grid other) false)

@@ -48,21 +48,28 @@ set_entry grid cell letter =
 abbrev pub is_occupied : Grid → Cell → Bool
 is_occupied grid cell = list_any (λ member. is_some (entry grid member)) (images_of grid cell)
 
--- each cell of the orbit becomes the opposite of what the named one is
-abbrev pub opposite : Grid → Cell → Square
-opposite grid cell = if is_block grid cell then Open None else Block
+-- a square that is to be a block, or to be open: a block that is opened is empty, and what is open stays as it is
+abbrev pub turned : Bool → Square → Square
+turned true square = Block
+turned false Block = Open None
+turned false (Open entered) = Open entered
 
 abbrev pub square_of : Grid → Cell → Square
 square_of grid cell = slice_index_or grid.squares (index_of grid cell) Block
 
-abbrev pub with_orbit : Grid → Cell → Square → Grid
-with_orbit grid cell square = record grid { squares = map (λ other. if is_in_orbit grid cell other then square else square_of grid other) (cells grid) }
+-- the squares with the one at an index turned
+abbrev pub turn_at : Bool → List Square → ℕ → List Square
+turn_at blocked squares index = slice_set squares index (turned blocked (slice_index_or squares index Block))
+
+-- each cell of the orbit becomes a block, or open
+abbrev pub with_orbit : Grid → Cell → Bool → Grid
+with_orbit grid cell blocked = record grid { squares = map (λ other. if is_in_orbit grid cell other then turned blocked (square_of grid other) else square_of grid other) (cells grid) }
 
 abbrev pub toggle_block : Grid → Cell → Result Grid GridFault
 toggle_block grid cell =
     if not (is_inside grid cell) then Err OutOfGrid
     else if not (is_block grid cell) && is_occupied grid cell then Err Occupied
-    else Ok (with_orbit grid cell (opposite grid cell))
+    else Ok (with_orbit grid cell (not (is_block grid cell)))
 
 -- each edge of the orbit becomes barred, or free
 abbrev pub bars_with : Grid → Cell → Side → Bool → Side → List Bool

@@ -4,9 +4,9 @@ use Rattle.xw_grid.specs.declared.cell.Cell.{Cell}
 use Rattle.xw_grid.specs.declared.cell.Side.{Side}
 use Rattle.xw_grid.specs.declared.cell.Direction.{Direction}
 use Rattle.xw_grid.specs.declared.cell.Symmetry.{Symmetry}
-use Rattle.xw_grid.specs.Grid.{Grid, IsGrid, is_inside, is_open, square_at, is_edge, is_barred, same_cell}
+use Rattle.xw_grid.specs.Grid.{Grid, is_block, IsGrid, is_inside, is_open, square_at, is_edge, is_barred, same_cell}
 use Rattle.xw_grid.specs.Orbit.{is_in_orbit, is_in_edge_orbit}
-use Rattle.xw_grid.specs.Edit.{set_entry, set_symmetry, toggle_block, toggle_bar, opposite, square_of}
+use Rattle.xw_grid.specs.Edit.{set_entry, set_symmetry, toggle_block, toggle_bar, turned, square_of}
 use Rattle.xw_grid.specs.Light.{lights_of, same_direction}
 use Rattle.xw_grid.specs.Clue.{ClueMap, clue_at, with_clue, is_circled, with_circle}
 
@@ -24,7 +24,7 @@ SymmetryKeepsShape = (old new : Grid) (kind : Symmetry) → set_symmetry old kin
 -- a toggled block changes its orbit alone
 abbrev pub BlocksChangeOrbits : Type 0
 BlocksChangeOrbits = (old new : Grid) (cell other : Cell) → IsGrid old → toggle_block old cell ≡ Ok new → is_inside old other ≡ true →
-    square_at new other ≡ Some (if is_in_orbit old cell other then opposite old cell else square_of old other)
+    square_at new other ≡ Some (if is_in_orbit old cell other then turned (not (is_block old cell)) (square_of old other) else square_of old other)
 
 -- a toggled bar changes the orbit of its edge alone
 abbrev pub BarsChangeOrbits : Type 0

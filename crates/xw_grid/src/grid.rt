@@ -1,7 +1,7 @@
 //! The grid and its edits.
-ghost use Rattle.std.specs.Prelude.{◌≡◌, ◌≢◌, ◌^◌, ◌<◌, ◌≤◌, ◌*◌, true, length, map, All, fold, slice_set, Some, Ok, Err, IfOk, OnOk, IfErr, OnErr, IfSome, IsOk, IsOkUnless, if◌then◌else◌};
+ghost use Rattle.std.specs.Prelude.{◌≡◌, ◌≢◌, ◌^◌, ◌<◌, ◌≤◌, ◌*◌, true, length, map, All, fold, Some, Ok, Err, IfOk, OnOk, IfErr, OnErr, IfSome, IsOk, IsOkUnless, if◌then◌else◌};
 ghost use Rattle.xw_grid.specs.Grid.{IsGrid, IsSquare, cell_at as cell_in_place, is_inside, index_of, is_open as is_open_cell, is_block as is_block_cell, entry as letter_at, square_at, is_edge, is_barred as is_barred_edge, beyond as cell_beyond};
-ghost use Rattle.xw_grid.specs.Edit.{new_grid, grid_of, set_entry, with_orbit, is_occupied as is_occupied_orbit, toggle_block as block_toggled, toggle_bar as bar_toggled, with_bar, with_edges, set_symmetry as symmetry_set};
+ghost use Rattle.xw_grid.specs.Edit.{new_grid, grid_of, set_entry, turned, turn_at, with_orbit, is_occupied as is_occupied_orbit, toggle_block as block_toggled, toggle_bar as bar_toggled, with_bar, with_edges, set_symmetry as symmetry_set};
 ghost use Rattle.xw_grid.specs.Orbit.{moved as moved_cell, images_of, IsEdgeBetween, AreEdgesBetween, orbit_of};
 ghost use Rattle.xw_grid.specs.declared.cell.Square.TheVariants.{Open};
 ghost use Rattle.xw_words.specs.Letter.{IsLetter};
@@ -306,19 +306,15 @@ impl Grid {
         Ok(())
     }
 
-    /// Makes each cell of an orbit a block, or open and empty.
+    /// Makes an orbit blocks, or open, the opposite of the named cell. An opened block is empty; letters stay.
     pub fn toggle_block(&mut self, cell: Cell) -> Result<(), GridFault>
         ensures ok { OnOk result (block_toggled self.old cell ≡ Ok self.new) }
         ensures refused { IfErr result (λ fault. block_toggled self.old cell ≡ Err fault) }
         ensures same { OnErr result (self.new ≡ self.old) }
     {
         self.judge_block(cell)?;
-        let opposite = if self.is_block(cell) {
-            Square::Open(None)
-        } else {
-            Square::Block
-        };
-        self.paint(cell, opposite);
+        let blocked = !self.is_block(cell);
+        self.paint(cell, blocked);
         Ok(())
     }
 
@@ -340,13 +336,12 @@ impl Grid {
         ]
     }
 
-    fn paint(&mut self, cell: Cell, square: Square)
+    fn paint(&mut self, cell: Cell, blocked: bool)
         requires inside { is_inside self.old cell ≡ true }
-        requires square { IsSquare square }
-        ensures { self.new ≡ with_orbit self.old cell square }
+        ensures { self.new ≡ with_orbit self.old cell blocked }
     {
         let indices = self.indices(cell);
-        write_each(&mut self.squares, &indices, square);
+        turn_each(&mut self.squares, &indices, blocked);
     }
 
     /// How many cells it has.
@@ -480,12 +475,26 @@ impl Grid {
     }
 }
 
-/// Writes a value to several places.
-fn write_each<T: Copy>(items: &mut [T], indices: &[usize], value: T)
-    requires { All (λ index. index < length items.old) indices.now }
-    ensures { items.new ≡ fold (λ written index. slice_set written index value) items.old indices.now }
+/// Makes the squares at several places blocks, or open.
+fn turn_each(squares: &mut [Square], indices: &[usize], blocked: bool)
+    requires places { All (λ index. index < length squares.old) indices.now }
+    requires letters { All IsSquare squares.old }
+    ensures turned { squares.new ≡ fold (turn_at blocked) squares.old indices.now }
+    ensures letters { All IsSquare squares.new }
 {
     for index in indices {
-        items[*index] = value;
+        squares[*index] = turned(blocked, squares[*index]);
+    }
+}
+
+fn turned(blocked: bool, square: Square) -> Square
+    requires letter { IsSquare square }
+    ensures turned { result ≡ turned blocked square }
+    ensures letter { IsSquare result }
+{
+    match (blocked, square) {
+        (true, _) => Square::Block,
+        (false, Square::Block) => Square::Open(None),
+        (false, Square::Open(entered)) => Square::Open(entered),
     }
 }

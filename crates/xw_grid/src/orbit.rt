@@ -142,7 +142,7 @@ pub fn edge_orbits_are_small()
     ensures { EdgeOrbitsAreSmall }
 {}
 
-/// A toggled block makes its orbit the opposite of what the named cell was, and leaves the rest.
+/// A toggled block makes its orbit blocks, or open, the opposite of what the named cell was, and leaves the rest.
 pub fn blocks_change_orbits()
     ensures { BlocksChangeOrbits }
 {}

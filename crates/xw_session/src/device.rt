@@ -29,6 +29,7 @@ pub trait Source {
             (λ count. told self.new ≡ told self.old ++ take count buffer.new)
             (λ _. told self.new ≡ told self.old) }
         ensures end { IfOk result (λ count. count ≡ 0 → 0 < length buffer.new → IsTrue (is_at_end self.new)) }
+        ensures going { IfOk result (λ count. 0 < count → is_at_end self.new ≡ is_at_end self.old) }
         ensures failures { failures self.new ≡ failures_after result (failures self.old) };
 }
 
@@ -51,8 +52,10 @@ pub trait Sink {
             (λ _. told self.new ≡ told self.old) }
         ensures ok { IfOk result (λ count. 0 < count → failures self.new ≡ failures self.old) }
         ensures none_taken { IfOk result (λ count. count ≡ 0 → 0 < length bytes.now → failures self.new ≡ counted_up (failures self.old)) }
+        ensures none_due { IfOk result (λ count. length bytes.now ≡ 0 → failures self.new ≡ failures self.old) }
         ensures err { OnErr result (failures self.new ≡ counted_up (failures self.old)) }
-        ensures unflushed { IfOk result (λ count. 0 < count → is_flushed self.new ≡ false) };
+        ensures unflushed { IfOk result (λ count. 0 < count → is_flushed self.new ≡ false) }
+        ensures unmoved { OnErr result (is_flushed self.new ≡ is_flushed self.old) };
 
     /// Brings what was taken on its way.
     fn flush(&mut self) -> Result<(), DeviceFault>

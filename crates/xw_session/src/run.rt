@@ -195,9 +195,8 @@ pub fn run_lines<S: Speaker, R: Source, W: Sink>(
         × (count : ℕ)
         × Speaks S.answers speaker.old (ended_lines text) count speaker.new (W.told sink.old) (W.told sink.new)) }
 
-    // Nothing was read or written.
-    ensures memory { OnMemory result ((R.told source.new ≡ R.told source.old)
-        × (W.told sink.new ≡ W.told sink.old) × (speaker.new ≡ speaker.old)) }
+    // Neither reader nor writer was called.
+    ensures memory { OnMemory result ((source.new ≡ source.old) × (sink.new ≡ sink.old) × (speaker.new ≡ speaker.old)) }
 
     // The last answer was passed on.
     ensures passed_on { UnlessWriteFailed result (IsPassedOn W.is_flushed sink.old sink.new) }

@@ -246,9 +246,8 @@ impl<E: Feasible> Session<E> {
             × (count : ℕ)
             × Speaks Answers self.old (ended_lines text) count self.new (W.told sink.old) (W.told sink.new)) }
 
-        // Nothing was read or written.
-        ensures memory { OnMemory result ((R.told source.new ≡ R.told source.old)
-            × (W.told sink.new ≡ W.told sink.old) × (self.new ≡ self.old)) }
+        // Neither reader nor writer was called.
+        ensures memory { OnMemory result ((source.new ≡ source.old) × (sink.new ≡ sink.old) × (self.new ≡ self.old)) }
 
         // The last answer was passed on.
         ensures passed_on { UnlessWriteFailed result (IsPassedOn W.is_flushed sink.old sink.new) }

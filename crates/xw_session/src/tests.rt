@@ -1,11 +1,13 @@
 //! Scripts answered over memory, and over devices that fail.
 mod devices;
 mod examples;
+mod points;
 mod puzzles;
 mod scripts;
 
-use crate::Session;
+use crate::{FromRead, RunEnd, Session, ToWrite};
 use std::alloc::Global;
+use std::process::Abort;
 use std::test::Fail;
 use xw_feas::feasible::Feasible;
 use xw_feas::plain::Plain;
@@ -24,4 +26,19 @@ fn session(alloc: Global) -> Result<Session<Plain>, Fail> {
 fn engine_of(alloc: Global, rows: u32) -> Result<Plain, Fail> {
     let grid = Grid::new(alloc, rows, rows)?;
     Ok(Plain::open(alloc, grid, Bank::new(alloc)?)?)
+}
+
+/// Runs lines in a session of no words, and compares what is written and how the run ends.
+fn runs(
+    rt: &(impl Abort + AllocGlobal),
+    lines: &[u8],
+    answers: &[u8],
+    refused: u64,
+) -> Result<(), Fail> {
+    let mut session = session(rt.alloc())?;
+    let mut told = Vec::new(rt.alloc());
+    let end = session.run_lines(&mut FromRead::new(lines), &mut ToWrite::new(&mut told));
+    assert_eq!(rt; told.as_slice(), answers);
+    assert_eq!(rt; end, RunEnd::Done { refused });
+    Ok(())
 }

@@ -1,12 +1,15 @@
 //! Runs over devices that fail.
+ghost use Rattle.std.specs.Prelude.{◌≡◌, ◌≤◌, take, false};
+
 use crate::arguments::Call;
 use crate::failure::Status;
 use crate::perform::perform;
 use crate::tests::samples::PLAIN;
 use std::fs::{self, File};
 use std::process::Abort;
+use std::rt::Files;
 use std::test::Fail;
-use xw_session::{FromRead, ToWrite};
+use xw_session::{DeviceFault, FromRead, Sink, ToWrite};
 
 /// A session that ends by writing a file.
 const TO_FILE: Call<'static> = Call::Edit {
@@ -70,6 +73,78 @@ fn output_fault_of_a_check(rt: HostRuntime) -> Result<(), Fail> {
     );
     fs::remove_file(&rt, "told")?;
     assert_eq!(&rt; faults.as_slice(), b"xw: output fault\n".as_slice());
+    assert_eq!(&rt; status, Status::Failed);
+    Ok(())
+}
+
+/// A writer that takes all that it has room for, and never passes it on.
+#[derive(Drop)]
+struct Unflushed {
+    bytes: [u8; 64],
+    taken: usize,
+    failures: u64,
+    ghost within: { taken ≤ 64 },
+}
+
+impl Sink for Unflushed {
+    ghost told = { λ sink. take sink.taken sink.bytes };
+
+    ghost failures = { λ sink. sink.failures };
+
+    ghost is_flushed = { λ sink. false };
+
+    fn write(&mut self, bytes: &[u8]) -> Result<usize, DeviceFault> {
+        let count = bytes.len().min(64 - self.taken);
+        self.bytes[self.taken..self.taken + count].copy_from_slice(&bytes[..count]);
+        self.taken += count;
+        if count == 0 && !bytes.is_empty() {
+            self.failures = self.failures.saturating_add(1);
+        }
+        Ok(count)
+    }
+
+    fn flush(&mut self) -> Result<(), DeviceFault> {
+        self.failures = self.failures.saturating_add(1);
+        Err(DeviceFault)
+    }
+}
+
+/// What a writer took that never passes it on, and how the call went.
+fn run_unflushed(
+    rt: &(impl Abort + AllocGlobal + Files),
+    call: Call<'_>,
+    input: &[u8],
+    output: &[u8],
+) -> Status {
+    let mut sink = Unflushed {
+        bytes: [0; 64],
+        taken: 0,
+        failures: 0,
+    };
+    let mut faults = Vec::new(rt.alloc());
+    let status = perform(
+        rt,
+        call,
+        &mut FromRead::new(input),
+        &mut sink,
+        &mut ToWrite::new(&mut faults),
+    );
+    let taken = sink.taken;
+    assert_eq!(rt; &sink.bytes[..taken], output);
+    assert_eq!(rt; faults.as_slice(), b"xw: output fault\n".as_slice());
+    status
+}
+
+/// Nothing is read after an answer that was not passed on, and no file is written.
+#[test]
+fn output_fault_of_a_flush(rt: HostRuntime) -> Result<(), Fail> {
+    let status = run_unflushed(&rt, TO_FILE, b"add CAT\nadd DOG\n", b"ok\n");
+    assert_eq!(&rt; status, Status::Failed);
+    assert!(&rt; fs::read(&rt, "unwritten.puz").is_err());
+    fs::write(&rt, "checked", PLAIN)?;
+    let check = Call::Check { file: "checked" };
+    let status = run_unflushed(&rt, check, b"", b"puz 2x2 4 lights\n");
+    fs::remove_file(&rt, "checked")?;
     assert_eq!(&rt; status, Status::Failed);
     Ok(())
 }

@@ -47,6 +47,31 @@ fn puzzles_checked(rt: HostRuntime) -> Result<(), Fail> {
     Ok(())
 }
 
+/// One light is counted as `1 lights`; a file of less than four bytes in its name is text.
+#[test]
+fn one_light_checked(rt: HostRuntime) -> Result<(), Fail> {
+    runs(
+        &rt,
+        &["xw", "edit", "--to", "one"],
+        b"size 2 1\nset 1 1 A\nset 1 2 T\nclue 1 across a\n",
+        Run {
+            output: b"ok\nok\nok\nok\n",
+            ..QUIET
+        },
+    );
+    runs(
+        &rt,
+        &["xw", "check", "one"],
+        b"",
+        Run {
+            output: b"text 2x1 1 lights\n",
+            ..QUIET
+        },
+    );
+    fs::remove_file(&rt, "one")?;
+    Ok(())
+}
+
 /// What a file is written as goes by its name, and what it is read as by its bytes.
 #[test]
 fn puzzles_converted(rt: HostRuntime) -> Result<(), Fail> {

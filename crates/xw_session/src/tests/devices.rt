@@ -292,11 +292,12 @@ const SQUARES: [(&[u8], &[u8]); 5] = [
     ),
 ];
 
-/// Runs lines over devices that give so many calls, and compares: what went out is a beginning of the answers.
+/// Runs lines over devices that give so many calls, the writer so many bytes each, and compares: what went out is a
+/// beginning of the answers.
 fn begins(
     rt: &(impl Abort + AllocGlobal),
     (lines, answers): (&[u8], &[u8]),
-    (reads, writes): (u64, u64),
+    (reads, writes, written): (u64, u64, usize),
 ) -> Result<(RunEnd, usize), Fail> {
     let mut session = Session::new(rt.alloc(), engine_of(rt.alloc(), 1)?);
     let mut source = Script {
@@ -310,7 +311,7 @@ fn begins(
     let mut sink = Buffer {
         bytes: [0; 512],
         taken: 0,
-        piece: 512,
+        piece: written,
         calls_left: writes,
         failures: 0,
         is_flushed: true,
@@ -324,17 +325,19 @@ fn begins(
 #[test]
 fn squares_broken_off(rt: HostRuntime) -> Result<(), Fail> {
     for (lines, answers) in SQUARES {
-        for calls in 0..400 {
-            let (end, written) = begins(&rt, (lines, answers), (100, calls))?;
-            if end == (RunEnd::Done { refused: 0 }) {
-                assert_eq!(&rt; written, answers.len());
-                break;
+        for piece in [1, 512] {
+            for calls in 0..400 {
+                let (end, written) = begins(&rt, (lines, answers), (100, calls, piece))?;
+                if end == (RunEnd::Done { refused: 0 }) {
+                    assert_eq!(&rt; written, answers.len());
+                    break;
+                }
+                assert_eq!(&rt; end, RunEnd::WriteFailed);
+                assert!(&rt; calls < 399);
             }
-            assert_eq!(&rt; end, RunEnd::WriteFailed);
-            assert!(&rt; calls < 399);
         }
         for calls in 0..100 {
-            let (end, written) = begins(&rt, (lines, answers), (calls, 1000))?;
+            let (end, written) = begins(&rt, (lines, answers), (calls, 1000, 512))?;
             if end == (RunEnd::Done { refused: 0 }) {
                 assert_eq!(&rt; written, answers.len());
                 break;

@@ -92,6 +92,45 @@ fn clue_kept(rt: HostRuntime) -> Result<(), Fail> {
     Ok(())
 }
 
+/// Another light that begins at a clue's cell and goes its way has the clue; a size takes it, and a refused one does not.
+#[test]
+fn clue_of_a_start(rt: HostRuntime) -> Result<(), Fail> {
+    let mut session = session(rt.alloc())?;
+    says(
+        &rt,
+        &mut session,
+        b"size 4 1\nclue 1 across x\nbar 1 2 right\nsize 0 1\n",
+        b"ok\nok\nok\nno Size\n",
+        1,
+    );
+    let puzzle = session.puzzle()?;
+    assert_eq!(&rt;
+        puzzle.clues.get(CORNER, Direction::Across),
+        b"x".as_slice()
+    );
+    says(&rt, &mut session, b"size 4 1\n", b"ok\n", 0);
+    let puzzle = session.puzzle()?;
+    assert_eq!(&rt; puzzle.clues.get(CORNER, Direction::Across), b"".as_slice());
+    Ok(())
+}
+
+/// Only spaces and tabs are trimmed.
+#[test]
+fn text_of_odd_ends(rt: HostRuntime) -> Result<(), Fail> {
+    let mut session = session(rt.alloc())?;
+    says(
+        &rt,
+        &mut session,
+        b"title \x0B a\xA0\nnotes \ra\r \r\n",
+        b"ok\nok\n",
+        0,
+    );
+    let puzzle = session.puzzle()?;
+    assert_eq!(&rt; puzzle.texts.title.as_slice(), b"\x0B a\xA0".as_slice());
+    assert_eq!(&rt; puzzle.texts.notes.as_slice(), b"\ra\r".as_slice());
+    Ok(())
+}
+
 /// A session that is opened with what another one kept goes on with it.
 #[test]
 fn opened_with_a_puzzle(rt: HostRuntime) -> Result<(), Fail> {

@@ -1,24 +1,8 @@
 //! Scripts of lines, each with the answer that it is to have.
-use crate::tests::session;
-use crate::{FromRead, RunEnd, ToWrite};
+use crate::tests::runs;
 use std::alloc::{AllocError, Global};
 use std::process::Abort;
 use std::test::Fail;
-
-/// Runs lines in a session of no words, and compares what is written and how the run ends.
-fn runs(
-    rt: &(impl Abort + AllocGlobal),
-    lines: &[u8],
-    answers: &[u8],
-    refused: u64,
-) -> Result<(), Fail> {
-    let mut session = session(rt.alloc())?;
-    let mut told = Vec::new(rt.alloc());
-    let end = session.run_lines(&mut FromRead::new(lines), &mut ToWrite::new(&mut told));
-    assert_eq!(rt; told.as_slice(), answers);
-    assert_eq!(rt; end, RunEnd::Done { refused });
-    Ok(())
-}
 
 #[test]
 fn three_words_matched(rt: HostRuntime) -> Result<(), Fail> {

@@ -64,6 +64,10 @@ pub const CORNERS_MARKED: &[u8] =
 pub const CORNERS_CIRCLED: &[u8] =
     b"DjACROSS&DOWN\0\0bI0\x12T#\xE4\x91\xBB1.3\0\0\0\0\0\0\0\0\0\0\0\0\0\0\0\0\0\x03\x03\x06\0\x01\0\0\0.ABCDEFG..-------.Corners\0Me\02026\0one across\0one down\0two down\0three across\0\0four across\0Some notes\0GEXT\x09\0\x01\0\0\x80\0\0\0\0\0\0\0\0";
 
+/// Three columns and two rows, with a block, and marks in the second cell and the last.
+pub const WIDE: &[u8] =
+    b" \x1AACROSS&DOWN\0\0NI\xC6\x10\xFF\x0F\xD4\xE5d1.3\0\0\0\0\0\0\0\0\0\0\0\0\0\0\0\0\0\x03\x02\x04\0\x01\0\0\0.ABCDE.-----\0\0\0a\0b\0c\0d\0\0GEXT\x06\0\x88\0\0\x80\0\0\0\x80\0";
+
 /// The plain file without a clue for 1 down.
 pub const NO_CLUE: &[u8] =
     b"\x02\xF8ACROSS&DOWN\0\0LI\xD6\x1C\xE8\x0D\xF4%\x841.3\0\0\0\0\0\0\0\0\0\0\0\0\0\0\0\0\0\x02\x02\x04\0\x01\0\0\0ATSO----\0\0\0a\0\0c\0d\0\0";

@@ -4,7 +4,7 @@ use crate::kind::{Kind, kind_of};
 use crate::puz::read_puz;
 use crate::tests::puz::files::{
     ALL_TEXTS, BAD_CELL, BAD_CELL_AND_COUNT, CIRCLED, CLUE_COUNT, CORNERS, EMPTY_CELL, LOWER_CASE,
-    MORE_CLUES, NO_CLUE, ONE_CELL, PLAIN, STARTED, TITLED, UNUSUAL, WITH_NOTES,
+    MORE_CLUES, NO_CLUE, ONE_CELL, PLAIN, STARTED, TITLED, UNUSUAL, WIDE, WITH_NOTES,
 };
 use crate::tests::puz::{cell, fault_of, writes};
 use std::process::Abort;
@@ -77,9 +77,29 @@ fn reads_blocks_and_empty_cells(rt: HostRuntime) -> Result<(), Fail> {
 }
 
 #[test]
+fn reads_more_columns_than_rows(rt: HostRuntime) -> Result<(), Fail> {
+    let wide = read_puz(rt.alloc(), WIDE)?;
+    assert_eq!(rt; wide.grid.width(), 3);
+    assert_eq!(rt; wide.grid.height(), 2);
+    assert_eq!(rt; wide.grid.entry(cell(2, 1)), Letter::of(b'C'));
+    assert_eq!(rt;
+        wide.clues.get(cell(1, 3), Direction::Down),
+        b"c".as_slice()
+    );
+    assert_eq!(rt;
+        wide.clues.get(cell(2, 1), Direction::Across),
+        b"d".as_slice()
+    );
+    for (row, col, circled) in [(1, 2, true), (1, 3, false), (2, 1, false), (2, 3, true)] {
+        assert_eq!(rt; wide.circles.has(cell(row, col)), circled);
+    }
+    Ok(())
+}
+
+#[test]
 fn writes_what_was_read(rt: HostRuntime) {
     for bytes in [
-        PLAIN, TITLED, WITH_NOTES, CIRCLED, CORNERS, NO_CLUE, ONE_CELL, ALL_TEXTS,
+        PLAIN, TITLED, WITH_NOTES, CIRCLED, CORNERS, NO_CLUE, ONE_CELL, ALL_TEXTS, WIDE,
     ] {
         writes(&rt, bytes, bytes);
     }

@@ -42,6 +42,29 @@ fn all_texts(rt: HostRuntime) -> Result<(), Fail> {
     Ok(())
 }
 
+/// More rows than columns, and a light down before the first one across.
+#[test]
+fn tall_grid(rt: HostRuntime) -> Result<(), Fail> {
+    let alloc = rt.alloc();
+    let tall: &[u8] =
+        b"<ACROSS PUZZLE>\n<TITLE>\n\t\n<AUTHOR>\n\t\n<COPYRIGHT>\n\t\n<SIZE>\n\t2x3\n<GRID>\n\t.A\n\tBC\n\tDE\n<ACROSS>\n\tbc\n\tde\n<DOWN>\n\tace\n\tbd\n";
+    let puzzle = read_text(alloc, tall)?;
+    assert_eq!(rt; puzzle.grid.width(), 2);
+    assert_eq!(rt; puzzle.grid.height(), 3);
+    assert_eq!(rt; puzzle.grid.entry(cell(3, 2)), Letter::of(b'E'));
+    assert_eq!(rt;
+        puzzle.clues.get(cell(1, 2), Direction::Down),
+        b"ace".as_slice()
+    );
+    assert_eq!(rt;
+        puzzle.clues.get(cell(2, 1), Direction::Down),
+        b"bd".as_slice()
+    );
+    let text = write_text(alloc, &puzzle)?;
+    assert_eq!(rt; text.as_slice(), tall);
+    Ok(())
+}
+
 /// A grid without lights; its one cell is filled.
 #[test]
 fn one_cell(rt: HostRuntime) -> Result<(), Fail> {
