@@ -248,3 +248,58 @@ fn files_refused(rt: HostRuntime) -> Result<(), Fail> {
     fs::remove_file(&rt, "plain")?;
     Ok(())
 }
+
+/// A `.puz` that is cut within its magic is taken for a text.
+#[test]
+fn cut_magic_is_text(rt: HostRuntime) -> Result<(), Fail> {
+    fs::write(&rt, "cut", &PLAIN[..PLAIN.len().min(13)])?;
+    runs(
+        &rt,
+        &["xw", "check", "cut"],
+        b"",
+        Run {
+            status: Status::Format,
+            output: b"",
+            errors: b"xw: cut: Header\n",
+        },
+    );
+    fs::remove_file(&rt, "cut")?;
+    Ok(())
+}
+
+/// A name that ends in `puz` alone is written as text; a session that is opened on a file has no symmetry.
+#[test]
+fn opened_without_symmetry(rt: HostRuntime) -> Result<(), Fail> {
+    fs::write(&rt, "opened", PLAIN)?;
+    runs(&rt, &["xw", "convert", "opened", "xpuz"], b"", QUIET);
+    holds(&rt, "xpuz", TEXT)?;
+    runs(
+        &rt,
+        &["xw", "edit", "--from", "xpuz"],
+        b"clear 1 1\nblock 1 1\nshow\n",
+        Run {
+            output: b"ok\nok\n# T\nS O\nok\n",
+            ..QUIET
+        },
+    );
+    fs::remove_file(&rt, "opened")?;
+    fs::remove_file(&rt, "xpuz")?;
+    Ok(())
+}
+
+/// A fill enters letters in lights alone, so that a cell in none may still be empty.
+#[test]
+fn filled_but_for_a_lone_cell(rt: HostRuntime) -> Result<(), Fail> {
+    runs(
+        &rt,
+        &["xw", "edit", "--to", "lone.puz"],
+        b"size 4 1\nblock 1 3\nadd AS\nfill 9\nshow\n",
+        Run {
+            status: Status::Format,
+            output: b"ok\nok\nok\nfilled\nok\nA S # -\nok\n",
+            errors: b"xw: lone.puz: NotFilled\n",
+        },
+    );
+    assert!(&rt; fs::read(&rt, "lone.puz").is_err());
+    Ok(())
+}
