@@ -2,7 +2,7 @@
 ghost use Rattle.std.specs.Prelude.{◌≡◌, ◌≢◌, ℕ, ◌+◌, ◌*◌, ◌<◌, ◌≤◌, Bool, true, false, [], map, replicate, length, Ok, Err, None, All, IsOk, IfErr, IfOk, OnOk, OnErr, IsOkUnless, position};
 ghost use Rattle.xw_words.specs.Letter.{folded, IsLetter};
 ghost use Rattle.xw_words.specs.Dictionary.{row as words_of, entry_at, place_of, add_answer, after_add, strike_answer, after_strike, IsNew, IsDictionary, matching_answer, reserve_answer, most_words};
-ghost use Rattle.xw_words.specs.Bank.{has_room};
+ghost use Rattle.xw_words.specs.Bank.{has_room, KeepsRoom, KeepsOtherRoom};
 ghost use Rattle.xw_words.specs.Word.{is_bad_letter};
 ghost use Rattle.xw_words.specs.Bits.{has_bit};
 ghost use Rattle.xw_words.specs.Columns.{has_letter, is_active as word_is_active};
@@ -125,6 +125,9 @@ impl Bank {
         ensures memory { result ≡ Err WordFault.Memory → IsNew (add_answer self.old.words bytes.now) }
         ensures ok { IfOk result (λ added. self.new.words ≡ after_add self.old.words (map folded bytes.now) added) }
         ensures err { OnErr result (self.new.words ≡ self.old.words) }
+        ensures room { KeepsOtherRoom (length bytes.now) self.old self.new }
+        ensures room_at_err { OnErr result (KeepsRoom self.old self.new) }
+        ensures room_at_return { (place : ℕ) → result ≡ Ok (Added.Returned place) → KeepsRoom self.old self.new }
     {
         judge_word(bytes)?;
         let row = &mut self.rows[bytes.len()];
@@ -136,6 +139,7 @@ impl Bank {
         ensures answer { result ≡ strike_answer self.old.words bytes.now }
         ensures ok { IfOk result (λ place. self.new.words ≡ after_strike self.old.words (map folded bytes.now) place) }
         ensures err { OnErr result (self.new.words ≡ self.old.words) }
+        ensures room { KeepsRoom self.old self.new }
     {
         judge_word(bytes)?;
         let row = &mut self.rows[bytes.len()];
@@ -155,6 +159,7 @@ impl Bank {
     pub fn reserve(&mut self, count: usize) -> Result<(), WordFault>
         ensures words { self.new.words ≡ self.old.words }
         ensures room { OnOk result (has_room self.new count ≡ true) }
+        ensures kept { KeepsRoom self.old self.new }
         ensures answer { result ≢ Err WordFault.Memory → result ≡ reserve_answer self.old.words count }
         ensures memory { result ≡ Err WordFault.Memory → IsOk (reserve_answer self.old.words count) }
     {
@@ -165,6 +170,7 @@ impl Bank {
     pub(crate) fn make_room(&mut self, count: usize, expected: usize) -> Result<(), WordFault>
         ensures words { self.new.words ≡ self.old.words }
         ensures room { OnOk result (has_room self.new count ≡ true) }
+        ensures kept { KeepsRoom self.old self.new }
         ensures answer { result ≢ Err WordFault.Memory → result ≡ reserve_answer self.old.words count }
         ensures memory { result ≡ Err WordFault.Memory → IsOk (reserve_answer self.old.words count) }
     {
@@ -183,6 +189,7 @@ impl Bank {
         requires unknown { place_of self.old.words word.now ≡ None }
         ensures place { result ≡ length (words_of self.old.words (length word.now)) }
         ensures words { self.new.words ≡ after_add self.old.words word.now (Added.New result) }
+        ensures room { KeepsOtherRoom (length word.now) self.old self.new }
     {
         are_letters(word);
         let row = &mut self.rows[word.len()];

@@ -181,6 +181,8 @@ impl Row {
         ensures memory { result ≡ Err WordFault.Memory → IsNew (add_to self.old.entries (map folded bytes.now)) }
         ensures ok { IfOk result (λ added. self.new.entries ≡ with_added self.old.entries (map folded bytes.now) added) }
         ensures err { OnErr result (self.new.entries ≡ self.old.entries) }
+        ensures room_at_err { OnErr result (self.new.room ≡ self.old.room) }
+        ensures room_at_return { (place : ℕ) → result ≡ Ok (Added.Returned place) → self.new.room ≡ self.old.room }
     {
         let _ = &self.count;
         let mut letters = [Letter::first(); LONGEST];
@@ -198,6 +200,7 @@ impl Row {
         ensures answer { result ≡ added_at self.old.entries (Some place) }
         ensures ok { OnOk result (self.new.entries ≡ marked self.old.entries place true) }
         ensures err { OnErr result (self.new.entries ≡ self.old.entries) }
+        ensures room { self.new.room ≡ self.old.room }
     {
         if self.is_active(place) {
             return Err(WordFault::Known);
@@ -215,6 +218,8 @@ impl Row {
         ensures memory { result ≡ Err WordFault.Memory → IsNew (added_at self.old.entries None) }
         ensures ok { OnOk result (self.new.entries ≡ self.old.entries ++ record { word = word.now; active = true } ∷ []) }
         ensures err { OnErr result (self.new.entries ≡ self.old.entries) }
+        ensures room { OnErr result (self.new.room ≡ self.old.room) }
+        ensures added { IfOk result (λ added. IsNew (Ok added)) }
     {
         let place = self.len();
         if place >= MOST_WORDS {
@@ -250,6 +255,7 @@ impl Row {
         ensures answer { result ≡ strike_from self.old.entries (map folded bytes.now) }
         ensures ok { IfOk result (λ place. self.new.entries ≡ marked self.old.entries place false) }
         ensures err { OnErr result (self.new.entries ≡ self.old.entries) }
+        ensures room { self.new.room ≡ self.old.room }
     {
         let _ = &self.count;
         let mut letters = [Letter::first(); LONGEST];

@@ -2,6 +2,7 @@ use Rattle.std.proofs.Common.{◌≡◌, ◌<◌, length, sym, ap, refl, ◌∙�
 use Rattle.std.specs.Prelude.{None, slice_index_or, [], ◌∷◌, ◌++◌}
 use Rattle.xw_words.specs.Dictionary.{row, place_in, most_words}
 use Rattle.xw_words.proofs.DictionaryLemmas.{row_kept, IsKept-set, AreWords-push, entries_in-set, row-entries_in, room_within}
+use Rattle.xw_words.proofs.RoomLemmas.{KeepsOtherRoom-set}
 use Rattle.xw_words.proofs.bank.Bank.add_reserved.Goals as goal
 
 pub add_reserved-requires-clause-length : goal.add_reserved-requires-clause-length
@@ -33,3 +34,7 @@ returns-clause-words c =
     let small = room_within rows count c.self.invariant (ap (λ bank. slice_index_or bank.room count false) c.self.view_is ∙ c.requires.room) in
     let at = row_kept rows count old c.self.invariant small c.index_mut-row.ensures.value in
     rw (← c.self.view_is) (entries_in-set rows count old c.add_reserved.new.self (λ entries. entries ++ record { word = c.args.word.now; active = true } ∷ []) at.within c.index_mut-row.ensures.value c.add_reserved.ensures.entries)
+
+pub returns-clause-room : goal.returns-clause-room
+returns-clause-room c =
+    rw (← c.self.view_is) (KeepsOtherRoom-set c.self.inside.rows.items (length c.args.word.now) c.add_reserved.new.self)

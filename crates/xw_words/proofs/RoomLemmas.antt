@@ -1,0 +1,38 @@
+-- Lemmas on the room of a dictionary.
+use Rattle.std.proofs.Common.{◌≡◌, ◌≢◌, ℕ, ◌<◌, true, false, eqb, List, length, refl, ap, ◌∙◌, arith, map, get_or, set}
+use Rattle.std.specs.Prelude.{Result, Ok, Err, OnErr}
+use Rattle.std.proofs.lemmas.Bool.Decides.{nat_tests}
+use Rattle.std.proofs.lemmas.List.{get_or-set_other, map-set}
+use Rattle.std.proofs.Math.Seq.{map-set_same}
+use Rattle.xw_words.specs.Bank.{KeepsRoom, KeepsOtherRoom, bank_of}
+use Rattle.xw_words.specs.Row.{Row}
+use Rattle.xw_words.proofs.DictionaryLemmas.{room_set}
+
+-- room that was there is there still where another row changed
+pub KeepsOtherRoom-set : (rows : List Row) (count : ℕ) (new : Row) → KeepsOtherRoom count (bank_of rows) (bank_of (set rows count new))
+KeepsOtherRoom-set rows count new = λ other apart there.
+    ap (λ rooms. get_or rooms other false) (map-set (λ (r : Row). r.room) rows count new)
+    ∙ get_or-set_other (map (λ (r : Row). r.room) rows) count other new.room false apart
+    ∙ there
+
+-- where the row that changed keeps its room
+pub KeepsRoom-same : (rows : List Row) (count : ℕ) (old new : Row) → old ≡ get_or rows count old → new.room ≡ old.room → KeepsRoom (bank_of rows) (bank_of (set rows count new))
+KeepsRoom-same rows count old new was same = λ other there.
+    ap (λ rooms. get_or rooms other false) (map-set_same (λ (r : Row). r.room) rows count new old (same ∙ ap (λ r. r.room) was)) ∙ there
+
+-- where the row that changed has room now
+pub KeepsRoom-made : (rows : List Row) (count : ℕ) (new : Row) → count < length rows → new.room ≡ true → KeepsRoom (bank_of rows) (bank_of (set rows count new))
+KeepsRoom-made rows count new within made = λ other there.
+    elim (eqb other count) as (λ b. eqb other count ≡ b → get_or (map (λ (r : Row). r.room) (set rows count new)) other false ≡ true) [
+      | true ↦ λ same.
+          let is : other ≡ count = grind (arith, nat_tests) in
+          ap (λ n. get_or (map (λ (r : Row). r.room) (set rows count new)) n false) is ∙ room_set rows count new within ∙ made
+      | false ↦ λ apart.
+          let apart' : other ≢ count = grind (arith, nat_tests) in
+          KeepsOtherRoom-set rows count new other apart' there
+    ] refl
+
+-- the same of a call that may be refused
+pub KeepsRoom-at_err : (rows : List Row) (count : ℕ) (old new : Row) (T F : Type 0) (answer : Result T F) → old ≡ get_or rows count old → OnErr answer (new.room ≡ old.room) → OnErr answer (KeepsRoom (bank_of rows) (bank_of (set rows count new)))
+KeepsRoom-at_err rows count old new T F (Ok value) was same = tt
+KeepsRoom-at_err rows count old new T F (Err fault) was same = KeepsRoom-same rows count old new was same
