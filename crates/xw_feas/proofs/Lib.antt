@@ -7,6 +7,7 @@ pub mod Strip
 pub mod AnswersLemmas
 pub mod ChangesLemmas
 pub mod EditsLemmas
+pub mod LawLemmas
 pub mod ShapeLemmas
 pub mod QueryLemmas
 pub mod WorkedRow

@@ -17,3 +17,4 @@ pub mod Shape
 pub mod Words
 pub mod Spelled
 pub mod WellFormed
+pub mod Laws

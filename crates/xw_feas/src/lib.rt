@@ -9,6 +9,7 @@ pub mod edit;
 pub mod feasible;
 mod flags;
 mod grid_edit;
+pub mod laws;
 mod place;
 pub mod plain;
 mod standing;
