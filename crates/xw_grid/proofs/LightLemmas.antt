@@ -12,8 +12,8 @@ use Rattle.xw_grid.specs.declared.cell.Cell.{Cell}
 use Rattle.xw_grid.specs.declared.cell.Direction.{Direction}
 use Rattle.xw_grid.specs.declared.cell.Direction.TheVariants.{Across, Down}
 use Rattle.xw_grid.specs.Grid.{Grid, is_inside, is_open, is_open_square, index_of, cells, cell_at}
-use Rattle.xw_grid.specs.LightLaws.{IsLightOf, LightsAreLights, LightsAreAll}
-use Rattle.xw_grid.specs.Light.{is_joined, next, previous, step, line, extent, run_from, begins, IsLight, light_from, light_at, lights_at, lights_of}
+use Rattle.xw_grid.specs.LightLaws.{LightsBegin, IsLightOf, LightsAreLights, LightsAreAll}
+use Rattle.xw_grid.specs.Light.{no_cell, is_joined, next, previous, step, line, extent, run_from, begins, IsLight, light_from, light_at, lights_at, lights_of}
 use Rattle.xw_grid.specs.declared.lights.Light.{Light}
 use Rattle.xw_grid.proofs.GridLemmas.{and-true, IsInside-is_inside, run_is, index_of-lt, length-cells, cell_at-index_of}
 
@@ -230,3 +230,14 @@ size_of_light grid place d within =
     let light = get_or (lights_of grid) place d in
     let is = (lights_are_lights grid place d within).0 in
     omega (arith, is.several, length-line light.name.direction light.start light.size)
+
+-- a light begins where the scan says so
+pub lights_begin : LightsBegin
+lights_begin grid direction cell = (
+  λ begin.
+      let count = run_from grid direction cell in
+      let is = light_is grid direction cell begin in
+      let some : 0 < count = omega (arith, is.several, length-line direction cell count) in
+      (line direction cell count, is, get_or-line direction cell count 0 no_cell some ∙ step-zero direction cell),
+  λ found. ap (begins grid direction) (sym found.2) ∙ (light_from_first grid direction found.0 found.1).1,
+)

@@ -28,7 +28,7 @@ previous Down cell = record { row = cell.row - 1; col = cell.col }
 abbrev pub is_joined : Grid → Direction → Cell → Bool
 is_joined grid direction cell = (is_open grid cell && is_open grid (next direction cell)) && not (is_barred grid cell (side_towards direction))
 
-no_cell : Cell
+abbrev pub no_cell : Cell
 no_cell = record { row = 0; col = 0 }
 
 -- At least two cells, each joined to the one before, that no further cell can lengthen at either end.

@@ -1,12 +1,12 @@
 -- What is true of the lights of every grid.
-use Rattle.std.specs.Prelude.{◌≡◌, ◌⊎◌, ℕ, ◌<◌, ◌≤◌, List, length, slice_index_or, All, Contains}
+use Rattle.std.specs.Prelude.{◌≡◌, ◌⊎◌, ◌↔◌, true, ℕ, ◌<◌, ◌≤◌, List, length, slice_index_or, All, Contains}
 use Rattle.xw_grid.specs.declared.cell.Cell.{Cell}
 use Rattle.xw_grid.specs.declared.cell.Direction.{Direction}
 use Rattle.xw_grid.specs.declared.cell.Direction.TheVariants.{Across, Down}
 use Rattle.xw_grid.specs.declared.cell.LightName.{LightName}
 use Rattle.xw_grid.specs.declared.lights.Light.{Light}
 use Rattle.xw_grid.specs.Grid.{Grid, IsGrid}
-use Rattle.xw_grid.specs.Light.{IsLight, cells_of, number_at, lights_of, step}
+use Rattle.xw_grid.specs.Light.{IsLight, begins, cells_of, no_cell, number_at, lights_of, step}
 
 -- each light of the list is one, under the number of its first cell
 abbrev pub IsLightOf : Grid → Light → Type 0
@@ -19,6 +19,11 @@ LightsAreLights = (grid : Grid) → All (IsLightOf grid) (lights_of grid)
 abbrev pub LightsAreAll : Type 0
 LightsAreAll = (grid : Grid) (direction : Direction) (light : List Cell) → IsLight grid direction light →
     (found : Light) × Contains (lights_of grid) found × (found.name.direction ≡ direction) × (cells_of found ≡ light)
+
+-- a light begins at a cell exactly where the cell is joined to the next one and not to the one before
+abbrev pub LightsBegin : Type 0
+LightsBegin = (grid : Grid) (direction : Direction) (cell : Cell) →
+    (begins grid direction cell ≡ true) ↔ ((light : List Cell) × IsLight grid direction light × (slice_index_or light 0 no_cell ≡ cell))
 
 -- a smaller number, or the same one across before down
 abbrev pub IsBefore : LightName → LightName → Type 0

@@ -2,7 +2,7 @@
 ghost use Rattle.std.specs.Prelude.{◌≡◌, ℕ, ◌+◌, ◌++◌, ◌<◌, ◌≤◌, ◌^◌, true, List, Some, None, slice_get, IfOk, OnOk, IsOkUnless, length, if◌then◌else◌, ◌&&◌, ◌==◌};
 ghost use Rattle.xw_grid.specs.Grid.{is_inside, same_cell};
 ghost use Rattle.xw_grid.specs.Light.{is_joined as is_joined_to_next, begins as begins_light, previous as cell_before, begins_some as begins_some_light, step as cell_after, run_from, light_from, lights_at, lights_of, number_at, same_name, place_named, place_through, place_with_cells, number_in, same_name, name_before};
-ghost use Rattle.xw_grid.specs.LightLaws.{LightsAreLights, LightsAreAll, LightsAreOrdered, LightsAreApart, LightsAreFew, LightsMeetOnce};
+ghost use Rattle.xw_grid.specs.LightLaws.{LightsAreLights, LightsAreAll, LightsBegin, LightsAreOrdered, LightsAreApart, LightsAreFew, LightsMeetOnce};
 ghost use Rattle.xw_grid.specs.EditLaws.{LettersKeepShape, SymmetryKeepsShape};
 ghost use Rattle.xw_grid.specs.Places.{ArePlaces, number_of_start, is_such};
 ghost use Rattle.std.specs.Option.{option_and_then};
@@ -375,6 +375,11 @@ pub fn lights_are_lights()
 /// Whatever is such a light of a grid is in its list.
 pub fn lights_are_all()
     ensures { LightsAreAll }
+{}
+
+/// A light begins at a cell exactly where `begins` says so.
+pub fn lights_begin()
+    ensures { LightsBegin }
 {}
 
 /// The lights of a list stand in the order of their names, each of which names one light.
