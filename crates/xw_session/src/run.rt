@@ -152,6 +152,7 @@ fn finish<S: Speaker, W: Sink>(
     ensures ok { IfOk result (λ total. (start : S) (begun text : List ℕ)
         → Progress S.answers start begun text speaker.old piece refused (W.told sink.old)
         → (count : ℕ) × (total ≡ saturated count) × Speaks S.answers start (lines_of text) count speaker.new begun (W.told sink.new)) }
+    ensures quiet { OnOk result (W.failures sink.new ≡ W.failures sink.old) }
     ensures passed_on { OnOk result (IsPassedOn W.is_flushed sink.old sink.new) }
     ensures err { OnErr result ((start : S) (begun text : List ℕ)
         → Progress S.answers start begun text speaker.old piece refused (W.told sink.old)
@@ -197,6 +198,9 @@ pub fn run_lines<S: Speaker, R: Source, W: Sink>(
 
     // Neither reader nor writer was called.
     ensures memory { OnMemory result ((source.new ≡ source.old) × (sink.new ≡ sink.old) × (speaker.new ≡ speaker.old)) }
+
+    // In no other case did the writer fail: after a write or a flush that failed no line is read.
+    ensures unfailed { UnlessWriteFailed result (W.failures sink.new ≡ W.failures sink.old) }
 
     // The last answer was passed on.
     ensures passed_on { UnlessWriteFailed result (IsPassedOn W.is_flushed sink.old sink.new) }

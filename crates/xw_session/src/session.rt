@@ -249,6 +249,9 @@ impl<E: Feasible> Session<E> {
         // Neither reader nor writer was called.
         ensures memory { OnMemory result ((source.new ≡ source.old) × (sink.new ≡ sink.old) × (self.new ≡ self.old)) }
 
+        // In no other case did the writer fail: after a write or a flush that failed no line is read.
+        ensures unfailed { UnlessWriteFailed result (W.failures sink.new ≡ W.failures sink.old) }
+
         // The last answer was passed on.
         ensures passed_on { UnlessWriteFailed result (IsPassedOn W.is_flushed sink.old sink.new) }
     {
