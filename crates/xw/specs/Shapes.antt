@@ -22,7 +22,7 @@ check = with_rule (new_app (codes "check")) (operand (codes "file"))
 
 -- the program, but for its subcommands
 abbrev pub top : App
-top = on_top (λ s. record s { subcommand_required = true }) (new_app (codes "xw"))
+top = on_top (λ s. record s { subcommand_required = true; has_version = true }) (new_app (codes "xw"))
 
 abbrev pub xw : App
 xw = with_subcommand (with_subcommand (with_subcommand top edit.top) convert.top) check.top

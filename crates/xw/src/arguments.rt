@@ -10,6 +10,9 @@ use clap::{Arg, ArgMatches, Command, Error};
 use std::alloc::{AllocError, Global};
 use std::convert::AsStr;
 
+/// Which program this is, as `--version` tells it.
+const VERSION: &str = "0.1.0";
+
 /// What the help shows of a session.
 const EXAMPLE: &str = "Example:
   $ xw edit --dict words.txt --to mine.puz
@@ -128,6 +131,7 @@ fn top<'a>(alloc: Global) -> Command<'a>
 {
     Command::new(alloc, "xw")
         .about("A crossword construction engine")
+        .version(VERSION)
         .after_help(EXAMPLE)
         .subcommand_required(true)
 }

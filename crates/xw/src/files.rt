@@ -3,6 +3,7 @@ ghost use Rattle.std.specs.Prelude.{◌≡◌};
 ghost use Rattle.xw.specs.Names.{read_fault, write_fault};
 
 use crate::failure::Failure;
+use crate::replacing::replace;
 use std::rt::Files;
 use std::{fs, io};
 use xw_files::fault::{ReadFault, WriteFault};
@@ -90,7 +91,7 @@ pub fn write_puzzle<R: Files + AllocGlobal>(
             return Err(Failure::File { file, name });
         }
     };
-    match fs::write(rt, file, bytes.as_slice()) {
+    match replace(rt, file, bytes.as_slice()) {
         Ok(()) => Ok(()),
         Err(error) => {
             if error.kind() == io::ErrorKind::OutOfMemory {

@@ -5,6 +5,7 @@ mod arguments;
 mod failure;
 mod files;
 mod perform;
+mod replacing;
 #[cfg(test)]
 mod tests;
 

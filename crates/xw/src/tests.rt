@@ -1,6 +1,7 @@
 //! Runs of the program.
 mod devices;
 mod puzzles;
+mod replacing;
 mod samples;
 
 use crate::arguments::{Call, Usage, arguments};
