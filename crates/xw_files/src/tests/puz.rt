@@ -7,11 +7,6 @@ mod writing;
 use crate::fault::ReadFault;
 use crate::puz::{read_puz, write_puz};
 use std::process::Abort;
-use xw_grid::cell::Cell;
-
-fn cell(row: u32, col: u32) -> Cell {
-    Cell { row, col }
-}
 
 fn fault_of(rt: &(impl Abort + AllocGlobal), bytes: &[u8]) -> Option<ReadFault> {
     read_puz(rt.alloc(), bytes).err()

@@ -6,92 +6,72 @@ use crate::tests::puz::files::{
     ALL_TEXTS, BAD_CELL, BAD_CELL_AND_COUNT, CIRCLED, CLUE_COUNT, CORNERS, EMPTY_CELL, LOWER_CASE,
     MORE_CLUES, NO_CLUE, ONE_CELL, PLAIN, STARTED, TITLED, UNUSUAL, WIDE, WITH_NOTES,
 };
-use crate::tests::puz::{cell, fault_of, writes};
+use crate::tests::puz::{fault_of, writes};
+use crate::tests::puzzles::Part::{Author, Circle, Clue, Copyright, Notes, Size, Square, Title};
+use crate::tests::puzzles::{NO_TEXTS, PLAIN_PUZZLE, Part, cell, has_all};
 use std::process::Abort;
 use std::test::Fail;
 use xw_grid::cell::{Direction, Symmetry};
-use xw_words::letter::Letter;
 
-#[test]
-fn reads_the_plain_puzzle(rt: HostRuntime) -> Result<(), Fail> {
-    for bytes in [PLAIN, STARTED, LOWER_CASE, UNUSUAL] {
-        let puzzle = read_puz(rt.alloc(), bytes)?;
-        assert_eq!(rt; puzzle.grid.width(), 2);
-        assert_eq!(rt; puzzle.grid.height(), 2);
-        assert_eq!(rt; puzzle.grid.symmetry(), Symmetry::None);
-        for (row, col, letter) in [(1, 1, b'A'), (1, 2, b'T'), (2, 1, b'S'), (2, 2, b'O')] {
-            assert_eq!(rt; puzzle.grid.entry(cell(row, col)), Letter::of(letter));
-            assert!(rt; !puzzle.circles.has(cell(row, col)));
-        }
-        for (row, col, direction, clue) in [
-            (1, 1, Direction::Across, b"a".as_slice()),
-            (1, 1, Direction::Down, b"b"),
-            (1, 2, Direction::Down, b"c"),
-            (2, 1, Direction::Across, b"d"),
-            (2, 1, Direction::Down, b""),
-        ] {
-            assert_eq!(rt; puzzle.clues.get(cell(row, col), direction), clue);
-        }
-        assert_eq!(rt; puzzle.texts.title.as_slice(), b"".as_slice());
-        assert_eq!(rt; puzzle.texts.author.as_slice(), b"".as_slice());
-        assert_eq!(rt; puzzle.texts.copyright.as_slice(), b"".as_slice());
-        assert_eq!(rt; puzzle.texts.notes.as_slice(), b"".as_slice());
+/// Reads a file, and looks for the parts of each table in the puzzle.
+fn reads(rt: &(impl Abort + AllocGlobal), file: &[u8], tables: &[&[Part]]) -> Result<(), Fail> {
+    let puzzle = read_puz(rt.alloc(), file)?;
+    assert_eq!(rt; puzzle.grid.symmetry(), Symmetry::None);
+    for parts in tables {
+        has_all(rt, &puzzle, *parts);
     }
     Ok(())
 }
 
 #[test]
-fn reads_texts(rt: HostRuntime) -> Result<(), Fail> {
-    let puzzle = read_puz(rt.alloc(), ALL_TEXTS)?;
-    assert_eq!(rt; puzzle.texts.title.as_slice(), b"T".as_slice());
-    assert_eq!(rt; puzzle.texts.author.as_slice(), b"by \xE9\xFF".as_slice());
-    assert_eq!(rt; puzzle.texts.copyright.as_slice(), b"(c)".as_slice());
-    assert_eq!(rt; puzzle.texts.notes.as_slice(), b"two\nlines".as_slice());
-    assert_eq!(rt;
-        read_puz(rt.alloc(), TITLED)?.texts.title.as_slice(),
-        b"T".as_slice()
-    );
-    assert_eq!(rt;
-        read_puz(rt.alloc(), WITH_NOTES)?.texts.notes.as_slice(),
-        b"n".as_slice()
-    );
+fn reads_the_plain_puzzle(rt: HostRuntime) -> Result<(), Fail> {
+    for file in [PLAIN, STARTED, LOWER_CASE, UNUSUAL] {
+        reads(&rt, file, &[PLAIN_PUZZLE, NO_TEXTS])?;
+    }
     Ok(())
 }
 
-#[test]
-fn reads_blocks_and_empty_cells(rt: HostRuntime) -> Result<(), Fail> {
-    let corners = read_puz(rt.alloc(), CORNERS)?;
-    assert!(rt; corners.grid.is_block(cell(1, 1)));
-    assert!(rt; corners.grid.is_block(cell(3, 3)));
-    assert_eq!(rt; corners.grid.entry(cell(2, 2)), Letter::of(b'D'));
-    assert_eq!(rt;
-        corners.clues.get(cell(3, 1), Direction::Across),
-        b"four across".as_slice()
-    );
-    let empty = read_puz(rt.alloc(), EMPTY_CELL)?;
-    assert!(rt; empty.grid.is_open(cell(1, 2)));
-    assert_eq!(rt; empty.grid.entry(cell(1, 2)), None);
-    let single = read_puz(rt.alloc(), ONE_CELL)?;
-    assert_eq!(rt; single.grid.entry(cell(1, 1)), Letter::of(b'Z'));
-    Ok(())
-}
+const TEXTS: &[Part] = &[
+    Title(b"T"),
+    Author(b"by \xE9\xFF"),
+    Copyright(b"(c)"),
+    Notes(b"two\nlines"),
+];
+
+const IN_CORNERS: &[Part] = &[
+    Size(3, 3),
+    Square(1, 1, b'.'),
+    Square(3, 3, b'.'),
+    Square(2, 2, b'D'),
+    Clue(3, 1, Direction::Across, b"four across"),
+];
+
+const MORE_COLUMNS: &[Part] = &[
+    Size(3, 2),
+    Square(2, 1, b'C'),
+    Clue(1, 3, Direction::Down, b"c"),
+    Clue(2, 1, Direction::Across, b"d"),
+    Circle(1, 2, true),
+    Circle(1, 3, false),
+    Circle(2, 1, false),
+    Circle(2, 3, true),
+];
+
+/// Files, and what is read of them.
+const READ: &[(&[u8], &[Part])] = &[
+    (ALL_TEXTS, TEXTS),
+    (TITLED, &[Title(b"T")]),
+    (WITH_NOTES, &[Notes(b"n")]),
+    (CORNERS, IN_CORNERS),
+    (EMPTY_CELL, &[Square(1, 2, b'-')]),
+    (ONE_CELL, &[Square(1, 1, b'Z')]),
+    (WIDE, MORE_COLUMNS),
+];
 
 #[test]
-fn reads_more_columns_than_rows(rt: HostRuntime) -> Result<(), Fail> {
-    let wide = read_puz(rt.alloc(), WIDE)?;
-    assert_eq!(rt; wide.grid.width(), 3);
-    assert_eq!(rt; wide.grid.height(), 2);
-    assert_eq!(rt; wide.grid.entry(cell(2, 1)), Letter::of(b'C'));
-    assert_eq!(rt;
-        wide.clues.get(cell(1, 3), Direction::Down),
-        b"c".as_slice()
-    );
-    assert_eq!(rt;
-        wide.clues.get(cell(2, 1), Direction::Across),
-        b"d".as_slice()
-    );
-    for (row, col, circled) in [(1, 2, true), (1, 3, false), (2, 1, false), (2, 3, true)] {
-        assert_eq!(rt; wide.circles.has(cell(row, col)), circled);
+fn reads_other_puzzles(rt: HostRuntime) -> Result<(), Fail> {
+    for (file, parts) in READ {
+        reads(&rt, *file, &[*parts])?;
     }
     Ok(())
 }

@@ -4,7 +4,9 @@ use crate::puz::read_puz;
 use crate::tests::puz::files::{
     CIRCLED, CLUE_COUNT, CORNERS_CIRCLED, CORNERS_MARKED, PLAIN, STARTED, WITH_NOTES,
 };
-use crate::tests::puz::{cell, fault_of, writes};
+use crate::tests::puz::{fault_of, writes};
+use crate::tests::puzzles::Part::Circle;
+use crate::tests::puzzles::{Part, has_all};
 use std::process::Abort;
 
 /// A file and two pieces after it.
@@ -25,13 +27,27 @@ const FIRST: &[u8] = b"GEXT\x04\0\x10\0\x80\0\0\0\0";
 /// A mark in the last of four cells.
 const LAST: &[u8] = b"GEXT\x04\0\x80\0\0\0\0\x80\0";
 
+/// The circles of the plain file with a mark in its first cell.
+const FIRST_CIRCLED: &[Part] = &[
+    Circle(1, 1, true),
+    Circle(1, 2, false),
+    Circle(2, 1, false),
+    Circle(2, 2, false),
+];
+
+/// A mark at a block is no circle.
+const CORNERS_CIRCLES: &[Part] = &[Circle(1, 1, false), Circle(1, 2, true), Circle(1, 3, false)];
+
 #[test]
 fn circles_marked_cells(rt: HostRuntime) {
-    let puzzle = read_puz(rt.alloc(), CIRCLED).expect(&rt, "the file is read");
-    assert!(rt; puzzle.circles.has(cell(1, 1)));
-    for (row, col) in [(1, 2), (2, 1), (2, 2)] {
-        assert!(rt; !puzzle.circles.has(cell(row, col)));
+    for (file, circles) in [(CIRCLED, FIRST_CIRCLED), (CORNERS_MARKED, CORNERS_CIRCLES)] {
+        let puzzle = read_puz(rt.alloc(), file).expect(&rt, "the file is read");
+        has_all(&rt, &puzzle, circles);
     }
+}
+
+#[test]
+fn writes_circles_that_were_marked(rt: HostRuntime) {
     for pieces in [
         (FIRST, b"\r\n".as_slice()),
         (FIRST, LAST),
@@ -45,10 +61,6 @@ fn circles_marked_cells(rt: HostRuntime) {
         writes(&rt, &followed(&rt, PLAIN, pieces), CIRCLED);
     }
     writes(&rt, CORNERS_MARKED, CORNERS_CIRCLED);
-    let corners = read_puz(rt.alloc(), CORNERS_MARKED).expect(&rt, "the file is read");
-    assert!(rt; !corners.circles.has(cell(1, 1)));
-    assert!(rt; corners.circles.has(cell(1, 2)));
-    assert!(rt; !corners.circles.has(cell(1, 3)));
 }
 
 #[test]

@@ -1,6 +1,8 @@
 //! Where text files leave their shape.
 use super::*;
 use crate::fault::Tag;
+use crate::tests::puzzles::cell;
+use std::test::Fail;
 
 /// What is wrong with text plain when only so many of its bytes are left.
 fn fault_of_cut(length: usize) -> Option<ReadFault> {
@@ -111,20 +113,17 @@ fn headers(rt: HostRuntime) -> Result<(), Fail> {
 /// NULs are looked for before anything else.
 #[test]
 fn nul_bytes(rt: HostRuntime) -> Result<(), Fail> {
-    let alloc = rt.alloc();
-    assert_eq!(rt; fault_of(alloc, &[b"\0"])?, Some(ReadFault::NulByte(0)));
-    assert_eq!(rt;
-        fault_of(alloc, &[b"no text\0\0"])?,
-        Some(ReadFault::NulByte(7))
-    );
-    assert_eq!(rt;
-        fault_of(alloc, &[PLAIN, b"\0"])?,
-        Some(ReadFault::NulByte(106))
-    );
-    assert_eq!(rt;
-        fault_of(alloc, &[PLAIN, b"<NOTEPAD>\n \0\n"])?,
-        Some(ReadFault::NulByte(117))
-    );
+    for (text, piece, offset) in [
+        (b"".as_slice(), b"\0".as_slice(), 0),
+        (b"", b"no text\0\0", 7),
+        (PLAIN, b"\0", 106),
+        (PLAIN, b"<NOTEPAD>\n \0\n", 117),
+    ] {
+        assert_eq!(rt;
+            fault_of(rt.alloc(), &[text, piece])?,
+            Some(ReadFault::NulByte(offset))
+        );
+    }
     Ok(())
 }
 
