@@ -4,9 +4,11 @@ mod reading;
 mod writing;
 
 use crate::fault::ReadFault;
-use crate::puzzle::Puzzle;
+use crate::tests::puzzles::{Part, has_all};
 use crate::text::read_text;
 use std::alloc::{AllocError, Global};
+use std::process::Abort;
+use xw_grid::cell::Symmetry;
 
 /// Text plain: two rows, AT and SO, with a clue for each of four lights.
 const PLAIN: &[u8] =
@@ -23,23 +25,31 @@ const ACROSS: &[u8] = b"<ACROSS>\na\nd\n";
 
 const DOWN: &[u8] = b"<DOWN>\nb\nc\n";
 
-/// Pieces one after another.
-fn joined(alloc: Global, pieces: &[&[u8]]) -> Result<Vec<u8>, AllocError> {
-    let mut bytes = Vec::new(alloc);
+fn extend_all(bytes: &mut Vec<u8>, pieces: &[&[u8]]) -> Result<(), AllocError> {
     for piece in pieces {
         bytes.extend_from_slice(piece)?;
     }
+    Ok(())
+}
+
+/// Pieces one after another.
+fn joined(alloc: Global, pieces: &[&[u8]]) -> Result<Vec<u8>, AllocError> {
+    let mut bytes = Vec::new(alloc);
+    extend_all(&mut bytes, pieces)?;
     Ok(bytes)
 }
 
-/// Why the pieces, one after another, are no text file.
-fn fault_of(alloc: Global, pieces: &[&[u8]]) -> Result<Option<ReadFault>, AllocError> {
-    let bytes = joined(alloc, pieces)?;
-    Ok(read_text(alloc, &bytes).err())
-}
-
-/// The puzzle that the pieces, one after another, spell.
-fn puzzle_of(alloc: Global, pieces: &[&[u8]]) -> Result<Puzzle, ReadFault> {
-    let bytes = joined(alloc, pieces)?;
-    read_text(alloc, &bytes)
+/// Reads the pieces, one after another, and looks for the parts of each table in the puzzle.
+fn reads(
+    rt: &(impl Abort + AllocGlobal),
+    pieces: &[&[u8]],
+    tables: &[&[Part]],
+) -> Result<(), ReadFault> {
+    let bytes = joined(rt.alloc(), pieces)?;
+    let puzzle = read_text(rt.alloc(), &bytes)?;
+    assert_eq!(rt; puzzle.grid.symmetry(), Symmetry::None);
+    for parts in tables {
+        has_all(rt, &puzzle, *parts);
+    }
+    Ok(())
 }

@@ -1,34 +1,22 @@
 //! What is read, and which fault is told first.
 use crate::fault::{Piece, ReadFault, SumName, TextName};
 use crate::kind::{Kind, kind_of};
-use crate::puz::read_puz;
 use crate::tests::puz::files::{
     ALL_TEXTS, BAD_CELL, BAD_CELL_AND_COUNT, CIRCLED, CLUE_COUNT, CORNERS, EMPTY_CELL, LOWER_CASE,
     MORE_CLUES, NO_CLUE, ONE_CELL, PLAIN, STARTED, TITLED, UNUSUAL, WIDE, WITH_NOTES,
 };
-use crate::tests::puz::{fault_of, writes};
+use crate::tests::puz::{fault_of, reads, writes};
 use crate::tests::puzzles::Part::{Author, Circle, Clue, Copyright, Notes, Size, Square, Title};
-use crate::tests::puzzles::{NO_TEXTS, PLAIN_PUZZLE, Part, cell, has_all};
+use crate::tests::puzzles::{NO_TEXTS, PLAIN_PUZZLE, Part};
+use std::alloc::AllocError;
 use std::process::Abort;
-use std::test::Fail;
-use xw_grid::cell::{Direction, Symmetry};
-
-/// Reads a file, and looks for the parts of each table in the puzzle.
-fn reads(rt: &(impl Abort + AllocGlobal), file: &[u8], tables: &[&[Part]]) -> Result<(), Fail> {
-    let puzzle = read_puz(rt.alloc(), file)?;
-    assert_eq!(rt; puzzle.grid.symmetry(), Symmetry::None);
-    for parts in tables {
-        has_all(rt, &puzzle, *parts);
-    }
-    Ok(())
-}
+use xw_grid::cell::{Cell, Direction};
 
 #[test]
-fn reads_the_plain_puzzle(rt: HostRuntime) -> Result<(), Fail> {
+fn reads_the_plain_puzzle(rt: HostRuntime) {
     for file in [PLAIN, STARTED, LOWER_CASE, UNUSUAL] {
-        reads(&rt, file, &[PLAIN_PUZZLE, NO_TEXTS])?;
+        reads(&rt, file, &[PLAIN_PUZZLE, NO_TEXTS]);
     }
-    Ok(())
 }
 
 const TEXTS: &[Part] = &[
@@ -69,11 +57,10 @@ const READ: &[(&[u8], &[Part])] = &[
 ];
 
 #[test]
-fn reads_other_puzzles(rt: HostRuntime) -> Result<(), Fail> {
+fn reads_other_puzzles(rt: HostRuntime) {
     for (file, parts) in READ {
-        reads(&rt, *file, &[*parts])?;
+        reads(&rt, *file, &[*parts]);
     }
-    Ok(())
 }
 
 #[test]
@@ -114,12 +101,17 @@ fn refuses_cut_files(rt: HostRuntime) {
     }
 }
 
-/// The plain file with one byte exclusive-or another.
-fn changed(rt: &(impl Abort + AllocGlobal), offset: usize, bits: u8) -> Vec<u8> {
-    let mut bytes = Vec::from_slice(rt.alloc(), PLAIN).expect(rt, "a copy");
+/// Turns bits of the byte at an offset.
+fn turn(bytes: &mut Vec<u8>, offset: usize, bits: u8) {
     if let Some(byte) = bytes.get_mut(offset) {
         *byte ^= bits;
     }
+}
+
+/// The plain file with one byte exclusive-or another.
+fn changed(rt: &(impl Abort + AllocGlobal), offset: usize, bits: u8) -> Vec<u8> {
+    let mut bytes = Vec::from_slice(rt.alloc(), PLAIN).expect(rt, "a copy");
+    turn(&mut bytes, offset, bits);
     bytes
 }
 
@@ -153,54 +145,70 @@ fn refuses_altered_files(rt: HostRuntime) {
             writes(&rt, &bytes, PLAIN);
         }
     }
-    for (offset, bits, fault) in [
-        (0x13, 1, ReadFault::BadSum(SumName::Masked(4))),
-        (0x32, 4, ReadFault::Scrambled),
-        (0x1A, b'3' ^ b'4', ReadFault::Version),
-        (0x00, 1, ReadFault::BadSum(SumName::File)),
-        (0x2C, 2, ReadFault::Size),
-        (0x2D, 2, ReadFault::Size),
-    ] {
-        assert_eq!(rt;
-            fault_of(&rt, &changed(&rt, offset, bits)),
-            Some(fault),
-            "at {offset}"
-        );
+}
+
+/// Bits of a byte of the plain file, and the fault when they are turned.
+type Turns = &'static [(usize, u8, ReadFault)];
+
+const ONE_TURNED: Turns = &[
+    (0x13, 1, ReadFault::BadSum(SumName::Masked(4))),
+    (0x32, 4, ReadFault::Scrambled),
+    (0x1A, b'3' ^ b'4', ReadFault::Version),
+    (0x00, 1, ReadFault::BadSum(SumName::File)),
+    (0x2C, 2, ReadFault::Size),
+    (0x2D, 2, ReadFault::Size),
+];
+
+#[test]
+fn refuses_turned_bits(rt: HostRuntime) {
+    for (offset, bits, fault) in ONE_TURNED {
+        let bytes = changed(&rt, *offset, *bits);
+        assert_eq!(rt; fault_of(&rt, &bytes), Some(*fault), "at {offset}");
+    }
+}
+
+const BAD_CELL_FOUND: ReadFault = ReadFault::BadCell(Cell { row: 2, col: 1 });
+
+/// Files with their first fault.
+const FIRST_FAULTS: &[(&[u8], ReadFault)] = &[
+    (CLUE_COUNT, ReadFault::ClueCount),
+    (MORE_CLUES, ReadFault::ClueCount),
+    (BAD_CELL, BAD_CELL_FOUND),
+    (BAD_CELL_AND_COUNT, BAD_CELL_FOUND),
+];
+
+#[test]
+fn tells_the_first_fault(rt: HostRuntime) {
+    for (file, fault) in FIRST_FAULTS {
+        assert_eq!(rt; fault_of(&rt, *file), Some(*fault));
+    }
+}
+
+/// Each fault before those that are left when its bits are turned back.
+const ALL_TURNED: Turns = &[
+    (0x02, 1, ReadFault::Magic),
+    (0x1A, 7, ReadFault::Version),
+    (0x32, 4, ReadFault::Scrambled),
+    (0x2D, 2, ReadFault::Size),
+    (0x10, 1, ReadFault::BadSum(SumName::Masked(1))),
+];
+
+fn turn_all(bytes: &mut Vec<u8>, turns: Turns) {
+    for (offset, bits, _) in turns {
+        turn(bytes, *offset, *bits);
     }
 }
 
 #[test]
-fn tells_the_first_fault(rt: HostRuntime) {
-    assert_eq!(rt; fault_of(&rt, CLUE_COUNT), Some(ReadFault::ClueCount));
-    assert_eq!(rt; fault_of(&rt, MORE_CLUES), Some(ReadFault::ClueCount));
-    assert_eq!(rt;
-        fault_of(&rt, BAD_CELL),
-        Some(ReadFault::BadCell(cell(2, 1)))
-    );
-    assert_eq!(rt;
-        fault_of(&rt, BAD_CELL_AND_COUNT),
-        Some(ReadFault::BadCell(cell(2, 1)))
-    );
-    // Each time the fault that was told is mended.
-    let mut bytes = changed(&rt, 0x02, 1);
-    for (offset, bits) in [(0x1A, 7), (0x32, 4), (0x2D, 2), (0x10, 1)] {
-        if let Some(byte) = bytes.get_mut(offset) {
-            *byte ^= bits;
-        }
-    }
-    for (offset, bits, fault) in [
-        (0x02, 1, ReadFault::Magic),
-        (0x1A, 7, ReadFault::Version),
-        (0x32, 4, ReadFault::Scrambled),
-        (0x2D, 2, ReadFault::Size),
-        (0x10, 1, ReadFault::BadSum(SumName::Masked(1))),
-    ] {
-        assert_eq!(rt; fault_of(&rt, &bytes), Some(fault), "at {offset}");
-        if let Some(byte) = bytes.get_mut(offset) {
-            *byte ^= bits;
-        }
+fn tells_the_first_fault_that_is_left(rt: HostRuntime) -> Result<(), AllocError> {
+    let mut bytes = Vec::from_slice(rt.alloc(), PLAIN)?;
+    turn_all(&mut bytes, ALL_TURNED);
+    for (offset, bits, fault) in ALL_TURNED {
+        assert_eq!(rt; fault_of(&rt, &bytes), Some(*fault), "at {offset}");
+        turn(&mut bytes, *offset, *bits);
     }
     writes(&rt, &bytes, PLAIN);
+    Ok(())
 }
 
 #[test]

@@ -1,12 +1,11 @@
 //! Sections after the notes.
 use crate::fault::ReadFault;
-use crate::puz::read_puz;
 use crate::tests::puz::files::{
     CIRCLED, CLUE_COUNT, CORNERS_CIRCLED, CORNERS_MARKED, PLAIN, STARTED, WITH_NOTES,
 };
-use crate::tests::puz::{fault_of, writes};
+use crate::tests::puz::{fault_of, reads, writes};
+use crate::tests::puzzles::Part;
 use crate::tests::puzzles::Part::Circle;
-use crate::tests::puzzles::{Part, has_all};
 use std::process::Abort;
 
 /// A file and two pieces after it.
@@ -40,72 +39,102 @@ const CORNERS_CIRCLES: &[Part] = &[Circle(1, 1, false), Circle(1, 2, true), Circ
 
 #[test]
 fn circles_marked_cells(rt: HostRuntime) {
-    for (file, circles) in [(CIRCLED, FIRST_CIRCLED), (CORNERS_MARKED, CORNERS_CIRCLES)] {
-        let puzzle = read_puz(rt.alloc(), file).expect(&rt, "the file is read");
-        has_all(&rt, &puzzle, circles);
+    reads(&rt, CIRCLED, &[FIRST_CIRCLED]);
+    reads(&rt, CORNERS_MARKED, &[CORNERS_CIRCLES]);
+    writes(&rt, CORNERS_MARKED, CORNERS_CIRCLED);
+}
+
+/// Two pieces after a file.
+type Pieces = (&'static [u8], &'static [u8]);
+
+const MARKS: &[Pieces] = &[
+    (FIRST, b"\r\n"),
+    (FIRST, LAST),
+    (FIRST, b"GEXT\x04\0\0\0\x80"),
+    (b"LTIM\x03\0\x12\x341,0\0", FIRST),
+    (b"NONE\0\0\x99\x99\0", FIRST),
+    (b"gext\x04\0\0\0\0\0\0\x80\0", FIRST),
+    // The other bits of a byte mean nothing.
+    (b"GEXT\x04\0\xBF\x20\xFF\x7F\x01\x7F\0", b""),
+];
+
+#[test]
+fn takes_the_first_marks(rt: HostRuntime) {
+    for pieces in MARKS {
+        writes(&rt, &followed(&rt, PLAIN, *pieces), CIRCLED);
     }
 }
 
-#[test]
-fn writes_circles_that_were_marked(rt: HostRuntime) {
-    for pieces in [
-        (FIRST, b"\r\n".as_slice()),
-        (FIRST, LAST),
-        (FIRST, b"GEXT\x04\0\0\0\x80"),
-        (b"LTIM\x03\0\x12\x341,0\0", FIRST),
-        (b"NONE\0\0\x99\x99\0", FIRST),
-        (b"gext\x04\0\0\0\0\0\0\x80\0", FIRST),
-        // The other bits of a byte mean nothing.
-        (b"GEXT\x04\0\xBF\x20\xFF\x7F\x01\x7F\0", b""),
-    ] {
-        writes(&rt, &followed(&rt, PLAIN, pieces), CIRCLED);
-    }
-    writes(&rt, CORNERS_MARKED, CORNERS_CIRCLED);
-}
+const NOT_WHOLE: &[Pieces] = &[
+    (b"\r\n", FIRST),
+    (b"\0", FIRST),
+    (b"gext\x04\0\x10\0\x80\0\0\0\0", b"GEX"),
+    // The closing byte is another one, or stands past the end.
+    (b"LTIM\x03\0\0\x001,0!", FIRST),
+    (b"LTIM\xFF\0\0\x001,0\0", FIRST),
+    (b"GEXT\x04\0\x10\0\x80\0\0\0!", FIRST),
+    (b"GEXT\x04\0\x10", b""),
+    (b"any bytes", b" at all"),
+];
+
+/// Files, each with what is written of it.
+const WRITTEN: &[(&[u8], &[u8])] = &[
+    (PLAIN, PLAIN),
+    (STARTED, PLAIN),
+    (WITH_NOTES, WITH_NOTES),
+    (CIRCLED, CIRCLED),
+];
 
 #[test]
 fn passes_over_what_is_not_whole(rt: HostRuntime) {
     writes(&rt, &CIRCLED[..84], PLAIN);
-    for pieces in [
-        (b"\r\n".as_slice(), FIRST),
-        (b"\0", FIRST),
-        (b"gext\x04\0\x10\0\x80\0\0\0\0", b"GEX"),
-        // The closing byte is another one, or stands past the end.
-        (b"LTIM\x03\0\0\x001,0!", FIRST),
-        (b"LTIM\xFF\0\0\x001,0\0", FIRST),
-        (b"GEXT\x04\0\x10\0\x80\0\0\0!", FIRST),
-        (b"GEXT\x04\0\x10", b""),
-        (b"any bytes", b" at all"),
-    ] {
-        writes(&rt, &followed(&rt, PLAIN, pieces), PLAIN);
-        writes(&rt, &followed(&rt, STARTED, pieces), PLAIN);
-        writes(&rt, &followed(&rt, WITH_NOTES, pieces), WITH_NOTES);
-        writes(&rt, &followed(&rt, CIRCLED, pieces), CIRCLED);
+    for pieces in NOT_WHOLE {
+        for (file, written) in WRITTEN {
+            writes(&rt, &followed(&rt, *file, *pieces), *written);
+        }
     }
 }
 
+const REFUSED: &[(&[u8], Pieces, ReadFault)] = &[
+    (
+        PLAIN,
+        (b"GEXT\x04\0\x11\0\x80\0\0\0\0", b""),
+        ReadFault::GextSum,
+    ),
+    (
+        PLAIN,
+        (b"GEXT\x03\0\x20\0\x80\0\0\0", b""),
+        ReadFault::GextSize,
+    ),
+    (PLAIN, (b"GEXT\0\0\0\0\0", b""), ReadFault::GextSize),
+    (
+        PLAIN,
+        (b"GEXT\x05\0\x08\0\x80\0\0\0\0\0", b""),
+        ReadFault::GextSize,
+    ),
+    // The length comes before the sum, and the first section decides.
+    (
+        PLAIN,
+        (b"GEXT\x03\0\x21\0\x80\0\0\0", b""),
+        ReadFault::GextSize,
+    ),
+    (
+        PLAIN,
+        (b"GEXT\x04\0\x11\0\x80\0\0\0\0", FIRST),
+        ReadFault::GextSum,
+    ),
+    (
+        PLAIN,
+        (b"GEXT\x03\0\x20\0\x80\0\0\0", FIRST),
+        ReadFault::GextSize,
+    ),
+    (CLUE_COUNT, (b"GEXT\0\0\0\0\0", b""), ReadFault::ClueCount),
+];
+
 #[test]
 fn refuses_sections(rt: HostRuntime) {
-    for (pieces, fault) in [
-        (
-            (b"GEXT\x04\0\x11\0\x80\0\0\0\0".as_slice(), b"".as_slice()),
-            ReadFault::GextSum,
-        ),
-        ((b"GEXT\x03\0\x20\0\x80\0\0\0", b""), ReadFault::GextSize),
-        ((b"GEXT\0\0\0\0\0", b""), ReadFault::GextSize),
-        (
-            (b"GEXT\x05\0\x08\0\x80\0\0\0\0\0", b""),
-            ReadFault::GextSize,
-        ),
-        // The length comes before the sum, and the first section decides.
-        ((b"GEXT\x03\0\x21\0\x80\0\0\0", b""), ReadFault::GextSize),
-        ((b"GEXT\x04\0\x11\0\x80\0\0\0\0", FIRST), ReadFault::GextSum),
-        ((b"GEXT\x03\0\x20\0\x80\0\0\0", FIRST), ReadFault::GextSize),
-    ] {
-        assert_eq!(rt; fault_of(&rt, &followed(&rt, PLAIN, pieces)), Some(fault));
+    for (file, pieces, fault) in REFUSED {
+        let bytes = followed(&rt, *file, *pieces);
+        assert_eq!(rt; fault_of(&rt, &bytes), Some(*fault));
     }
-    assert_eq!(rt;
-        fault_of(&rt, &followed(&rt, CLUE_COUNT, (b"GEXT\0\0\0\0\0", b""))),
-        Some(ReadFault::ClueCount)
-    );
 }

@@ -1,17 +1,16 @@
 //! What is written, and what refuses.
 use crate::fault::{TextName, WriteFault};
 use crate::kind::Kind;
-use crate::puz::{read_puz, write_puz};
+use crate::puz::write_puz;
 use crate::puzzle::Puzzle;
 use crate::tests::puz::files::{
     BLOCKED, CIRCLED, CIRCLED_LAST, CIRCLED_TWICE, NO_CLUE, PLAIN, TITLED, WITH_NOTES,
 };
+use crate::tests::puz::reads;
 use crate::tests::puzzles::Part::{
     Author, Bar, Circle, Clue, Copyright, Notes, Size, Square, Title,
 };
-use crate::tests::puzzles::{
-    PLAIN_PUZZLE, Part, Row, Wanted, cell, has_all, puzzle_with, writes_each,
-};
+use crate::tests::puzzles::{PLAIN_PUZZLE, Part, Row, Wanted, cell, puzzle_with, writes_each};
 use std::alloc::Global;
 use std::process::Abort;
 use std::test::Fail;
@@ -78,6 +77,11 @@ fn largest(alloc: Global, letter: Letter) -> Result<Puzzle, Fail> {
     Ok(puzzle)
 }
 
+fn largest_file(alloc: Global) -> Result<Vec<u8>, Fail> {
+    let puzzle = largest(alloc, Letter::first())?;
+    Ok(write_puz(alloc, &puzzle)?)
+}
+
 const LAST_CELLS: &[Part] = &[
     Size(255, 255),
     Square(255, 255, b'A'),
@@ -87,11 +91,10 @@ const LAST_CELLS: &[Part] = &[
 
 #[test]
 fn keeps_the_largest_grid(rt: HostRuntime) -> Result<(), Fail> {
-    let puzzle = largest(rt.alloc(), Letter::first())?;
-    let bytes = write_puz(rt.alloc(), &puzzle)?;
+    let bytes = largest_file(rt.alloc())?;
     // A header, three bytes for each cell, a NUL for each of four texts and 510 clues, and those of a section.
     assert_eq!(rt; bytes.len(), 52 + 3 * 65025 + 4 + 510 + 9);
-    has_all(&rt, &read_puz(rt.alloc(), &bytes)?, LAST_CELLS);
+    reads(&rt, &bytes, &[LAST_CELLS]);
     Ok(())
 }
 

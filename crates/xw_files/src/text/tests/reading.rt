@@ -1,29 +1,13 @@
 //! What text files are read as.
 use super::*;
 use crate::tests::puzzles::Part::{Author, Bar, Clue, Copyright, Notes, Size, Square, Title};
-use crate::tests::puzzles::{NO_TEXTS, PLAIN_PUZZLE, Part, has_all};
-use std::process::Abort;
-use std::test::Fail;
-use xw_grid::cell::{Direction, Side, Symmetry};
-
-/// Reads the pieces, one after another, and looks for the parts of each table in the puzzle.
-fn reads(
-    rt: &(impl Abort + AllocGlobal),
-    pieces: &[&[u8]],
-    tables: &[&[Part]],
-) -> Result<(), Fail> {
-    let puzzle = puzzle_of(rt.alloc(), pieces)?;
-    assert_eq!(rt; puzzle.grid.symmetry(), Symmetry::None);
-    for parts in tables {
-        has_all(rt, &puzzle, *parts);
-    }
-    Ok(())
-}
+use crate::tests::puzzles::{NO_TEXTS, PLAIN_PUZZLE};
+use xw_grid::cell::{Direction, Side};
 
 const NO_BAR: &[Part] = &[Bar(1, 1, Side::Right, false), Bar(1, 1, Side::Below, false)];
 
 #[test]
-fn text_plain(rt: HostRuntime) -> Result<(), Fail> {
+fn text_plain(rt: HostRuntime) -> Result<(), ReadFault> {
     reads(&rt, &[PLAIN], &[PLAIN_PUZZLE, NO_TEXTS, NO_BAR])?;
     reads(
         &rt,
@@ -41,7 +25,7 @@ const OTHER_SPELLINGS: &[u8] =
     b"\xEF\xBB\xBF<across puzzle>\n<Title>\n<author>\n<copyRIGHT>\n<size>\n2x2\n<grid>\nat\nSo\n<across>\na\nd\n<down>\nb\nc";
 
 #[test]
-fn other_spellings(rt: HostRuntime) -> Result<(), Fail> {
+fn other_spellings(rt: HostRuntime) -> Result<(), ReadFault> {
     for text in [OTHER_LINE_ENDS, OTHER_SPELLINGS] {
         reads(&rt, &[text], &[PLAIN_PUZZLE, NO_TEXTS])?;
     }
@@ -56,7 +40,7 @@ const ONE_LINE_EACH: &[Part] = &[
 ];
 
 #[test]
-fn texts_of_one_line(rt: HostRuntime) -> Result<(), Fail> {
+fn texts_of_one_line(rt: HostRuntime) -> Result<(), ReadFault> {
     let top: &[u8] =
         b"<ACROSS PUZZLE>\n<TITLE>\n\t A \xE9 <B \n<AUTHOR>\n#\n<COPYRIGHT>\n\xC2\xA0\n";
     reads(
@@ -77,7 +61,7 @@ const CARRIAGE_RETURNS: &[Part] = &[
 ];
 
 #[test]
-fn carriage_returns_stay(rt: HostRuntime) -> Result<(), Fail> {
+fn carriage_returns_stay(rt: HostRuntime) -> Result<(), ReadFault> {
     let top: &[u8] = b"<ACROSS PUZZLE>\n<TITLE>\n\r\r\n<AUTHOR>\nx\r \n<COPYRIGHT>\n\x0B\x0C\n";
     let down: &[u8] = b"<DOWN>\n\ry\nc\r";
     reads(&rt, &[top, SIZE, ROWS, ACROSS, down], &[CARRIAGE_RETURNS])
@@ -96,7 +80,7 @@ const NOTES: &[(&[u8], &[Part])] = &[
 ];
 
 #[test]
-fn notes(rt: HostRuntime) -> Result<(), Fail> {
+fn notes(rt: HostRuntime) -> Result<(), ReadFault> {
     for (lines, notes) in NOTES {
         reads(
             &rt,
@@ -109,7 +93,7 @@ fn notes(rt: HostRuntime) -> Result<(), Fail> {
 
 /// Blanks beside the x and zeros before the digits tell nothing.
 #[test]
-fn sizes(rt: HostRuntime) -> Result<(), Fail> {
+fn sizes(rt: HostRuntime) -> Result<(), ReadFault> {
     for size in [b"2X2".as_slice(), b"2 \tx\t 2", b"002x02", b" 2x 002 "] {
         reads(
             &rt,
@@ -123,7 +107,7 @@ fn sizes(rt: HostRuntime) -> Result<(), Fail> {
 const ONE_ROW: &[Part] = &[Size(255, 1), Square(1, 255, b'.')];
 
 #[test]
-fn longest_side(rt: HostRuntime) -> Result<(), Fail> {
+fn longest_side(rt: HostRuntime) -> Result<(), ReadFault> {
     let row = [b'.'; 255];
     reads(
         &rt,
@@ -149,7 +133,7 @@ const BLOCKS: &[Part] = &[
 ];
 
 #[test]
-fn blocks_and_empty_cells(rt: HostRuntime) -> Result<(), Fail> {
+fn blocks_and_empty_cells(rt: HostRuntime) -> Result<(), ReadFault> {
     let body: &[u8] = b"<SIZE>\n3x2\n<GRID>\n.a-\nb.c\n<ACROSS>\none\n<DOWN>\ntwo\n";
     reads(&rt, &[TOP, body], &[BLOCKS])
 }
