@@ -207,7 +207,7 @@ fn answers(engine: &mut Plain, edit: &Edit<'_>, wanted: Result<Cells, Refusal>) 
     }
 }
 
-fn answers_to(engine: &mut Plain, spelled: Do, wanted: Result<Cells, Refusal>) -> bool {
+fn answers_spelled(engine: &mut Plain, spelled: Do, wanted: Result<Cells, Refusal>) -> bool {
     match edit_of(spelled) {
         Some(edit) => answers(engine, &edit, wanted),
         None => false,
@@ -230,8 +230,8 @@ fn is_light(light: Option<Light>, name: LightName, start: Cell, size: u32) -> bo
 /// Whether a call answers as the table says.
 fn goes(alloc: Global, engine: &mut Plain, step: Step) -> Result<bool, Refusal> {
     Ok(match step {
-        Step::Told(edit, cells) => answers_to(engine, edit, Ok(cells)),
-        Step::Refused(edit, refusal) => answers_to(engine, edit, Err(refusal)),
+        Step::Told(edit, cells) => answers_spelled(engine, edit, Ok(cells)),
+        Step::Refused(edit, refusal) => answers_spelled(engine, edit, Err(refusal)),
         Step::Regrid(width, height) => regrid(alloc, engine, width, height)?,
         Step::Size(width, height) => is_size(engine.grid(), width, height),
         Step::Known(length, count) => engine.bank().known(length) == count,
@@ -263,7 +263,7 @@ fn pass(
 }
 
 /// Makes the calls of each table, in turn, of one engine.
-fn passes(
+fn pass_from(
     rt: &(impl Abort + AllocGlobal),
     start: Start,
     tables: &[&[Step]],

@@ -160,7 +160,7 @@ fn pass(
 }
 
 /// Makes the calls of a table of a new engine.
-fn passes(rt: &(impl Abort + AllocGlobal), start: Start, steps: &[Step]) -> Result<(), Refusal> {
+fn pass_from(rt: &(impl Abort + AllocGlobal), start: Start, steps: &[Step]) -> Result<(), Refusal> {
     let (width, height, texts) = start;
     let mut engine = engine(rt.alloc(), width, height)?;
     add_all(&mut engine, texts)?;
@@ -177,7 +177,7 @@ const WITHIN_A_LIMIT: &[Step] = &[
 
 #[test]
 fn square_filled_within_a_limit(rt: HostRuntime) -> Result<(), Refusal> {
-    passes(&rt, SQUARE, WITHIN_A_LIMIT)
+    pass_from(&rt, SQUARE, WITHIN_A_LIMIT)
 }
 
 const REPEATS_ALONE: &[Step] = &[
@@ -201,7 +201,7 @@ const REPEATS_ALONE: &[Step] = &[
 
 #[test]
 fn square_with_only_repeats_left(rt: HostRuntime) -> Result<(), Refusal> {
-    passes(&rt, SQUARE, REPEATS_ALONE)
+    pass_from(&rt, SQUARE, REPEATS_ALONE)
 }
 
 const THREE_TIMES: &[Step] = &[
@@ -231,7 +231,7 @@ const THREE_TIMES: &[Step] = &[
 
 #[test]
 fn one_word_three_times(rt: HostRuntime) -> Result<(), Refusal> {
-    passes(&rt, (2, 5, &[b"AS"]), THREE_TIMES)
+    pass_from(&rt, (2, 5, &[b"AS"]), THREE_TIMES)
 }
 
 const NOTHING_TO_ENTER: &[Step] = &[
@@ -242,7 +242,7 @@ const NOTHING_TO_ENTER: &[Step] = &[
 
 #[test]
 fn grid_without_lights(rt: HostRuntime) -> Result<(), Refusal> {
-    passes(&rt, (1, 1, &[]), NOTHING_TO_ENTER)
+    pass_from(&rt, (1, 1, &[]), NOTHING_TO_ENTER)
 }
 
 const LIMIT_NOUGHT: &[Step] = &[
@@ -254,7 +254,7 @@ const LIMIT_NOUGHT: &[Step] = &[
 
 #[test]
 fn fill_with_limit_nought(rt: HostRuntime) -> Result<(), Refusal> {
-    passes(&rt, SQUARE, LIMIT_NOUGHT)
+    pass_from(&rt, SQUARE, LIMIT_NOUGHT)
 }
 
 /// To try TO in 2 down.
@@ -277,7 +277,7 @@ const EMPTIED: &[Step] = &[
 
 #[test]
 fn square_emptied_and_proposed(rt: HostRuntime) -> Result<(), Refusal> {
-    passes(&rt, SQUARE, EMPTIED)
+    pass_from(&rt, SQUARE, EMPTIED)
 }
 
 const UNLISTED_ENTRIES: &[Step] = &[
@@ -293,7 +293,7 @@ const UNLISTED_ENTRIES: &[Step] = &[
 
 #[test]
 fn unlisted_entries_complete_a_square(rt: HostRuntime) -> Result<(), Refusal> {
-    passes(&rt, SQUARE, UNLISTED_ENTRIES)
+    pass_from(&rt, SQUARE, UNLISTED_ENTRIES)
 }
 
 const OUTSIDE_THE_DICTIONARY: &[Step] = &[
@@ -311,5 +311,5 @@ const OUTSIDE_THE_DICTIONARY: &[Step] = &[
 
 #[test]
 fn entered_word_outside_the_dictionary(rt: HostRuntime) -> Result<(), Refusal> {
-    passes(&rt, (3, 1, &[b"CAT"]), OUTSIDE_THE_DICTIONARY)
+    pass_from(&rt, (3, 1, &[b"CAT"]), OUTSIDE_THE_DICTIONARY)
 }

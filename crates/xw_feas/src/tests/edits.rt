@@ -6,7 +6,7 @@ use crate::tests::Do::{Add, Bar, Block, Choose, Clear, Place, Set, Strike};
 use crate::tests::Step::{Count, Letters, Lights, Next, NoLight, Regrid, Told, Words};
 use crate::tests::{
     ACROSS_1, ACROSS_2, ACROSS_3, ALL, DOWN_1, DOWN_2, SQUARE, Step, WHOLE_SQUARE, at, engine,
-    pass, passes,
+    pass, pass_from,
 };
 use xw_grid::cell::{Side, Symmetry};
 use xw_words::letter::Letter;
@@ -24,7 +24,7 @@ const ONE_ENTRY: &[Step] = &[
 
 #[test]
 fn square_with_one_entry(rt: HostRuntime) -> Result<(), Refusal> {
-    passes(&rt, SQUARE, &[ONE_ENTRY])
+    pass_from(&rt, SQUARE, &[ONE_ENTRY])
 }
 
 const EMPTIED: &[Step] = &[
@@ -45,7 +45,7 @@ const RESTORED: &[Step] = &[Told(
 
 #[test]
 fn square_emptied_and_restored(rt: HostRuntime) -> Result<(), Refusal> {
-    passes(&rt, SQUARE, &[EMPTIED, RESTORED, WHOLE_SQUARE])
+    pass_from(&rt, SQUARE, &[EMPTIED, RESTORED, WHOLE_SQUARE])
 }
 
 const CORNERS_BLOCKED: &[Step] = &[
@@ -56,7 +56,7 @@ const CORNERS_BLOCKED: &[Step] = &[
 
 #[test]
 fn square_blocked_under_the_watch(rt: HostRuntime) -> Result<(), Refusal> {
-    passes(&rt, SQUARE, &[CORNERS_BLOCKED])
+    pass_from(&rt, SQUARE, &[CORNERS_BLOCKED])
 }
 
 const UNKNOWN_WORD: &[Step] = &[
@@ -71,7 +71,7 @@ const UNKNOWN_WORD: &[Step] = &[
 
 #[test]
 fn unknown_word_placed(rt: HostRuntime) -> Result<(), Refusal> {
-    passes(&rt, (3, 1, &[b"CAT"]), &[UNKNOWN_WORD])
+    pass_from(&rt, (3, 1, &[b"CAT"]), &[UNKNOWN_WORD])
 }
 
 const KNOWN_WORD: &[Step] = &[
@@ -84,7 +84,7 @@ const KNOWN_WORD: &[Step] = &[
 
 #[test]
 fn known_word_placed_and_struck(rt: HostRuntime) -> Result<(), Refusal> {
-    passes(&rt, (3, 1, &[b"CAT"]), &[KNOWN_WORD])
+    pass_from(&rt, (3, 1, &[b"CAT"]), &[KNOWN_WORD])
 }
 
 const UNLISTED_ENTRIES: &[Step] = &[
@@ -105,7 +105,7 @@ const UNLISTED_ENTRIES: &[Step] = &[
 
 #[test]
 fn unlisted_entries_complete_a_square(rt: HostRuntime) -> Result<(), Refusal> {
-    passes(&rt, SQUARE, &[UNLISTED_ENTRIES])
+    pass_from(&rt, SQUARE, &[UNLISTED_ENTRIES])
 }
 
 const PARTED: &[Step] = &[
@@ -126,7 +126,7 @@ const PARTED: &[Step] = &[
 
 #[test]
 fn bar_parts_a_row(rt: HostRuntime) -> Result<(), Refusal> {
-    passes(&rt, (4, 1, &[b"OVER", b"ON"]), &[PARTED])
+    pass_from(&rt, (4, 1, &[b"OVER", b"ON"]), &[PARTED])
 }
 
 const ONE_MORE: &[Step] = &[
@@ -170,7 +170,7 @@ const ONE_ROW: &[Step] = &[
 
 #[test]
 fn another_grid_for_the_square(rt: HostRuntime) -> Result<(), Refusal> {
-    passes(&rt, SQUARE, &[ONE_ROW, WHOLE_SQUARE])
+    pass_from(&rt, SQUARE, &[ONE_ROW, WHOLE_SQUARE])
 }
 
 #[test]

@@ -2,7 +2,9 @@
 use crate::edit::{Found, Refusal};
 use crate::tests::Do::Block;
 use crate::tests::Step::{Known, Letters, Light, Lights, Next, NoLetters, NoLight, Size, Told};
-use crate::tests::{ACROSS_1, ACROSS_3, ALL, DOWN_1, DOWN_2, SQUARE, Step, WHOLE_SQUARE, passes};
+use crate::tests::{
+    ACROSS_1, ACROSS_3, ALL, DOWN_1, DOWN_2, SQUARE, Step, WHOLE_SQUARE, pass_from,
+};
 use xw_grid::fault::GridFault;
 
 const LIGHTS: &[Step] = &[
@@ -17,7 +19,7 @@ const LIGHTS: &[Step] = &[
 
 #[test]
 fn square_of_five_words(rt: HostRuntime) -> Result<(), Refusal> {
-    passes(&rt, SQUARE, &[LIGHTS, WHOLE_SQUARE])
+    pass_from(&rt, SQUARE, &[LIGHTS, WHOLE_SQUARE])
 }
 
 const PLACES: &[Step] = &[
@@ -31,7 +33,7 @@ const PLACES: &[Step] = &[
 
 #[test]
 fn places_of_feasible_words(rt: HostRuntime) -> Result<(), Refusal> {
-    passes(&rt, SQUARE, &[PLACES])
+    pass_from(&rt, SQUARE, &[PLACES])
 }
 
 const CORNER_BLOCKED: &[Step] = &[
@@ -47,12 +49,12 @@ const CORNER_BLOCKED: &[Step] = &[
 
 #[test]
 fn queries_of_what_is_not_there(rt: HostRuntime) -> Result<(), Refusal> {
-    passes(&rt, SQUARE, &[CORNER_BLOCKED])
+    pass_from(&rt, SQUARE, &[CORNER_BLOCKED])
 }
 
 const ONE_CELL: &[Step] = &[Letters(1, 1, ALL), Lights(0)];
 
 #[test]
 fn one_cell(rt: HostRuntime) -> Result<(), Refusal> {
-    passes(&rt, (1, 1, &[]), &[ONE_CELL])
+    pass_from(&rt, (1, 1, &[]), &[ONE_CELL])
 }

@@ -2,7 +2,7 @@
 use crate::edit::Refusal;
 use crate::tests::Do::{Add, Bar, Block, Choose, Clear, Place, Set, Strike};
 use crate::tests::Step::{Refused, Told, Words};
-use crate::tests::{ACROSS_1, ACROSS_2, SQUARE, Step, passes};
+use crate::tests::{ACROSS_1, ACROSS_2, SQUARE, Step, pass_from};
 use xw_grid::cell::{Side, Symmetry};
 use xw_grid::fault::GridFault;
 use xw_words::fault::WordFault;
@@ -38,8 +38,8 @@ const IN_A_ROW: &[Step] = &[Refused(Choose(Symmetry::Quarter), NOT_SQUARE)];
 
 #[test]
 fn edits_of_cells_refused(rt: HostRuntime) -> Result<(), Refusal> {
-    passes(&rt, SQUARE, &[IN_A_SQUARE])?;
-    passes(&rt, (2, 1, &[]), &[IN_A_ROW])
+    pass_from(&rt, SQUARE, &[IN_A_SQUARE])?;
+    pass_from(&rt, (2, 1, &[]), &[IN_A_ROW])
 }
 
 const BAD_FIRST: Refusal = Refusal::Word(WordFault::BadLetter(1));
@@ -70,5 +70,5 @@ const WITH_WORDS: &[Step] = &[
 
 #[test]
 fn edits_with_words_refused(rt: HostRuntime) -> Result<(), Refusal> {
-    passes(&rt, (3, 1, &[b"CAT"]), &[WITH_WORDS])
+    pass_from(&rt, (3, 1, &[b"CAT"]), &[WITH_WORDS])
 }

@@ -6,9 +6,8 @@ mod writing;
 
 use crate::fault::ReadFault;
 use crate::puz::{read_puz, write_puz};
-use crate::tests::puzzles::{Part, has_all};
+use crate::tests::puzzles::{Part, is_read_as};
 use std::process::Abort;
-use xw_grid::cell::Symmetry;
 
 fn fault_of(rt: &(impl Abort + AllocGlobal), bytes: &[u8]) -> Option<ReadFault> {
     read_puz(rt.alloc(), bytes).err()
@@ -17,10 +16,7 @@ fn fault_of(rt: &(impl Abort + AllocGlobal), bytes: &[u8]) -> Option<ReadFault> 
 /// Reads a file, and looks for the parts of each table in the puzzle.
 fn reads(rt: &(impl Abort + AllocGlobal), file: &[u8], tables: &[&[Part]]) {
     let puzzle = read_puz(rt.alloc(), file).expect(rt, "the file is read");
-    assert_eq!(rt; puzzle.grid.symmetry(), Symmetry::None);
-    for parts in tables {
-        has_all(rt, &puzzle, *parts);
-    }
+    is_read_as(rt, &puzzle, tables);
 }
 
 /// Reads a file, and writes what was read.

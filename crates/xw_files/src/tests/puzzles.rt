@@ -7,7 +7,7 @@ use crate::text::write_text;
 use std::alloc::Global;
 use std::process::Abort;
 use std::test::Fail;
-use xw_grid::cell::{Cell, Direction, Side};
+use xw_grid::cell::{Cell, Direction, Side, Symmetry};
 use xw_grid::circles::Circles;
 use xw_grid::clues::Clues;
 use xw_grid::grid::Grid;
@@ -95,7 +95,7 @@ pub fn put(alloc: Global, puzzle: &mut Puzzle, part: Part) -> Result<(), Fail> {
     Ok(())
 }
 
-pub fn put_all(alloc: Global, puzzle: &mut Puzzle, parts: &[Part]) -> Result<(), Fail> {
+fn put_all(alloc: Global, puzzle: &mut Puzzle, parts: &[Part]) -> Result<(), Fail> {
     for part in parts {
         put(alloc, puzzle, *part)?;
     }
@@ -150,9 +150,17 @@ fn has(puzzle: &Puzzle, part: Part) -> bool {
     }
 }
 
-pub fn has_all(rt: &impl Abort, puzzle: &Puzzle, parts: &[Part]) {
+fn has_all(rt: &impl Abort, puzzle: &Puzzle, parts: &[Part]) {
     for (place, part) in parts.iter().enumerate() {
         assert!(rt; has(puzzle, *part), "part {place}");
+    }
+}
+
+/// Looks for the parts of each table in a puzzle that was read.
+pub fn is_read_as(rt: &impl Abort, puzzle: &Puzzle, tables: &[&[Part]]) {
+    assert_eq!(rt; puzzle.grid.symmetry(), Symmetry::None);
+    for parts in tables {
+        has_all(rt, puzzle, *parts);
     }
 }
 
@@ -178,17 +186,13 @@ fn gives(alloc: Global, kind: Kind, puzzle: &Puzzle, wanted: Wanted) -> bool {
     }
 }
 
-/// Puts the parts of one row after another, and compares what each time is written.
-pub fn writes_each(
-    rt: &(impl Abort + AllocGlobal),
-    kind: Kind,
-    puzzle: &mut Puzzle,
-    rows: &[Row],
-) -> Result<(), Fail> {
+/// Puts parts into the plain puzzle, row by row, and compares what each time is written.
+pub fn writes_each(rt: &(impl Abort + AllocGlobal), kind: Kind, rows: &[Row]) -> Result<(), Fail> {
+    let mut puzzle = puzzle_with(rt.alloc(), PLAIN_PUZZLE)?;
     for (place, row) in rows.iter().enumerate() {
         let (parts, wanted) = *row;
-        put_all(rt.alloc(), puzzle, parts)?;
-        assert!(rt; gives(rt.alloc(), kind, puzzle, wanted), "at row {place}");
+        put_all(rt.alloc(), &mut puzzle, parts)?;
+        assert!(rt; gives(rt.alloc(), kind, &puzzle, wanted), "at row {place}");
     }
     Ok(())
 }

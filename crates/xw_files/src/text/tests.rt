@@ -4,11 +4,10 @@ mod reading;
 mod writing;
 
 use crate::fault::ReadFault;
-use crate::tests::puzzles::{Part, has_all};
+use crate::tests::puzzles::{Part, is_read_as};
 use crate::text::read_text;
 use std::alloc::{AllocError, Global};
 use std::process::Abort;
-use xw_grid::cell::Symmetry;
 
 /// Text plain: two rows, AT and SO, with a clue for each of four lights.
 const PLAIN: &[u8] =
@@ -47,9 +46,6 @@ fn reads(
 ) -> Result<(), ReadFault> {
     let bytes = joined(rt.alloc(), pieces)?;
     let puzzle = read_text(rt.alloc(), &bytes)?;
-    assert_eq!(rt; puzzle.grid.symmetry(), Symmetry::None);
-    for parts in tables {
-        has_all(rt, &puzzle, *parts);
-    }
+    is_read_as(rt, &puzzle, tables);
     Ok(())
 }

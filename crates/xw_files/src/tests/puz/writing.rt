@@ -10,18 +10,11 @@ use crate::tests::puz::reads;
 use crate::tests::puzzles::Part::{
     Author, Bar, Circle, Clue, Copyright, Notes, Size, Square, Title,
 };
-use crate::tests::puzzles::{PLAIN_PUZZLE, Part, Row, Wanted, cell, puzzle_with, writes_each};
+use crate::tests::puzzles::{Part, Row, Wanted, cell, puzzle_with, writes_each};
 use std::alloc::Global;
-use std::process::Abort;
 use std::test::Fail;
 use xw_grid::cell::{Cell, Direction, Side};
 use xw_words::letter::Letter;
-
-/// Puts parts into the plain puzzle, row by row, and compares what each time is written.
-fn writes(rt: &(impl Abort + AllocGlobal), rows: &[Row]) -> Result<(), Fail> {
-    let mut puzzle = puzzle_with(rt.alloc(), PLAIN_PUZZLE)?;
-    writes_each(rt, Kind::Puz, &mut puzzle, rows)
-}
 
 const ONE_TEXT: &[Row] = &[
     (&[], Ok(PLAIN)),
@@ -31,7 +24,7 @@ const ONE_TEXT: &[Row] = &[
 
 #[test]
 fn writes_the_plain_file(rt: HostRuntime) -> Result<(), Fail> {
-    writes(&rt, ONE_TEXT)
+    writes_each(&rt, Kind::Puz, ONE_TEXT)
 }
 
 const CIRCLES: &[Row] = &[
@@ -45,7 +38,7 @@ const CIRCLES: &[Row] = &[
 
 #[test]
 fn writes_circles(rt: HostRuntime) -> Result<(), Fail> {
-    writes(&rt, CIRCLES)
+    writes_each(&rt, Kind::Puz, CIRCLES)
 }
 
 const OUTSIDE: &[Part] = &[
@@ -63,7 +56,7 @@ const HIDDEN: &[Row] = &[
 
 #[test]
 fn leaves_out_what_is_hidden(rt: HostRuntime) -> Result<(), Fail> {
-    writes(&rt, HIDDEN)
+    writes_each(&rt, Kind::Puz, HIDDEN)
 }
 
 /// The largest grid with one letter in each cell, and a circle in the last.
@@ -130,7 +123,7 @@ const FAULTS: &[Row] = &[
 
 #[test]
 fn tells_the_first_fault(rt: HostRuntime) -> Result<(), Fail> {
-    writes(&rt, FAULTS)
+    writes_each(&rt, Kind::Puz, FAULTS)
 }
 
 const BAR_BESIDE_A_BLOCK: &[Row] = &[
@@ -143,5 +136,5 @@ const BAR_BESIDE_A_BLOCK: &[Row] = &[
 
 #[test]
 fn refuses_bars_beside_blocks(rt: HostRuntime) -> Result<(), Fail> {
-    writes(&rt, BAR_BESIDE_A_BLOCK)
+    writes_each(&rt, Kind::Puz, BAR_BESIDE_A_BLOCK)
 }

@@ -10,12 +10,6 @@ use crate::text::write_text;
 use std::test::Fail;
 use xw_grid::cell::{Cell, Direction, Side};
 
-/// Puts parts into the puzzle of text plain, row by row, and compares what each time is written.
-fn writes(rt: &(impl Abort + AllocGlobal), rows: &[Row]) -> Result<(), Fail> {
-    let mut puzzle = puzzle_with(rt.alloc(), PLAIN_PUZZLE)?;
-    writes_each(rt, Kind::Text, &mut puzzle, rows)
-}
-
 /// Reads a text, and compares it with what is written of the puzzle.
 fn keeps(rt: &(impl Abort + AllocGlobal), text: &[u8]) -> Result<(), Fail> {
     let puzzle = read_text(rt.alloc(), text)?;
@@ -26,7 +20,7 @@ fn keeps(rt: &(impl Abort + AllocGlobal), text: &[u8]) -> Result<(), Fail> {
 
 #[test]
 fn text_plain(rt: HostRuntime) -> Result<(), Fail> {
-    writes(&rt, &[(&[], Ok(PLAIN))])?;
+    writes_each(&rt, Kind::Text, &[(&[], Ok(PLAIN))])?;
     keeps(&rt, PLAIN)
 }
 
@@ -44,7 +38,7 @@ const WITH_TEXTS: &[u8] =
 
 #[test]
 fn all_texts(rt: HostRuntime) -> Result<(), Fail> {
-    writes(&rt, &[(TEXTS, Ok(WITH_TEXTS))])?;
+    writes_each(&rt, Kind::Text, &[(TEXTS, Ok(WITH_TEXTS))])?;
     Ok(reads(&rt, &[WITH_TEXTS], &[TEXTS])?)
 }
 
@@ -79,7 +73,7 @@ const ONE_CELL_FILLED: &[Row] = &[
 
 #[test]
 fn one_cell(rt: HostRuntime) -> Result<(), Fail> {
-    writes(&rt, ONE_CELL_FILLED)
+    writes_each(&rt, Kind::Text, ONE_CELL_FILLED)
 }
 
 const BLOCKED: &[u8] =
@@ -90,7 +84,7 @@ const HIDDEN: &[Part] = &[Square(1, 1, b'.'), Circle(1, 1, true), Circle(3, 3, t
 
 #[test]
 fn hidden_parts(rt: HostRuntime) -> Result<(), Fail> {
-    writes(&rt, &[(HIDDEN, Ok(BLOCKED))])
+    writes_each(&rt, Kind::Text, &[(HIDDEN, Ok(BLOCKED))])
 }
 
 const BARRED: Wanted = Err(WriteFault::Barred);
@@ -155,7 +149,7 @@ const FAULTS: &[Row] = &[
 
 #[test]
 fn faults_in_their_order(rt: HostRuntime) -> Result<(), Fail> {
-    writes(&rt, FAULTS)
+    writes_each(&rt, Kind::Text, FAULTS)
 }
 
 /// A bar refuses beside blocks too.
@@ -168,7 +162,7 @@ const BAR_BESIDE_BLOCKS: &[Part] = &[
 
 #[test]
 fn bar_beside_blocks(rt: HostRuntime) -> Result<(), Fail> {
-    writes(&rt, &[(BAR_BESIDE_BLOCKS, BARRED)])
+    writes_each(&rt, Kind::Text, &[(BAR_BESIDE_BLOCKS, BARRED)])
 }
 
 /// Why the puzzle of text plain has no text once it has this part.
