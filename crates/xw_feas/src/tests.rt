@@ -262,6 +262,17 @@ fn pass(
     Ok(())
 }
 
+fn pass_all(
+    rt: &(impl Abort + AllocGlobal),
+    engine: &mut Plain,
+    tables: &[&[Step]],
+) -> Result<(), Refusal> {
+    for steps in tables {
+        pass(rt, engine, *steps)?;
+    }
+    Ok(())
+}
+
 /// Makes the calls of each table, in turn, of one engine.
 fn pass_from(
     rt: &(impl Abort + AllocGlobal),
@@ -271,8 +282,5 @@ fn pass_from(
     let (width, height, texts) = start;
     let mut engine = engine(rt.alloc(), width, height)?;
     add_all(&mut engine, texts)?;
-    for steps in tables {
-        pass(rt, &mut engine, *steps)?;
-    }
-    Ok(())
+    pass_all(rt, &mut engine, tables)
 }
