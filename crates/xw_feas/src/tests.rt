@@ -1,46 +1,127 @@
-//! Worked examples, by calls on `Plain`.
+//! Worked examples, by calls on `Plain`: tables of calls, each with its answer.
+mod edits;
+mod queries;
+mod refusals;
+
 use crate::changed::Changed;
 use crate::edit::{Edit, Found, Refusal};
-use crate::feasible::{Feasible, run};
+use crate::feasible::Feasible;
 use crate::plain::Plain;
 use crate::words::{Spelled, words};
 use std::alloc::Global;
-use std::test::Fail;
+use std::process::Abort;
 use xw_grid::cell::{Cell, Direction, LightName, Side, Symmetry};
 use xw_grid::fault::GridFault;
 use xw_grid::grid::Grid;
 use xw_grid::lights::Light;
 use xw_words::bank::Bank;
-use xw_words::fault::WordFault;
 use xw_words::letter::Letter;
 use xw_words::letter_set::LetterSet;
 
+/// An edit as a table spells it: a letter by its byte, and a cell by row and column.
+#[derive(Clone, Copy)]
+enum Do {
+    Set(u32, u32, u8),
+    Clear(u32, u32),
+    Place(LightName, &'static [u8]),
+    Block(u32, u32),
+    Bar(u32, u32, Side),
+    Choose(Symmetry),
+    Add(&'static [u8]),
+    Strike(&'static [u8]),
+}
+
+/// Cells by row and column, each with its feasible letters.
+type Cells = &'static [(u32, u32, &'static [u8])];
+
+/// A call and its answer.
+#[derive(Clone, Copy)]
+enum Step {
+    /// An edit, and the cells that it tells.
+    Told(Do, Cells),
+    Refused(Do, Refusal),
+    /// Another grid of so many columns and rows.
+    Regrid(u32, u32),
+    /// How many columns and rows the grid has.
+    Size(u32, u32),
+    /// How many words of a length the dictionary has.
+    Known(usize, usize),
+    /// How many lights there are.
+    Lights(usize),
+    /// The name, the first cell and the length of the light at a place.
+    Light(usize, LightName, u32, u32, u32),
+    /// The feasible words of a light, in order, by each query.
+    Words(LightName, &'static [&'static [u8]]),
+    Count(LightName, usize),
+    /// The first feasible word of a light at a place or later.
+    Next(LightName, usize, Option<Found>),
+    /// A light that no query finds.
+    NoLight(LightName),
+    /// The feasible letters of a cell.
+    Letters(u32, u32, &'static [u8]),
+    NoLetters(u32, u32, GridFault),
+}
+
+const ACROSS_1: LightName = LightName {
+    number: 1,
+    direction: Direction::Across,
+};
+
+const DOWN_1: LightName = LightName {
+    number: 1,
+    direction: Direction::Down,
+};
+
+const ACROSS_2: LightName = LightName {
+    number: 2,
+    direction: Direction::Across,
+};
+
+const DOWN_2: LightName = LightName {
+    number: 2,
+    direction: Direction::Down,
+};
+
+const ACROSS_3: LightName = LightName {
+    number: 3,
+    direction: Direction::Across,
+};
+
 const ALL: &[u8] = b"ABCDEFGHIJKLMNOPQRSTUVWXYZ";
+
+/// A grid of so many columns and rows, and words for it.
+type Start = (u32, u32, &'static [&'static [u8]]);
+
+const SQUARE: Start = (2, 2, &[b"AS", b"AT", b"SO", b"TO", b"IN"]);
+
+/// What is feasible in the square while nothing is entered.
+const WHOLE_SQUARE: &[Step] = &[
+    Step::Words(ACROSS_1, &[b"AS", b"AT"]),
+    Step::Words(DOWN_1, &[b"AS", b"AT"]),
+    Step::Words(DOWN_2, &[b"SO", b"TO"]),
+    Step::Words(ACROSS_3, &[b"SO", b"TO"]),
+    Step::Letters(1, 1, b"A"),
+    Step::Letters(1, 2, b"ST"),
+    Step::Letters(2, 1, b"ST"),
+    Step::Letters(2, 2, b"O"),
+];
 
 fn at(row: u32, col: u32) -> Cell {
     Cell { row, col }
 }
 
-fn across(number: u16) -> LightName {
-    LightName {
-        number,
-        direction: Direction::Across,
-    }
-}
-
-fn down(number: u16) -> LightName {
-    LightName {
-        number,
-        direction: Direction::Down,
-    }
-}
-
-fn letter(byte: u8) -> Result<Letter, Fail> {
-    Ok(Letter::of(byte).ok_or("a letter")?)
-}
-
-fn light(name: LightName, start: Cell, size: u32) -> Option<Light> {
-    Some(Light { name, start, size })
+/// An edit as the engine takes it, if its byte is a letter.
+fn edit_of(spelled: Do) -> Option<Edit<'static>> {
+    Some(match spelled {
+        Do::Set(row, col, byte) => Edit::Set(at(row, col), Letter::of(byte)?),
+        Do::Clear(row, col) => Edit::Clear(at(row, col)),
+        Do::Place(name, text) => Edit::Place(name, text),
+        Do::Block(row, col) => Edit::Block(at(row, col)),
+        Do::Bar(row, col, side) => Edit::Bar(at(row, col), side),
+        Do::Choose(symmetry) => Edit::Symmetry(symmetry),
+        Do::Add(text) => Edit::Add(text),
+        Do::Strike(text) => Edit::Strike(text),
+    })
 }
 
 fn engine(alloc: Global, width: u32, height: u32) -> Result<Plain, Refusal> {
@@ -52,12 +133,6 @@ fn add_all(engine: &mut Plain, texts: &[&[u8]]) -> Result<(), Refusal> {
         let _ = engine.edit(&Edit::Add(*text))?;
     }
     Ok(())
-}
-
-fn square(alloc: Global) -> Result<Plain, Refusal> {
-    let mut square = engine(alloc, 2, 2)?;
-    add_all(&mut square, &[b"AS", b"AT", b"SO", b"TO", b"IN"])?;
-    Ok(square)
 }
 
 /// Whether a word that is lent has these letters.
@@ -86,6 +161,13 @@ fn lends(engine: &Plain, name: LightName, texts: &[&[u8]]) -> Result<bool, Refus
     Ok(left.next().is_none() && engine.word_count(name)? == texts.len())
 }
 
+/// Whether no query finds a light.
+fn lacks(engine: &Plain, name: LightName) -> bool {
+    words(engine, name).err() == Some(Refusal::NoLight)
+        && engine.word_count(name) == Err(Refusal::NoLight)
+        && engine.next_word(name, 0) == Err(Refusal::NoLight)
+}
+
 fn is_set_of(set: LetterSet, text: &[u8]) -> bool {
     for byte in text {
         match Letter::of(*byte) {
@@ -96,10 +178,6 @@ fn is_set_of(set: LetterSet, text: &[u8]) -> bool {
     set.len() == text.len()
 }
 
-fn allows(engine: &Plain, cell: Cell, text: &[u8]) -> Result<bool, Refusal> {
-    Ok(is_set_of(engine.letters(cell)?, text))
-}
-
 fn is_told(told: Option<(Cell, LetterSet)>, cell: Cell, text: &[u8]) -> bool {
     match told {
         Some((changed, letters)) => changed == cell && is_set_of(letters, text),
@@ -108,317 +186,101 @@ fn is_told(told: Option<(Cell, LetterSet)>, cell: Cell, text: &[u8]) -> bool {
 }
 
 /// Whether these cells were told to have changed, each with these letters now.
-fn tells(mut changed: Changed<'_>, cells: &[(Cell, &[u8])]) -> bool {
+fn tells(mut changed: Changed<'_>, cells: &[(u32, u32, &[u8])]) -> bool {
     for place in 0..cells.len() {
-        let (cell, text) = cells[place];
-        if !is_told(changed.next(), cell, text) {
+        let (row, col, text) = cells[place];
+        if !is_told(changed.next(), at(row, col), text) {
             return false;
         }
     }
     changed.next().is_none()
 }
 
-fn is_square(square: &Plain) -> Result<bool, Refusal> {
-    Ok(
-        lends(square, across(1), &[b"AS", b"AT"])?
-            && lends(square, down(1), &[b"AS", b"AT"])?
-            && lends(square, down(2), &[b"SO", b"TO"])?
-            && lends(square, across(3), &[b"SO", b"TO"])?
-            && allows(square, at(1, 1), b"A")?
-            && allows(square, at(1, 2), b"ST")?
-            && allows(square, at(2, 1), b"ST")?
-            && allows(square, at(2, 2), b"O")?,
-    )
-}
-
-#[test]
-fn square_of_five_words(rt: HostRuntime) -> Result<(), Fail> {
-    let square = square(rt.alloc())?;
-    let lights = square.lights();
-    assert_eq!(rt; lights.len(), 4);
-    assert_eq!(rt; lights.get(0), light(across(1), at(1, 1), 2));
-    assert_eq!(rt; lights.get(1), light(down(1), at(1, 1), 2));
-    assert_eq!(rt; lights.get(2), light(down(2), at(1, 2), 2));
-    assert_eq!(rt; lights.get(3), light(across(3), at(2, 1), 2));
-    assert!(rt; is_square(&square)?);
-    assert_eq!(rt; square.bank().known(2), 5);
-    assert_eq!(rt; square.grid().width(), 2);
-    Ok(())
-}
-
-#[test]
-fn places_of_feasible_words(rt: HostRuntime) -> Result<(), Fail> {
-    let square = square(rt.alloc())?;
-    assert_eq!(rt; square.next_word(across(1), 0), Ok(Some(Found::Listed(0))));
-    assert_eq!(rt; square.next_word(across(1), 1), Ok(Some(Found::Listed(1))));
-    assert_eq!(rt; square.next_word(across(1), 2), Ok(None));
-    assert_eq!(rt; square.next_word(down(2), 0), Ok(Some(Found::Listed(2))));
-    assert_eq!(rt; square.next_word(down(2), 3), Ok(Some(Found::Listed(3))));
-    assert_eq!(rt; square.next_word(down(2), 5), Ok(None));
-    Ok(())
-}
-
-#[test]
-fn queries_of_what_is_not_there(rt: HostRuntime) -> Result<(), Fail> {
-    let mut square = square(rt.alloc())?;
-    let _ = square.edit(&Edit::Block(at(2, 2)))?;
-    assert_eq!(rt; square.word_count(across(3)), Err(Refusal::NoLight));
-    assert_eq!(rt; square.next_word(down(2), 0), Err(Refusal::NoLight));
-    assert_eq!(rt; words(&square, down(2)).err(), Some(Refusal::NoLight));
-    let outside = Err(Refusal::Grid(GridFault::OutOfGrid));
-    assert_eq!(rt; square.letters(at(3, 1)), outside);
-    assert_eq!(rt;
-        square.letters(at(2, 2)),
-        Err(Refusal::Grid(GridFault::OnBlock))
-    );
-    Ok(())
-}
-
-#[test]
-fn square_with_one_entry(rt: HostRuntime) -> Result<(), Fail> {
-    let mut square = square(rt.alloc())?;
-    let set = square.edit(&Edit::Set(at(1, 2), letter(b'T')?))?;
-    assert!(rt; tells(set, &[(at(1, 2), b"T")]));
-    assert!(rt; lends(&square, across(1), &[b"AT"])?);
-    assert!(rt; lends(&square, down(2), &[b"TO"])?);
-    assert!(rt; lends(&square, down(1), &[b"AS", b"AT"])?);
-    assert!(rt; lends(&square, across(3), &[b"SO", b"TO"])?);
-    let set = square.edit(&Edit::Set(at(1, 2), letter(b's')?))?;
-    assert!(rt; tells(set, &[(at(1, 2), b"S")]));
-    assert!(rt; lends(&square, across(1), &[b"AS"])?);
-    assert!(rt; lends(&square, down(2), &[b"SO"])?);
-    Ok(())
-}
-
-#[test]
-fn square_emptied_and_restored(rt: HostRuntime) -> Result<(), Fail> {
-    let mut square = square(rt.alloc())?;
-    let set = square.edit(&Edit::Set(at(1, 1), letter(b'X')?))?;
-    let none = [
-        (at(1, 1), b"" as &[u8]),
-        (at(1, 2), b""),
-        (at(2, 1), b""),
-        (at(2, 2), b""),
-    ];
-    assert!(rt; tells(set, &none));
-    for name in [across(1), down(1), down(2), across(3)] {
-        assert!(rt; lends(&square, name, &[])?);
-    }
-    let cleared = square.edit(&Edit::Clear(at(1, 1)))?;
-    let restored = [
-        (at(1, 1), b"A" as &[u8]),
-        (at(1, 2), b"ST"),
-        (at(2, 1), b"ST"),
-        (at(2, 2), b"O"),
-    ];
-    assert!(rt; tells(cleared, &restored));
-    assert!(rt; is_square(&square)?);
-    Ok(())
-}
-
-#[test]
-fn square_blocked_under_the_watch(rt: HostRuntime) -> Result<(), Fail> {
-    let mut square = square(rt.alloc())?;
-    assert!(rt; tells(square.edit(&Edit::Symmetry(Symmetry::Half))?, &[]));
-    let blocked = square.edit(&Edit::Block(at(1, 1)))?;
-    assert!(rt; tells(blocked, &[(at(1, 2), ALL), (at(2, 1), ALL)]));
-    assert_eq!(rt; square.lights().len(), 0);
-    Ok(())
-}
-
-#[test]
-fn unknown_word_placed(rt: HostRuntime) -> Result<(), Fail> {
-    let mut row = engine(rt.alloc(), 3, 1)?;
-    add_all(&mut row, &[b"CAT"])?;
-    let placed = row.edit(&Edit::Place(across(1), b"xyz"))?;
-    assert!(rt;
-        tells(
-            placed,
-            &[(at(1, 1), b"X"), (at(1, 2), b"Y"), (at(1, 3), b"Z")]
-        )
-    );
-    assert!(rt; lends(&row, across(1), &[b"XYZ"])?);
-    assert_eq!(rt; row.next_word(across(1), 0), Ok(Some(Found::Entered)));
-    assert_eq!(rt; row.next_word(across(1), 1), Ok(None));
-    Ok(())
-}
-
-#[test]
-fn known_word_placed_and_struck(rt: HostRuntime) -> Result<(), Fail> {
-    let mut row = engine(rt.alloc(), 3, 1)?;
-    add_all(&mut row, &[b"CAT"])?;
-    let _ = row.edit(&Edit::Place(across(1), b"CAT"))?;
-    assert_eq!(rt; row.next_word(across(1), 0), Ok(Some(Found::Entered)));
-    assert!(rt; tells(row.edit(&Edit::Strike(b"CAT"))?, &[]));
-    assert!(rt; lends(&row, across(1), &[b"CAT"])?);
-    assert_eq!(rt; row.next_word(across(1), 0), Ok(Some(Found::Entered)));
-    Ok(())
-}
-
-#[test]
-fn unlisted_entries_complete_a_square(rt: HostRuntime) -> Result<(), Fail> {
-    let mut square = square(rt.alloc())?;
-    let _ = square.edit(&Edit::Set(at(1, 1), letter(b'X')?))?;
-    assert!(rt; tells(square.edit(&Edit::Set(at(1, 2), letter(b'T')?))?, &[]));
-    let completed = square.edit(&Edit::Set(at(2, 1), letter(b'S')?))?;
-    let cells = [
-        (at(1, 1), b"X" as &[u8]),
-        (at(1, 2), b"T"),
-        (at(2, 1), b"S"),
-        (at(2, 2), b"O"),
-    ];
-    assert!(rt; tells(completed, &cells));
-    assert!(rt; lends(&square, across(1), &[b"XT"])?);
-    assert!(rt; lends(&square, down(1), &[b"XS"])?);
-    assert!(rt; lends(&square, down(2), &[b"TO"])?);
-    Ok(())
-}
-
-#[test]
-fn one_cell(rt: HostRuntime) -> Result<(), Fail> {
-    let cell = engine(rt.alloc(), 1, 1)?;
-    assert!(rt; allows(&cell, at(1, 1), ALL)?);
-    assert_eq!(rt; cell.lights().len(), 0);
-    Ok(())
-}
-
-#[test]
-fn bar_parts_a_row(rt: HostRuntime) -> Result<(), Fail> {
-    let mut row = engine(rt.alloc(), 4, 1)?;
-    add_all(&mut row, &[b"OVER", b"ON"])?;
-    assert!(rt; lends(&row, across(1), &[b"OVER"])?);
-    let _ = row.edit(&Edit::Bar(at(1, 2), Side::Right))?;
-    assert!(rt; lends(&row, across(1), &[b"ON"])?);
-    assert!(rt; lends(&row, across(2), &[b"ON"])?);
-    let _ = row.edit(&Edit::Bar(at(1, 2), Side::Right))?;
-    assert!(rt; lends(&row, across(1), &[b"OVER"])?);
-    assert_eq!(rt; row.word_count(across(2)), Err(Refusal::NoLight));
-    Ok(())
-}
-
-#[test]
-fn sixty_four_words_and_one_more(rt: HostRuntime) -> Result<(), Fail> {
-    let mut row = engine(rt.alloc(), 3, 1)?;
-    for second in *b"ABC" {
-        for third in b'A'..=b'Z' {
-            if second < b'C' || third <= b'L' {
-                let _ = row.edit(&Edit::Add(&[b'A', second, third]))?;
-            }
-        }
-    }
-    assert_eq!(rt; row.word_count(across(1)), Ok(64));
-    let _ = row.edit(&Edit::Add(b"ACM"))?;
-    assert_eq!(rt; row.word_count(across(1)), Ok(65));
-    assert_eq!(rt; row.next_word(across(1), 64), Ok(Some(Found::Listed(64))));
-    let _ = row.edit(&Edit::Strike(b"AAA"))?;
-    assert_eq!(rt; row.word_count(across(1)), Ok(64));
-    let _ = row.edit(&Edit::Add(b"AAA"))?;
-    assert_eq!(rt; row.word_count(across(1)), Ok(65));
-    assert_eq!(rt; row.next_word(across(1), 0), Ok(Some(Found::Listed(0))));
-    Ok(())
-}
-
-#[test]
-fn another_grid_for_the_square(rt: HostRuntime) -> Result<(), Fail> {
-    let mut square = square(rt.alloc())?;
-    square.regrid(Grid::new(rt.alloc(), 2, 1)?)?;
-    assert_eq!(rt; square.lights().len(), 1);
-    assert!(rt; lends(&square, across(1), &[b"AS", b"AT", b"SO", b"TO", b"IN"])?);
-    assert!(rt; allows(&square, at(1, 1), b"AIST")?);
-    square.regrid(Grid::new(rt.alloc(), 2, 2)?)?;
-    assert!(rt; is_square(&square)?);
-    Ok(())
-}
-
-/// Why an edit is refused, if it is.
-fn refusal(engine: &mut Plain, edit: &Edit<'_>) -> Option<Refusal> {
+/// Whether an edit tells these cells, or is so refused.
+fn answers(engine: &mut Plain, edit: &Edit<'_>, wanted: Result<Cells, Refusal>) -> bool {
     match engine.edit(edit) {
-        Ok(_) => None,
-        Err(refusal) => Some(refusal),
+        Ok(changed) => match wanted {
+            Ok(cells) => tells(changed, cells),
+            Err(_) => false,
+        },
+        Err(refusal) => wanted == Err(refusal),
     }
 }
 
-#[test]
-fn edits_of_cells_refused(rt: HostRuntime) -> Result<(), Fail> {
-    let mut square = square(rt.alloc())?;
-    let _ = square.edit(&Edit::Block(at(2, 2)))?;
-    let outside = Some(Refusal::Grid(GridFault::OutOfGrid));
-    let blocked = Some(Refusal::Grid(GridFault::OnBlock));
-    let x = letter(b'X')?;
-    assert_eq!(rt; refusal(&mut square, &Edit::Set(at(1, 4), x)), outside);
-    assert_eq!(rt; refusal(&mut square, &Edit::Set(at(2, 2), x)), blocked);
-    assert_eq!(rt; refusal(&mut square, &Edit::Clear(at(0, 1))), outside);
-    assert_eq!(rt; refusal(&mut square, &Edit::Clear(at(2, 2))), blocked);
-    assert_eq!(rt; refusal(&mut square, &Edit::Block(at(3, 3))), outside);
-    let _ = square.edit(&Edit::Set(at(1, 1), x))?;
-    let occupied = Some(Refusal::Grid(GridFault::Occupied));
-    assert_eq!(rt; refusal(&mut square, &Edit::Block(at(1, 1))), occupied);
-    assert_eq!(rt;
-        refusal(&mut square, &Edit::Bar(at(3, 1), Side::Right)),
-        outside
-    );
-    let border = Some(Refusal::Grid(GridFault::Border));
-    assert_eq!(rt;
-        refusal(&mut square, &Edit::Bar(at(1, 2), Side::Right)),
-        border
-    );
-    assert_eq!(rt;
-        refusal(&mut square, &Edit::Bar(at(2, 1), Side::Below)),
-        border
-    );
-    let mut row = engine(rt.alloc(), 2, 1)?;
-    let not_square = Some(Refusal::Grid(GridFault::NotSquare));
-    assert_eq!(rt;
-        refusal(&mut row, &Edit::Symmetry(Symmetry::Quarter)),
-        not_square
-    );
+fn answers_spelled(engine: &mut Plain, spelled: Do, wanted: Result<Cells, Refusal>) -> bool {
+    match edit_of(spelled) {
+        Some(edit) => answers(engine, &edit, wanted),
+        None => false,
+    }
+}
+
+fn is_size(grid: &Grid, width: u32, height: u32) -> bool {
+    grid.width() == width && grid.height() == height
+}
+
+fn regrid(alloc: Global, engine: &mut Plain, width: u32, height: u32) -> Result<bool, Refusal> {
+    engine.regrid(Grid::new(alloc, width, height)?)?;
+    Ok(is_size(engine.grid(), width, height))
+}
+
+fn is_light(light: Option<Light>, name: LightName, start: Cell, size: u32) -> bool {
+    light == Some(Light { name, start, size })
+}
+
+/// Whether a call answers as the table says.
+fn goes(alloc: Global, engine: &mut Plain, step: Step) -> Result<bool, Refusal> {
+    Ok(match step {
+        Step::Told(edit, cells) => answers_spelled(engine, edit, Ok(cells)),
+        Step::Refused(edit, refusal) => answers_spelled(engine, edit, Err(refusal)),
+        Step::Regrid(width, height) => regrid(alloc, engine, width, height)?,
+        Step::Size(width, height) => is_size(engine.grid(), width, height),
+        Step::Known(length, count) => engine.bank().known(length) == count,
+        Step::Lights(count) => engine.lights().len() == count,
+        Step::Light(place, name, row, col, size) => {
+            is_light(engine.lights().get(place), name, at(row, col), size)
+        }
+        Step::Words(name, texts) => lends(engine, name, texts)?,
+        Step::Count(name, count) => engine.word_count(name) == Ok(count),
+        Step::Next(name, from, found) => engine.next_word(name, from) == Ok(found),
+        Step::NoLight(name) => lacks(engine, name),
+        Step::Letters(row, col, text) => is_set_of(engine.letters(at(row, col))?, text),
+        Step::NoLetters(row, col, fault) => {
+            engine.letters(at(row, col)) == Err(Refusal::Grid(fault))
+        }
+    })
+}
+
+/// Makes the calls of a table, and compares what they answer.
+fn pass(
+    rt: &(impl Abort + AllocGlobal),
+    engine: &mut Plain,
+    steps: &[Step],
+) -> Result<(), Refusal> {
+    for (place, step) in steps.iter().enumerate() {
+        assert!(rt; goes(rt.alloc(), engine, *step)?, "at step {place}");
+    }
     Ok(())
 }
 
-#[test]
-fn edits_with_words_refused(rt: HostRuntime) -> Result<(), Fail> {
-    let mut row = engine(rt.alloc(), 3, 1)?;
-    add_all(&mut row, &[b"CAT"])?;
-    let bad = |place| Some(Refusal::Word(WordFault::BadLetter(place)));
-    let length = Some(Refusal::Word(WordFault::Length));
-    assert_eq!(rt;
-        refusal(&mut row, &Edit::Place(across(1), b"AB")),
-        Some(Refusal::PlaceLength)
-    );
-    assert_eq!(rt;
-        refusal(&mut row, &Edit::Place(across(2), b"A4")),
-        Some(Refusal::NoLight)
-    );
-    assert_eq!(rt; refusal(&mut row, &Edit::Place(across(1), b"A4B")), bad(2));
-    assert_eq!(rt; refusal(&mut row, &Edit::Place(across(1), b"A4")), bad(2));
-    assert_eq!(rt; refusal(&mut row, &Edit::Add(b"4")), bad(1));
-    assert_eq!(rt; refusal(&mut row, &Edit::Add(b"A")), length);
-    let known = Some(Refusal::Word(WordFault::Known));
-    assert_eq!(rt; refusal(&mut row, &Edit::Add(b"cat")), known);
-    assert_eq!(rt; refusal(&mut row, &Edit::Strike(b"C4")), bad(2));
-    assert_eq!(rt; refusal(&mut row, &Edit::Strike(b"")), length);
-    let unknown = Some(Refusal::Word(WordFault::Unknown));
-    assert_eq!(rt; refusal(&mut row, &Edit::Strike(b"DOG")), unknown);
-    assert!(rt; lends(&row, across(1), &[b"CAT"])?);
-    let _ = row.edit(&Edit::Strike(b"CAT"))?;
-    assert_eq!(rt; refusal(&mut row, &Edit::Strike(b"CAT")), unknown);
+fn pass_all(
+    rt: &(impl Abort + AllocGlobal),
+    engine: &mut Plain,
+    tables: &[&[Step]],
+) -> Result<(), Refusal> {
+    for steps in tables {
+        pass(rt, engine, *steps)?;
+    }
     Ok(())
 }
 
-#[test]
-fn refused_edits_are_passed_over(rt: HostRuntime) -> Result<(), Fail> {
-    let mut square = engine(rt.alloc(), 2, 2)?;
-    let edits = [
-        Edit::Add(b"AS"),
-        Edit::Add(b"4"),
-        Edit::Add(b"AT"),
-        Edit::Add(b"at"),
-        Edit::Add(b"SO"),
-        Edit::Set(at(3, 1), letter(b'A')?),
-        Edit::Add(b"TO"),
-        Edit::Add(b"IN"),
-    ];
-    assert_eq!(rt; run(&mut square, &edits), 3);
-    assert!(rt; is_square(&square)?);
-    Ok(())
+/// Makes the calls of each table, in turn, of one engine.
+fn pass_from(
+    rt: &(impl Abort + AllocGlobal),
+    start: Start,
+    tables: &[&[Step]],
+) -> Result<(), Refusal> {
+    let (width, height, texts) = start;
+    let mut engine = engine(rt.alloc(), width, height)?;
+    add_all(&mut engine, texts)?;
+    pass_all(rt, &mut engine, tables)
 }

@@ -1,2 +1,3 @@
 //! Worked examples of files.
 mod puz;
+pub mod puzzles;

@@ -1,33 +1,89 @@
-//! Worked examples, by calls on `Plain`.
+//! Worked examples, by calls over `Plain`: tables of calls, each with its answer.
 use crate::listing::{Duplicate, duplicates, unlisted};
 use crate::search::{Filling, fill};
 use crate::suggesting::{Suggestion, suggest};
 use std::alloc::Global;
-use std::test::Fail;
+use std::process::Abort;
 use xw_feas::edit::{Edit, Refusal};
 use xw_feas::feasible::Feasible;
 use xw_feas::plain::Plain;
-use xw_grid::cell::{Cell, Direction, LightName, Symmetry};
+use xw_grid::cell::{Cell, Direction, LightName, Square, Symmetry};
 use xw_grid::grid::Grid;
 use xw_words::bank::Bank;
 use xw_words::letter::Letter;
+
+/// An edit as a table spells it: a letter by its byte, and a cell by row and column.
+#[derive(Clone, Copy)]
+enum Do {
+    Set(u32, u32, u8),
+    Clear(u32, u32),
+    Place(LightName, &'static [u8]),
+    Block(u32, u32),
+    Choose(Symmetry),
+    Add(&'static [u8]),
+    Strike(&'static [u8]),
+}
+
+/// A call and its answer.
+#[derive(Clone, Copy)]
+enum Step {
+    Done(Do),
+    /// The squares in reading order, a dot for an empty cell.
+    Squares(&'static [u8]),
+    Fill(u64, Filling),
+    Suggest(Suggestion),
+    /// The lights that spell what an earlier one does, each with the first such.
+    Duplicates(&'static [Duplicate]),
+    Unlisted(&'static [LightName]),
+    /// How many feasible words a light has.
+    Words(LightName, usize),
+}
+
+const ACROSS_1: LightName = LightName {
+    number: 1,
+    direction: Direction::Across,
+};
+
+const DOWN_1: LightName = LightName {
+    number: 1,
+    direction: Direction::Down,
+};
+
+const ACROSS_2: LightName = LightName {
+    number: 2,
+    direction: Direction::Across,
+};
+
+const DOWN_2: LightName = LightName {
+    number: 2,
+    direction: Direction::Down,
+};
+
+const ACROSS_3: LightName = LightName {
+    number: 3,
+    direction: Direction::Across,
+};
+
+/// A grid of so many columns and rows, and words for it.
+type Start = (u32, u32, &'static [&'static [u8]]);
+
+const SQUARE: Start = (2, 2, &[b"AS", b"AT", b"SO", b"TO", b"IN"]);
 
 fn at(row: u32, col: u32) -> Cell {
     Cell { row, col }
 }
 
-fn across(number: u16) -> LightName {
-    LightName {
-        number,
-        direction: Direction::Across,
-    }
-}
-
-fn down(number: u16) -> LightName {
-    LightName {
-        number,
-        direction: Direction::Down,
-    }
+/// An edit as the engine takes it, if its byte is a letter.
+fn edit_of(spelled: Do) -> Option<Edit<'static>> {
+    Some(match spelled {
+        Do::Set(row, col, byte) => Edit::Set(at(row, col), Letter::of(byte)?),
+        Do::Clear(row, col) => Edit::Clear(at(row, col)),
+        Do::Place(name, text) => Edit::Place(name, text),
+        Do::Block(row, col) => Edit::Block(at(row, col)),
+        Do::Choose(symmetry) => Edit::Symmetry(symmetry),
+        Do::Add(text) => Edit::Add(text),
+        Do::Strike(text) => Edit::Strike(text),
+    })
 }
 
 fn engine(alloc: Global, width: u32, height: u32) -> Result<Plain, Refusal> {
@@ -41,183 +97,219 @@ fn add_all(engine: &mut Plain, texts: &[&[u8]]) -> Result<(), Refusal> {
     Ok(())
 }
 
-fn square(alloc: Global) -> Result<Plain, Refusal> {
-    let mut square = engine(alloc, 2, 2)?;
-    add_all(&mut square, &[b"AS", b"AT", b"SO", b"TO", b"IN"])?;
-    Ok(square)
-}
-
-fn set(engine: &mut Plain, cell: Cell, byte: u8) -> Result<(), Fail> {
-    let letter = Letter::of(byte).ok_or("a letter")?;
-    let _ = engine.edit(&Edit::Set(cell, letter))?;
-    Ok(())
-}
-
-fn entry(engine: &Plain, row: u32, col: u32) -> u8 {
-    match engine.grid().entry(at(row, col)) {
-        Some(letter) => letter.byte(),
-        None => b'.',
+/// How a table spells a square.
+fn byte_of(square: Square) -> u8 {
+    match square {
+        Square::Block => b'#',
+        Square::Open(None) => b'.',
+        Square::Open(Some(letter)) => letter.byte(),
     }
 }
 
-/// The entries of a square of two by two, a dot for an empty cell.
-fn entries(engine: &Plain) -> [u8; 4] {
-    [
-        entry(engine, 1, 1),
-        entry(engine, 1, 2),
-        entry(engine, 2, 1),
-        entry(engine, 2, 2),
-    ]
+fn reads(engine: &Plain, text: &[u8]) -> bool {
+    let squares = engine.grid().squares();
+    if squares.len() != text.len() {
+        return false;
+    }
+    for (square, byte) in squares.iter().zip(text) {
+        if byte_of(*square) != *byte {
+            return false;
+        }
+    }
+    true
 }
 
-#[test]
-fn square_filled_within_a_limit(rt: HostRuntime) -> Result<(), Fail> {
-    let mut square = square(rt.alloc())?;
-    assert_eq!(rt; fill(rt.alloc(), &mut square, 3), Ok(Filling::Limit));
-    assert_eq!(rt; entries(&square), *b"....");
-    assert_eq!(rt; square.word_count(across(1)), Ok(2));
-    assert_eq!(rt; fill(rt.alloc(), &mut square, 4), Ok(Filling::Filled));
-    assert_eq!(rt; entries(&square), *b"ASTO");
+fn is_done(engine: &mut Plain, spelled: Do) -> bool {
+    match edit_of(spelled) {
+        Some(edit) => engine.edit(&edit).is_ok(),
+        None => false,
+    }
+}
+
+fn repeats(alloc: Global, engine: &Plain, found: &[Duplicate]) -> Result<bool, Refusal> {
+    Ok(duplicates(alloc, engine)?.as_slice() == found)
+}
+
+fn lacks(alloc: Global, engine: &Plain, names: &[LightName]) -> Result<bool, Refusal> {
+    Ok(unlisted(alloc, engine)?.as_slice() == names)
+}
+
+/// Whether a call answers as the table says.
+fn goes(alloc: Global, engine: &mut Plain, step: Step) -> Result<bool, Refusal> {
+    match step {
+        Step::Done(edit) => Ok(is_done(engine, edit)),
+        Step::Squares(text) => Ok(reads(engine, text)),
+        Step::Fill(limit, filling) => Ok(fill(alloc, engine, limit) == Ok(filling)),
+        Step::Suggest(suggestion) => Ok(suggest(engine) == suggestion),
+        Step::Duplicates(found) => repeats(alloc, engine, found),
+        Step::Unlisted(names) => lacks(alloc, engine, names),
+        Step::Words(name, count) => Ok(engine.word_count(name) == Ok(count)),
+    }
+}
+
+/// Makes the calls of a table, and compares what they answer.
+fn pass(
+    rt: &(impl Abort + AllocGlobal),
+    engine: &mut Plain,
+    steps: &[Step],
+) -> Result<(), Refusal> {
+    for (place, step) in steps.iter().enumerate() {
+        assert!(rt; goes(rt.alloc(), engine, *step)?, "at step {place}");
+    }
     Ok(())
 }
 
-#[test]
-fn square_with_only_repeats_left(rt: HostRuntime) -> Result<(), Fail> {
-    let mut square = square(rt.alloc())?;
-    let _ = square.edit(&Edit::Strike(b"SO"))?;
-    assert_eq!(rt; fill(rt.alloc(), &mut square, 100), Ok(Filling::NoFill));
-    assert_eq!(rt; entries(&square), *b"....");
-    let _ = square.edit(&Edit::Place(across(1), b"AT"))?;
-    let _ = square.edit(&Edit::Place(across(3), b"TO"))?;
-    let found = duplicates(rt.alloc(), &square)?;
-    assert_eq!(rt; found.len(), 2);
-    assert_eq!(rt;
-        found[0],
-        Duplicate {
-            light: down(1),
-            first: across(1)
-        }
-    );
-    assert_eq!(rt;
-        found[1],
-        Duplicate {
-            light: across(3),
-            first: down(2)
-        }
-    );
-    assert_eq!(rt; unlisted(rt.alloc(), &square)?.len(), 0);
-    Ok(())
+/// Makes the calls of a table of a new engine.
+fn pass_from(rt: &(impl Abort + AllocGlobal), start: Start, steps: &[Step]) -> Result<(), Refusal> {
+    let (width, height, texts) = start;
+    let mut engine = engine(rt.alloc(), width, height)?;
+    add_all(&mut engine, texts)?;
+    pass(rt, &mut engine, steps)
 }
 
+const WITHIN_A_LIMIT: &[Step] = &[
+    Step::Fill(3, Filling::Limit),
+    Step::Squares(b"...."),
+    Step::Words(ACROSS_1, 2),
+    Step::Fill(4, Filling::Filled),
+    Step::Squares(b"ASTO"),
+];
+
 #[test]
-fn one_word_three_times(rt: HostRuntime) -> Result<(), Fail> {
-    let mut rows = engine(rt.alloc(), 2, 5)?;
-    let _ = rows.edit(&Edit::Block(at(2, 1)))?;
-    let _ = rows.edit(&Edit::Block(at(2, 2)))?;
-    let _ = rows.edit(&Edit::Block(at(4, 1)))?;
-    let _ = rows.edit(&Edit::Block(at(4, 2)))?;
-    add_all(&mut rows, &[b"AS"])?;
-    let _ = rows.edit(&Edit::Place(across(1), b"AS"))?;
-    let _ = rows.edit(&Edit::Place(across(2), b"AS"))?;
-    let _ = rows.edit(&Edit::Place(across(3), b"AS"))?;
-    let found = duplicates(rt.alloc(), &rows)?;
-    assert_eq!(rt; found.len(), 2);
-    assert_eq!(rt;
-        found[0],
+fn square_filled_within_a_limit(rt: HostRuntime) -> Result<(), Refusal> {
+    pass_from(&rt, SQUARE, WITHIN_A_LIMIT)
+}
+
+const REPEATS_ALONE: &[Step] = &[
+    Step::Done(Do::Strike(b"SO")),
+    Step::Fill(100, Filling::NoFill),
+    Step::Squares(b"...."),
+    Step::Done(Do::Place(ACROSS_1, b"AT")),
+    Step::Done(Do::Place(ACROSS_3, b"TO")),
+    Step::Duplicates(&[
         Duplicate {
-            light: across(2),
-            first: across(1)
-        }
-    );
-    assert_eq!(rt;
-        found[1],
+            light: DOWN_1,
+            first: ACROSS_1,
+        },
         Duplicate {
-            light: across(3),
-            first: across(1)
-        }
-    );
-    assert_eq!(rt; unlisted(rt.alloc(), &rows)?.len(), 0);
-    assert_eq!(rt; suggest(&mut rows), Suggestion::Done);
+            light: ACROSS_3,
+            first: DOWN_2,
+        },
+    ]),
+    Step::Unlisted(&[]),
+];
+
+#[test]
+fn square_with_only_repeats_left(rt: HostRuntime) -> Result<(), Refusal> {
+    pass_from(&rt, SQUARE, REPEATS_ALONE)
+}
+
+const THREE_TIMES: &[Step] = &[
+    Step::Done(Do::Block(2, 1)),
+    Step::Done(Do::Block(2, 2)),
+    Step::Done(Do::Block(4, 1)),
+    Step::Done(Do::Block(4, 2)),
+    Step::Done(Do::Place(ACROSS_1, b"AS")),
+    Step::Done(Do::Place(ACROSS_2, b"AS")),
+    Step::Done(Do::Place(ACROSS_3, b"AS")),
+    Step::Duplicates(&[
+        Duplicate {
+            light: ACROSS_2,
+            first: ACROSS_1,
+        },
+        Duplicate {
+            light: ACROSS_3,
+            first: ACROSS_1,
+        },
+    ]),
+    Step::Unlisted(&[]),
+    Step::Suggest(Suggestion::Done),
     // the search finds the repeats dead that the proposals pass over
-    assert_eq!(rt; fill(rt.alloc(), &mut rows, 0), Ok(Filling::NoFill));
-    Ok(())
-}
+    Step::Fill(0, Filling::NoFill),
+    Step::Squares(b"AS##AS##AS"),
+];
 
 #[test]
-fn nothing_to_suggest(rt: HostRuntime) -> Result<(), Fail> {
-    let mut cell = engine(rt.alloc(), 1, 1)?;
-    assert_eq!(rt; suggest(&mut cell), Suggestion::Done);
-    Ok(())
+fn one_word_three_times(rt: HostRuntime) -> Result<(), Refusal> {
+    pass_from(&rt, (2, 5, &[b"AS"]), THREE_TIMES)
 }
 
-#[test]
-fn fill_with_limit_nought(rt: HostRuntime) -> Result<(), Fail> {
-    let mut square = square(rt.alloc())?;
-    assert_eq!(rt; fill(rt.alloc(), &mut square, 0), Ok(Filling::Limit));
-    set(&mut square, at(1, 1), b'X')?;
-    assert_eq!(rt; fill(rt.alloc(), &mut square, 0), Ok(Filling::NoFill));
-    assert_eq!(rt; entries(&square), *b"X...");
-    let mut cell = engine(rt.alloc(), 1, 1)?;
-    assert_eq!(rt; fill(rt.alloc(), &mut cell, 0), Ok(Filling::Filled));
-    assert_eq!(rt; cell.grid().entry(at(1, 1)), None);
-    Ok(())
-}
+const NOTHING_TO_ENTER: &[Step] = &[
+    Step::Suggest(Suggestion::Done),
+    Step::Fill(0, Filling::Filled),
+    Step::Squares(b"."),
+];
 
 #[test]
-fn square_emptied_and_proposed(rt: HostRuntime) -> Result<(), Fail> {
-    let mut square = square(rt.alloc())?;
-    set(&mut square, at(1, 1), b'X')?;
-    assert_eq!(rt; suggest(&mut square), Suggestion::Dead(across(1)));
-    let _ = square.edit(&Edit::Clear(at(1, 1)))?;
-    let _ = square.edit(&Edit::Strike(b"SO"))?;
-    let _ = square.edit(&Edit::Add(b"SO"))?;
-    let _ = square.edit(&Edit::Symmetry(Symmetry::Half))?;
-    let _ = square.edit(&Edit::Place(across(1), b"AT"))?;
-    let proposed = Suggestion::Try {
-        light: down(2),
-        word: 3,
-    };
-    assert_eq!(rt; suggest(&mut square), proposed);
-    assert_eq!(rt; entries(&square), *b"AT..");
-    Ok(())
+fn grid_without_lights(rt: HostRuntime) -> Result<(), Refusal> {
+    pass_from(&rt, (1, 1, &[]), NOTHING_TO_ENTER)
 }
 
-#[test]
-fn unlisted_entries_complete_a_square(rt: HostRuntime) -> Result<(), Fail> {
-    let mut square = square(rt.alloc())?;
-    set(&mut square, at(1, 1), b'X')?;
-    set(&mut square, at(1, 2), b'T')?;
-    set(&mut square, at(2, 1), b'S')?;
-    let found = unlisted(rt.alloc(), &square)?;
-    assert_eq!(rt; found.len(), 2);
-    assert_eq!(rt; found[0], across(1));
-    assert_eq!(rt; found[1], down(1));
-    let proposed = Suggestion::Try {
-        light: down(2),
-        word: 3,
-    };
-    assert_eq!(rt; suggest(&mut square), proposed);
-    assert_eq!(rt; entries(&square), *b"XTS.");
-    assert_eq!(rt; fill(rt.alloc(), &mut square, 1), Ok(Filling::Filled));
-    assert_eq!(rt; entries(&square), *b"XTSO");
-    Ok(())
-}
+const LIMIT_NOUGHT: &[Step] = &[
+    Step::Fill(0, Filling::Limit),
+    Step::Done(Do::Set(1, 1, b'X')),
+    Step::Fill(0, Filling::NoFill),
+    Step::Squares(b"X..."),
+];
 
 #[test]
-fn entered_word_outside_the_dictionary(rt: HostRuntime) -> Result<(), Fail> {
-    let mut row = engine(rt.alloc(), 3, 1)?;
-    add_all(&mut row, &[b"CAT"])?;
-    let _ = row.edit(&Edit::Place(across(1), b"xyz"))?;
-    assert_eq!(rt; suggest(&mut row), Suggestion::Done);
-    let found = unlisted(rt.alloc(), &row)?;
-    assert_eq!(rt; found.len(), 1);
-    assert_eq!(rt; found[0], across(1));
-    assert_eq!(rt; fill(rt.alloc(), &mut row, 0), Ok(Filling::Filled));
-    let _ = row.edit(&Edit::Place(across(1), b"CAT"))?;
-    assert_eq!(rt; unlisted(rt.alloc(), &row)?.len(), 0);
-    let _ = row.edit(&Edit::Strike(b"CAT"))?;
-    assert_eq!(rt; suggest(&mut row), Suggestion::Done);
-    assert_eq!(rt; unlisted(rt.alloc(), &row)?.len(), 1);
-    assert_eq!(rt; fill(rt.alloc(), &mut row, 0), Ok(Filling::Filled));
-    Ok(())
+fn fill_with_limit_nought(rt: HostRuntime) -> Result<(), Refusal> {
+    pass_from(&rt, SQUARE, LIMIT_NOUGHT)
+}
+
+/// To try TO in 2 down.
+const TO_DOWN: Suggestion = Suggestion::Try {
+    light: DOWN_2,
+    word: 3,
+};
+
+const EMPTIED: &[Step] = &[
+    Step::Done(Do::Set(1, 1, b'X')),
+    Step::Suggest(Suggestion::Dead(ACROSS_1)),
+    Step::Done(Do::Clear(1, 1)),
+    Step::Done(Do::Strike(b"SO")),
+    Step::Done(Do::Add(b"SO")),
+    Step::Done(Do::Choose(Symmetry::Half)),
+    Step::Done(Do::Place(ACROSS_1, b"AT")),
+    Step::Suggest(TO_DOWN),
+    Step::Squares(b"AT.."),
+];
+
+#[test]
+fn square_emptied_and_proposed(rt: HostRuntime) -> Result<(), Refusal> {
+    pass_from(&rt, SQUARE, EMPTIED)
+}
+
+const UNLISTED_ENTRIES: &[Step] = &[
+    Step::Done(Do::Set(1, 1, b'X')),
+    Step::Done(Do::Set(1, 2, b'T')),
+    Step::Done(Do::Set(2, 1, b'S')),
+    Step::Unlisted(&[ACROSS_1, DOWN_1]),
+    Step::Suggest(TO_DOWN),
+    Step::Squares(b"XTS."),
+    Step::Fill(1, Filling::Filled),
+    Step::Squares(b"XTSO"),
+];
+
+#[test]
+fn unlisted_entries_complete_a_square(rt: HostRuntime) -> Result<(), Refusal> {
+    pass_from(&rt, SQUARE, UNLISTED_ENTRIES)
+}
+
+const OUTSIDE_THE_DICTIONARY: &[Step] = &[
+    Step::Done(Do::Place(ACROSS_1, b"xyz")),
+    Step::Suggest(Suggestion::Done),
+    Step::Unlisted(&[ACROSS_1]),
+    Step::Fill(0, Filling::Filled),
+    Step::Done(Do::Place(ACROSS_1, b"CAT")),
+    Step::Unlisted(&[]),
+    Step::Done(Do::Strike(b"CAT")),
+    Step::Suggest(Suggestion::Done),
+    Step::Unlisted(&[ACROSS_1]),
+    Step::Fill(0, Filling::Filled),
+];
+
+#[test]
+fn entered_word_outside_the_dictionary(rt: HostRuntime) -> Result<(), Refusal> {
+    pass_from(&rt, (3, 1, &[b"CAT"]), OUTSIDE_THE_DICTIONARY)
 }

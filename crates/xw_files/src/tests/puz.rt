@@ -6,15 +6,17 @@ mod writing;
 
 use crate::fault::ReadFault;
 use crate::puz::{read_puz, write_puz};
+use crate::tests::puzzles::{Part, is_read_as};
 use std::process::Abort;
-use xw_grid::cell::Cell;
-
-fn cell(row: u32, col: u32) -> Cell {
-    Cell { row, col }
-}
 
 fn fault_of(rt: &(impl Abort + AllocGlobal), bytes: &[u8]) -> Option<ReadFault> {
     read_puz(rt.alloc(), bytes).err()
+}
+
+/// Reads a file, and looks for the parts of each table in the puzzle.
+fn reads(rt: &(impl Abort + AllocGlobal), file: &[u8], tables: &[&[Part]]) {
+    let puzzle = read_puz(rt.alloc(), file).expect(rt, "the file is read");
+    is_read_as(rt, &puzzle, tables);
 }
 
 /// Reads a file, and writes what was read.

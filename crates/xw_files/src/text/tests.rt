@@ -4,17 +4,10 @@ mod reading;
 mod writing;
 
 use crate::fault::ReadFault;
-use crate::puzzle::{Puzzle, Texts};
+use crate::tests::puzzles::{Part, is_read_as};
 use crate::text::read_text;
 use std::alloc::{AllocError, Global};
 use std::process::Abort;
-use std::test::Fail;
-use xw_grid::cell::{Cell, Direction};
-use xw_grid::circles::Circles;
-use xw_grid::clues::Clues;
-use xw_grid::fault::GridFault;
-use xw_grid::grid::Grid;
-use xw_words::letter::Letter;
 
 /// Text plain: two rows, AT and SO, with a clue for each of four lights.
 const PLAIN: &[u8] =
@@ -31,98 +24,28 @@ const ACROSS: &[u8] = b"<ACROSS>\na\nd\n";
 
 const DOWN: &[u8] = b"<DOWN>\nb\nc\n";
 
-fn cell(row: u32, col: u32) -> Cell {
-    Cell { row, col }
+fn extend_all(bytes: &mut Vec<u8>, pieces: &[&[u8]]) -> Result<(), AllocError> {
+    for piece in pieces {
+        bytes.extend_from_slice(piece)?;
+    }
+    Ok(())
 }
 
 /// Pieces one after another.
 fn joined(alloc: Global, pieces: &[&[u8]]) -> Result<Vec<u8>, AllocError> {
     let mut bytes = Vec::new(alloc);
-    for piece in pieces {
-        bytes.extend_from_slice(piece)?;
-    }
+    extend_all(&mut bytes, pieces)?;
     Ok(bytes)
 }
 
-/// Why the pieces, one after another, are no text file.
-fn fault_of(alloc: Global, pieces: &[&[u8]]) -> Result<Option<ReadFault>, AllocError> {
-    let bytes = joined(alloc, pieces)?;
-    Ok(read_text(alloc, &bytes).err())
-}
-
-/// The puzzle that the pieces, one after another, spell.
-fn puzzle_of(alloc: Global, pieces: &[&[u8]]) -> Result<Puzzle, ReadFault> {
-    let bytes = joined(alloc, pieces)?;
-    read_text(alloc, &bytes)
-}
-
-/// Enters a letter by its byte.
-fn enter(grid: &mut Grid, cell: Cell, byte: u8) -> Result<(), Fail> {
-    let letter = Letter::of(byte).ok_or("the byte is a letter")?;
-    grid.set(cell, letter)?;
+/// Reads the pieces, one after another, and looks for the parts of each table in the puzzle.
+fn reads(
+    rt: &(impl Abort + AllocGlobal),
+    pieces: &[&[u8]],
+    tables: &[&[Part]],
+) -> Result<(), ReadFault> {
+    let bytes = joined(rt.alloc(), pieces)?;
+    let puzzle = read_text(rt.alloc(), &bytes)?;
+    is_read_as(rt, &puzzle, tables);
     Ok(())
-}
-
-/// A grid of 2 by 2 that reads ATSO.
-fn plain_grid(alloc: Global) -> Result<Grid, Fail> {
-    let mut grid = Grid::new(alloc, 2, 2)?;
-    enter(&mut grid, cell(1, 1), b'A')?;
-    enter(&mut grid, cell(1, 2), b'T')?;
-    enter(&mut grid, cell(2, 1), b'S')?;
-    enter(&mut grid, cell(2, 2), b'O')?;
-    Ok(grid)
-}
-
-/// The clues of its four lights.
-fn plain_clues(alloc: Global) -> Result<Clues, GridFault> {
-    let mut clues = Clues::new(alloc);
-    clues.set(cell(1, 1), Direction::Across, b"a")?;
-    clues.set(cell(1, 1), Direction::Down, b"b")?;
-    clues.set(cell(1, 2), Direction::Down, b"c")?;
-    clues.set(cell(2, 1), Direction::Across, b"d")?;
-    Ok(clues)
-}
-
-fn no_texts(alloc: Global) -> Texts {
-    Texts {
-        title: Vec::new(alloc),
-        author: Vec::new(alloc),
-        copyright: Vec::new(alloc),
-        notes: Vec::new(alloc),
-    }
-}
-
-/// The puzzle of text plain, made by calls.
-fn plain_puzzle(alloc: Global) -> Result<Puzzle, Fail> {
-    Ok(Puzzle {
-        grid: plain_grid(alloc)?,
-        texts: no_texts(alloc),
-        clues: plain_clues(alloc)?,
-        circles: Circles::new(alloc),
-    })
-}
-
-/// Compares a puzzle with that of text plain, but for its four texts.
-fn is_plain(rt: &impl Abort, puzzle: &Puzzle) {
-    let (grid, clues) = (&puzzle.grid, &puzzle.clues);
-    assert_eq!(rt; grid.width(), 2);
-    assert_eq!(rt; grid.height(), 2);
-    assert_eq!(rt; grid.entry(cell(1, 1)), Letter::of(b'A'));
-    assert_eq!(rt; grid.entry(cell(1, 2)), Letter::of(b'T'));
-    assert_eq!(rt; grid.entry(cell(2, 1)), Letter::of(b'S'));
-    assert_eq!(rt; grid.entry(cell(2, 2)), Letter::of(b'O'));
-    assert_eq!(rt; clues.get(cell(1, 1), Direction::Across), b"a".as_slice());
-    assert_eq!(rt; clues.get(cell(1, 1), Direction::Down), b"b".as_slice());
-    assert_eq!(rt; clues.get(cell(1, 2), Direction::Down), b"c".as_slice());
-    assert_eq!(rt; clues.get(cell(2, 1), Direction::Across), b"d".as_slice());
-    assert!(rt; !puzzle.circles.has(cell(1, 1)));
-}
-
-/// Compares the four texts of a puzzle.
-fn has_texts(rt: &impl Abort, texts: &Texts, wanted: [&[u8]; 4]) {
-    let [title, author, copyright, notes] = wanted;
-    assert_eq!(rt; texts.title.as_slice(), title);
-    assert_eq!(rt; texts.author.as_slice(), author);
-    assert_eq!(rt; texts.copyright.as_slice(), copyright);
-    assert_eq!(rt; texts.notes.as_slice(), notes);
 }

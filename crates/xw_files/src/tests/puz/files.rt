@@ -28,6 +28,14 @@ pub const CLUE_COUNT: &[u8] =
 pub const CIRCLED: &[u8] =
     b"d\xBCACROSS&DOWN\0\0LI\xD6\x1C\xFF\x0D\xF4%d1.3\0\0\0\0\0\0\0\0\0\0\0\0\0\0\0\0\0\x02\x02\x04\0\x01\0\0\0ATSO----\0\0\0a\0b\0c\0d\0\0GEXT\x04\0\x10\0\x80\0\0\0\0";
 
+/// The plain file with circles in its first two cells.
+pub const CIRCLED_TWICE: &[u8] =
+    b"d\xBCACROSS&DOWN\0\0LI\xD6\x1C\xFF\x0D\xF4%d1.3\0\0\0\0\0\0\0\0\0\0\0\0\0\0\0\0\0\x02\x02\x04\0\x01\0\0\0ATSO----\0\0\0a\0b\0c\0d\0\0GEXT\x04\0\x30\0\x80\x80\0\0\0";
+
+/// The plain file with a circle in its last cell.
+pub const CIRCLED_LAST: &[u8] =
+    b"d\xBCACROSS&DOWN\0\0LI\xD6\x1C\xFF\x0D\xF4%d1.3\0\0\0\0\0\0\0\0\0\0\0\0\0\0\0\0\0\x02\x02\x04\0\x01\0\0\0ATSO----\0\0\0a\0b\0c\0d\0\0GEXT\x04\0\x80\0\0\0\0\x80\0";
+
 /// A solution with a byte that stands for nothing, and right sums.
 pub const BAD_CELL: &[u8] =
     b"d\x84ACROSS&DOWN\0\0LI\x1E\x1C\xFF\x0D\xF4%d1.3\0\0\0\0\0\0\0\0\0\0\0\0\0\0\0\0\0\x02\x02\x04\0\x01\0\0\0AT?!----\0\0\0a\0b\0c\0d\0\0";
@@ -75,3 +83,7 @@ pub const NO_CLUE: &[u8] =
 /// The plain file with all four texts, one of them of any bytes.
 pub const ALL_TEXTS: &[u8] =
     b"^CACROSS&DOWN\0\0LI\xD6\x1C\xAA\x0D\xF4%\xDC1.3\0\0\0\0\0\0\0\0\0\0\0\0\0\0\0\0\0\x02\x02\x04\0\x01\0\0\0ATSO----T\0by \xE9\xFF\0(c)\0a\0b\0c\0d\0two\x0Alines\0";
+
+/// The plain puzzle with a block in its last cell, and no clue for 1 down.
+pub const BLOCKED: &[u8] =
+    b"\xADUACROSS&DOWN\0\0<I7\x1D$}\xF4%D1.3\0\0\0\0\0\0\0\0\0\0\0\0\0\0\0\0\0\x02\x02\x02\0\x01\0\0\0ATS.---.\0\0\0a\0\0\0";

@@ -1,99 +1,66 @@
 //! What is read, and which fault is told first.
 use crate::fault::{Piece, ReadFault, SumName, TextName};
 use crate::kind::{Kind, kind_of};
-use crate::puz::read_puz;
 use crate::tests::puz::files::{
     ALL_TEXTS, BAD_CELL, BAD_CELL_AND_COUNT, CIRCLED, CLUE_COUNT, CORNERS, EMPTY_CELL, LOWER_CASE,
     MORE_CLUES, NO_CLUE, ONE_CELL, PLAIN, STARTED, TITLED, UNUSUAL, WIDE, WITH_NOTES,
 };
-use crate::tests::puz::{cell, fault_of, writes};
+use crate::tests::puz::{fault_of, reads, writes};
+use crate::tests::puzzles::Part::{Author, Circle, Clue, Copyright, Notes, Size, Square, Title};
+use crate::tests::puzzles::{NO_TEXTS, PLAIN_PUZZLE, Part};
+use std::alloc::AllocError;
 use std::process::Abort;
-use std::test::Fail;
-use xw_grid::cell::{Direction, Symmetry};
-use xw_words::letter::Letter;
+use xw_grid::cell::{Cell, Direction};
 
 #[test]
-fn reads_the_plain_puzzle(rt: HostRuntime) -> Result<(), Fail> {
-    for bytes in [PLAIN, STARTED, LOWER_CASE, UNUSUAL] {
-        let puzzle = read_puz(rt.alloc(), bytes)?;
-        assert_eq!(rt; puzzle.grid.width(), 2);
-        assert_eq!(rt; puzzle.grid.height(), 2);
-        assert_eq!(rt; puzzle.grid.symmetry(), Symmetry::None);
-        for (row, col, letter) in [(1, 1, b'A'), (1, 2, b'T'), (2, 1, b'S'), (2, 2, b'O')] {
-            assert_eq!(rt; puzzle.grid.entry(cell(row, col)), Letter::of(letter));
-            assert!(rt; !puzzle.circles.has(cell(row, col)));
-        }
-        for (row, col, direction, clue) in [
-            (1, 1, Direction::Across, b"a".as_slice()),
-            (1, 1, Direction::Down, b"b"),
-            (1, 2, Direction::Down, b"c"),
-            (2, 1, Direction::Across, b"d"),
-            (2, 1, Direction::Down, b""),
-        ] {
-            assert_eq!(rt; puzzle.clues.get(cell(row, col), direction), clue);
-        }
-        assert_eq!(rt; puzzle.texts.title.as_slice(), b"".as_slice());
-        assert_eq!(rt; puzzle.texts.author.as_slice(), b"".as_slice());
-        assert_eq!(rt; puzzle.texts.copyright.as_slice(), b"".as_slice());
-        assert_eq!(rt; puzzle.texts.notes.as_slice(), b"".as_slice());
+fn reads_the_plain_puzzle(rt: HostRuntime) {
+    for file in [PLAIN, STARTED, LOWER_CASE, UNUSUAL] {
+        reads(&rt, file, &[PLAIN_PUZZLE, NO_TEXTS]);
     }
-    Ok(())
 }
 
-#[test]
-fn reads_texts(rt: HostRuntime) -> Result<(), Fail> {
-    let puzzle = read_puz(rt.alloc(), ALL_TEXTS)?;
-    assert_eq!(rt; puzzle.texts.title.as_slice(), b"T".as_slice());
-    assert_eq!(rt; puzzle.texts.author.as_slice(), b"by \xE9\xFF".as_slice());
-    assert_eq!(rt; puzzle.texts.copyright.as_slice(), b"(c)".as_slice());
-    assert_eq!(rt; puzzle.texts.notes.as_slice(), b"two\nlines".as_slice());
-    assert_eq!(rt;
-        read_puz(rt.alloc(), TITLED)?.texts.title.as_slice(),
-        b"T".as_slice()
-    );
-    assert_eq!(rt;
-        read_puz(rt.alloc(), WITH_NOTES)?.texts.notes.as_slice(),
-        b"n".as_slice()
-    );
-    Ok(())
-}
+const TEXTS: &[Part] = &[
+    Title(b"T"),
+    Author(b"by \xE9\xFF"),
+    Copyright(b"(c)"),
+    Notes(b"two\nlines"),
+];
+
+const IN_CORNERS: &[Part] = &[
+    Size(3, 3),
+    Square(1, 1, b'.'),
+    Square(3, 3, b'.'),
+    Square(2, 2, b'D'),
+    Clue(3, 1, Direction::Across, b"four across"),
+];
+
+const MORE_COLUMNS: &[Part] = &[
+    Size(3, 2),
+    Square(2, 1, b'C'),
+    Clue(1, 3, Direction::Down, b"c"),
+    Clue(2, 1, Direction::Across, b"d"),
+    Circle(1, 2, true),
+    Circle(1, 3, false),
+    Circle(2, 1, false),
+    Circle(2, 3, true),
+];
+
+/// Files, and what is read of them.
+const READ: &[(&[u8], &[Part])] = &[
+    (ALL_TEXTS, TEXTS),
+    (TITLED, &[Title(b"T")]),
+    (WITH_NOTES, &[Notes(b"n")]),
+    (CORNERS, IN_CORNERS),
+    (EMPTY_CELL, &[Square(1, 2, b'-')]),
+    (ONE_CELL, &[Square(1, 1, b'Z')]),
+    (WIDE, MORE_COLUMNS),
+];
 
 #[test]
-fn reads_blocks_and_empty_cells(rt: HostRuntime) -> Result<(), Fail> {
-    let corners = read_puz(rt.alloc(), CORNERS)?;
-    assert!(rt; corners.grid.is_block(cell(1, 1)));
-    assert!(rt; corners.grid.is_block(cell(3, 3)));
-    assert_eq!(rt; corners.grid.entry(cell(2, 2)), Letter::of(b'D'));
-    assert_eq!(rt;
-        corners.clues.get(cell(3, 1), Direction::Across),
-        b"four across".as_slice()
-    );
-    let empty = read_puz(rt.alloc(), EMPTY_CELL)?;
-    assert!(rt; empty.grid.is_open(cell(1, 2)));
-    assert_eq!(rt; empty.grid.entry(cell(1, 2)), None);
-    let single = read_puz(rt.alloc(), ONE_CELL)?;
-    assert_eq!(rt; single.grid.entry(cell(1, 1)), Letter::of(b'Z'));
-    Ok(())
-}
-
-#[test]
-fn reads_more_columns_than_rows(rt: HostRuntime) -> Result<(), Fail> {
-    let wide = read_puz(rt.alloc(), WIDE)?;
-    assert_eq!(rt; wide.grid.width(), 3);
-    assert_eq!(rt; wide.grid.height(), 2);
-    assert_eq!(rt; wide.grid.entry(cell(2, 1)), Letter::of(b'C'));
-    assert_eq!(rt;
-        wide.clues.get(cell(1, 3), Direction::Down),
-        b"c".as_slice()
-    );
-    assert_eq!(rt;
-        wide.clues.get(cell(2, 1), Direction::Across),
-        b"d".as_slice()
-    );
-    for (row, col, circled) in [(1, 2, true), (1, 3, false), (2, 1, false), (2, 3, true)] {
-        assert_eq!(rt; wide.circles.has(cell(row, col)), circled);
+fn reads_other_puzzles(rt: HostRuntime) {
+    for (file, parts) in READ {
+        reads(&rt, *file, &[*parts]);
     }
-    Ok(())
 }
 
 #[test]
@@ -134,12 +101,17 @@ fn refuses_cut_files(rt: HostRuntime) {
     }
 }
 
-/// The plain file with one byte exclusive-or another.
-fn changed(rt: &(impl Abort + AllocGlobal), offset: usize, bits: u8) -> Vec<u8> {
-    let mut bytes = Vec::from_slice(rt.alloc(), PLAIN).expect(rt, "a copy");
+/// Turns bits of the byte at an offset.
+fn turn(bytes: &mut Vec<u8>, offset: usize, bits: u8) {
     if let Some(byte) = bytes.get_mut(offset) {
         *byte ^= bits;
     }
+}
+
+/// The plain file with one byte exclusive-or another.
+fn changed(rt: &(impl Abort + AllocGlobal), offset: usize, bits: u8) -> Vec<u8> {
+    let mut bytes = Vec::from_slice(rt.alloc(), PLAIN).expect(rt, "a copy");
+    turn(&mut bytes, offset, bits);
     bytes
 }
 
@@ -173,54 +145,70 @@ fn refuses_altered_files(rt: HostRuntime) {
             writes(&rt, &bytes, PLAIN);
         }
     }
-    for (offset, bits, fault) in [
-        (0x13, 1, ReadFault::BadSum(SumName::Masked(4))),
-        (0x32, 4, ReadFault::Scrambled),
-        (0x1A, b'3' ^ b'4', ReadFault::Version),
-        (0x00, 1, ReadFault::BadSum(SumName::File)),
-        (0x2C, 2, ReadFault::Size),
-        (0x2D, 2, ReadFault::Size),
-    ] {
-        assert_eq!(rt;
-            fault_of(&rt, &changed(&rt, offset, bits)),
-            Some(fault),
-            "at {offset}"
-        );
+}
+
+/// Bits of a byte of the plain file, and the fault when they are turned.
+type Turns = &'static [(usize, u8, ReadFault)];
+
+const ONE_TURNED: Turns = &[
+    (0x13, 1, ReadFault::BadSum(SumName::Masked(4))),
+    (0x32, 4, ReadFault::Scrambled),
+    (0x1A, b'3' ^ b'4', ReadFault::Version),
+    (0x00, 1, ReadFault::BadSum(SumName::File)),
+    (0x2C, 2, ReadFault::Size),
+    (0x2D, 2, ReadFault::Size),
+];
+
+#[test]
+fn refuses_turned_bits(rt: HostRuntime) {
+    for (offset, bits, fault) in ONE_TURNED {
+        let bytes = changed(&rt, *offset, *bits);
+        assert_eq!(rt; fault_of(&rt, &bytes), Some(*fault), "at {offset}");
+    }
+}
+
+const BAD_CELL_FOUND: ReadFault = ReadFault::BadCell(Cell { row: 2, col: 1 });
+
+/// Files with their first fault.
+const FIRST_FAULTS: &[(&[u8], ReadFault)] = &[
+    (CLUE_COUNT, ReadFault::ClueCount),
+    (MORE_CLUES, ReadFault::ClueCount),
+    (BAD_CELL, BAD_CELL_FOUND),
+    (BAD_CELL_AND_COUNT, BAD_CELL_FOUND),
+];
+
+#[test]
+fn tells_the_first_fault(rt: HostRuntime) {
+    for (file, fault) in FIRST_FAULTS {
+        assert_eq!(rt; fault_of(&rt, *file), Some(*fault));
+    }
+}
+
+/// Each fault before those that are left when its bits are turned back.
+const ALL_TURNED: Turns = &[
+    (0x02, 1, ReadFault::Magic),
+    (0x1A, 7, ReadFault::Version),
+    (0x32, 4, ReadFault::Scrambled),
+    (0x2D, 2, ReadFault::Size),
+    (0x10, 1, ReadFault::BadSum(SumName::Masked(1))),
+];
+
+fn turn_all(bytes: &mut Vec<u8>, turns: Turns) {
+    for (offset, bits, _) in turns {
+        turn(bytes, *offset, *bits);
     }
 }
 
 #[test]
-fn tells_the_first_fault(rt: HostRuntime) {
-    assert_eq!(rt; fault_of(&rt, CLUE_COUNT), Some(ReadFault::ClueCount));
-    assert_eq!(rt; fault_of(&rt, MORE_CLUES), Some(ReadFault::ClueCount));
-    assert_eq!(rt;
-        fault_of(&rt, BAD_CELL),
-        Some(ReadFault::BadCell(cell(2, 1)))
-    );
-    assert_eq!(rt;
-        fault_of(&rt, BAD_CELL_AND_COUNT),
-        Some(ReadFault::BadCell(cell(2, 1)))
-    );
-    // Each time the fault that was told is mended.
-    let mut bytes = changed(&rt, 0x02, 1);
-    for (offset, bits) in [(0x1A, 7), (0x32, 4), (0x2D, 2), (0x10, 1)] {
-        if let Some(byte) = bytes.get_mut(offset) {
-            *byte ^= bits;
-        }
-    }
-    for (offset, bits, fault) in [
-        (0x02, 1, ReadFault::Magic),
-        (0x1A, 7, ReadFault::Version),
-        (0x32, 4, ReadFault::Scrambled),
-        (0x2D, 2, ReadFault::Size),
-        (0x10, 1, ReadFault::BadSum(SumName::Masked(1))),
-    ] {
-        assert_eq!(rt; fault_of(&rt, &bytes), Some(fault), "at {offset}");
-        if let Some(byte) = bytes.get_mut(offset) {
-            *byte ^= bits;
-        }
+fn tells_the_first_fault_that_is_left(rt: HostRuntime) -> Result<(), AllocError> {
+    let mut bytes = Vec::from_slice(rt.alloc(), PLAIN)?;
+    turn_all(&mut bytes, ALL_TURNED);
+    for (offset, bits, fault) in ALL_TURNED {
+        assert_eq!(rt; fault_of(&rt, &bytes), Some(*fault), "at {offset}");
+        turn(&mut bytes, *offset, *bits);
     }
     writes(&rt, &bytes, PLAIN);
+    Ok(())
 }
 
 #[test]

@@ -1,209 +1,140 @@
 //! What is written, and what refuses.
 use crate::fault::{TextName, WriteFault};
-use crate::puz::{read_puz, write_puz};
-use crate::puzzle::{Puzzle, Texts};
-use crate::tests::puz::cell;
-use crate::tests::puz::files::{CIRCLED, NO_CLUE, PLAIN, TITLED, WITH_NOTES};
+use crate::kind::Kind;
+use crate::puz::write_puz;
+use crate::puzzle::Puzzle;
+use crate::tests::puz::files::{
+    BLOCKED, CIRCLED, CIRCLED_LAST, CIRCLED_TWICE, NO_CLUE, PLAIN, TITLED, WITH_NOTES,
+};
+use crate::tests::puz::reads;
+use crate::tests::puzzles::Part::{
+    Author, Bar, Circle, Clue, Copyright, Notes, Size, Square, Title,
+};
+use crate::tests::puzzles::{Part, Row, Wanted, cell, puzzle_with, writes_each};
 use std::alloc::Global;
-use std::process::Abort;
 use std::test::Fail;
-use xw_grid::cell::{Direction, Side};
-use xw_grid::circles::Circles;
-use xw_grid::clues::Clues;
-use xw_grid::grid::Grid;
+use xw_grid::cell::{Cell, Direction, Side};
 use xw_words::letter::Letter;
 
-/// The puzzle of the plain file.
-fn plain(alloc: Global) -> Result<Puzzle, Fail> {
-    let mut grid = Grid::new(alloc, 2, 2)?;
-    for (row, col, byte) in [(1, 1, b'A'), (1, 2, b'T'), (2, 1, b'S'), (2, 2, b'O')] {
-        if let Some(letter) = Letter::of(byte) {
-            grid.set(cell(row, col), letter)?;
-        }
-    }
-    let mut clues = Clues::new(alloc);
-    clues.set(cell(1, 1), Direction::Across, b"a")?;
-    clues.set(cell(1, 1), Direction::Down, b"b")?;
-    clues.set(cell(1, 2), Direction::Down, b"c")?;
-    clues.set(cell(2, 1), Direction::Across, b"d")?;
-    Ok(Puzzle {
-        grid,
-        texts: Texts {
-            title: Vec::new(alloc),
-            author: Vec::new(alloc),
-            copyright: Vec::new(alloc),
-            notes: Vec::new(alloc),
-        },
-        clues,
-        circles: Circles::new(alloc),
-    })
-}
-
-fn fault_of(rt: &(impl Abort + AllocGlobal), puzzle: &Puzzle) -> Option<WriteFault> {
-    write_puz(rt.alloc(), puzzle).err()
-}
-
-fn writes(rt: &(impl Abort + AllocGlobal), puzzle: &Puzzle, want: &[u8]) {
-    let written = write_puz(rt.alloc(), puzzle).expect(rt, "the puzzle is written");
-    assert_eq!(rt; written.as_slice(), want);
-}
+const ONE_TEXT: &[Row] = &[
+    (&[], Ok(PLAIN)),
+    (&[Title(b"T")], Ok(TITLED)),
+    (&[Title(b""), Notes(b"n")], Ok(WITH_NOTES)),
+];
 
 #[test]
 fn writes_the_plain_file(rt: HostRuntime) -> Result<(), Fail> {
-    let mut puzzle = plain(rt.alloc())?;
-    writes(&rt, &puzzle, PLAIN);
-    puzzle.texts.title.push(b'T')?;
-    writes(&rt, &puzzle, TITLED);
-    puzzle.texts.title.clear();
-    puzzle.texts.notes.push(b'n')?;
-    writes(&rt, &puzzle, WITH_NOTES);
-    Ok(())
+    writes_each(&rt, Kind::Puz, ONE_TEXT)
 }
+
+const CIRCLES: &[Row] = &[
+    (&[Circle(1, 1, true)], Ok(CIRCLED)),
+    (&[Circle(1, 2, true)], Ok(CIRCLED_TWICE)),
+    (
+        &[Circle(1, 1, false), Circle(1, 2, false), Circle(2, 2, true)],
+        Ok(CIRCLED_LAST),
+    ),
+];
 
 #[test]
 fn writes_circles(rt: HostRuntime) -> Result<(), Fail> {
-    let mut puzzle = plain(rt.alloc())?;
-    puzzle.circles.set(cell(1, 1), true)?;
-    writes(&rt, &puzzle, CIRCLED);
-    puzzle.circles.set(cell(1, 2), true)?;
-    let both = write_puz(rt.alloc(), &puzzle)?;
-    assert_eq!(rt; both.get(..72), Some(PLAIN));
-    assert_eq!(rt;
-        both.get(72..),
-        Some(b"GEXT\x04\0\x30\0\x80\x80\0\0\0".as_slice())
-    );
-    puzzle.circles.set(cell(1, 1), false)?;
-    puzzle.circles.set(cell(1, 2), false)?;
-    puzzle.circles.set(cell(2, 2), true)?;
-    let last = write_puz(rt.alloc(), &puzzle)?;
-    assert_eq!(rt;
-        last.get(72..),
-        Some(b"GEXT\x04\0\x80\0\0\0\0\x80\0".as_slice())
-    );
-    Ok(())
+    writes_each(&rt, Kind::Puz, CIRCLES)
 }
+
+const OUTSIDE: &[Part] = &[
+    Clue(2, 2, Direction::Across, b"\0"),
+    Clue(7, 7, Direction::Down, b"\0"),
+    Circle(7, 7, true),
+    Circle(0, 1, true),
+];
+
+const HIDDEN: &[Row] = &[
+    (OUTSIDE, Ok(PLAIN)),
+    (&[Clue(1, 1, Direction::Down, b"")], Ok(NO_CLUE)),
+    (&[Square(2, 2, b'.'), Circle(2, 2, true)], Ok(BLOCKED)),
+];
 
 #[test]
 fn leaves_out_what_is_hidden(rt: HostRuntime) -> Result<(), Fail> {
-    let mut puzzle = plain(rt.alloc())?;
-    puzzle.clues.set(cell(2, 2), Direction::Across, b"\0")?;
-    puzzle.clues.set(cell(7, 7), Direction::Down, b"\0")?;
-    puzzle.circles.set(cell(7, 7), true)?;
-    puzzle.circles.set(cell(0, 1), true)?;
-    writes(&rt, &puzzle, PLAIN);
-    puzzle.clues.set(cell(1, 1), Direction::Down, b"")?;
-    writes(&rt, &puzzle, NO_CLUE);
-    puzzle.grid.clear(cell(2, 2))?;
-    puzzle.grid.toggle_block(cell(2, 2))?;
-    puzzle.circles.set(cell(2, 2), true)?;
-    let blocked = write_puz(rt.alloc(), &puzzle)?;
-    assert_eq!(rt; blocked.get(0x2E), Some(&2));
-    assert_eq!(rt;
-        blocked.get(0x34..),
-        Some(b"ATS.---.\0\0\0a\0\0\0".as_slice())
-    );
-    Ok(())
+    writes_each(&rt, Kind::Puz, HIDDEN)
 }
 
 /// The largest grid with one letter in each cell, and a circle in the last.
 fn largest(alloc: Global, letter: Letter) -> Result<Puzzle, Fail> {
-    let mut puzzle = Puzzle {
-        grid: Grid::new(alloc, 255, 255)?,
-        texts: Texts {
-            title: Vec::new(alloc),
-            author: Vec::new(alloc),
-            copyright: Vec::new(alloc),
-            notes: Vec::new(alloc),
-        },
-        clues: Clues::new(alloc),
-        circles: Circles::new(alloc),
-    };
+    let mut puzzle = puzzle_with(alloc, &[Size(255, 255), Circle(255, 255, true)])?;
     for row in 1..256 {
         for col in 1..256 {
             puzzle.grid.set(cell(row, col), letter)?;
         }
     }
-    puzzle.circles.set(cell(255, 255), true)?;
     Ok(puzzle)
 }
 
+fn largest_file(alloc: Global) -> Result<Vec<u8>, Fail> {
+    let puzzle = largest(alloc, Letter::first())?;
+    Ok(write_puz(alloc, &puzzle)?)
+}
+
+const LAST_CELLS: &[Part] = &[
+    Size(255, 255),
+    Square(255, 255, b'A'),
+    Circle(255, 255, true),
+    Circle(255, 254, false),
+];
+
 #[test]
 fn keeps_the_largest_grid(rt: HostRuntime) -> Result<(), Fail> {
-    let puzzle = largest(rt.alloc(), Letter::first())?;
-    let bytes = write_puz(rt.alloc(), &puzzle)?;
+    let bytes = largest_file(rt.alloc())?;
     // A header, three bytes for each cell, a NUL for each of four texts and 510 clues, and those of a section.
     assert_eq!(rt; bytes.len(), 52 + 3 * 65025 + 4 + 510 + 9);
-    let read = read_puz(rt.alloc(), &bytes)?;
-    assert!(rt; read.circles.has(cell(255, 255)));
-    assert!(rt; !read.circles.has(cell(255, 254)));
-    assert_eq!(rt; read.grid.entry(cell(255, 255)), Some(Letter::first()));
+    reads(&rt, &bytes, &[LAST_CELLS]);
     Ok(())
 }
+
+const BARRED: Wanted = Err(WriteFault::Barred);
+
+/// Each fault before those that were put earlier.
+const FAULTS: &[Row] = &[
+    (&[Notes(b"\0")], Err(WriteFault::Field(TextName::Notes))),
+    (
+        &[Clue(2, 1, Direction::Across, b"\0")],
+        Err(WriteFault::Field(TextName::Clue(4))),
+    ),
+    (
+        &[Clue(1, 1, Direction::Down, b"x\0y")],
+        Err(WriteFault::Field(TextName::Clue(2))),
+    ),
+    (
+        &[Copyright(b"\0")],
+        Err(WriteFault::Field(TextName::Copyright)),
+    ),
+    (&[Author(b"\0")], Err(WriteFault::Field(TextName::Author))),
+    (&[Title(b"a\0b")], Err(WriteFault::Field(TextName::Title))),
+    (
+        &[Square(2, 2, b'-')],
+        Err(WriteFault::NotFilled(Cell { row: 2, col: 2 })),
+    ),
+    (
+        &[Square(1, 2, b'-')],
+        Err(WriteFault::NotFilled(Cell { row: 1, col: 2 })),
+    ),
+    (&[Bar(2, 1, Side::Right, true)], BARRED),
+];
 
 #[test]
 fn tells_the_first_fault(rt: HostRuntime) -> Result<(), Fail> {
-    let mut puzzle = plain(rt.alloc())?;
-    puzzle.texts.notes.push(0)?;
-    assert_eq!(rt;
-        fault_of(&rt, &puzzle),
-        Some(WriteFault::Field(TextName::Notes))
-    );
-    puzzle.clues.set(cell(2, 1), Direction::Across, b"\0")?;
-    assert_eq!(rt;
-        fault_of(&rt, &puzzle),
-        Some(WriteFault::Field(TextName::Clue(4)))
-    );
-    puzzle.clues.set(cell(1, 1), Direction::Down, b"x\0y")?;
-    assert_eq!(rt;
-        fault_of(&rt, &puzzle),
-        Some(WriteFault::Field(TextName::Clue(2)))
-    );
-    puzzle.texts.copyright.push(0)?;
-    assert_eq!(rt;
-        fault_of(&rt, &puzzle),
-        Some(WriteFault::Field(TextName::Copyright))
-    );
-    puzzle.texts.author.push(0)?;
-    assert_eq!(rt;
-        fault_of(&rt, &puzzle),
-        Some(WriteFault::Field(TextName::Author))
-    );
-    puzzle.texts.title.extend_from_slice(b"a\0b")?;
-    assert_eq!(rt;
-        fault_of(&rt, &puzzle),
-        Some(WriteFault::Field(TextName::Title))
-    );
-    puzzle.grid.clear(cell(2, 2))?;
-    assert_eq!(rt;
-        fault_of(&rt, &puzzle),
-        Some(WriteFault::NotFilled(cell(2, 2)))
-    );
-    puzzle.grid.clear(cell(1, 2))?;
-    assert_eq!(rt;
-        fault_of(&rt, &puzzle),
-        Some(WriteFault::NotFilled(cell(1, 2)))
-    );
-    puzzle.grid.toggle_bar(cell(2, 1), Side::Right)?;
-    assert_eq!(rt; fault_of(&rt, &puzzle), Some(WriteFault::Barred));
-    Ok(())
+    writes_each(&rt, Kind::Puz, FAULTS)
 }
+
+const BAR_BESIDE_A_BLOCK: &[Row] = &[
+    (&[Square(1, 1, b'.'), Bar(1, 1, Side::Below, true)], BARRED),
+    (
+        &[Size(1, 1)],
+        Err(WriteFault::NotFilled(Cell { row: 1, col: 1 })),
+    ),
+];
 
 #[test]
 fn refuses_bars_beside_blocks(rt: HostRuntime) -> Result<(), Fail> {
-    let mut puzzle = plain(rt.alloc())?;
-    puzzle.grid.clear(cell(1, 1))?;
-    puzzle.grid.toggle_block(cell(1, 1))?;
-    puzzle.grid.toggle_bar(cell(1, 1), Side::Below)?;
-    assert_eq!(rt; fault_of(&rt, &puzzle), Some(WriteFault::Barred));
-    let single = Puzzle {
-        grid: Grid::new(rt.alloc(), 1, 1)?,
-        texts: puzzle.texts,
-        clues: puzzle.clues,
-        circles: puzzle.circles,
-    };
-    assert_eq!(rt;
-        fault_of(&rt, &single),
-        Some(WriteFault::NotFilled(cell(1, 1)))
-    );
-    Ok(())
+    writes_each(&rt, Kind::Puz, BAR_BESIDE_A_BLOCK)
 }
