@@ -88,21 +88,10 @@ fn run<R: Files + AllocGlobal, I: Source, O: Sink, E: Sink>(
             to_file,
         } => {
             let mut session = open(rt, dict, from_file, errors)?;
-            let status = answer(&mut session, input, output)?;
-            if let Some(file) = to_file {
-                keep(rt, file, &session)?;
-            }
-            Ok(status)
+            edit(rt, &mut session, to_file, input, output)
         }
-        Call::Convert { from_file, to_file } => {
-            let (_, puzzle) = files::read_puzzle(rt, from_file)?;
-            files::write_puzzle(rt, to_file, &puzzle)?;
-            Ok(Status::Accepted)
-        }
-        Call::Check { file } => {
-            check(rt, file, output)?;
-            Ok(Status::Accepted)
-        }
+        Call::Convert { from_file, to_file } => convert(rt, from_file, to_file),
+        Call::Check { file } => check(rt, file, output),
     }
 }
 
@@ -132,6 +121,21 @@ fn open<R: Files + AllocGlobal, E: Sink>(
     }
 }
 
+/// Answers the commands of the input, and then writes the puzzle where a file is named.
+fn edit<R: Files + AllocGlobal, I: Source, O: Sink>(
+    rt: &R,
+    session: &mut Session<Engine>,
+    to_file: Option<&str>,
+    input: &mut I,
+    output: &mut O,
+) -> Result<Status, Failure> {
+    let status = answer(session, input, output)?;
+    if let Some(file) = to_file {
+        keep(rt, file, session)?;
+    }
+    Ok(status)
+}
+
 /// Answers the commands of the input.
 fn answer<I: Source, O: Sink>(
     session: &mut Session<Engine>,
@@ -159,20 +163,36 @@ fn keep<R: Files + AllocGlobal>(
     }
 }
 
+/// Writes the puzzle of a file into another.
+fn convert<R: Files + AllocGlobal>(
+    rt: &R,
+    from_file: &str,
+    to_file: &str,
+) -> Result<Status, Failure> {
+    let (_, puzzle) = files::read_puzzle(rt, from_file)?;
+    files::write_puzzle(rt, to_file, &puzzle)?;
+    Ok(Status::Accepted)
+}
+
 /// Tells the format of a puzzle file, its size and its number of lights.
 fn check<R: Files + AllocGlobal, O: Sink>(
     rt: &R,
     file: &str,
     output: &mut O,
-) -> Result<(), Failure> {
-    let alloc = rt.alloc();
+) -> Result<Status, Failure> {
     let (kind, puzzle) = files::read_puzzle(rt, file)?;
-    let lights = Lights::of(alloc, &puzzle.grid).map_err(|_| Failure::Memory)?;
+    let line = describe(rt.alloc(), kind, &puzzle.grid)?;
+    show(output, line.as_bytes())?;
+    Ok(Status::Accepted)
+}
+
+/// The line of a puzzle's format, size and number of lights.
+fn describe(alloc: Global, kind: Kind, grid: &Grid) -> Result<String, Failure> {
+    let lights = Lights::of(alloc, grid).map_err(|_| Failure::Memory)?;
     let kind = match kind {
         Kind::Puz => "puz",
         Kind::Text => "text",
     };
-    let (width, height, count) = (puzzle.grid.width(), puzzle.grid.height(), lights.len());
-    let line = format!(in alloc; "{kind} {width}x{height} {count} lights\n")?;
-    show(output, line.as_bytes())
+    let (width, height, count) = (grid.width(), grid.height(), lights.len());
+    Ok(format!(in alloc; "{kind} {width}x{height} {count} lights\n")?)
 }
