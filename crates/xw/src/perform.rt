@@ -1,4 +1,9 @@
 //! Doing what a call asks for.
+ghost use Rattle.std.specs.Prelude.{◌≡◌};
+ghost use Rattle.xw_session.specs.Sends.{Sends};
+ghost use Rattle.xw.specs.Status.{run_ended};
+ghost use Rattle.xw.specs.Usage.{IsExplained};
+
 use crate::arguments::{Call, Usage};
 use crate::failure::{Failure, Status};
 use crate::files;
@@ -35,7 +40,9 @@ pub fn perform<R: Files + AllocGlobal, I: Source, O: Sink, E: Sink>(
 }
 
 /// Shows how the program is called, and answers how that went.
-pub fn explain<O: Sink, E: Sink>(usage: &Usage, output: &mut O, errors: &mut E) -> Status {
+pub fn explain<O: Sink, E: Sink>(usage: &Usage, output: &mut O, errors: &mut E) -> Status
+    ensures { IsExplained O.told O.failures usage.now output.old output.new result }
+{
     match usage {
         Usage::Help(text) => match show(output, text.as_bytes()) {
             Ok(()) => Status::Accepted,
@@ -56,7 +63,9 @@ pub fn explain<O: Sink, E: Sink>(usage: &Usage, output: &mut O, errors: &mut E) 
 }
 
 /// Writes a text, and passes it on.
-fn show<O: Sink>(output: &mut O, text: &[u8]) -> Result<(), Failure> {
+fn show<O: Sink>(output: &mut O, text: &[u8]) -> Result<(), Failure>
+    ensures { Sends O.told O.failures output.old output.new result text.now }
+{
     device::write_all(output, text).map_err(|_| Failure::Output)?;
     output.flush().map_err(|_| Failure::Output)
 }
@@ -87,6 +96,7 @@ fn run<R: Files + AllocGlobal, I: Source, O: Sink, E: Sink>(
             from_file,
             to_file,
         } => {
+            files::keep_apart(rt, dict, to_file)?;
             let mut session = open(rt, dict, from_file, errors)?;
             edit(rt, &mut session, to_file, input, output)
         }
@@ -142,7 +152,14 @@ fn answer<I: Source, O: Sink>(
     input: &mut I,
     output: &mut O,
 ) -> Result<Status, Failure> {
-    match session.run_lines(input, output) {
+    run_status(session.run_lines(input, output))
+}
+
+/// How a run went, by how it ended.
+fn run_status(end: RunEnd) -> Result<Status, Failure>
+    ensures { result ≡ run_ended end }
+{
+    match end {
         RunEnd::Done { refused: 0 } => Ok(Status::Accepted),
         RunEnd::Done { .. } => Ok(Status::Refused),
         RunEnd::ReadFailed | RunEnd::Endless => Err(Failure::Input),
