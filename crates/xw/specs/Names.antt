@@ -1,9 +1,17 @@
--- The names of the faults of files, without their places.
-use Rattle.std.specs.Prelude.{ℕ, List, codes}
+-- What names of files ask for, and the names of the faults of files, without their places.
+use Rattle.std.specs.Prelude.{◌≡◌, ◌≢◌, ◌-◌, ℕ, List, codes, drop, length, map}
+use Rattle.std.specs.Char.{to_ascii_lowercase}
+use Rattle.xw_files.specs.declared.kind.Kind.{Kind}
+use Rattle.xw_files.specs.declared.kind.Kind.TheVariants.{Puz, Text}
 use Rattle.xw_files.specs.declared.fault.ReadFault.{ReadFault}
 use Rattle.xw_files.specs.declared.fault.ReadFault.TheVariants as reads
 use Rattle.xw_files.specs.declared.fault.WriteFault.{WriteFault}
 use Rattle.xw_files.specs.declared.fault.WriteFault.TheVariants as writes
+
+-- the format in which a file of a name is written: its last four bytes are `.puz`, in either case, or it is text
+abbrev pub IsKindNamed : List ℕ → Kind → Type 0
+IsKindNamed name Puz = map to_ascii_lowercase (drop (length name - 4) name) ≡ codes ".puz"
+IsKindNamed name Text = map to_ascii_lowercase (drop (length name - 4) name) ≢ codes ".puz"
 
 abbrev pub read_fault : ReadFault → List ℕ
 read_fault (reads.Short piece) = codes "Short"

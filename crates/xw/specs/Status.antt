@@ -1,9 +1,11 @@
 -- How a run went, and the exit status that tells it.
-use Rattle.std.specs.Prelude.{ℕ}
+use Rattle.std.specs.Prelude.{ℕ, ◌==◌, if◌then◌else◌, Result, Ok, Err}
 use Rattle.xw.specs.declared.failure.Status.{Status}
 use Rattle.xw.specs.declared.failure.Status.TheVariants.{Accepted, Refused, Usage, Format, Failed}
 use Rattle.xw.specs.declared.failure.Failure.{Failure}
 use Rattle.xw.specs.declared.failure.Failure.TheVariants as failures
+use Rattle.xw_session.specs.declared.outcome.RunEnd.{RunEnd}
+use Rattle.xw_session.specs.declared.outcome.RunEnd.TheVariants.{Done, ReadFailed, WriteFailed, Endless, Memory}
 
 abbrev pub code_of : Status → ℕ
 code_of Accepted = 0
@@ -20,3 +22,12 @@ status_of failures.Memory = Failed
 status_of (failures.CannotRead file) = Failed
 status_of (failures.CannotWrite file) = Failed
 status_of (failures.File file name) = Format
+status_of (failures.OneFile file) = Usage
+
+-- how a run over commands went, by how their reading and answering ended
+abbrev pub run_ended : RunEnd → Result Status Failure
+run_ended (Done refused) = if refused == 0 then Ok Accepted else Ok Refused
+run_ended ReadFailed = Err failures.Input
+run_ended Endless = Err failures.Input
+run_ended WriteFailed = Err failures.Output
+run_ended Memory = Err failures.Memory

@@ -1,8 +1,10 @@
 //! The arguments of the program.
-ghost use Rattle.std.specs.Prelude.{◌≡◌, IfOk, IfSome, map, false};
-ghost use Rattle.clap.specs.Words.{app_of, rule_of, subcommand_of, subcommand_rows_of};
+ghost use Rattle.std.specs.Prelude.{◌≡◌, IfOk, IfErr, OnOk, IfSome, None, map, false, []};
+ghost use Rattle.clap.specs.Values.{kind_of};
+ghost use Rattle.clap.specs.Words.{app_of, fault_of, rule_of, subcommand_of, subcommand_rows_of};
 ghost use Rattle.clap.specs.declared.builder.command.Command.TheViews.{out-Command as fields_of};
 ghost use Rattle.xw.specs.Calls.{IsCall};
+ghost use Rattle.xw.specs.Usage.{IsTold, IsNoCall, IsUsageOf};
 ghost use Rattle.xw.specs.Shapes as shapes;
 
 use clap::error::ErrorKind;
@@ -148,7 +150,10 @@ fn command<'a>(alloc: Global) -> Result<Command<'a>, AllocError>
 /// The call that the words are, of which the first is the program's name.
 pub fn arguments<'a, S: AsStr>(alloc: Global, words: &'a [S]) -> Result<Call<'a>, Usage>
     // Where the parse succeeds, the call is the subcommand, and the file names are the values that `clap` states.
-    ensures { IfOk result (λ call. IsCall call (subcommand_of shapes.xw (map S.text words.entry.now))) }
+    ensures call { IfOk result (λ call. IsCall call (subcommand_of shapes.xw (map S.text words.entry.now))) }
+    // It does succeed where `clap` states no error for the words, want of memory aside.
+    ensures parsed { OnOk result (fault_of shapes.xw (map S.text words.entry.now) ≡ []) }
+    ensures usage { IfErr result (IsUsageOf (fault_of shapes.xw (map S.text words.entry.now)) (subcommand_of shapes.xw (map S.text words.entry.now))) }
 {
     let command = command(alloc)?;
     let matches = match command.try_get_matches_from(words) {
@@ -163,7 +168,8 @@ pub fn arguments<'a, S: AsStr>(alloc: Global, words: &'a [S]) -> Result<Call<'a>
 
 /// The call of the matches, or `None` where they lack a file.
 fn call_of<'a>(matches: &ArgMatches<'a>) -> Option<Call<'a>>
-    ensures { IfSome result (λ call. IsCall call (subcommand_rows_of matches.now)) }
+    ensures call { IfSome result (λ call. IsCall call (subcommand_rows_of matches.now)) }
+    ensures none { result ≡ None → IsNoCall (subcommand_rows_of matches.now) }
 {
     let (name, files) = matches.subcommand()?;
     match name {
@@ -184,13 +190,20 @@ fn call_of<'a>(matches: &ArgMatches<'a>) -> Option<Call<'a>>
 }
 
 impl From<AllocError> for Usage {
+    ghost use Rattle.std.specs.Prelude.{◌≡◌};
+    ghost use Rattle.xw.specs.declared.arguments.Usage.TheVariants.{Memory};
+
+    ghost from_gives = { λ _ usage. usage ≡ Memory };
+
     fn from(_error: AllocError) -> Usage {
         Usage::Memory
     }
 }
 
 /// What to show for an error of the parse.
-fn explanation(alloc: Global, error: &Error) -> Usage {
+fn explanation(alloc: Global, error: &Error) -> Usage
+    ensures { IsTold (kind_of error.now) result }
+{
     if error.kind() == ErrorKind::OutOfMemory {
         return Usage::Memory;
     }

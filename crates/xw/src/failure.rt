@@ -54,6 +54,8 @@ pub enum Failure {
     CannotWrite { file: String },
     #[error("xw: {file}: {name}")]
     File { file: String, name: &'static str },
+    #[error("xw: {file}: the word list cannot be the file to write")]
+    OneFile { file: String },
 }
 
 impl Failure {
@@ -62,6 +64,7 @@ impl Failure {
     {
         match self {
             Failure::File { .. } => Status::Format,
+            Failure::OneFile { .. } => Status::Usage,
             _ => Status::Failed,
         }
     }

@@ -1,9 +1,10 @@
 //! The files of the program: word lists and puzzles.
 ghost use Rattle.std.specs.Prelude.{◌≡◌};
-ghost use Rattle.xw.specs.Names.{read_fault, write_fault};
+ghost use Rattle.xw.specs.Names.{IsKindNamed, read_fault, write_fault};
 
 use crate::failure::Failure;
 use crate::replacing::replace;
+use std::os::unix::fs::MetadataExt;
 use std::rt::Files;
 use std::{fs, io};
 use xw_files::fault::{ReadFault, WriteFault};
@@ -103,8 +104,33 @@ pub fn write_puzzle<R: Files + AllocGlobal>(
     }
 }
 
+/// Refuses to write the puzzle into the word list, whatever the two names are.
+pub fn keep_apart<R: Files + AllocGlobal>(
+    rt: &R,
+    dict: Option<&str>,
+    to_file: Option<&str>,
+) -> Result<(), Failure> {
+    match (dict, to_file) {
+        (Some(dict), Some(file)) if is_one_file(rt, dict, file) => {
+            let file = String::from_str(rt.alloc(), file)?;
+            Err(Failure::OneFile { file })
+        }
+        _ => Ok(()),
+    }
+}
+
+/// Whether two names are of one file, be it there or not.
+fn is_one_file<R: Files>(rt: &R, one: &str, other: &str) -> bool {
+    match (fs::metadata(rt, one), fs::metadata(rt, other)) {
+        (Ok(one), Ok(other)) => one.dev() == other.dev() && one.ino() == other.ino(),
+        _ => one == other,
+    }
+}
+
 /// The format in which a file of this name is written.
-fn kind_by_name(name: &str) -> Kind {
+fn kind_by_name(name: &str) -> Kind
+    ensures { IsKindNamed name.now result }
+{
     let name = name.as_bytes();
     let ending = &name[name.len().saturating_sub(4)..];
     if ending.eq_ignore_ascii_case(b".puz") {

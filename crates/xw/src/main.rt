@@ -38,14 +38,17 @@ fn start<E: Sink>(rt: &HostRuntime, errors: &mut E) -> io::Result<Status> {
             return Ok(explain(&Usage::Wrong(text), &mut output, errors));
         }
     };
-    match arguments::arguments(rt.alloc(), words.as_slice()) {
-        Ok(call) => Ok(perform(
+    let status = match arguments::arguments(rt.alloc(), words.as_slice()) {
+        Ok(call) => perform(
             rt,
             call,
             &mut FromRead::new(rt.stdin()),
             &mut output,
             errors,
-        )),
-        Err(usage) => Ok(explain(&usage, &mut output, errors)),
-    }
+        ),
+        Err(usage) => explain(&usage, &mut output, errors),
+    };
+    // what is still held could not be written, and is not tried again
+    let (_writer, _held) = output.into_writer().into_parts();
+    Ok(status)
 }

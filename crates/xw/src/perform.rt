@@ -1,4 +1,9 @@
 //! Doing what a call asks for.
+ghost use Rattle.std.specs.Prelude.{◌≡◌};
+ghost use Rattle.xw_session.specs.Sends.{Sends};
+ghost use Rattle.xw.specs.Status.{run_ended};
+ghost use Rattle.xw.specs.Usage.{IsExplained};
+
 use crate::arguments::{Call, Usage};
 use crate::failure::{Failure, Status};
 use crate::files;
@@ -35,7 +40,9 @@ pub fn perform<R: Files + AllocGlobal, I: Source, O: Sink, E: Sink>(
 }
 
 /// Shows how the program is called, and answers how that went.
-pub fn explain<O: Sink, E: Sink>(usage: &Usage, output: &mut O, errors: &mut E) -> Status {
+pub fn explain<O: Sink, E: Sink>(usage: &Usage, output: &mut O, errors: &mut E) -> Status
+    ensures { IsExplained O.told O.failures usage.now output.old output.new result }
+{
     match usage {
         Usage::Help(text) => match show(output, text.as_bytes()) {
             Ok(()) => Status::Accepted,
@@ -56,7 +63,9 @@ pub fn explain<O: Sink, E: Sink>(usage: &Usage, output: &mut O, errors: &mut E) 
 }
 
 /// Writes a text, and passes it on.
-fn show<O: Sink>(output: &mut O, text: &[u8]) -> Result<(), Failure> {
+fn show<O: Sink>(output: &mut O, text: &[u8]) -> Result<(), Failure>
+    ensures { Sends O.told O.failures output.old output.new result text.now }
+{
     device::write_all(output, text).map_err(|_| Failure::Output)?;
     output.flush().map_err(|_| Failure::Output)
 }
@@ -87,22 +96,12 @@ fn run<R: Files + AllocGlobal, I: Source, O: Sink, E: Sink>(
             from_file,
             to_file,
         } => {
+            files::keep_apart(rt, dict, to_file)?;
             let mut session = open(rt, dict, from_file, errors)?;
-            let status = answer(&mut session, input, output)?;
-            if let Some(file) = to_file {
-                keep(rt, file, &session)?;
-            }
-            Ok(status)
+            edit(rt, &mut session, to_file, input, output)
         }
-        Call::Convert { from_file, to_file } => {
-            let (_, puzzle) = files::read_puzzle(rt, from_file)?;
-            files::write_puzzle(rt, to_file, &puzzle)?;
-            Ok(Status::Accepted)
-        }
-        Call::Check { file } => {
-            check(rt, file, output)?;
-            Ok(Status::Accepted)
-        }
+        Call::Convert { from_file, to_file } => convert(rt, from_file, to_file),
+        Call::Check { file } => check(rt, file, output),
     }
 }
 
@@ -132,13 +131,35 @@ fn open<R: Files + AllocGlobal, E: Sink>(
     }
 }
 
+/// Answers the commands of the input, and then writes the puzzle where a file is named.
+fn edit<R: Files + AllocGlobal, I: Source, O: Sink>(
+    rt: &R,
+    session: &mut Session<Engine>,
+    to_file: Option<&str>,
+    input: &mut I,
+    output: &mut O,
+) -> Result<Status, Failure> {
+    let status = answer(session, input, output)?;
+    if let Some(file) = to_file {
+        keep(rt, file, session)?;
+    }
+    Ok(status)
+}
+
 /// Answers the commands of the input.
 fn answer<I: Source, O: Sink>(
     session: &mut Session<Engine>,
     input: &mut I,
     output: &mut O,
 ) -> Result<Status, Failure> {
-    match session.run_lines(input, output) {
+    run_status(session.run_lines(input, output))
+}
+
+/// How a run went, by how it ended.
+fn run_status(end: RunEnd) -> Result<Status, Failure>
+    ensures { result ≡ run_ended end }
+{
+    match end {
         RunEnd::Done { refused: 0 } => Ok(Status::Accepted),
         RunEnd::Done { .. } => Ok(Status::Refused),
         RunEnd::ReadFailed | RunEnd::Endless => Err(Failure::Input),
@@ -159,20 +180,36 @@ fn keep<R: Files + AllocGlobal>(
     }
 }
 
+/// Writes the puzzle of a file into another.
+fn convert<R: Files + AllocGlobal>(
+    rt: &R,
+    from_file: &str,
+    to_file: &str,
+) -> Result<Status, Failure> {
+    let (_, puzzle) = files::read_puzzle(rt, from_file)?;
+    files::write_puzzle(rt, to_file, &puzzle)?;
+    Ok(Status::Accepted)
+}
+
 /// Tells the format of a puzzle file, its size and its number of lights.
 fn check<R: Files + AllocGlobal, O: Sink>(
     rt: &R,
     file: &str,
     output: &mut O,
-) -> Result<(), Failure> {
-    let alloc = rt.alloc();
+) -> Result<Status, Failure> {
     let (kind, puzzle) = files::read_puzzle(rt, file)?;
-    let lights = Lights::of(alloc, &puzzle.grid).map_err(|_| Failure::Memory)?;
+    let line = describe(rt.alloc(), kind, &puzzle.grid)?;
+    show(output, line.as_bytes())?;
+    Ok(Status::Accepted)
+}
+
+/// The line of a puzzle's format, size and number of lights.
+fn describe(alloc: Global, kind: Kind, grid: &Grid) -> Result<String, Failure> {
+    let lights = Lights::of(alloc, grid).map_err(|_| Failure::Memory)?;
     let kind = match kind {
         Kind::Puz => "puz",
         Kind::Text => "text",
     };
-    let (width, height, count) = (puzzle.grid.width(), puzzle.grid.height(), lights.len());
-    let line = format!(in alloc; "{kind} {width}x{height} {count} lights\n")?;
-    show(output, line.as_bytes())
+    let (width, height, count) = (grid.width(), grid.height(), lights.len());
+    Ok(format!(in alloc; "{kind} {width}x{height} {count} lights\n")?)
 }

@@ -8,6 +8,7 @@ use crate::arguments::{Call, Usage, arguments};
 use crate::failure::Status;
 use crate::perform::{explain, perform};
 use std::fs;
+use std::os::unix::fs::symlink;
 use std::process::Abort;
 use std::rt::Files;
 use std::test::Fail;
@@ -106,6 +107,64 @@ fn usage_explained(rt: HostRuntime) -> Result<(), Fail> {
     let text = String::from_str(rt.alloc(), "wrong")?;
     explains(&rt, &Usage::Wrong(text), Status::Usage, b"", b"wrong");
     explains(&rt, &Usage::Memory, Status::Failed, b"", b"xw: memory\n");
+    Ok(())
+}
+
+#[test]
+fn version_told(rt: HostRuntime) {
+    let wanted = Run {
+        status: Status::Accepted,
+        output: b"xw 0.1.0\n",
+        errors: b"",
+    };
+    runs(&rt, &["xw", "--version"], b"", wanted);
+    runs(&rt, &["xw", "-V"], b"", wanted);
+}
+
+/// The word list is not replaced by the puzzle, whatever its name; nothing is read before that is told.
+#[test]
+fn word_list_kept_apart(rt: HostRuntime) -> Result<(), Fail> {
+    fs::write(&rt, "apart.txt", b"cat\n")?;
+    symlink(&rt, "apart.txt", "apart.link")?;
+    for (file, errors) in [
+        (
+            "apart.txt",
+            b"xw: apart.txt: the word list cannot be the file to write\n".as_slice(),
+        ),
+        (
+            "./apart.txt",
+            b"xw: ./apart.txt: the word list cannot be the file to write\n",
+        ),
+        (
+            "apart.link",
+            b"xw: apart.link: the word list cannot be the file to write\n",
+        ),
+    ] {
+        runs(
+            &rt,
+            &["xw", "edit", "--dict", "apart.txt", "--to", file],
+            b"add DOG\n",
+            Run {
+                status: Status::Usage,
+                output: b"",
+                errors,
+            },
+        );
+    }
+    let list = fs::read(&rt, "apart.txt")?;
+    assert_eq!(&rt; list.as_slice(), b"cat\n".as_slice());
+    fs::remove_file(&rt, "apart.link")?;
+    fs::remove_file(&rt, "apart.txt")?;
+    runs(
+        &rt,
+        &["xw", "edit", "--dict", "apart.txt", "--to", "apart.txt"],
+        b"",
+        Run {
+            status: Status::Usage,
+            output: b"",
+            errors: b"xw: apart.txt: the word list cannot be the file to write\n",
+        },
+    );
     Ok(())
 }
 

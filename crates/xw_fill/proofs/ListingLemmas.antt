@@ -1,8 +1,8 @@
 -- Lemmas on which words are active.
-use Rattle.std.proofs.Common.{◌≡◌, ℕ, ◌+◌, ◌<◌, true, false, ◌&&◌, List, [], ◌∷◌, ◌++◌, length, get_or, set, take, Some, None, refl, sym, ◌∙◌, ap, arith, inl, inr, add-one}
+use Rattle.std.proofs.Common.{◌≡◌, ℕ, ◌+◌, ◌<◌, Bool, true, false, ◌&&◌, not, List, [], ◌∷◌, ◌++◌, length, get_or, set, take, map, append-nil, Some, None, sym, ◌∙◌, ap, arith, inl, inr, add-one}
 use Rattle.std.specs.Prelude.{bytes_eq, unwrap_or}
 use Rattle.std.proofs.lemmas.Bool.{and_parts, and_from, cases_Bool, false≢true, false_from_ne_true}
-use Rattle.std.proofs.lemmas.List.{get_or-map, length-map, get_or_default, take_more, take_more_set}
+use Rattle.std.proofs.lemmas.List.{get_or-map, length-map, map-append, get_or_default, take_more, take_more_set}
 use Rattle.std.proofs.lemmas.List.Quantifiers.{position-Some}
 use Rattle.std.proofs.lemmas.Slice.Eq.{bytes_eq-Decides}
 use Rattle.xw_words.specs.Dictionary.{Entry, no_entry, Dictionary, row as known_words, place_of}
@@ -52,9 +52,17 @@ listed-some state word place dictionary h =
           ∙ sym struck
     ]
 
--- one light more
-pub unlisted-more : (state : Position) (n : ℕ) → is_entered state n ≡ true → is_listed state (spelling state n) ≡ false → those_below (is_unlisted state) (n + 1) ≡ those_below (is_unlisted state) n ++ n ∷ []
-unlisted-more state n entered none = rw add-one (rw (entered, none) refl)
+-- whether a light is unlisted, by what is known of it
+pub is_unlisted-by : (state : Position) (light : ℕ) (entered listed : Bool) → entered ≡ is_entered state light → listed ≡ is_listed state (spelling state light) → is_unlisted state light ≡ (entered && not listed)
+is_unlisted-by state light entered listed whole known = sym (ap (λ b. b && not listed) whole ∙ ap (λ b. is_entered state light && not b) known)
+
+-- one light more that passes
+pub named-more : {X : Type 0} (name : ℕ → X) (test : ℕ → Bool) (n : ℕ) → test n ≡ true → map name (those_below test (n + 1)) ≡ map name (those_below test n) ++ name n ∷ []
+named-more name test n passes = rw (add-one, passes) (map-append name (those_below test n) (n ∷ []))
+
+-- one that does not
+pub named-same : {X : Type 0} (name : ℕ → X) (test : ℕ → Bool) (n : ℕ) → test n ≡ false → map name (those_below test (n + 1)) ≡ map name (those_below test n)
+named-same name test n fails = rw (add-one, fails) (ap (map name) (append-nil (those_below test n)))
 
 -- one letter more of what a light spells
 pub spelled-more : (board : Board) (cells letters : List ℕ) (k letter : ℕ) → k < length cells → k < length letters → letter ≡ unwrap_or (entry board (get_or cells k 0)) 65 → take k letters ≡ take k (spelled board cells) → take (k + 1) (set letters k letter) ≡ take (k + 1) (spelled board cells)

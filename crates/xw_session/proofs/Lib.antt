@@ -13,3 +13,4 @@ pub mod Digits
 pub mod Decimals
 pub mod LetterTexts
 pub mod LightTexts
+pub mod Naming

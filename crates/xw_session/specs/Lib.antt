@@ -5,6 +5,7 @@ pub mod Spoken
 pub mod Run
 pub mod Line
 pub mod Reading
+pub mod Name
 pub mod Command
 pub mod State
 pub mod Refusal

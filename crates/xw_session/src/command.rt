@@ -1,6 +1,7 @@
 //! What a line asks for.
 ghost use Rattle.std.specs.Prelude.{◌≡◌};
 ghost use Rattle.xw_session.specs.Reading.{Reads};
+ghost use Rattle.xw_session.specs.Name.{word_of};
 ghost use Rattle.xw_session.specs.Command.{command_named as command_named_so, command_of};
 
 use crate::line;
@@ -96,38 +97,150 @@ pub enum Command<'a> {
     Watch(bool),
 }
 
+/// What a command does with a word.
+#[derive(Clone, Copy)]
+enum WithWord {
+    Add,
+    Strike,
+    Match,
+}
+
+/// What a command does with a cell.
+#[derive(Clone, Copy)]
+enum WithCell {
+    Set,
+    Clear,
+    Block,
+    Bar,
+    Circle,
+    Letters,
+}
+
+/// What a command does with a light.
+#[derive(Clone, Copy)]
+enum WithLight {
+    Place,
+    Clue,
+    Words,
+}
+
+/// The name of a command, by what comes after it.
+#[derive(Clone, Copy)]
+enum Name {
+    Size,
+    Symmetry,
+    Word(WithWord),
+    Cell(WithCell),
+    Light(WithLight),
+    Text(TextField),
+    Circles,
+    Show,
+    Lights,
+    Duplicates,
+    Unlisted,
+    Suggest,
+    Fill,
+    Watch,
+}
+
+/// The names, each beside its word.
+const NAMES: [(&str, Name); 26] = [
+    ("size", Name::Size),
+    ("sym", Name::Symmetry),
+    ("add", Name::Word(WithWord::Add)),
+    ("strike", Name::Word(WithWord::Strike)),
+    ("match", Name::Word(WithWord::Match)),
+    ("set", Name::Cell(WithCell::Set)),
+    ("clear", Name::Cell(WithCell::Clear)),
+    ("place", Name::Light(WithLight::Place)),
+    ("block", Name::Cell(WithCell::Block)),
+    ("bar", Name::Cell(WithCell::Bar)),
+    ("clue", Name::Light(WithLight::Clue)),
+    ("title", Name::Text(TextField::Title)),
+    ("author", Name::Text(TextField::Author)),
+    ("copyright", Name::Text(TextField::Copyright)),
+    ("notes", Name::Text(TextField::Notes)),
+    ("circle", Name::Cell(WithCell::Circle)),
+    ("circles", Name::Circles),
+    ("show", Name::Show),
+    ("lights", Name::Lights),
+    ("words", Name::Light(WithLight::Words)),
+    ("letters", Name::Cell(WithCell::Letters)),
+    ("dups", Name::Duplicates),
+    ("unlisted", Name::Unlisted),
+    ("suggest", Name::Suggest),
+    ("fill", Name::Fill),
+    ("watch", Name::Watch),
+];
+
+/// The command of a name that a word comes after.
+fn with_word<'a>(name: WithWord, words: &mut Words<'a>) -> Result<Command<'a>, SyntaxFault>
+    ensures { Reads (λ command. command) result words.new (command_named_so (word_of (Name.Word name)) words.old) }
+{
+    let word = words.word()?;
+    match name {
+        WithWord::Add => Ok(Command::Add(word)),
+        WithWord::Strike => Ok(Command::Strike(word)),
+        WithWord::Match => Ok(Command::Match(word)),
+    }
+}
+
+/// The command of a name that a cell comes after, and a letter or a side after some.
+fn with_cell<'a>(name: WithCell, words: &mut Words<'a>) -> Result<Command<'a>, SyntaxFault>
+    ensures { Reads (λ command. command) result words.new (command_named_so (word_of (Name.Cell name)) words.old) }
+{
+    let spot = words.spot()?;
+    match name {
+        WithCell::Set => Ok(Command::Set(spot, words.byte()?)),
+        WithCell::Clear => Ok(Command::Clear(spot)),
+        WithCell::Block => Ok(Command::Block(spot)),
+        WithCell::Bar => Ok(Command::Bar(spot, words.side()?)),
+        WithCell::Circle => Ok(Command::Circle(spot)),
+        WithCell::Letters => Ok(Command::Letters(spot)),
+    }
+}
+
+/// The command of a name that a light comes after, and more.
+fn with_light<'a>(name: WithLight, words: &mut Words<'a>) -> Result<Command<'a>, SyntaxFault>
+    ensures { Reads (λ command. command) result words.new (command_named_so (word_of (Name.Light name)) words.old) }
+{
+    let light = words.named()?;
+    match name {
+        WithLight::Place => Ok(Command::Place(light, words.word()?)),
+        WithLight::Clue => Ok(Command::Clue(light, words.text())),
+        WithLight::Words => Ok(Command::Words(light, words.number_if_any()?)),
+    }
+}
+
 /// The command of a name, with its arguments.
-fn command_named<'a>(name: &[u8], words: &mut Words<'a>) -> Result<Command<'a>, SyntaxFault>
-    ensures { Reads (λ command. command) result words.new (command_named_so name.now words.old) }
+fn arguments<'a>(name: Name, words: &mut Words<'a>) -> Result<Command<'a>, SyntaxFault>
+    ensures { Reads (λ command. command) result words.new (command_named_so (word_of name) words.old) }
 {
     match name {
-        _ if line::is(name, "size") => Ok(Command::Size(words.number()?, words.number()?)),
-        _ if line::is(name, "sym") => Ok(Command::Symmetry(words.symmetry()?)),
-        _ if line::is(name, "add") => Ok(Command::Add(words.word()?)),
-        _ if line::is(name, "strike") => Ok(Command::Strike(words.word()?)),
-        _ if line::is(name, "match") => Ok(Command::Match(words.word()?)),
-        _ if line::is(name, "set") => Ok(Command::Set(words.spot()?, words.byte()?)),
-        _ if line::is(name, "clear") => Ok(Command::Clear(words.spot()?)),
-        _ if line::is(name, "place") => Ok(Command::Place(words.named()?, words.word()?)),
-        _ if line::is(name, "block") => Ok(Command::Block(words.spot()?)),
-        _ if line::is(name, "bar") => Ok(Command::Bar(words.spot()?, words.side()?)),
-        _ if line::is(name, "clue") => Ok(Command::Clue(words.named()?, words.text())),
-        _ if line::is(name, "title") => Ok(Command::Write(TextField::Title, words.text())),
-        _ if line::is(name, "author") => Ok(Command::Write(TextField::Author, words.text())),
-        _ if line::is(name, "copyright") => Ok(Command::Write(TextField::Copyright, words.text())),
-        _ if line::is(name, "notes") => Ok(Command::Write(TextField::Notes, words.text())),
-        _ if line::is(name, "circle") => Ok(Command::Circle(words.spot()?)),
-        _ if line::is(name, "circles") => Ok(Command::Circles),
-        _ if line::is(name, "show") => Ok(Command::Show),
-        _ if line::is(name, "lights") => Ok(Command::Lights),
-        _ if line::is(name, "words") => Ok(Command::Words(words.named()?, words.number_if_any()?)),
-        _ if line::is(name, "letters") => Ok(Command::Letters(words.spot()?)),
-        _ if line::is(name, "dups") => Ok(Command::Duplicates),
-        _ if line::is(name, "unlisted") => Ok(Command::Unlisted),
-        _ if line::is(name, "suggest") => Ok(Command::Suggest),
-        _ if line::is(name, "fill") => Ok(Command::Fill(words.number()?)),
-        _ if line::is(name, "watch") => Ok(Command::Watch(words.switch()?)),
-        _ => Err(SyntaxFault::Command),
+        Name::Size => Ok(Command::Size(words.number()?, words.number()?)),
+        Name::Symmetry => Ok(Command::Symmetry(words.symmetry()?)),
+        Name::Word(name) => with_word(name, words),
+        Name::Cell(name) => with_cell(name, words),
+        Name::Light(name) => with_light(name, words),
+        Name::Text(field) => Ok(Command::Write(field, words.text())),
+        Name::Circles => Ok(Command::Circles),
+        Name::Show => Ok(Command::Show),
+        Name::Lights => Ok(Command::Lights),
+        Name::Duplicates => Ok(Command::Duplicates),
+        Name::Unlisted => Ok(Command::Unlisted),
+        Name::Suggest => Ok(Command::Suggest),
+        Name::Fill => Ok(Command::Fill(words.number()?)),
+        Name::Watch => Ok(Command::Watch(words.switch()?)),
+    }
+}
+
+/// The command of a name's word, with its arguments.
+fn command_named<'a>(word: &[u8], words: &mut Words<'a>) -> Result<Command<'a>, SyntaxFault>
+    ensures { Reads (λ command. command) result words.new (command_named_so word.now words.old) }
+{
+    match line::lookup(&NAMES, word) {
+        Some(name) => arguments(name, words),
+        None => Err(SyntaxFault::Command),
     }
 }
 

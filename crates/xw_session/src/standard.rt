@@ -92,6 +92,13 @@ impl<W: Write> ToWrite<W> {
             is_flushed: true,
         }
     }
+
+    /// The writer, with whatever it still holds.
+    pub fn into_writer(self) -> W
+        ensures { result ≡ self.writer }
+    {
+        self.writer
+    }
 }
 
 impl<W: Write> Sink for ToWrite<W> {

@@ -1,6 +1,5 @@
 //! Scripts on feasible words and letters, repeats, proposals and fills.
-use crate::tests::{Script, session};
-use crate::{FromRead, RunEnd, ToWrite};
+use crate::tests::{Script, runs};
 use std::alloc::AllocError;
 use std::process::Abort;
 use std::test::Fail;
@@ -29,28 +28,13 @@ fn gather(lines: &mut Vec<u8>, answers: &mut Vec<u8>, script: Script) -> Result<
     Ok(refused)
 }
 
-/// Runs lines in a new session, and compares what is written and how the run ends.
-fn answers_are(
-    rt: &(impl Abort + AllocGlobal),
-    lines: &[u8],
-    answers: &[u8],
-    refused: u64,
-) -> Result<(), Fail> {
-    let mut session = session(rt.alloc())?;
-    let mut told = Vec::new(rt.alloc());
-    let end = session.run_lines(&mut FromRead::new(lines), &mut ToWrite::new(&mut told));
-    assert_eq!(rt; told.as_slice(), answers);
-    assert_eq!(rt; end, RunEnd::Done { refused });
-    Ok(())
-}
-
 /// Runs two scripts after one another in a new session.
 fn says(rt: &(impl Abort + AllocGlobal), first: Script, then: Script) -> Result<(), Fail> {
     let mut lines = Vec::new(rt.alloc());
     let mut answers = Vec::new(rt.alloc());
     let before = gather(&mut lines, &mut answers, first)?;
     let after = gather(&mut lines, &mut answers, then)?;
-    answers_are(
+    runs(
         rt,
         lines.as_slice(),
         answers.as_slice(),
@@ -480,5 +464,5 @@ fn sixty_four_words_and_one_more(rt: HostRuntime) -> Result<(), Fail> {
             ("words 1 across 1", "65\nAAA\nok\n"),
         ],
     )?;
-    answers_are(&rt, lines.as_slice(), answers.as_slice(), 0)
+    runs(&rt, lines.as_slice(), answers.as_slice(), 0)
 }
