@@ -183,11 +183,20 @@ fn text_of_odd_ends(rt: HostRuntime) -> Result<(), Fail> {
     )
 }
 
-/// The puzzle of a session after some lines.
+/// Goes on in a session, and gives back its puzzle.
+fn leaves(
+    rt: &(impl Abort + AllocGlobal),
+    session: &mut Session<Plain>,
+    steps: &[Kept<'_>],
+) -> Result<Puzzle, Fail> {
+    goes_on(rt, session, steps)?;
+    Ok(session.puzzle()?)
+}
+
+/// The puzzle of a new session after some lines.
 fn made(rt: &(impl Abort + AllocGlobal), steps: &[Kept<'_>]) -> Result<Puzzle, Fail> {
     let mut session = session(rt.alloc())?;
-    goes_on(rt, &mut session, steps)?;
-    Ok(session.puzzle()?)
+    leaves(rt, &mut session, steps)
 }
 
 /// Opens a session with the texts, the clues and the circles of a puzzle, and goes on in it.
