@@ -1,5 +1,5 @@
 -- Lemmas on which words are active.
-use Rattle.std.proofs.Common.{◌≡◌, ℕ, ◌+◌, ◌<◌, Bool, true, false, ◌&&◌, not, List, [], ◌∷◌, ◌++◌, length, get_or, set, take, map, append-nil, Some, None, sym, ◌∙◌, ap, arith, inl, inr, add-one}
+use Rattle.std.proofs.Common.{◌≡◌, ℕ, ◌+◌, ◌<◌, Bool, true, false, ◌&&◌, List, [], ◌∷◌, ◌++◌, length, get_or, set, take, map, append-nil, Some, None, sym, ◌∙◌, ap, arith, inl, inr, add-one}
 use Rattle.std.specs.Prelude.{bytes_eq, unwrap_or}
 use Rattle.std.proofs.lemmas.Bool.{and_parts, and_from, cases_Bool, false≢true, false_from_ne_true}
 use Rattle.std.proofs.lemmas.List.{get_or-map, length-map, map-append, get_or_default, take_more, take_more_set}
@@ -11,8 +11,7 @@ use Rattle.xw_feas.specs.Board.{Board, entry, spelled}
 use Rattle.xw_fill.proofs.Shaped.{HasDistinctWords}
 use Rattle.xw_fill.specs.Position.{Position}
 use Rattle.xw_fill.specs.Below.{those_below}
-use Rattle.xw_fill.specs.Search.{is_entered, spelling}
-use Rattle.xw_fill.specs.Listing.{is_listed, is_unlisted}
+use Rattle.xw_fill.specs.Listing.{is_listed}
 use Rattle.xw_fill.proofs.BelowLemmas.{Contains-among, Among-contained, list_any-from, list_any-gives}
 use Rattle.xw_fill.proofs.WordsLemmas.{no_place}
 
@@ -51,10 +50,6 @@ listed-some state word place dictionary h =
           false≢true (sym struck ∙ ap (λ j. (get_or known j no_entry).active) (sym here) ∙ at.2))
           ∙ sym struck
     ]
-
--- whether a light is unlisted, by what is known of it
-pub is_unlisted-by : (state : Position) (light : ℕ) (entered listed : Bool) → entered ≡ is_entered state light → listed ≡ is_listed state (spelling state light) → is_unlisted state light ≡ (entered && not listed)
-is_unlisted-by state light entered listed whole known = sym (ap (λ b. b && not listed) whole ∙ ap (λ b. is_entered state light && not b) known)
 
 -- one light more that passes
 pub named-more : {X : Type 0} (name : ℕ → X) (test : ℕ → Bool) (n : ℕ) → test n ≡ true → map name (those_below test (n + 1)) ≡ map name (those_below test n) ++ name n ∷ []

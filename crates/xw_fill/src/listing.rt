@@ -3,7 +3,7 @@ ghost use Rattle.std.specs.Prelude.{◌≡◌, ◌<◌, ◌≤◌, length, IfOk,
 ghost use Rattle.xw_feas.specs.Board.{spelled};
 ghost use Rattle.xw_fill.specs.Position.{position_of};
 ghost use Rattle.xw_fill.specs.Search.{light_count, is_entered, spelling};
-ghost use Rattle.xw_fill.specs.Listing.{duplicates_of, is_listed, unlisted_of};
+ghost use Rattle.xw_fill.specs.Listing.{duplicates_of, is_listed, is_unlisted, unlisted_of};
 
 use crate::scan::{board, first_same, is_entered, light_count, name_at};
 use crate::tries::MAX_LEN;
@@ -68,6 +68,14 @@ fn is_listed<E: Feasible>(engine: &E, light: usize) -> bool
     }
 }
 
+/// Whether a light is wholly entered with a word that is not active.
+fn is_unlisted<E: Feasible>(engine: &E, light: usize) -> bool
+    requires { light < light_count (position_of (E.state engine.now)) }
+    ensures { result ≡ is_unlisted (position_of (E.state engine.now)) light }
+{
+    is_entered(engine, light) && !is_listed(engine, light)
+}
+
 /// The wholly entered lights whose words are not active, in order.
 pub fn unlisted<E: Feasible>(alloc: Global, engine: &E) -> Result<Vec<LightName>, Refusal>
     ensures lists { IfOk result (λ lights. lights.items ≡ unlisted_of (E.state engine.now)) }
@@ -75,7 +83,7 @@ pub fn unlisted<E: Feasible>(alloc: Global, engine: &E) -> Result<Vec<LightName>
 {
     let mut lights = Vec::new(alloc);
     for light in 0..light_count(engine) {
-        if is_entered(engine, light) && !is_listed(engine, light) {
+        if is_unlisted(engine, light) {
             lights
                 .push(name_at(engine, light))
                 .map_err(|_| Refusal::Grid(GridFault::Memory))?;

@@ -28,7 +28,21 @@ fn engine_of(alloc: Global, rows: u32) -> Result<Plain, Fail> {
     Ok(Plain::open(alloc, grid, Bank::new(alloc)?)?)
 }
 
-/// Runs lines in a session of no words, and compares what is written and how the run ends.
+/// Runs lines in a session, and compares what is written and how the run ends.
+fn says(
+    rt: &(impl Abort + AllocGlobal),
+    session: &mut Session<Plain>,
+    lines: &[u8],
+    answers: &[u8],
+    refused: u64,
+) {
+    let mut told = Vec::new(rt.alloc());
+    let end = session.run_lines(&mut FromRead::new(lines), &mut ToWrite::new(&mut told));
+    assert_eq!(rt; told.as_slice(), answers);
+    assert_eq!(rt; end, RunEnd::Done { refused });
+}
+
+/// The same in a session of no words.
 fn runs(
     rt: &(impl Abort + AllocGlobal),
     lines: &[u8],
@@ -36,9 +50,6 @@ fn runs(
     refused: u64,
 ) -> Result<(), Fail> {
     let mut session = session(rt.alloc())?;
-    let mut told = Vec::new(rt.alloc());
-    let end = session.run_lines(&mut FromRead::new(lines), &mut ToWrite::new(&mut told));
-    assert_eq!(rt; told.as_slice(), answers);
-    assert_eq!(rt; end, RunEnd::Done { refused });
+    says(rt, &mut session, lines, answers, refused);
     Ok(())
 }

@@ -1,6 +1,6 @@
 //! What a session keeps, as its puzzle has it.
-use crate::tests::{engine_of, session};
-use crate::{FromRead, RunEnd, Session, ToWrite};
+use crate::Session;
+use crate::tests::{engine_of, says, session};
 use std::process::Abort;
 use std::test::Fail;
 use xw_feas::plain::Plain;
@@ -33,19 +33,6 @@ const NOTHING: Kept<'static> = Kept {
     down: b"",
 };
 
-/// Runs lines in a session, and compares what is written and how many are refused.
-fn says(rt: &(impl Abort + AllocGlobal), session: &mut Session<Plain>, kept: Kept<'_>) {
-    let mut told = Vec::new(rt.alloc());
-    let end = session.run_lines(&mut FromRead::new(kept.lines), &mut ToWrite::new(&mut told));
-    assert_eq!(rt; told.as_slice(), kept.answers);
-    assert_eq!(rt;
-        end,
-        RunEnd::Done {
-            refused: kept.refused
-        }
-    );
-}
-
 /// Compares the texts and the clues of a puzzle.
 fn has(rt: &impl Abort, puzzle: &Puzzle, kept: Kept<'_>) {
     let corner = Cell { row: 1, col: 1 };
@@ -68,7 +55,7 @@ fn goes_on(
     steps: &[Kept<'_>],
 ) -> Result<(), Fail> {
     for step in steps {
-        says(rt, session, *step);
+        says(rt, session, step.lines, step.answers, step.refused);
         let puzzle = session.puzzle()?;
         has(rt, &puzzle, *step);
     }
@@ -183,11 +170,20 @@ fn text_of_odd_ends(rt: HostRuntime) -> Result<(), Fail> {
     )
 }
 
-/// The puzzle of a session after some lines.
+/// Goes on in a session, and gives back its puzzle.
+fn leaves(
+    rt: &(impl Abort + AllocGlobal),
+    session: &mut Session<Plain>,
+    steps: &[Kept<'_>],
+) -> Result<Puzzle, Fail> {
+    goes_on(rt, session, steps)?;
+    Ok(session.puzzle()?)
+}
+
+/// The puzzle of a new session after some lines.
 fn made(rt: &(impl Abort + AllocGlobal), steps: &[Kept<'_>]) -> Result<Puzzle, Fail> {
     let mut session = session(rt.alloc())?;
-    goes_on(rt, &mut session, steps)?;
-    Ok(session.puzzle()?)
+    leaves(rt, &mut session, steps)
 }
 
 /// Opens a session with the texts, the clues and the circles of a puzzle, and goes on in it.
