@@ -1,5 +1,6 @@
 //! Runs of the program.
 mod devices;
+mod large;
 mod puzzles;
 mod replacing;
 mod samples;

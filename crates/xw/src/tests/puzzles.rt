@@ -8,14 +8,18 @@ use std::rt::Files;
 use std::test::Fail;
 
 /// A run that prints nothing.
-const QUIET: Run<'static> = Run {
+pub const QUIET: Run<'static> = Run {
     status: Status::Accepted,
     output: b"",
     errors: b"",
 };
 
 /// Compares a file with bytes.
-fn holds(rt: &(impl Abort + AllocGlobal + Files), file: &str, bytes: &[u8]) -> Result<(), Fail> {
+pub fn holds(
+    rt: &(impl Abort + AllocGlobal + Files),
+    file: &str,
+    bytes: &[u8],
+) -> Result<(), Fail> {
     let found = fs::read(rt, file)?;
     assert_eq!(rt; found.as_slice(), bytes);
     Ok(())

@@ -1,5 +1,6 @@
 //! Files replaced whole, or left as they were.
 use crate::replacing::replace;
+use crate::tests::puzzles::holds;
 use std::alloc::Allocator;
 use std::cell::Cell;
 use std::fs::{self, Metadata, OpenFile, OpenOptions, Permissions};
@@ -193,13 +194,6 @@ fn each_call_refused_in_turn(rt: HostRuntime) -> Result<(), Fail> {
         }
     }
     fs::remove_dir_all(&rt, "replaced")?;
-    Ok(())
-}
-
-/// Compares what stands in a file.
-fn holds(rt: &(impl Abort + AllocGlobal + Files), file: &str, bytes: &[u8]) -> Result<(), Fail> {
-    let found = fs::read(rt, file)?;
-    assert_eq!(rt; found.as_slice(), bytes);
     Ok(())
 }
 
