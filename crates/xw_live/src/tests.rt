@@ -1,6 +1,7 @@
 //! Worked examples, by calls on `Live`: tables of calls, each with its answer.
 mod bounds;
 mod edits;
+mod parts;
 
 use crate::live::Live;
 use std::alloc::Global;

@@ -8,7 +8,7 @@ use xw_grid::fault::GridFault;
 use xw_words::fault::WordFault;
 
 /// Two blocks part a grid into two squares.
-const SIDE_BY_SIDE: Start = (
+pub const SIDE_BY_SIDE: Start = (
     5,
     2,
     &[
@@ -22,9 +22,9 @@ const SIDE_BY_SIDE: Start = (
     ],
 );
 
-const RIGHT_SQUARE: &[Step] = &[Letters(1, 4, b"A"), Letters(1, 5, b"ST")];
+pub const RIGHT_SQUARE: &[Step] = &[Letters(1, 4, b"A"), Letters(1, 5, b"ST")];
 
-const LEFT_ENTERED: &[Step] = &[Spends(Set(1, 2, b'T'), &[(1, 2, b"T")], 1, 1192)];
+pub const LEFT_ENTERED: &[Step] = &[Spends(Set(1, 2, b'T'), &[(1, 2, b"T")], 1, 1192)];
 
 #[test]
 fn two_squares_side_by_side(rt: HostRuntime) -> Result<(), Refusal> {
@@ -35,7 +35,7 @@ fn two_squares_side_by_side(rt: HostRuntime) -> Result<(), Refusal> {
     )
 }
 
-const NO_LIGHT_TOUCHED: &[Step] = &[
+pub const NO_LIGHT_TOUCHED: &[Step] = &[
     Spends(Add(b"SHY"), &[], 0, 0),
     Spends(Choose(Symmetry::Half), &[], 0, 0),
 ];
@@ -45,7 +45,7 @@ fn edits_that_touch_no_light(rt: HostRuntime) -> Result<(), Refusal> {
     pass_from(&rt, SIDE_BY_SIDE, &[NO_LIGHT_TOUCHED, RIGHT_SQUARE])
 }
 
-const REFUSED: &[Step] = &[
+pub const REFUSED: &[Step] = &[
     Refused(Set(1, 3, b'A'), Refusal::Grid(GridFault::OnBlock)),
     Refused(Clear(3, 1), Refusal::Grid(GridFault::OutOfGrid)),
     Refused(
@@ -62,7 +62,7 @@ fn refused_edits_spend_nothing(rt: HostRuntime) -> Result<(), Refusal> {
 }
 
 /// A row and a column that meet in the first cell.
-const CORNER: Start = (
+pub const CORNER: Start = (
     3,
     3,
     &[
@@ -76,7 +76,7 @@ const CORNER: Start = (
     ],
 );
 
-const CORNER_ENTERED: &[Step] = &[
+pub const CORNER_ENTERED: &[Step] = &[
     Told(Set(1, 1, b'C'), &[]),
     Spends(Set(1, 2, b'A'), &[(1, 2, b"A"), (1, 3, b"T")], 1, 423),
     Words(DOWN_1, &[b"CAT", b"COT", b"CUB"]),
@@ -87,7 +87,7 @@ fn corner_of_two_lights(rt: HostRuntime) -> Result<(), Refusal> {
     pass_from(&rt, CORNER, &[CORNER_ENTERED])
 }
 
-const CORNER_DEAD: &[Step] = &[Spends(
+pub const CORNER_DEAD: &[Step] = &[Spends(
     Set(1, 2, b'Z'),
     &[
         (1, 1, b""),
@@ -100,7 +100,7 @@ const CORNER_DEAD: &[Step] = &[Spends(
     846,
 )];
 
-const CORNER_RESTORED: &[Step] = &[Spends(
+pub const CORNER_RESTORED: &[Step] = &[Spends(
     Set(1, 2, b'O'),
     &[
         (1, 1, b"C"),
@@ -118,7 +118,7 @@ fn corner_dead_and_restored(rt: HostRuntime) -> Result<(), Refusal> {
     pass_from(&rt, CORNER, &[CORNER_ENTERED, CORNER_DEAD, CORNER_RESTORED])
 }
 
-const UNLISTED_ENTRIES: &[Step] = &[
+pub const UNLISTED_ENTRIES: &[Step] = &[
     Told(
         Set(1, 1, b'X'),
         &[(1, 1, b""), (1, 2, b""), (2, 1, b""), (2, 2, b"")],
@@ -141,7 +141,7 @@ fn unlisted_entries_complete_a_square(rt: HostRuntime) -> Result<(), Refusal> {
     pass_from(&rt, SQUARE, &[UNLISTED_ENTRIES])
 }
 
-const ENTERED_ANEW: &[Step] = &[
+pub const ENTERED_ANEW: &[Step] = &[
     Spends(Clear(1, 2), &[], 0, 0),
     Spends(Set(1, 2, b'T'), &[(1, 2, b"T")], 1, 1192),
     Spends(Set(1, 2, b't'), &[], 0, 0),

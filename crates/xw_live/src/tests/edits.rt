@@ -14,7 +14,7 @@ fn square_of_five_words(rt: HostRuntime) -> Result<(), Refusal> {
     pass_from(&rt, SQUARE, &[WHOLE_SQUARE])
 }
 
-const ONE_ENTRY: &[Step] = &[
+pub const ONE_ENTRY: &[Step] = &[
     Told(Set(1, 2, b'T'), &[(1, 2, b"T")]),
     Words(ACROSS_1, &[b"AT"]),
     Words(DOWN_2, &[b"TO"]),
@@ -30,7 +30,7 @@ fn square_with_one_entry(rt: HostRuntime) -> Result<(), Refusal> {
     pass_from(&rt, SQUARE, &[ONE_ENTRY])
 }
 
-const ENTRY_CLEARED: &[Step] = &[
+pub const ENTRY_CLEARED: &[Step] = &[
     Told(Set(1, 2, b'T'), &[(1, 2, b"T")]),
     Told(Clear(1, 2), &[(1, 2, b"ST")]),
 ];
@@ -40,7 +40,7 @@ fn square_entered_and_cleared(rt: HostRuntime) -> Result<(), Refusal> {
     pass_from(&rt, SQUARE, &[ENTRY_CLEARED, WHOLE_SQUARE])
 }
 
-const EMPTIED: &[Step] = &[
+pub const EMPTIED: &[Step] = &[
     Told(
         Set(1, 1, b'X'),
         &[(1, 1, b""), (1, 2, b""), (2, 1, b""), (2, 2, b"")],
@@ -51,7 +51,7 @@ const EMPTIED: &[Step] = &[
     Words(ACROSS_3, &[]),
 ];
 
-const RESTORED: &[Step] = &[Told(
+pub const RESTORED: &[Step] = &[Told(
     Clear(1, 1),
     &[(1, 1, b"A"), (1, 2, b"ST"), (2, 1, b"ST"), (2, 2, b"O")],
 )];
@@ -61,7 +61,7 @@ fn square_emptied_and_restored(rt: HostRuntime) -> Result<(), Refusal> {
     pass_from(&rt, SQUARE, &[EMPTIED, RESTORED, WHOLE_SQUARE])
 }
 
-const CORNER_BLOCKED: &[Step] = &[
+pub const CORNER_BLOCKED: &[Step] = &[
     Told(
         Block(2, 2),
         &[(1, 1, b"AIST"), (1, 2, b"NOST"), (2, 1, b"NOST")],
@@ -74,7 +74,7 @@ const CORNER_BLOCKED: &[Step] = &[
     ),
 ];
 
-const WORD_STRUCK: &[Step] = &[
+pub const WORD_STRUCK: &[Step] = &[
     Told(Strike(b"SO"), &[(1, 2, b"T"), (2, 1, b"T")]),
     Words(ACROSS_1, &[b"AT"]),
     Told(Add(b"SO"), &[(1, 2, b"ST"), (2, 1, b"ST")]),
@@ -89,7 +89,7 @@ fn square_reshaped_and_reworded(rt: HostRuntime) -> Result<(), Refusal> {
     )
 }
 
-const PARTED: &[Step] = &[
+pub const PARTED: &[Step] = &[
     Words(ACROSS_1, &[b"OVER"]),
     Told(
         Bar(1, 2, Side::Right),
@@ -110,7 +110,7 @@ fn bar_parts_a_row(rt: HostRuntime) -> Result<(), Refusal> {
     pass_from(&rt, (4, 1, &[Add(b"OVER"), Add(b"ON")]), &[PARTED])
 }
 
-const ONE_MORE: &[Step] = &[
+pub const ONE_MORE: &[Step] = &[
     Count(ACROSS_1, 64),
     Told(Add(b"ACM"), &[]),
     Count(ACROSS_1, 65),
@@ -123,7 +123,7 @@ const ONE_MORE: &[Step] = &[
 ];
 
 /// Adds AAA to AAZ, ABA to ABZ, and ACA to ACL.
-fn add_sixty_four(row: &mut Live) -> Result<(), Refusal> {
+pub fn add_sixty_four(row: &mut Live) -> Result<(), Refusal> {
     for second in *b"ABC" {
         for third in b'A'..=b'Z' {
             if second < b'C' || third <= b'L' {
