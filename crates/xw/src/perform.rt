@@ -10,14 +10,14 @@ use crate::files;
 use std::alloc::Global;
 use std::rt::Files;
 use xw_feas::feasible::Feasible;
-use xw_feas::plain::Plain;
+use xw_live::live::Live;
 use xw_files::Kind;
 use xw_grid::{Grid, Lights};
 use xw_session::{RunEnd, Session, Sink, Source, device};
 use xw_words::Bank;
 
 /// What works out the feasible words and letters.
-type Engine = Plain;
+type Engine = Live;
 
 /// How many rows and columns a grid has at first.
 const START: u32 = 15;

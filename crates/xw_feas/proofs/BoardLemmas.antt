@@ -72,7 +72,7 @@ pub stride_small : (k stride : ℕ) → k ≤ 255 → stride ≤ 255 → k * str
 stride_small k stride small low = mul-le k stride 255 255 small low
 
 -- the places of the steps from a first cell
-index_of-step : (grid : Grid) (direction : Direction) (first : Cell) (k : ℕ) → is_inside grid first ≡ true → index_of grid (step direction first k) ≡ index_of grid first + k * stride_of grid direction
+pub index_of-step : (grid : Grid) (direction : Direction) (first : Cell) (k : ℕ) → is_inside grid first ≡ true → index_of grid (step direction first k) ≡ index_of grid first + k * stride_of grid direction
 index_of-step grid Across first k inside =
     let at = IsInside-is_inside grid first inside in
     let on : first.col + k - 1 ≡ first.col - 1 + k = omega (arith, at.col_low) in

@@ -22,30 +22,30 @@ use Rattle.xw_feas.specs.WellFormed.{HasLetterEntries, IsLaidOut, IsWellFormed}
 use Rattle.xw_feas.proofs.BoardLemmas.{length-open_cells, length-lights, length-entries, light_at-board, light_fits, is_open-square}
 use Rattle.xw_feas.proofs.LightsLemmas.{names_apart}
 
-abbrev light_in : Grid → ℕ → Light
+abbrev pub light_in : Grid → ℕ → Light
 light_in grid place = get_or (lights_of grid) place no_light
 
-abbrev cell_of : Grid → ℕ → ℕ → Cell
+abbrev pub cell_of : Grid → ℕ → ℕ → Cell
 cell_of grid place k = step (light_in grid place).name.direction (light_in grid place).start k
 
 -- past the last light there is none
 light_past : (grid : Grid) (place : ℕ) → length (lights_of grid) ≤ place → light_at (board_of grid) place ≡ []
 light_past grid place past = get_or_past (board_of grid).lights place [] (omega (arith, length-lights grid))
 
-length-light_at : (grid : Grid) (place : ℕ) → place < length (lights_of grid) → length (light_at (board_of grid) place) ≡ (light_in grid place).size
+pub length-light_at : (grid : Grid) (place : ℕ) → place < length (lights_of grid) → length (light_at (board_of grid) place) ≡ (light_in grid place).size
 length-light_at grid place within =
     let light = light_in grid place in
     ap length (light_at-board grid place no_light within)
     ∙ length-map (map (step light.name.direction light.start) (range_with_len 0 light.size)) (index_of grid)
     ∙ length-map-range_with_len (step light.name.direction light.start) 0 light.size
 
-within_lights : (grid : Grid) (place k : ℕ) → k < length (light_at (board_of grid) place) → place < length (lights_of grid)
+pub within_lights : (grid : Grid) (place k : ℕ) → k < length (light_at (board_of grid) place) → place < length (lights_of grid)
 within_lights grid place k below = elim (cases_lt place (length (lights_of grid))) [
   | inl within ↦ within
   | inr past ↦ absurd (omega (arith, ap length (light_past grid place past)))
 ]
 
-place_is : (grid : Grid) (place k : ℕ) → k < length (light_at (board_of grid) place) → get_or (light_at (board_of grid) place) k 0 ≡ index_of grid (cell_of grid place k)
+pub place_is : (grid : Grid) (place k : ℕ) → k < length (light_at (board_of grid) place) → get_or (light_at (board_of grid) place) k 0 ≡ index_of grid (cell_of grid place k)
 place_is grid place k below =
     let within = within_lights grid place k below in
     let light = light_in grid place in
@@ -59,18 +59,18 @@ open_at grid place k below =
     let within = within_lights grid place k below in
     cells_of_are_open grid place no_light within k (omega (arith, length-light_at grid place within))
 
-inside_at : (grid : Grid) (place k : ℕ) → k < length (light_at (board_of grid) place) → is_inside grid (cell_of grid place k) ≡ true
+pub inside_at : (grid : Grid) (place k : ℕ) → k < length (light_at (board_of grid) place) → is_inside grid (cell_of grid place k) ≡ true
 inside_at grid place k below = inside_from_open grid (cell_of grid place k) (open_at grid place k below)
 
 same_place : (grid : Grid) (a b : Cell) → is_inside grid a ≡ true → is_inside grid b ≡ true → index_of grid a ≡ index_of grid b → a ≡ b
 same_place grid a b inside inside' same = sym (cell_at-index_of grid a inside) ∙ ap (cell_at grid) same ∙ cell_at-index_of grid b inside'
 
 -- the same place in two lights is the same cell
-same_cell_in : (grid : Grid) (light other i j : ℕ) → i < length (light_at (board_of grid) light) → j < length (light_at (board_of grid) other) → get_or (light_at (board_of grid) light) i 0 ≡ get_or (light_at (board_of grid) other) j 0 → cell_of grid light i ≡ cell_of grid other j
+pub same_cell_in : (grid : Grid) (light other i j : ℕ) → i < length (light_at (board_of grid) light) → j < length (light_at (board_of grid) other) → get_or (light_at (board_of grid) light) i 0 ≡ get_or (light_at (board_of grid) other) j 0 → cell_of grid light i ≡ cell_of grid other j
 same_cell_in grid light other i j below below' same =
     same_place grid (cell_of grid light i) (cell_of grid other j) (inside_at grid light i below) (inside_at grid other j below') (sym (place_is grid light i below) ∙ same ∙ place_is grid other j below')
 
-steps_apart : (direction : Direction) (first : Cell) (j k : ℕ) → step direction first j ≡ step direction first k → j ≡ k
+pub steps_apart : (direction : Direction) (first : Cell) (j k : ℕ) → step direction first j ≡ step direction first k → j ≡ k
 steps_apart Across first j k same = let e : first.col + j ≡ first.col + k = ap (λ (cell : Cell). cell.col) same in omega arith
 steps_apart Down first j k same = let e : first.row + j ≡ first.row + k = ap (λ (cell : Cell). cell.row) same in omega arith
 

@@ -15,3 +15,5 @@ pub mod WordsLemmas
 pub mod LightsLemmas
 pub mod FormedLemmas
 pub mod AdditionLemmas
+pub mod CrossingLemmas
+pub mod PassesLemmas

@@ -18,3 +18,4 @@ pub mod Words
 pub mod Spelled
 pub mod WellFormed
 pub mod Laws
+pub mod Passes

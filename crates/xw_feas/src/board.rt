@@ -1,10 +1,11 @@
 //! What feasibility sees of a grid.
-ghost use Rattle.std.specs.Prelude.{◌≡◌, ◌<◌, ◌≤◌, length, slice_index, slice_get, All, unwrap_or, IfSome};
+ghost use Rattle.std.specs.Prelude.{◌≡◌, ◌⊎◌, ◌<◌, ◌≤◌, ℕ, Some, length, slice_index, slice_get, All, unwrap_or, IfSome};
 ghost use Rattle.xw_words.specs.Letter.{IsLetter};
 ghost use Rattle.xw_grid.specs.Grid.{is_open_square as is_open_in, letter_in as letter_of};
 ghost use Rattle.xw_grid.specs.Light.{lights_of};
-ghost use Rattle.xw_feas.specs.Board.{board_of, places_of, light_at, is_open as is_open_place, entry as entry_at};
+ghost use Rattle.xw_feas.specs.Board.{board_of, places_of, light_at, is_open as is_open_place, entry as entry_at, IsCrossing, other_than as other_than_light};
 ghost use Rattle.xw_feas.specs.Fits.{Fits, stride_of};
+ghost use Rattle.xw_feas.specs.Passes.{Passes};
 
 use std::marker::Model;
 use xw_grid::cell::{Direction, Square};
@@ -106,6 +107,31 @@ impl<'a> Board<'a> {
         }
     }
 
+    /// The other light through a cell of a light.
+    pub fn crossing(&self, light: usize, place: usize) -> Option<usize>
+        requires light { light < length self.now.lights }
+        requires place { place < length (light_at self.now light) }
+        ensures other { IfSome result (IsCrossing self.now light (slice_index (light_at self.now light) place)) }
+        ensures only { (other : ℕ) → IsCrossing self.now light (slice_index (light_at self.now light) place) other → result ≡ Some other }
+    {
+        let cell = self.grid.cell_at(self.light(light).at(place));
+        match other_than(light, self.lights.across_at(cell)) {
+            Some(other) => Some(other),
+            None => other_than(light, self.lights.down_at(cell)),
+        }
+    }
+
+    /// The light across through a cell, and the one down.
+    pub fn lights_at(&self, cell: usize) -> (Option<usize>, Option<usize>)
+        requires { cell < length self.now.open_cells }
+        ensures across { IfSome result.0 (Passes self.now cell) }
+        ensures down { IfSome result.1 (Passes self.now cell) }
+        ensures only { (light : ℕ) → Passes self.now cell light → (result.0 ≡ Some light) ⊎ (result.1 ≡ Some light) }
+    {
+        let cell = self.grid.cell_at(cell);
+        (self.lights.across_at(cell), self.lights.down_at(cell))
+    }
+
     pub fn is_open(&self, cell: usize) -> bool
         ensures { result ≡ is_open_place self.now cell }
     {
@@ -128,6 +154,16 @@ impl<'a> Board<'a> {
             Some(letter) => letter,
             None => Letter::first(),
         }
+    }
+}
+
+/// A light that was found, unless it is a given one.
+fn other_than(light: usize, found: Option<usize>) -> Option<usize>
+    ensures { result ≡ other_than_light light found }
+{
+    match found {
+        Some(other) if other != light => Some(other),
+        _ => None,
     }
 }
 

@@ -1,7 +1,7 @@
 //! Edits of the dictionary.
-ghost use Rattle.std.specs.Prelude.{◌≡◌, ◌≤◌, length, map, position, take, None, true, IfErr, OnOk, OnErr, IsOkUnless, Ok, Err};
+ghost use Rattle.std.specs.Prelude.{◌≡◌, ◌≤◌, length, map, position, take, None, true, IfOk, IfErr, OnOk, OnErr, IsOkUnless, Ok, Err};
 ghost use Rattle.xw_words.specs.Bank.{has_room};
-ghost use Rattle.xw_words.specs.Dictionary.{add_answer, IsNew, IsDictionary};
+ghost use Rattle.xw_words.specs.Dictionary.{add_answer, strike_answer, IsNew, IsDictionary};
 ghost use Rattle.xw_words.specs.Letter.{folded};
 ghost use Rattle.xw_words.specs.Word.{is_bad_letter};
 ghost use Rattle.xw_feas.specs.Shape.{SameCounts, GrowsAt, IsReturned, IsAddRefused};
@@ -18,15 +18,15 @@ pub fn known_distinct(bank: &Bank)
     let _ = bank.known(0);
 }
 
-/// Strikes a word of a dictionary.
-pub fn strike_in(bank: &mut Bank, word: &[u8]) -> Result<(), WordFault>
+/// Strikes a word of a dictionary, and answers its place.
+pub fn strike_in(bank: &mut Bank, word: &[u8]) -> Result<usize, WordFault>
+    ensures place { IfOk result (λ place. strike_answer bank.old.words word.now ≡ Ok place) }
     ensures ok { OnOk result (strike_word bank.old.words word.now ≡ Ok bank.new.words) }
     ensures refused { IfErr result (λ fault. strike_word bank.old.words word.now ≡ Err fault) }
     ensures counts { SameCounts bank.old.words bank.new.words }
     ensures same { OnErr result (bank.new.words ≡ bank.old.words) }
 {
-    bank.strike(word)?;
-    Ok(())
+    bank.strike(word)
 }
 
 /// Makes a struck word active again.

@@ -245,7 +245,7 @@ fn strip_all(board: &Board<'_>, bank: &Bank, words: &mut [Flags], letters: &mut 
 
 /// The letters that may be at a cell.
 #[tactic(auto, using(crate::proofs::BoardLemmas::allowed_steps))]
-fn allowed(is_open: bool, entry: Option<Letter>) -> LetterSet
+pub fn allowed(is_open: bool, entry: Option<Letter>) -> LetterSet
     ensures { (letter : ℕ) →
         has result letter ≡ (is_open && is_capital letter && allows entry letter) }
 {

@@ -1,18 +1,19 @@
 -- Lemmas on sets of letters.
-use Rattle.std.proofs.Common.{◌≡◌, ◌≢◌, ℕ, ◌+◌, ◌-◌, ◌*◌, ◌%◌, ◌^◌, ◌<◌, ◌≤◌, Bool, true, false, ◌||◌, cond, eqb, [], ◌∷◌, length, get_or, take, length-append, refl, ap, sym, ◌∙◌, arith, inl, inr, zero, suc, min, leb, ◌&&◌, List, ◌⊎◌}
+use Rattle.std.proofs.Common.{◌≡◌, ◌≢◌, ℕ, ◌+◌, ◌-◌, ◌*◌, ◌%◌, ◌^◌, ◌<◌, ◌≤◌, Bool, true, false, not, ◌||◌, cond, eqb, [], ◌∷◌, length, get_or, take, length-append, refl, ap, sym, ◌∙◌, arith, inl, inr, zero, suc, min, leb, ◌&&◌, List, ◌⊎◌}
 use Rattle.std.specs.Prelude.{bit_or, bit_and, filter, bytes_eq}
 use Rattle.std.specs.List.{list_any}
 use Rattle.std.proofs.lemmas.Bool.{cases_Bool, and_parts, eqb-true, both_ways, eq-eqb, false_from_ne_true, false≢true}
 use Rattle.std.proofs.lemmas.Slice.Eq.{bytes_eq-Decides}
-use Rattle.std.specs.Int.{bit_at, w32}
+use Rattle.std.specs.Int.{bit_at, bit_not, w32}
 use Rattle.std.proofs.lemmas.Bool.Decides.{nat_tests}
 use Rattle.std.proofs.Math.Pow.{pow-lt}
 use Rattle.std.proofs.Math.Nat.{mod-le}
+use Rattle.std.proofs.lemmas.Nat.{and_le_l}
 use Rattle.std.proofs.lemmas.List.{drop_more, drop_all}
 use Rattle.std.proofs.lemmas.List.FromFn.{get_or-map-range_with_len}
 use Rattle.std.proofs.lemmas.List.Elements.{filter_more}
 use Rattle.std.proofs.lemmas.List.Folds.{list_any_at}
-use Rattle.std.proofs.lemmas.Nat.Bits.{bit_at_set_same, bit_at_set_other, bit_at_ones, bit_at_and, bit_at-lt, bit_at-zero, same_from_bits_below}
+use Rattle.std.proofs.lemmas.Nat.Bits.{bit_at_set_same, bit_at_set_other, bit_at_clear_same, bit_at_clear_other, bit_at_ones, bit_at_and, bit_at-lt, bit_at-zero, same_from_bits_below}
 use Rattle.xw_words.specs.Letter.{IsLetter, alphabet, is_capital}
 use Rattle.xw_words.specs.LetterSet.{has, letters_in, letters_from}
 
@@ -76,6 +77,39 @@ has-inserted set letter other at =
       | inl is ↦ rw is (bit-inserted set letter other at (capital_is_letter other is))
       | inr none ↦ rw none (sym (no_capital letter other at none))
     ]
+
+bit-removed : (set letter other : ℕ) → IsLetter letter → IsLetter other → bit_of (bit_and set (bit_not w32 (1 * 2 ^ (letter - 65) % 4294967296))) other ≡ (bit_of set other && not (eqb other letter))
+bit-removed set letter other at other_at =
+    elim (eqb other letter) as (λ b. eqb other letter ≡ b → bit_of (bit_and set (bit_not w32 (1 * 2 ^ (letter - 65) % 4294967296))) other ≡ (bit_of set other && not b)) [
+      | true ↦ λ e.
+          let same : other ≡ letter = grind (arith, nat_tests) in
+          ap (λ l. eqb (bit_at (bit_and set (bit_not w32 (1 * 2 ^ (letter - 65) % 4294967296))) (l - 65)) 1) same
+          ∙ ap (λ b. eqb b 1) (bit_at_clear_same w32 set (letter - 65) (omega arith))
+          ∙ and-false (bit_of set other)
+      | false ↦ λ e.
+          let apart : other ≢ letter = grind (arith, nat_tests) in
+          let apart' : other - 65 ≢ letter - 65 = omega arith in
+          ap (λ b. eqb b 1) (bit_at_clear_other w32 set (letter - 65) (omega arith) (other - 65) (omega (arith, other_at.1)) apart')
+          ∙ and_true (bit_of set other)
+    ] refl
+
+pub has-removed : (set letter other : ℕ) → IsLetter letter → has (bit_and set (bit_not w32 (1 * 2 ^ (letter - 65) % 4294967296))) other ≡ (has set other && not (eqb other letter))
+has-removed set letter other at =
+    elim (cases_Bool (is_capital other)) [
+      | inl is ↦ rw is (bit-removed set letter other at (capital_is_letter other is))
+      | inr none ↦ rw none refl
+    ]
+
+pub removed-small : (set letter n : ℕ) → set < n → bit_and set (bit_not w32 (1 * 2 ^ (letter - 65) % 4294967296)) < n
+removed-small set letter n small = omega (arith, and_le_l set (bit_not w32 (1 * 2 ^ (letter - 65) % 4294967296)))
+
+-- a set without one of its letters is a smaller number
+pub removed-less : (set letter : ℕ) → IsLetter letter → has set letter ≡ true → bit_and set (bit_not w32 (1 * 2 ^ (letter - 65) % 4294967296)) < set
+removed-less set letter at stood =
+    let new = bit_and set (bit_not w32 (1 * 2 ^ (letter - 65) % 4294967296)) in
+    let apart : new ≢ set = λ e. false≢true (and-false (has set letter) ∙ sym (ap (λ b. has set letter && not b) (eq-eqb letter letter refl)) ∙ sym (has-removed set letter letter at) ∙ ap (λ n. has n letter) e ∙ stood) in
+    let most : new ≤ set = and_le_l set (bit_not w32 (1 * 2 ^ (letter - 65) % 4294967296)) in
+    omega arith
 
 -- the bit of a letter in a number that has all 26
 pub has-all : (letter : ℕ) → has 67108863 letter ≡ is_capital letter

@@ -51,7 +51,7 @@ impl Letter {
     }
 
     /// The letter at a place of the alphabet, A at 0.
-    pub(crate) fn at(place: u32) -> Letter
+    pub fn at(place: u32) -> Letter
         requires { place < 26 }
         ensures { result ≡ 65 + place }
     {

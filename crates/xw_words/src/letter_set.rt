@@ -1,5 +1,5 @@
 //! Sets of letters.
-ghost use Rattle.std.specs.Prelude.{◌≡◌, ℕ, ◌+◌, ◌<◌, ◌≤◌, true, false, ◌||◌, ◌&&◌, ◌==◌, length, bytes_eq};
+ghost use Rattle.std.specs.Prelude.{◌≡◌, ℕ, ◌+◌, ◌<◌, ◌≤◌, true, false, not, ◌||◌, ◌&&◌, ◌==◌, length, bytes_eq};
 ghost use Rattle.xw_words.specs.Letter.{is_capital};
 ghost use Rattle.xw_words.specs.LetterSet.{has, letters_in};
 
@@ -67,6 +67,14 @@ impl LetterSet {
         ensures capital { is_capital letter ≡ true }
     {
         self.bits |= 1 << (letter.byte() - b'A');
+    }
+
+    pub fn remove(&mut self, letter: Letter)
+        ensures removed { (other : ℕ) → has self.new other ≡ (has self.old other && not (other == letter)) }
+        ensures fewer { has self.old letter ≡ true → self.new < self.old }
+        ensures capital { is_capital letter ≡ true }
+    {
+        self.bits &= !(1 << (letter.byte() - b'A'));
     }
 
     /// The letters that are in both sets.

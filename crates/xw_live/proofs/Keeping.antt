@@ -1,0 +1,205 @@
+-- What an engine keeps from one edit to the next.
+use Rattle.std.proofs.Common.{◌≡◌, ℕ, ◌+◌, ◌*◌, ◌<◌, ◌≤◌, Bool, true, false, add-zero, List, length, Some, None, refl, sym, ◌∙◌, ap, subst, arith}
+use Rattle.std.specs.Prelude.{Option, slice_get, is_some, if◌then◌else◌}
+use Rattle.std.proofs.lemmas.Bool.{false≢true}
+use Rattle.std.proofs.Math.Logic.{∥∥₁_elim}
+use mathlib.Core.Logic.{∥∥₁_prop}
+use mathlib.Core.HLevel.{Π_prop}
+use Rattle.std.specs.Coded.{Coded-set, coded_ℕ, le_prop}
+use Rattle.std.proofs.lemmas.List.{length-map}
+use Rattle.std.proofs.lemmas.Option.{slice_get_within, get_or_from_slice_get}
+use Rattle.xw_words.specs.Letter.{IsLetter}
+use Rattle.xw_words.specs.LetterSet.{letters_in}
+use Rattle.xw_words.specs.Dictionary.{Dictionary, IsDictionary}
+use Rattle.xw_grid.specs.declared.cell.Square.{Square}
+use Rattle.xw_grid.specs.declared.cell.Square.TheVariants.{Block, Open}
+use Rattle.xw_grid.specs.Grid.{Grid, IsGrid, IsSquare, letter_in, index_of}
+use Rattle.xw_grid.specs.declared.lights.Light.{Light}
+use Rattle.xw_grid.specs.Light.{lights_of, cells_of}
+use Rattle.xw_grid.proofs.LightLemmas.{length-line}
+use Rattle.xw_feas.specs.Board.{Board, board_of, light_at}
+use Rattle.xw_feas.specs.Choices.{IsExact}
+use Rattle.xw_feas.specs.Feasible.{AreAnswers}
+use Rattle.xw_feas.specs.Single.{IsExact-prop, AreAnswers-prop}
+use Rattle.xw_feas.specs.Flags.{flag_at, set_has, standing_count}
+use Rattle.xw_feas.specs.Queries.{words_of}
+use Rattle.xw_feas.specs.Rows.{grows}
+use Rattle.xw_feas.specs.Shape.{SameCounts, GrowsAt}
+use Rattle.xw_feas.specs.Standing.{HasRows}
+use Rattle.xw_feas.specs.State.{State}
+use Rattle.xw_feas.specs.WellFormed.{IsWellFormed, HasLetterEntries}
+use Rattle.xw_feas.proofs.AnswersLemmas.{AreAnswers-rows}
+use Rattle.xw_feas.proofs.BoardLemmas.{entry-square, length-open_cells, length-lights, light_at-found}
+use Rattle.xw_feas.proofs.QueryLemmas.{count_is}
+use Rattle.xw_feas.proofs.FormedLemmas.{formed}
+use Rattle.xw_live.specs.declared.net.Net.{Net}
+use Rattle.xw_live.specs.Engine.{IsKept, net_answers}
+use Rattle.xw_live.specs.Layout.{Layout, layout_of}
+use Rattle.xw_live.specs.Net.{flags_of, flags_at, sets_of, IsSettledOn, IsSettledFor, HasRoomIn, IsAlike, StandsFor, StoodFor, known_counts}
+use Rattle.xw_live.specs.Room.{HasRoom}
+use Rattle.xw_live.specs.Fit.{HasRoomBetween}
+use Rattle.xw_live.specs.declared.room.Spare.{Spare}
+use Rattle.xw_live.proofs.Settled.{filled_room}
+
+settled_answers : (state : State) (net : Net) → IsSettledFor state net → AreAnswers (board_of state.grid) state.words (net_answers state net)
+settled_answers state net settled = AreAnswers-rows (board_of state.grid) state.words (flags_of (lights_of state.grid) net) (sets_of net) settled.rows settled.exact
+
+-- a net that is settled for a state, and in which no arrays wait
+pub kept_from : (state : State) (net : Net) → ∥ IsSettledFor state net ∥₁ → is_some net.spare ≡ false → IsWellFormed state → IsKept state net
+kept_from state net settled none_waits formed = record {
+  settled = settled;
+  none_waits = none_waits;
+  answers = ∥∥₁_elim settled (AreAnswers-prop (board_of state.grid) state.words (net_answers state net)) (settled_answers state net);
+  formed = formed;
+}
+
+-- another net settles for the same
+pub settled_alike : (state : State) (old new : Net) → IsAlike old new → ∥ IsSettledFor state old ∥₁ → ∥ IsSettledFor state new ∥₁
+settled_alike state old new alike known = ∥∥₁_elim known ∥∥₁_prop (λ settled. ∣ alike.settled (layout_of state.grid) state.words settled ∣₁)
+
+-- another net that stands for the same
+pub kept_alike : (state : State) (old new : Net) → IsAlike old new → is_some new.spare ≡ false → IsKept state old → IsKept state new
+kept_alike state old new alike none_waits kept = kept_from state new (settled_alike state old new alike kept.settled) none_waits kept.formed
+
+pub IsAlike-itself : (net : Net) → IsAlike net net
+IsAlike-itself net = record { flags = λ lights. refl; sets = refl; settled = λ layout dictionary settled. settled; room = λ same lights counts room. room }
+
+-- another grid of the same layout
+pub kept_same : (old new : Grid) (words : Dictionary) (net : Net) → layout_of new ≡ layout_of old → IsWellFormed (record { grid = new; words = words }) → IsKept (record { grid = old; words = words }) net → IsKept (record { grid = new; words = words }) net
+kept_same old new words net same formed kept = kept_from (record { grid = new; words = words }) net
+    (subst (λ layout. ∥ IsSettledOn layout words net ∥₁) (sym same) kept.settled)
+    kept.none_waits
+    formed
+
+-- there is a set for each cell
+pub kept_cells : (state : State) (net : Net) → IsKept state net → length (sets_of net) ≡ length state.grid.squares
+kept_cells state net kept = sym (length-map (sets_of net) letters_in) ∙ kept.answers.cells ∙ length-open_cells state.grid
+
+-- ---- what is true of every grid and dictionary
+
+letter_entries : (grid : Grid) → IsGrid grid → HasLetterEntries (board_of grid)
+letter_entries grid is cell letter at = split (slice_get grid.squares cell) refl (sym (entry-square grid cell) ∙ at) where
+  split : (square : Option Square) → slice_get grid.squares cell ≡ square → letter_in square ≡ Some letter → IsLetter letter
+  split None found h = cc
+  split (Some Block) found h = cc
+  split (Some (Open None)) found h = cc
+  split (Some (Open (Some other))) found h =
+      let same : other ≡ letter = cc in
+      let below = slice_get_within grid.squares cell (Open (Some other)) found in
+      let here : IsSquare (Open (Some other)) = subst IsSquare (get_or_from_slice_get grid.squares cell (Open (Some other)) Block found) (is.letters cell Block below) in
+      subst IsLetter same here
+
+pub state_formed : (grid : Grid) (words : Dictionary) → IsGrid grid → IsDictionary words → IsWellFormed (record { grid = grid; words = words })
+state_formed grid words is dictionary = formed grid words is dictionary (letter_entries grid is)
+
+-- ---- room
+
+room_prop : (lights : List Light) (counts : ℕ → ℕ) (net : Net) → IsProp (HasRoom lights counts net)
+room_prop lights counts net x y = λ i. record {
+  rows = Π_prop (λ light. Π_prop (λ below. le_prop)) x.rows y.rows i;
+  base = Π_prop (λ light. Π_prop (λ below. le_prop)) x.base y.base i;
+  queue = le_prop x.queue y.queue i;
+  stack = le_prop x.stack y.stack i;
+}
+
+-- a settled net has room for its lights
+pub settled_room : (state : State) (net : Net) → ∥ IsSettledFor state net ∥₁ → HasRoom (lights_of state.grid) (known_counts state.words) net
+settled_room state net known = ∥∥₁_elim known (room_prop (lights_of state.grid) (known_counts state.words) net) (λ settled. filled_room state.grid state.words net settled.filled)
+
+pub room_of_lights : (state : State) (net : Net) (lights : List Light) → lights ≡ lights_of state.grid → ∥ IsSettledFor state net ∥₁ → HasRoom lights (known_counts state.words) net
+room_of_lights state net lights are known = subst (λ ls. HasRoom ls (known_counts state.words) net) (sym are) (settled_room state net known)
+
+-- room for the same lights, where no arrays wait
+pub room_without : (lights after : List Light) (counts : ℕ → ℕ) (net : Net) (waiting : Option Spare) → is_some waiting ≡ false → after ≡ lights → HasRoom after counts net → HasRoomBetween lights after counts net waiting
+room_without lights after counts net None none same room = (same, room)
+room_without lights after counts net (Some spare) none same room = absurd (false≢true (sym none))
+
+-- room for other lights, in the arrays that wait
+pub room_waiting : (before after : List Light) (counts : ℕ → ℕ) (net : Net) (waiting : Option Spare) → is_some waiting ≡ true → HasRoom before counts net → HasRoomIn after counts net waiting → HasRoomBetween before after counts net waiting
+room_waiting before after counts net (Some spare) waits room spare_room = (room, spare_room)
+room_waiting before after counts net None waits room spare_room = absurd (false≢true waits)
+
+-- room in a net in which no arrays wait
+pub room_in_none : (lights : List Light) (counts : ℕ → ℕ) (net : Net) (waiting : Option Spare) → is_some waiting ≡ false → HasRoomIn lights counts net waiting → HasRoom lights counts net
+room_in_none lights counts net None none room = room
+room_in_none lights counts net (Some spare) none room = absurd (false≢true (sym none))
+
+one_if : (b : Bool) (n : ℕ) → (n ≤ n + (if b then 1 else 0)) × (n + (if b then 1 else 0) ≤ n + 1)
+one_if true n = (omega arith, omega arith)
+one_if false n = (omega arith, omega arith)
+
+-- room for no word more
+pub room_for_none : (lights : List Light) (words : Dictionary) (net : Net) (waiting : Option Spare) → HasRoomIn lights (λ count. known_counts words count + (if grows None count then 1 else 0)) net waiting → HasRoomIn lights (known_counts words) net waiting
+room_for_none lights words net waiting room = subst (λ known. HasRoomIn lights known net waiting) (λ i count. add-zero (known_counts words count) i) room
+
+-- where as many words are known there is room for them
+pub room_for_same : (lights : List Light) (old new : Dictionary) (net : Net) → SameCounts old new → HasRoom lights (known_counts old) net → HasRoom lights (known_counts new) net
+room_for_same lights old new net same room = subst (λ known. HasRoom lights known net) (λ i count. sym (same count) i) room
+
+-- and where one more is known of a length
+pub room_for_grown : (lights : List Light) (old new : Dictionary) (grown : ℕ) (net : Net) → GrowsAt old new grown → HasRoom lights (λ count. known_counts old count + (if grows (Some grown) count then 1 else 0)) net → HasRoom lights (known_counts new) net
+room_for_grown lights old new grown net more room = subst (λ known. HasRoom lights known net) (λ i count. sym (more count) i) room
+
+-- ---- what a net stood for
+
+near_same : (old new : Dictionary) → SameCounts old new → (count : ℕ) → (known_counts old count ≤ known_counts new count) × (known_counts new count ≤ known_counts old count + 1)
+near_same old new same count =
+    let is : known_counts new count ≡ known_counts old count = same count in
+    (omega (arith, is), omega (arith, is))
+
+near_grown : (old new : Dictionary) (grown : ℕ) → GrowsAt old new grown → (count : ℕ) → (known_counts old count ≤ known_counts new count) × (known_counts new count ≤ known_counts old count + 1)
+near_grown old new grown more count =
+    let is : known_counts new count ≡ known_counts old count + (if grows (Some grown) count then 1 else 0) = more count in
+    subst (λ n. (known_counts old count ≤ n) × (n ≤ known_counts old count + 1)) (sym is) (one_if (grows (Some grown) count) (known_counts old count))
+
+module _ (state : State) (net : Net) (lights : List Light) (are : lights ≡ lights_of state.grid) (known : ∥ IsSettledFor state net ∥₁) where
+  abbrev pub stands_for : StandsFor lights net
+  stands_for = record { state = state; are_lights = sym are; settled = known }
+
+  -- as many words are known
+  pub stood_same : (new : Dictionary) → SameCounts state.words new → StoodFor lights (known_counts new) net
+  stood_same new same = record { stands = stands_for; near = near_same state.words new same }
+
+  -- one more is known of a length
+  pub stood_grown : (new : Dictionary) (grown : ℕ) → GrowsAt state.words new grown → StoodFor lights (known_counts new) net
+  stood_grown new grown more = record { stands = stands_for; near = near_grown state.words new grown more }
+
+-- ---- cells
+
+-- a grid of the same size has as many cells
+pub as_many_cells : (old new : Grid) → IsGrid old → IsGrid new → new.width ≡ old.width → new.height ≡ old.height → length old.squares ≡ length new.squares
+as_many_cells old new is is' width height = is.squares ∙ ap (λ w. w * old.height) (sym width) ∙ ap (λ h. new.width * h) (sym height) ∙ sym is'.squares
+
+-- ---- what an engine answers
+
+HasRows-prop : (board : Board) (dictionary : Dictionary) (words : List (List Bool)) (letters : List ℕ) → IsProp (HasRows board dictionary words letters)
+HasRows-prop board dictionary words letters x y = λ i. record {
+  lights = Coded-set coded_ℕ _ _ x.lights y.lights i;
+  choices = Π_prop (λ light. Π_prop (λ below. Coded-set coded_ℕ _ _)) x.choices y.choices i;
+  cells = Coded-set coded_ℕ _ _ x.cells y.cells i;
+}
+
+pub kept_rows : (state : State) (net : Net) → IsKept state net → HasRows (board_of state.grid) state.words (flags_of (lights_of state.grid) net) (sets_of net)
+kept_rows state net kept = ∥∥₁_elim kept.settled (HasRows-prop (board_of state.grid) state.words (flags_of (lights_of state.grid) net) (sets_of net)) (λ settled. settled.rows)
+
+pub kept_exact : (state : State) (net : Net) → IsKept state net → IsExact (board_of state.grid) state.words (flag_at (flags_of (lights_of state.grid) net)) (set_has (sets_of net))
+kept_exact state net kept = ∥∥₁_elim kept.settled (IsExact-prop (board_of state.grid) state.words (flag_at (flags_of (lights_of state.grid) net)) (set_has (sets_of net))) (λ settled. settled.exact)
+
+-- the net may be asked
+pub kept_stands : (state : State) (net : Net) (lights : List Light) → lights ≡ lights_of state.grid → IsKept state net → StandsFor lights net
+kept_stands state net lights are kept = stands_for state net lights are kept.settled
+
+-- how many flags stand is how many words the light has
+pub kept_count : (state : State) (net : Net) (lights : List Light) → lights ≡ lights_of state.grid → IsKept state net → (light : ℕ) → light < length (lights_of state.grid)
+    → standing_count (flags_at lights net light) ≡ length (words_of (net_answers state net) light)
+kept_count state net lights are kept light below =
+    let rows = kept_rows state net kept in
+    let within : light < length (flags_of (lights_of state.grid) net) = omega (arith, rows.lights, length-lights state.grid) in
+    ap (λ ls. standing_count (flags_at ls net light)) are ∙ count_is (board_of state.grid) state.words (flags_of (lights_of state.grid) net) (sets_of net) rows light within
+
+-- how many cells a light has
+pub light_size : (grid : Grid) (place : ℕ) (light : Light) → place < length (lights_of grid) → slice_get (lights_of grid) place ≡ Some light → length (light_at (board_of grid) place) ≡ light.size
+light_size grid place light below found =
+    ap length (light_at-found grid place light found below)
+    ∙ length-map (cells_of light) (index_of grid)
+    ∙ length-line light.name.direction light.start light.size

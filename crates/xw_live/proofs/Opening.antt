@@ -1,0 +1,195 @@
+-- Rows and cells at the beginning of a settling.
+use Rattle.std.proofs.Common.{◌≡◌, ℕ, ◌+◌, ◌-◌, ◌*◌, ◌<◌, Bool, true, false, ◌&&◌, [], ◌∷◌, ◌++◌, length, get_or, Some, None, refl, sym, ◌∙◌, ap, subst, arith, inl, inr}
+use Rattle.std.specs.Prelude.{Option, Contains, slice_index, slice_get}
+use Rattle.std.proofs.lemmas.Bool.{cases_Bool, both_ways, and_from}
+use Rattle.std.proofs.lemmas.List.{get_or_default, get_or_push, length-map}
+use Rattle.std.proofs.lemmas.Option.{slice_get-get_or}
+use Rattle.xw_words.specs.Dictionary.{Entry, row}
+use Rattle.xw_grid.specs.declared.cell.Cell.{Cell}
+use Rattle.xw_grid.specs.Grid.{is_inside}
+use Rattle.xw_grid.specs.Light.{lights_of, no_light, step}
+use Rattle.xw_feas.specs.Board.{Board, board_of, entry, light_at, is_wholly_entered}
+use Rattle.xw_feas.specs.Choices.{is_base_at}
+use Rattle.xw_feas.specs.Flags.{set_has}
+use Rattle.xw_feas.specs.State.{State, Action}
+use Rattle.xw_feas.proofs.ChoicesLemmas.{base_flag_entered}
+use Rattle.xw_feas.proofs.FormedLemmas.{light_in, length-light_at, within_lights, place_is, inside_at}
+use Rattle.xw_live.specs.declared.net.Net.{Net}
+use Rattle.xw_live.specs.declared.change.Change.{Change}
+use Rattle.xw_live.specs.Change.{IsChange}
+use Rattle.xw_live.specs.Base.{base_bits}
+use Rattle.xw_live.specs.Revival.{IsMatching, same_light, StandsOn}
+use Rattle.xw_live.specs.Marks.{known}
+use Rattle.xw_live.specs.Nets.{word_stands}
+use Rattle.xw_live.specs.Filled.{IsFilled}
+use Rattle.xw_live.specs.Renumber.{same_before}
+use Rattle.xw_live.specs.Spread.{is_marked, bits_in, HasAll}
+use Rattle.xw_live.specs.Brought.{IsBase}
+use Rattle.xw_live.specs.Begin.{common_bits}
+use Rattle.xw_live.specs.Opened.{arrays_of, IsOpening, IsMoved}
+use Rattle.xw_live.proofs.Exact.{exact_base}
+use Rattle.xw_live.proofs.Same.{same_is_matching, same_is_whole}
+use Rattle.xw_live.proofs.Kept.{HaveSameEntries, entered_same}
+use Rattle.xw_live.proofs.BaseLemmas.{length-base_bits}
+use Rattle.xw_live.proofs.NetLemmas.{waiting_within}
+use Rattle.xw_live.proofs.Started.{empty_not_whole}
+use Rattle.xw_live.proofs.Listed.{inside_sized}
+use Rattle.xw_live.proofs.Changed.{changed_base, changed_entry_kept, changed_words_calm, changed_spelled, row_narrowed}
+
+module _ (before now : State) (action : Action) (change : Change) (is : IsChange before now action change) (settled net opened : Net)
+    (filled : IsFilled (board_of before.grid) before.words settled) (moved : IsMoved before now settled net)
+    (opening : IsOpening now.grid (board_of now.grid) (lights_of now.grid) (row now.words) change (arrays_of net) (arrays_of opened))
+    (entered_kept : opened.entered.items ≡ net.entered.items)
+    (inside : (listed : Cell × Option ℕ) → Contains change.cells.now listed → is_inside now.grid listed.0 ≡ true) where
+  abbrev old_board : Board
+  old_board = board_of before.grid
+
+  abbrev new_board : Board
+  new_board = board_of now.grid
+
+  abbrev seed : ℕ → Bool
+  seed = is_marked opened.is_marked.items
+
+  abbrev queued : ℕ → Bool
+  queued = is_marked opened.is_queued.items
+
+  matching : IsMatching (board_of before.grid) (board_of now.grid) (same_light before.grid now.grid)
+  matching = same_is_matching before.grid now.grid is.width
+
+  -- the grids are of one size
+  inside_before : (cell : Cell) → is_inside now.grid cell ≡ true → is_inside before.grid cell ≡ true
+  inside_before = inside_sized now.grid before.grid (sym is.width) (sym is.height)
+
+  inside_now : (cell : Cell) → is_inside before.grid cell ≡ true → is_inside now.grid cell ≡ true
+  inside_now = inside_sized before.grid now.grid is.width is.height
+
+  pub listed_inside : (listed : Cell × Option ℕ) → Contains change.cells.now listed → is_inside before.grid listed.0 ≡ true
+  listed_inside listed has = inside_before listed.0 (inside listed has)
+
+  pub is_new : (light : ℕ) → same_light before.grid now.grid light ≡ None → same_before change.before.now (lights_of now.grid) light ≡ None
+  is_new light at = ap (λ ls. same_before ls (lights_of now.grid) light) is.lights ∙ at
+
+  pub new_queued : (light : ℕ) → light < length (board_of now.grid).lights → same_light before.grid now.grid light ≡ None → queued light ≡ true
+  new_queued light in_board at = opening.new_queued light in_board (is_new light at)
+
+  pub new_seeds : (light : ℕ) → light < length (board_of now.grid).lights → same_light before.grid now.grid light ≡ None → seed light ≡ true
+  new_seeds light in_board at = opening.new_marked light in_board (is_new light at)
+
+  -- ---- base rows
+
+  calm_known : (light other : ℕ) → light < length (board_of now.grid).lights → same_light before.grid now.grid light ≡ Some other → queued light ≡ false → known (board_of now.grid) now.words light ≡ known (board_of before.grid) before.words other
+  calm_known light other in_board at calm =
+      ap length (changed_words_calm before now action change is (set_has opened.letters.items) queued seed listed_inside opening.edited opening.long light in_board calm)
+      ∙ ap (λ cs. length (row before.words (length cs))) (matching.cells light other in_board at)
+
+  pub opened_base : IsBase (board_of now.grid) now.words opened.base.items
+  opened_base =
+      changed_base before now action change is (set_has opened.letters.items) queued seed listed_inside opening.edited opening.long new_queued settled.base.items net.base.items opened.base.items
+      filled.is_base (λ light other in_board at calm. moved.base light other in_board at (calm_known light other in_board at calm)) opening.prepared.base_on opening.prepared.base_off
+
+  -- ---- words
+
+  -- a light that is queued is one of the board
+  queued_in_board : (light : ℕ) → queued light ≡ true → light < length (board_of now.grid).lights
+  queued_in_board light on = waiting_within opened.queue.items (length (board_of now.grid).lights) light opening.in_queue (sym (opening.listed light) ∙ on)
+
+  pub opened_lights : (light choice : ℕ) → word_stands opened light choice ≡ true → light < length (board_of now.grid).lights
+  unfolding word_stands
+  opened_lights light choice stands = elim (cases_Bool (queued light)) [
+    | inl on ↦ queued_in_board light on
+    | inr off ↦ moved.lights light choice (ap (λ bits. get_or (bits ++ get_or net.entered.items light false ∷ []) choice false) (sym (opening.prepared.rows_off light off))
+        ∙ ap (λ flags. get_or (bits_in opened.rows.items light ++ get_or flags light false ∷ []) choice false) (sym entered_kept) ∙ stands)
+  ]
+
+  pub opened_words_off : (light other choice : ℕ) → light < length (board_of now.grid).lights → seed light ≡ false → queued light ≡ false → same_light before.grid now.grid light ≡ Some other → word_stands opened light choice ≡ word_stands settled other choice
+  unfolding word_stands
+  opened_words_off light other choice in_board no_seed calm at =
+      ap (λ bits. get_or (bits ++ get_or opened.entered.items light false ∷ []) choice false) (opening.prepared.rows_off light calm ∙ moved.rows light other in_board at (calm_known light other in_board at calm))
+      ∙ ap (λ e. get_or (bits_in settled.rows.items other ++ e ∷ []) choice false) (ap (λ flags. get_or flags light false) entered_kept ∙ moved.entered light other in_board at)
+
+  -- a light that is no seed stays wholly entered
+  whole_stays : (light : ℕ) → light < length (board_of now.grid).lights → seed light ≡ false → is_wholly_entered (board_of before.grid) (light_at (board_of now.grid) light) ≡ true → is_wholly_entered (board_of now.grid) (light_at (board_of now.grid) light) ≡ true
+  whole_stays light in_board no_seed whole = entered_same (board_of before.grid) (board_of now.grid) (light_at (board_of now.grid) light) same ∙ whole where
+    same : HaveSameEntries (board_of before.grid) (board_of now.grid) (light_at (board_of now.grid) light)
+    same cell in_cells = split (entry (board_of before.grid) cell) refl where
+      split : (o : Option ℕ) → entry (board_of before.grid) cell ≡ o → entry (board_of now.grid) cell ≡ entry (board_of before.grid) cell
+      split None empty = absurd (both_ways _ (empty_not_whole (board_of before.grid) (light_at (board_of now.grid) light) in_cells.0 in_cells.1 (ap (entry (board_of before.grid)) (get_or_default (light_at (board_of now.grid) light) in_cells.0 0 cell in_cells.1 ∙ in_cells.2) ∙ empty)) whole)
+      split (Some letter) had = changed_entry_kept before now action change is (set_has opened.letters.items) queued seed listed_inside opening.edited opening.long light cell letter in_board no_seed in_cells had
+
+  kept_known : (light other : ℕ) → light < length (board_of now.grid).lights → seed light ≡ false → same_light before.grid now.grid light ≡ Some other → known (board_of now.grid) now.words light ≡ known (board_of before.grid) before.words other
+  kept_known light other in_board no_seed at =
+      sym (length-map (row now.words (length (light_at (board_of now.grid) light))) (λ (word : Entry). word.word))
+      ∙ ap length (changed_spelled before now action change is (set_has opened.letters.items) queued seed listed_inside opening.edited opening.long opening.prepared.seeds light in_board no_seed)
+      ∙ length-map (row before.words (length (light_at (board_of now.grid) light))) (λ (word : Entry). word.word)
+      ∙ ap (λ cs. length (row before.words (length cs))) (matching.cells light other in_board at)
+
+  -- the word that is entered stood only where the light is wholly entered
+  entered_whole : (light other : ℕ) → light < length (board_of now.grid).lights → seed light ≡ false → same_light before.grid now.grid light ≡ Some other → get_or settled.entered.items other false ≡ true → is_wholly_entered (board_of now.grid) (light_at (board_of now.grid) light) ≡ true
+  unfolding word_stands
+  entered_whole light other in_board no_seed at stood =
+      let in_before = matching.lights light other in_board at in
+      let count = length (row before.words (length (light_at (board_of before.grid) other))) in
+      let stands : word_stands settled other (length (row before.words (length (light_at (board_of before.grid) other)))) ≡ true =
+      get_or_push (bits_in settled.rows.items other) (get_or settled.entered.items other false) false (length (row before.words (length (light_at (board_of before.grid) other)))) (filled.whole.bits other in_before) ∙ stood in
+      let base = exact_base (board_of before.grid) before.words _ _ filled.exact other (length (row before.words (length (light_at (board_of before.grid) other)))) in_before stands in
+      let last = base_flag_entered (board_of before.grid) before.words (light_at (board_of before.grid) other) (length (row before.words (length (light_at (board_of before.grid) other)))) (sym (length-map (row before.words (length (light_at (board_of before.grid) other))) (λ (word : Entry). word.word))) in
+      whole_stays light in_board no_seed (ap (is_wholly_entered (board_of before.grid)) (matching.cells light other in_board at) ∙ sym last ∙ base)
+
+  pub opened_words_on : (light other choice : ℕ) → light < length (board_of now.grid).lights → seed light ≡ false → queued light ≡ true → same_light before.grid now.grid light ≡ Some other
+      → word_stands opened light choice ≡ (word_stands settled other choice && is_base_at (board_of now.grid) now.words light choice)
+  unfolding word_stands
+  opened_words_on light other choice in_board no_seed on at =
+      let in_before = matching.lights light other in_board at in
+      let cells = light_at (board_of now.grid) light in
+      let base = base_bits (board_of now.grid) (light_at (board_of now.grid) light) (row now.words (length (light_at (board_of now.grid) light))) in
+      let e = get_or settled.entered.items other false in
+      let whole = is_wholly_entered (board_of now.grid) (light_at (board_of now.grid) light) in
+      let many = kept_known light other in_board no_seed at in
+      let bits : bits_in opened.rows.items light ≡ common_bits (bits_in settled.rows.items other) base =
+      opening.prepared.rows_on light in_board on ∙ ap (λ b. common_bits b (base_bits (board_of now.grid) (light_at (board_of now.grid) light) (row now.words (length (light_at (board_of now.grid) light))))) (moved.rows light other in_board at many) in
+      let last : get_or settled.entered.items other false ≡ (get_or settled.entered.items other false && is_wholly_entered (board_of now.grid) (light_at (board_of now.grid) light)) = elim (cases_Bool (get_or settled.entered.items other false)) [
+        | inl stood ↦ stood ∙ sym (and_from _ _ stood (entered_whole light other in_board no_seed at stood))
+        | inr none ↦ none ∙ sym (ap (λ b. b && is_wholly_entered (board_of now.grid) (light_at (board_of now.grid) light)) none)
+      ] in
+      ap (λ bs. get_or (bs ++ get_or opened.entered.items light false ∷ []) choice false) bits
+      ∙ ap (λ f. get_or (common_bits (bits_in settled.rows.items other) (base_bits (board_of now.grid) (light_at (board_of now.grid) light) (row now.words (length (light_at (board_of now.grid) light)))) ++ f ∷ []) choice false)
+      (ap (λ flags. get_or flags light false) entered_kept ∙ moved.entered light other in_board at)
+      ∙ row_narrowed (bits_in settled.rows.items other) (base_bits (board_of now.grid) (light_at (board_of now.grid) light) (row now.words (length (light_at (board_of now.grid) light)))) (get_or settled.entered.items other false) whole choice
+      (filled.whole.bits other in_before ∙ sym many ∙ sym (length-base_bits (board_of now.grid) (light_at (board_of now.grid) light) (row now.words (length (light_at (board_of now.grid) light))))) last
+
+  -- ---- cells of lights that are gone
+
+  is_gone : (other : ℕ) → other < length (board_of before.grid).lights → ¬ StandsOn (board_of now.grid) (same_light before.grid now.grid) other → same_light now.grid before.grid other ≡ None
+  is_gone other in_before gone = split (same_light now.grid before.grid other) refl where
+    back : IsMatching (board_of now.grid) (board_of before.grid) (same_light now.grid before.grid)
+    back = same_is_matching now.grid before.grid (sym is.width)
+
+    split : (o : Option ℕ) → same_light now.grid before.grid other ≡ o → same_light now.grid before.grid other ≡ None
+    split None at = at
+    split (Some light) at =
+        let in_after = back.lights other light in_before at in
+        absurd (gone (light, in_after, same_is_whole before.grid now.grid is.width light other in_after in_before (sym (back.cells other light in_before at))))
+
+  pub opened_freed : (other k : ℕ) → other < length (board_of before.grid).lights → ¬ StandsOn (board_of now.grid) (same_light before.grid now.grid) other → k < length (light_at (board_of before.grid) other)
+      → HasAll (board_of now.grid) (set_has opened.letters.items) (slice_index (light_at (board_of before.grid) other) k)
+  opened_freed other k in_before gone below =
+      let within = within_lights before.grid other k below in
+      let light = light_in before.grid other in
+      let cell = step (light_in before.grid other).name.direction (light_in before.grid other).start k in
+      opening.freed (slice_index (light_at (board_of before.grid) other) k) (record {
+        other = other;
+        below = subst (λ ls. other < length ls) (sym is.lights) within;
+        light = light_in before.grid other;
+        gone = record {
+          at = ap (λ ls. slice_get ls other) is.lights ∙ slice_get-get_or (lights_of before.grid) other no_light within;
+          none = ap (λ ls. same_before (lights_of now.grid) ls other) is.lights ∙ is_gone other in_before gone;
+        };
+        among = record {
+          place = k;
+          below = omega (arith, below, length-light_at before.grid other within);
+          along = record {
+            inside = inside_now (step (light_in before.grid other).name.direction (light_in before.grid other).start k) (inside_at before.grid other k below);
+            is = ap (λ w. ((step (light_in before.grid other).name.direction (light_in before.grid other).start k).row - 1) * w + ((step (light_in before.grid other).name.direction (light_in before.grid other).start k).col - 1)) is.width ∙ sym (place_is before.grid other k below);
+          };
+        };
+      })

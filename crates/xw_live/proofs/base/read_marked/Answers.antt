@@ -1,0 +1,72 @@
+use Rattle.std.proofs.Common.{◌≡◌, ◌≤◌, ◌+◌, ◌*◌, false, length, get_or, subst, sym, ap, ◌∙◌, inl, inr, arith}
+use Rattle.std.proofs.lemmas.Bool.{cases_eq, both_ways}
+use Rattle.xw_feas.specs.Board.{light_at}
+use Rattle.xw_live.specs.Base.{base_bits}
+use Rattle.xw_live.specs.Region.{chunks_of}
+use Rattle.xw_live.specs.Spread.{is_marked, bits_in}
+use Rattle.xw_live.proofs.BaseLemmas.{length-base_bits}
+use Rattle.xw_live.proofs.CostLemmas.{cost_here, cost_more, cost_in, cost_all}
+use Rattle.xw_live.proofs.base.read_marked.Goals as goal
+
+pub loop-light-preserved-then-not-marks-light : goal.loop-light-preserved-then-not-marks-light
+unfolding is_marked
+loop-light-preserved-then-not-marks-light g c =
+    let inv = c.loop-light.invariant in
+    record {
+      same = inv.same;
+      risen = inv.risen;
+      base = inv.base;
+      on = λ light lt m. elim (cases_eq light c.loop-light.light) [
+        | inl e ↦ absurd (both_ways (get_or c.args.marks.now light false) (ap (λ n. get_or c.args.marks.now n false) e ∙ c.if-not-marks-light.true) m)
+        | inr n ↦ inv.on light (omega arith) m
+      ];
+      row_room = inv.row_room;
+      off = inv.off;
+      spent = λ member has. omega (arith, inv.spent member has, cost_more c.args.board.now (g.R.Rows.entries c.args.rows.now) member c.loop-light.light);
+    }
+
+pub loop-light-preserved : goal.loop-light-preserved
+unfolding is_marked
+loop-light-preserved g c =
+    let inv = c.loop-light.invariant in
+    let k = c.read_row in
+    let board = c.args.board.now in
+    let o = c.loop-light.light in
+    let here : bits_in c.read_row.new.base c.loop-light.light ≡ base_bits c.args.board.now (light_at c.args.board.now c.loop-light.light) (g.R.Rows.entries c.args.rows.now (length (light_at c.args.board.now c.loop-light.light))) =
+    k.ensures.here ∙ ap (λ d. base_bits c.args.board.now (light_at c.args.board.now c.loop-light.light) (d (length (light_at c.args.board.now c.loop-light.light)))) inv.same in
+    record {
+      same = k.ensures.entries ∙ inv.same;
+      risen = omega (arith, inv.risen, k.ensures.risen);
+      base = record {
+        rows = omega (arith, inv.base.rows, c.read_row.ensures.len);
+        bits = λ light lt. elim (cases_eq light c.loop-light.light) [
+          | inl e ↦
+              subst (λ n. length (bits_in c.read_row.new.base n) ≡ length (g.R.Rows.entries c.args.rows.now (length (light_at c.args.board.now n)))) (sym e)
+              (ap length here ∙ length-base_bits c.args.board.now (light_at c.args.board.now c.loop-light.light) (g.R.Rows.entries c.args.rows.now (length (light_at c.args.board.now c.loop-light.light))))
+          | inr n ↦ ap length (k.ensures.others light n) ∙ inv.base.bits light lt
+        ];
+      };
+      on = λ light lt m. elim (cases_eq light c.loop-light.light) [
+        | inl e ↦ subst (λ n. bits_in c.read_row.new.base n ≡ base_bits c.args.board.now (light_at c.args.board.now n) (g.R.Rows.entries c.args.rows.now (length (light_at c.args.board.now n)))) (sym e) here
+        | inr n ↦ k.ensures.others light n ∙ inv.on light (omega arith) m
+      ];
+      row_room = λ other. omega (arith, inv.row_room other, k.ensures.row_room other);
+      off = λ light m.
+          k.ensures.others light (λ e. both_ways (get_or c.args.marks.now light false) m (ap (λ n. get_or c.args.marks.now n false) e ∙ c.if-not-marks-light.false))
+          ∙ inv.off light m;
+      spent = λ member has.
+          let same_cost : chunks_of (length (g.R.Rows.entries c.loop-light.rows (length (light_at c.args.board.now c.loop-light.light)))) ≡ chunks_of (length (g.R.Rows.entries c.args.rows.now (length (light_at c.args.board.now c.loop-light.light)))) =
+          ap (λ d. chunks_of (length (d (length (light_at c.args.board.now c.loop-light.light))))) inv.same in
+          let whole : (length (light_at c.args.board.now c.loop-light.light) + 1) * chunks_of (length (g.R.Rows.entries c.loop-light.rows (length (light_at c.args.board.now c.loop-light.light)))) ≡ cost_here c.args.board.now (g.R.Rows.entries c.args.rows.now) member c.loop-light.light =
+          ap (λ n. (length (light_at c.args.board.now c.loop-light.light) + 1) * n) same_cost ∙ sym (cost_in c.args.board.now (g.R.Rows.entries c.args.rows.now) member c.loop-light.light (has c.loop-light.light c.if-not-marks-light.false)) in
+          let more = cost_more c.args.board.now (g.R.Rows.entries c.args.rows.now) member c.loop-light.light in
+          let spent : g.R.Rows.ticks c.read_row.new.rows ≤ g.R.Rows.ticks c.loop-light.rows + cost_here c.args.board.now (g.R.Rows.entries c.args.rows.now) member c.loop-light.light =
+          subst (λ n. g.R.Rows.ticks c.read_row.new.rows ≤ g.R.Rows.ticks c.loop-light.rows + n) whole k.ensures.cost in
+          let before = inv.spent member has in
+          subst (λ n. g.R.Rows.ticks c.read_row.new.rows ≤ g.R.Rows.ticks c.args.rows.now + n) (sym more) (omega (arith, spent, before));
+    }
+
+pub returns-clause-cost : goal.returns-clause-cost
+returns-clause-cost g c member has =
+    let all = cost_all c.args.board.now (g.R.Rows.entries c.args.rows.now) member c.loop-light.light (omega (arith, c.loop-light-test.false, c.loop-light.auto.light-end, c.light_count-light-end.ensures)) in
+    subst (λ n. g.R.Rows.ticks c.loop-light.rows ≤ g.R.Rows.ticks c.args.rows.now + n) all (c.loop-light.invariant.spent member has)

@@ -1,0 +1,48 @@
+use Rattle.std.proofs.Common.{◌≡◌, ◌<◌, length, refl, subst, ap, ◌∙◌, inl, inr, arith}
+use Rattle.std.proofs.lemmas.Bool.{cases_eq}
+use Rattle.xw_feas.specs.Board.{light_at}
+use Rattle.xw_live.specs.Spread.{is_marked, no_places}
+use Rattle.xw_live.proofs.SpreadLemmas.{grows_none, grows_more, seeds_grow, spread_grows}
+use Rattle.xw_live.proofs.seeds.mark_length.Goals as goal
+
+pub loop-light-init : goal.loop-light-init
+loop-light-init c = record {
+  marks_len = refl;
+  room = c.requires.room;
+  capacity = omega arith;
+  waiting = c.requires.waiting;
+  grows = grows_none c.args.marks.now c.args.stack.now.items;
+  marked = λ light lt long. absurd (omega arith);
+  within = λ member seeds long. seeds;
+}
+
+pub loop-light-preserved : goal.loop-light-preserved
+loop-light-preserved c =
+    let inv = c.loop-light.invariant in
+    let k = c.mark_if_long in
+    let in_board : c.loop-light.light < length c.args.board.now.lights = omega (arith, c.loop-light-test.true, c.light_count-light-end.ensures) in
+    record {
+      marks_len = k.ensures.marks ∙ inv.marks_len;
+      room = k.ensures.room;
+      capacity = omega (arith, inv.capacity, k.ensures.capacity);
+      waiting = k.ensures.waiting;
+      grows = grows_more c.args.marks.now c.args.stack.now.items c.loop-light.marks c.loop-light.stack.items k.new.marks k.new.stack.items inv.grows k.ensures.grows;
+      marked = λ light lt long. elim (cases_eq light c.loop-light.light) [
+        | inl e ↦ ap (is_marked c.mark_if_long.new.marks) e ∙ k.ensures.marked (subst (λ n. length (light_at c.args.board.now n) ≡ c.args.count) e long)
+        | inr n ↦ k.ensures.grows.more light (inv.marked light (omega arith) long)
+      ];
+      within = λ member seeds long. k.ensures.within member (inv.within member seeds long) (λ here. long c.loop-light.light in_board here);
+    }
+
+pub returns-clause-seeds : goal.returns-clause-seeds
+returns-clause-seeds c = seeds_grow c.args.marks.now c.args.stack.now.items c.loop-light.marks c.loop-light.stack.items c.loop-light.invariant.grows
+
+pub returns-clause-more : goal.returns-clause-more
+returns-clause-more c = c.loop-light.invariant.grows.more
+
+pub returns-clause-marked : goal.returns-clause-marked
+returns-clause-marked c light lt long = c.loop-light.invariant.marked light (omega (arith, lt, c.loop-light-test.false, c.light_count-light-end.ensures)) long
+
+pub returns-clause-spread : goal.returns-clause-spread
+returns-clause-spread c start letters spread =
+    spread_grows c.args.board.now start letters c.args.marks.now c.loop-light.marks c.args.stack.now.items c.loop-light.stack.items no_places c.loop-light.invariant.grows spread

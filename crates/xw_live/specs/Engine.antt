@@ -1,0 +1,33 @@
+-- What an engine keeps between edits.
+use Rattle.std.specs.Prelude.{◌≡◌, false, is_some}
+use Rattle.xw_grid.specs.Light.{lights_of}
+use Rattle.xw_feas.specs.AnswersOf.{answers_of}
+use Rattle.xw_feas.specs.Board.{board_of}
+use Rattle.xw_feas.specs.Feasible.{Answers, AreAnswers}
+use Rattle.xw_feas.specs.Single.{AreAnswers-prop, IsWellFormed-prop}
+use Rattle.xw_feas.specs.State.{State}
+use Rattle.xw_feas.specs.WellFormed.{IsWellFormed}
+use Rattle.xw_live.specs.declared.net.Net.{Net}
+use Rattle.xw_live.specs.Net.{flags_of, sets_of, IsSettledFor}
+use mathlib.Core.Logic.{∥∥₁_prop}
+use mathlib.Core.Bool.{Bool-set}
+
+-- the answers that a net holds
+abbrev pub net_answers : State → Net → Answers
+net_answers state net = answers_of (board_of state.grid) state.words (flags_of (lights_of state.grid) net) (sets_of net)
+
+-- the net holds the answers for the grid and the dictionary, and no arrays wait for an edit
+pub record IsKept (state : State) (net : Net) : Type 0 where
+  pub settled : ∥ IsSettledFor state net ∥₁
+  pub none_waits : is_some net.spare ≡ false
+  pub answers : AreAnswers (board_of state.grid) state.words (net_answers state net)
+  pub formed : IsWellFormed state
+
+-- there is one proof of it, so that it may stand in a ghost field
+pub IsKept-prop : (state : State) (net : Net) → IsProp (IsKept state net)
+IsKept-prop state net x y = λ i. record {
+  settled = ∥∥₁_prop x.settled y.settled i;
+  none_waits = Bool-set (is_some net.spare) false x.none_waits y.none_waits i;
+  answers = AreAnswers-prop (board_of state.grid) state.words (net_answers state net) x.answers y.answers i;
+  formed = IsWellFormed-prop state x.formed y.formed i;
+}

@@ -1,0 +1,168 @@
+//! The base words of a light, as a row of bits.
+ghost use Rattle.std.specs.Prelude.{◌≡◌, ℕ, ◌+◌, ◌*◌, ◌<◌, ◌≤◌, ◌&&◌, Bool, true, false, length, slice_index, All, Some};
+ghost use Rattle.xw_words.specs.Bits.{has_bit};
+ghost use Rattle.xw_words.specs.Dictionary.{Entry, entry_at};
+ghost use Rattle.xw_feas.specs.Board.{Board as BoardOfPlaces, light_at, entry, agrees, is_wholly_entered};
+ghost use Rattle.xw_live.specs.Base.{base_bits, is_base_word, has_entry, IsFilled};
+ghost use Rattle.xw_live.specs.Region.{chunks_of};
+ghost use Rattle.xw_live.specs.Spread.{is_marked, bits_in};
+ghost use Rattle.xw_live.specs.Room.{row_at};
+ghost use Rattle.xw_live.specs.Brought.{HasBase, base_cost};
+
+use xw_feas::board::{Board, Cells};
+use xw_feas::standing::has_all_entries;
+use xw_words::bit_row::BitRow;
+use xw_words::rows::Rows;
+
+/// The words of a chunk that have the letter that is entered at a place of the light.
+fn agreeing_in<R: Rows>(
+    rows: &mut R,
+    board: &Board<'_>,
+    cells: &Cells,
+    place: usize,
+    chunk: usize,
+) -> u64
+    requires { place < length cells.now }
+    ensures entries { R.entries rows.new ≡ R.entries rows.old }
+    ensures risen { R.ticks rows.old ≤ R.ticks rows.new }
+    ensures words { (k : ℕ) → k < 64 → has_bit result k ≡ has_entry (entry board.now (slice_index cells.now place)) (R.entries rows.old (length cells.now)) place (64 * chunk + k) }
+    ensures cost { R.ticks rows.new ≤ R.ticks rows.old + 1 }
+{
+    match board.entry(cells.at(place)) {
+        None => u64::MAX,
+        Some(letter) => rows.column(cells.len(), place, letter, chunk),
+    }
+}
+
+/// The words of a chunk that are active and agree with what is entered.
+fn base_in<R: Rows>(rows: &mut R, board: &Board<'_>, cells: &Cells, chunk: usize) -> u64
+    requires { All (λ (word : Entry). length word.word ≡ length cells.now) (R.entries rows.old (length cells.now)) }
+    ensures entries { R.entries rows.new ≡ R.entries rows.old }
+    ensures risen { R.ticks rows.old ≤ R.ticks rows.new }
+    ensures words { (k : ℕ) → k < 64 → has_bit result k ≡ (entry_at (R.entries rows.old (length cells.now)) (64 * chunk + k)).active && agrees board.now cells.now (entry_at (R.entries rows.old (length cells.now)) (64 * chunk + k)).word }
+    ensures cost { R.ticks rows.new ≤ R.ticks rows.old + (length cells.now + 1) }
+{
+    let mut words = rows.active(cells.len(), chunk);
+    for place in 0..cells.len() {
+        words &= agreeing_in(rows, board, cells, place, chunk);
+    }
+    words
+}
+
+/// The words of a chunk that are base words. Where the light is wholly entered nothing is read.
+fn base_chunk<R: Rows>(
+    rows: &mut R,
+    board: &Board<'_>,
+    cells: &Cells,
+    entered: bool,
+    chunk: usize,
+) -> u64
+    requires long { All (λ (word : Entry). length word.word ≡ length cells.now) (R.entries rows.old (length cells.now)) }
+    requires entered { entered ≡ is_wholly_entered board.now cells.now }
+    ensures entries { R.entries rows.new ≡ R.entries rows.old }
+    ensures risen { R.ticks rows.old ≤ R.ticks rows.new }
+    ensures words { (k : ℕ) → k < 64 → has_bit result k ≡ is_base_word board.now cells.now (entry_at (R.entries rows.old (length cells.now)) (64 * chunk + k)) }
+    ensures cost { R.ticks rows.new ≤ R.ticks rows.old + (length cells.now + 1) }
+    ensures unread { entered ≡ true → R.ticks rows.new ≡ R.ticks rows.old }
+{
+    if entered {
+        0
+    } else {
+        base_in(rows, board, cells, chunk)
+    }
+}
+
+/// Writes which known words are base words of a light. Where it is wholly entered nothing is read.
+pub fn read_base<R: Rows>(rows: &mut R, board: &Board<'_>, light: usize, row: &mut BitRow)
+    requires light { light < length board.now.lights }
+    requires long { All (λ (word : Entry). length word.word ≡ length (light_at board.now light)) (R.entries rows.old (length (light_at board.now light))) }
+    requires bits { length row.old.bits ≡ length (R.entries rows.old (length (light_at board.now light))) }
+    ensures entries { R.entries rows.new ≡ R.entries rows.old }
+    ensures risen { R.ticks rows.old ≤ R.ticks rows.new }
+    ensures bits { row.new.bits ≡ base_bits board.now (light_at board.now light) (R.entries rows.old (length (light_at board.now light))) }
+    ensures room { row.new.room ≡ row.old.room }
+    ensures cost { R.ticks rows.new ≤ R.ticks rows.old + (length (light_at board.now light) + 1) * chunks_of (length row.old.bits) }
+    ensures unread { is_wholly_entered board.now (light_at board.now light) ≡ true → R.ticks rows.new ≡ R.ticks rows.old }
+{
+    let cells = board.light(light);
+    let entered = has_all_entries(board, &cells);
+    for chunk in 0..row.len().div_ceil(64) {
+        let words = base_chunk(rows, board, &cells, entered, chunk);
+        row.set_chunk(chunk, words);
+    }
+}
+
+/// Keeps the base words that have a letter which was entered at an empty place of a light. Some
+/// place of the light is still empty.
+pub fn keep_column<R: Rows>(
+    rows: &mut R,
+    board: &Board<'_>,
+    light: usize,
+    place: usize,
+    row: &mut BitRow,
+)
+    requires light { light < length board.now.lights }
+    requires place { place < length (light_at board.now light) }
+    requires long { All (λ (word : Entry). length word.word ≡ length (light_at board.now light)) (R.entries rows.old (length (light_at board.now light))) }
+    requires not_entered { is_wholly_entered board.now (light_at board.now light) ≡ false }
+    ensures entries { R.entries rows.new ≡ R.entries rows.old }
+    ensures risen { R.ticks rows.old ≤ R.ticks rows.new }
+    ensures bits { (before : BoardOfPlaces) (letter : ℕ) → IsFilled before board.now (light_at board.now light) place letter → row.old.bits ≡ base_bits before (light_at board.now light) (R.entries rows.old (length (light_at board.now light))) → row.new.bits ≡ base_bits board.now (light_at board.now light) (R.entries rows.old (length (light_at board.now light))) }
+    ensures len { length row.new.bits ≡ length row.old.bits }
+    ensures room { row.new.room ≡ row.old.room }
+    ensures cost { R.ticks rows.new ≤ R.ticks rows.old + chunks_of (length row.old.bits) }
+{
+    let cells = board.light(light);
+    for chunk in 0..row.len().div_ceil(64) {
+        let words = row.chunk(chunk) & agreeing_in(rows, board, &cells, place, chunk);
+        row.set_chunk(chunk, words);
+    }
+}
+
+/// Copies the bits of a row to one of the same length.
+pub(crate) fn copy_row(from: &BitRow, to: &mut BitRow)
+    requires { length to.old.bits ≡ length from.now.bits }
+    ensures bits { to.new.bits ≡ from.now.bits }
+    ensures room { to.new.room ≡ to.old.room }
+{
+    for chunk in 0..to.len().div_ceil(64) {
+        to.set_chunk(chunk, from.chunk(chunk));
+    }
+}
+
+/// Reads the base row of a light anew.
+fn read_row<R: Rows>(rows: &mut R, board: &Board<'_>, light: usize, base: &mut [BitRow])
+    requires light { light < length board.now.lights }
+    requires long { All (λ (word : Entry). length word.word ≡ length (light_at board.now light)) (R.entries rows.old (length (light_at board.now light))) }
+    requires base { HasBase board.now (R.entries rows.old) base.old }
+    ensures entries { R.entries rows.new ≡ R.entries rows.old }
+    ensures risen { R.ticks rows.old ≤ R.ticks rows.new }
+    ensures len { length base.new ≡ length base.old }
+    ensures here { bits_in base.new light ≡ base_bits board.now (light_at board.now light) (R.entries rows.old (length (light_at board.now light))) }
+    ensures others { (other : ℕ) → (other ≡ light → ⊥) → bits_in base.new other ≡ bits_in base.old other }
+    ensures row_room { (other : ℕ) → (row_at base.old other).room ≤ (row_at base.new other).room }
+    ensures cost { R.ticks rows.new ≤ R.ticks rows.old + (length (light_at board.now light) + 1) * chunks_of (length (R.entries rows.old (length (light_at board.now light)))) }
+{
+    read_base(rows, board, light, &mut base[light]);
+}
+
+/// Reads the base row of each marked light anew.
+pub fn read_marked<R: Rows>(rows: &mut R, board: &Board<'_>, marks: &[bool], base: &mut [BitRow])
+    requires long { (light : ℕ) → light < length board.now.lights → All (λ (word : Entry). length word.word ≡ length (light_at board.now light)) (R.entries rows.old (length (light_at board.now light))) }
+    requires marks { length board.now.lights ≤ length marks.now }
+    requires base { HasBase board.now (R.entries rows.old) base.old }
+    ensures entries { R.entries rows.new ≡ R.entries rows.old }
+    ensures risen { R.ticks rows.old ≤ R.ticks rows.new }
+    ensures base { HasBase board.now (R.entries rows.old) base.new }
+    ensures on { (light : ℕ) → light < length board.now.lights → is_marked marks.now light ≡ true → bits_in base.new light ≡ base_bits board.now (light_at board.now light) (R.entries rows.old (length (light_at board.now light))) }
+    ensures off { (light : ℕ) → is_marked marks.now light ≡ false → bits_in base.new light ≡ bits_in base.old light }
+    ensures row_room { (other : ℕ) → (row_at base.old other).room ≤ (row_at base.new other).room }
+    ensures cost { (member : ℕ → Bool) → ((light : ℕ) → is_marked marks.now light ≡ true → member light ≡ true) → R.ticks rows.new ≤ R.ticks rows.old + base_cost board.now (R.entries rows.old) member }
+{
+    for light in 0..board.light_count() {
+        if !marks[light] {
+            continue;
+        }
+        read_row(rows, board, light, base);
+    }
+}

@@ -1,0 +1,26 @@
+//! The feasible words and letters of a grid, kept over each edit.
+#![tactic(auto)]
+
+mod base;
+mod begin;
+mod blank;
+pub mod change;
+mod fill;
+mod fit;
+mod forget;
+mod gone;
+pub mod live;
+pub mod net;
+mod place;
+mod queries;
+mod renumber;
+mod reserve;
+mod room;
+mod seeds;
+mod settle;
+mod settling;
+mod spread;
+mod support;
+#[cfg(test)]
+mod tests;
+mod written;

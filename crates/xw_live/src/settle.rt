@@ -1,0 +1,181 @@
+//! A net is brought from one state to the next.
+use crate::begin::begin;
+use crate::change::Change;
+use crate::forget::forget_lights;
+use crate::net::Net;
+use xw_feas::board::Board;
+use xw_grid::grid::Grid;
+use xw_grid::lights::Lights;
+use xw_words::rows::Rows;
+
+impl Net {
+    ghost use Rattle.std.specs.Prelude.{◌≡◌, ℕ, ◌+◌, ◌≤◌, Bool, true, false, [], List, Option, None, Contains, length, vec_len, vec_capacity};
+    ghost use Rattle.xw_words.specs.Dictionary.{Dictionary};
+    ghost use Rattle.xw_grid.specs.declared.cell.Cell.{Cell as CellOfGrid};
+    ghost use Rattle.xw_grid.specs.Grid.{is_inside};
+    ghost use Rattle.xw_grid.specs.Light.{lights_of};
+    ghost use Rattle.xw_feas.specs.Board.{board_of};
+    ghost use Rattle.xw_feas.specs.State.{State, Action};
+    ghost use Rattle.xw_live.specs.Room.{row_at, counts_of, HaveRoom};
+    ghost use Rattle.xw_live.specs.Fit.{AreNear, IsAtRest, HasRoomBetween};
+    ghost use Rattle.xw_live.specs.Region.{IsRegion, cost};
+    ghost use Rattle.xw_live.specs.Nets.{pending_in, IsShaped, IsChained, HasBits, IsQueue};
+    ghost use Rattle.xw_live.specs.Spread.{is_marked, HasSeeds};
+    ghost use Rattle.xw_live.specs.Brought.{HasBase, base_cost};
+    ghost use Rattle.xw_live.specs.Filled.{AreLong, HasRowRoom, IsFilled};
+    ghost use Rattle.xw_live.specs.Change.{IsChange, AreReadsOf};
+    ghost use Rattle.xw_live.specs.Net.{StoodFor, IsSettledFor};
+    ghost use Rattle.xw_live.specs.Opened.{IsMoved, IsOpened};
+
+    /// Brings a net that was settled before an edit, and goes by the lights after it, to the state
+    /// from which words and letters come back.
+    pub(crate) fn begin<R: Rows>(
+        &mut self,
+        rows: &mut R,
+        grid: &Grid,
+        board: &Board<'_>,
+        lights: &Lights,
+        change: &Change<'_>,
+    )
+        requires board { board.now ≡ board_of grid.now }
+        requires lights { lights.now ≡ lights_of grid.now }
+        requires inside { (listed : CellOfGrid × Option ℕ) → Contains change.now.cells.now listed → is_inside grid.now listed.0 ≡ true }
+        requires long { AreLong board.now (R.entries rows.old) }
+        requires shaped { IsShaped board.now self.old }
+        requires chained { IsChained board.now self.old }
+        requires bits { HasBits board.now (R.entries rows.old) self.old }
+        requires base { HasBase board.now (R.entries rows.old) self.old.base.items }
+        requires queued { HasSeeds self.old.is_queued.items self.old.queue.items }
+        requires seeds { HasSeeds self.old.is_marked.items self.old.stack.items }
+        ensures entries { R.entries rows.new ≡ R.entries rows.old }
+        ensures risen { R.ticks rows.old ≤ R.ticks rows.new }
+        ensures shaped { IsShaped board.now self.new }
+        ensures chained { IsChained board.now self.new }
+        ensures bits { HasBits board.now (R.entries rows.old) self.new }
+        ensures base { HasBase board.now (R.entries rows.old) self.new.base.items }
+        ensures queue { IsQueue self.new }
+        ensures seeds { HasSeeds self.new.is_marked.items self.new.stack.items }
+        ensures spare { self.new.spare ≡ self.old.spare }
+        ensures capacity { vec_capacity self.old.stack ≤ vec_capacity self.new.stack }
+        ensures marks { vec_len self.new.is_marked ≡ vec_len self.old.is_marked }
+        ensures pending { (slot letter : ℕ) → pending_in self.old slot letter ≡ false → pending_in self.new slot letter ≡ false }
+        ensures row_room { (other : ℕ) → (row_at self.old.rows.items other).room ≤ (row_at self.new.rows.items other).room }
+        ensures base_room { (other : ℕ) → (row_at self.old.base.items other).room ≤ (row_at self.new.base.items other).room }
+        ensures opened { (before : State) (words : Dictionary) (action : Action) (settled : Net) →
+            AreReadsOf (R.entries rows.old) words →
+            IsChange before (record { grid = grid.now; words = words }) action change.now →
+            IsFilled (board_of before.grid) before.words settled →
+            IsMoved before (record { grid = grid.now; words = words }) settled self.old →
+            IsOpened before (record { grid = grid.now; words = words }) action settled self.new }
+        ensures cost { (member : ℕ → Bool) → ((light : ℕ) → is_marked self.new.is_queued.items light ≡ true → member light ≡ true) → R.ticks rows.new ≤ R.ticks rows.old + base_cost board.now (R.entries rows.old) member }
+    {
+        forget_lights(
+            rows,
+            board,
+            lights,
+            change,
+            &mut self.held,
+            &mut self.pending,
+        );
+        begin(
+            rows,
+            grid,
+            board,
+            lights,
+            change,
+            &mut self.base,
+            &mut self.rows,
+            &mut self.letters,
+            &mut self.is_queued,
+            &mut self.queue,
+            &mut self.is_marked,
+            &mut self.stack,
+        );
+    }
+    /// Settles a net that goes by the lights after an edit.
+    pub(crate) fn settle_moved<R: Rows>(
+        &mut self,
+        rows: &mut R,
+        grid: &Grid,
+        board: &Board<'_>,
+        lights: &Lights,
+        change: &Change<'_>,
+    )
+        requires board { board.now ≡ board_of grid.now }
+        requires lights { lights.now ≡ lights_of grid.now }
+        requires inside { (listed : CellOfGrid × Option ℕ) → Contains change.now.cells.now listed → is_inside grid.now listed.0 ≡ true }
+        requires long { AreLong board.now (R.entries rows.old) }
+        requires shaped { IsShaped board.now self.old }
+        requires chained { IsChained board.now self.old }
+        requires bits { HasBits board.now (R.entries rows.old) self.old }
+        requires base { HasBase board.now (R.entries rows.old) self.old.base.items }
+        requires queued { HasSeeds self.old.is_queued.items self.old.queue.items }
+        requires seeds { HasSeeds self.old.is_marked.items self.old.stack.items }
+        requires stack_room { vec_len self.old.is_marked ≤ vec_capacity self.old.stack }
+        ensures entries { R.entries rows.new ≡ R.entries rows.old }
+        ensures risen { R.ticks rows.old ≤ R.ticks rows.new }
+        ensures shaped { IsShaped board.now self.new }
+        ensures chained { IsChained board.now self.new }
+        ensures bits { HasBits board.now (R.entries rows.old) self.new }
+        ensures base { HasBase board.now (R.entries rows.old) self.new.base.items }
+        ensures stack { self.new.stack.items ≡ [] }
+        ensures spare { self.new.spare ≡ self.old.spare }
+        ensures row_room { (other : ℕ) → (row_at self.old.rows.items other).room ≤ (row_at self.new.rows.items other).room }
+        ensures base_room { (other : ℕ) → (row_at self.old.base.items other).room ≤ (row_at self.new.base.items other).room }
+        ensures filled { (before : State) (words : Dictionary) (action : Action) (settled : Net) →
+            AreReadsOf (R.entries rows.old) words →
+            IsChange before (record { grid = grid.now; words = words }) action change.now →
+            IsFilled (board_of before.grid) before.words settled →
+            IsMoved before (record { grid = grid.now; words = words }) settled self.old →
+            HasRowRoom board.now (R.entries rows.old) self.old.rows.items →
+            HasRowRoom board.now (R.entries rows.old) self.old.base.items →
+            IsFilled (board_of grid.now) words self.new }
+        ensures cost { (before : State) (words : Dictionary) (action : Action) (settled : Net) (member : List ℕ → Bool) →
+            AreReadsOf (R.entries rows.old) words →
+            IsChange before (record { grid = grid.now; words = words }) action change.now →
+            IsFilled (board_of before.grid) before.words settled →
+            IsMoved before (record { grid = grid.now; words = words }) settled self.old →
+            IsRegion before (record { grid = grid.now; words = words }) action member →
+            R.ticks rows.new ≤ R.ticks rows.old + cost (record { grid = grid.now; words = words }) member }
+    {
+        self.begin(rows, grid, board, lights, change);
+        self.bring_back(board);
+        self.unmark();
+        self.strip(rows, board);
+    }
+    /// Brings the net to the answers of the state after an edit.
+    pub fn settle<R: Rows>(
+        &mut self,
+        rows: &mut R,
+        change: &Change<'_>,
+        grid: &Grid,
+        lights: &Lights,
+    )
+        requires lights { lights.now ≡ lights_of grid.now }
+        requires inside { (listed : CellOfGrid × Option ℕ) → Contains change.now.cells.now listed → is_inside grid.now listed.0 ≡ true }
+        requires long { AreLong (board_of grid.now) (R.entries rows.old) }
+        requires cells { vec_len self.old.letters ≡ length grid.now.squares }
+        requires stood { StoodFor change.now.before.now (counts_of (R.entries rows.old)) self.old }
+        requires room { HasRoomBetween change.now.before.now lights.now (counts_of (R.entries rows.old)) self.old self.old.spare }
+        ensures entries { R.entries rows.new ≡ R.entries rows.old }
+        ensures risen { R.ticks rows.old ≤ R.ticks rows.new }
+        ensures spare { self.new.spare ≡ None }
+        ensures rows { HaveRoom lights.now (counts_of (R.entries rows.old)) self.new.rows.items }
+        ensures base { HaveRoom lights.now (counts_of (R.entries rows.old)) self.new.base.items }
+        ensures settled { (before : State) (words : Dictionary) (action : Action) →
+            AreReadsOf (R.entries rows.old) words →
+            IsChange before (record { grid = grid.now; words = words }) action change.now →
+            IsSettledFor before self.old →
+            IsSettledFor (record { grid = grid.now; words = words }) self.new }
+        ensures cost { (before : State) (words : Dictionary) (action : Action) (member : List ℕ → Bool) →
+            AreReadsOf (R.entries rows.old) words →
+            IsChange before (record { grid = grid.now; words = words }) action change.now →
+            IsSettledFor before self.old →
+            IsRegion before (record { grid = grid.now; words = words }) action member →
+            R.ticks rows.new ≤ R.ticks rows.old + cost (record { grid = grid.now; words = words }) member }
+    {
+        self.move_to(rows, change.before, lights);
+        let board = Board::new(grid, lights);
+        self.settle_moved(rows, grid, &board, lights, change);
+    }
+}

@@ -1,0 +1,139 @@
+//! The steps of an edit by which an engine settles its net.
+ghost use Rattle.std.specs.Prelude.{◌≡◌, ◌+◌, ◌≤◌, ℕ, length, if◌then◌else◌, true, false, is_some, IsTrue, Option, Some, Contains, IfErr, OnOk, OnErr};
+ghost use Rattle.xw_words.specs.Bank.{has_room};
+ghost use Rattle.xw_words.specs.Dictionary.{Dictionary, add_answer, IsNew};
+ghost use Rattle.xw_grid.specs.declared.cell.Cell.{Cell as CellOfGrid};
+ghost use Rattle.xw_grid.specs.Grid.{is_inside};
+ghost use Rattle.xw_grid.specs.Light.{lights_of};
+ghost use Rattle.xw_feas.specs.Rows.{grows};
+ghost use Rattle.xw_feas.specs.State.{State, Action, action_of};
+ghost use Rattle.xw_feas.specs.WellFormed.{IsWellFormed};
+ghost use Rattle.xw_live.specs.Change.{IsChange, IsWordEdit};
+ghost use Rattle.xw_live.specs.Cost.{RoseWithinCost};
+ghost use Rattle.xw_live.specs.Engine.{IsKept};
+ghost use Rattle.xw_live.specs.Idle.{is_symmetry, IsIdle};
+ghost use Rattle.xw_live.specs.Net.{StandsFor, StoodFor, IsSettledFor, IsAlike, known_counts, sets_of};
+ghost use Rattle.xw_live.specs.Room.{HasRoom};
+ghost use Rattle.xw_live.specs.Fit.{HasRoomBetween};
+
+use crate::change::Change;
+use crate::net::Net;
+use xw_feas::dictionary::{known_distinct, reserve_in};
+use xw_feas::edit::{Edit, Refusal};
+use xw_grid::grid::Grid;
+use xw_grid::lights::Lights;
+use xw_words::bank::Bank;
+use xw_words::counted::Counted;
+use xw_words::fault::WordFault;
+use xw_words::letter_set::LetterSet;
+use xw_words::rows::Rows;
+
+/// Brings a net to the answers of a grid and a dictionary, and answers the ticks so far.
+pub fn settle(
+    net: &mut Net,
+    spent: u64,
+    change: &Change<'_>,
+    grid: &Grid,
+    lights: &Lights,
+    bank: &Bank,
+) -> u64
+    requires lights { lights.now ≡ lights_of grid.now }
+    requires inside { (listed : CellOfGrid × Option ℕ) → Contains change.now.cells.now listed → is_inside grid.now listed.0 ≡ true }
+    requires cells { length (sets_of net.old) ≡ length grid.now.squares }
+    requires stood { StoodFor change.now.before.now (known_counts bank.now.words) net.old }
+    requires room { HasRoomBetween change.now.before.now lights.now (known_counts bank.now.words) net.old net.old.spare }
+    ensures risen { spent ≤ result }
+    ensures kept { (before : State) (action : Action) →
+        IsChange before (record { grid = grid.now; words = bank.now.words }) action change.now →
+        ∥ IsSettledFor before net.old ∥₁ →
+        IsKept (record { grid = grid.now; words = bank.now.words }) net.new }
+    ensures cost { (before : State) (action : Action) →
+        IsChange before (record { grid = grid.now; words = bank.now.words }) action change.now →
+        ∥ IsSettledFor before net.old ∥₁ →
+        RoseWithinCost before (record { grid = grid.now; words = bank.now.words }) action spent result }
+{
+    known_distinct(bank);
+    let mut rows = Counted::new(bank, spent);
+    net.settle(&mut rows, change, grid, lights);
+    rows.spent()
+}
+
+/// Brings a net to the answers after a word was added or struck, and answers the ticks so far.
+pub fn settle_word(
+    net: &mut Net,
+    spent: u64,
+    grid: &Grid,
+    lights: &Lights,
+    bank: &Bank,
+    word: (usize, usize),
+) -> u64
+    requires lights { lights.now ≡ lights_of grid.now }
+    requires cells { length (sets_of net.old) ≡ length grid.now.squares }
+    requires stood { StoodFor lights.now (known_counts bank.now.words) net.old }
+    requires none_waits { is_some net.old.spare ≡ false }
+    requires room { HasRoom lights.now (known_counts bank.now.words) net.old }
+    ensures risen { spent ≤ result }
+    ensures kept { (words : Dictionary) (action : Action) →
+        IsWordEdit grid.now words bank.now.words action word →
+        IsWellFormed (record { grid = grid.now; words = words }) →
+        ∥ IsSettledFor (record { grid = grid.now; words = words }) net.old ∥₁ →
+        IsKept (record { grid = grid.now; words = bank.now.words }) net.new }
+    ensures cost { (words : Dictionary) (action : Action) →
+        IsWordEdit grid.now words bank.now.words action word →
+        IsWellFormed (record { grid = grid.now; words = words }) →
+        ∥ IsSettledFor (record { grid = grid.now; words = words }) net.old ∥₁ →
+        RoseWithinCost (record { grid = grid.now; words = words }) (record { grid = grid.now; words = bank.now.words }) action spent result }
+{
+    known_distinct(bank);
+    let change = Change {
+        cells: &[],
+        before: lights,
+        word: Some(word),
+    };
+    settle(net, spent, &change, grid, lights, bank)
+}
+
+/// Keeps the letters that stand in a net.
+pub fn keep_letters(before: &mut Vec<LetterSet>, net: &Net)
+    requires { length before.old.items ≡ length (sets_of net.now) }
+    ensures { before.new.items ≡ sets_of net.now }
+{
+    before.as_mut_slice().copy_from_slice(net.letters());
+}
+
+/// Whether an edit leaves the lights and what stands in the cells as they are.
+pub fn is_idle(grid: &Grid, edit: &Edit<'_>) -> bool
+    ensures idle { IsTrue result → IsIdle grid.now (action_of edit.now) }
+    ensures symmetry { is_symmetry (action_of edit.now) ≡ true → IsTrue result }
+{
+    match *edit {
+        Edit::Set(cell, letter) => match grid.entry(cell) {
+            Some(entered) => entered.byte() == letter.byte(),
+            None => false,
+        },
+        Edit::Clear(cell) => grid.entry(cell).is_none(),
+        Edit::Symmetry(_) => true,
+        _ => false,
+    }
+}
+
+/// Makes room for a word that is not known.
+pub fn make_room(
+    net: &mut Net,
+    bank: &mut Bank,
+    lights: &Lights,
+    word: &[u8],
+) -> Result<(), Refusal>
+    requires stands { StandsFor lights.now net.old }
+    requires new { IsNew (add_answer bank.old.words word.now) }
+    ensures words { bank.new.words ≡ bank.old.words }
+    ensures same { IsAlike net.old net.new }
+    ensures bank_room { OnOk result (has_room bank.new (length word.now) ≡ true) }
+    ensures net_room { OnOk result (HasRoom lights.now (λ count. known_counts bank.old.words count + (if grows (Some (length word.now)) count then 1 else 0)) net.new) }
+    ensures none_waits { OnOk result (is_some net.new.spare ≡ false) }
+    ensures spare { OnErr result (net.new.spare ≡ net.old.spare) }
+    ensures memory { IfErr result (λ refusal. refusal ≡ Refusal.Word WordFault.Memory) }
+{
+    reserve_in(bank, word)?;
+    net.reserve(lights, bank, Some(word.len()))
+}

@@ -1,0 +1,212 @@
+//! The words that support a letter at a place of a light.
+ghost use Rattle.std.specs.Prelude.{◌≡◌, ℕ, ◌+◌, ◌-◌, ◌*◌, ◌/◌, ◌^◌, ◌<◌, ◌≤◌, true, false, not, ◌&&◌, length, slice_index_or, IfSome, IfNone, MatchOption, if◌then◌else◌};
+ghost use Rattle.xw_words.specs.Bits.{has_bit};
+ghost use Rattle.xw_words.specs.Columns.{has_letter};
+ghost use Rattle.xw_words.specs.Letter.{IsLetter};
+ghost use Rattle.xw_words.specs.LetterSet.{has};
+ghost use Rattle.xw_feas.specs.Flags.{set_has};
+ghost use Rattle.xw_live.specs.Region.{chunks_of};
+ghost use Rattle.xw_live.specs.Support.{supports, letter_count, AreWith, Strikes, AreApart, Held, Finds, is_read_in, search_from, place_for};
+
+use crate::place::Place;
+use xw_words::bit_row::BitRow;
+use xw_words::letter::Letter;
+use xw_words::letter_set::LetterSet;
+use xw_words::rows::Rows;
+
+/// The words of a chunk of the row that have the letter at the position.
+fn support_in<R: Rows>(
+    rows: &mut R,
+    row: &BitRow,
+    count: usize,
+    position: usize,
+    letter: Letter,
+    chunk: usize,
+) -> u64
+    requires { 64 * chunk < length row.now.bits }
+    ensures entries { R.entries rows.new ≡ R.entries rows.old }
+    ensures risen { R.ticks rows.old ≤ R.ticks rows.new }
+    ensures words { (k : ℕ) → k < 64 → has_bit result k ≡ supports row.now.bits (R.entries rows.old count) position letter (64 * chunk + k) }
+    ensures cost { R.ticks rows.new ≤ R.ticks rows.old + 1 }
+{
+    let own = row.chunk(chunk);
+    if own == 0 {
+        0
+    } else {
+        own & rows.column(count, position, letter, chunk)
+    }
+}
+
+/// The first word of the row, from a chunk on, that has the letter at the position.
+fn first_support<R: Rows>(
+    rows: &mut R,
+    row: &BitRow,
+    count: usize,
+    position: usize,
+    letter: Letter,
+    from: usize,
+) -> Option<usize>
+    ensures entries { R.entries rows.new ≡ R.entries rows.old }
+    ensures risen { R.ticks rows.old ≤ R.ticks rows.new }
+    ensures found { IfSome result (λ word. (64 * from ≤ word) × (supports row.now.bits (R.entries rows.old count) position letter word ≡ true)) }
+    ensures first { IfSome result (λ word. (other : ℕ) → 64 * from ≤ other → other < word → supports row.now.bits (R.entries rows.old count) position letter other ≡ false) }
+    ensures none { IfNone result ((other : ℕ) → 64 * from ≤ other → supports row.now.bits (R.entries rows.old count) position letter other ≡ false) }
+    ensures cost { MatchOption result (R.ticks rows.new ≤ R.ticks rows.old + (chunks_of (length row.now.bits) - from)) (λ word. R.ticks rows.new + from ≤ R.ticks rows.old + (word / 64 + 1)) }
+{
+    for chunk in from..row.len().div_ceil(64) {
+        let words = support_in(rows, row, count, position, letter, chunk);
+        if words != 0 {
+            return Some(64 * chunk + words.trailing_zeros() as usize);
+        }
+    }
+    None
+}
+
+/// The words of a chunk that have the letter at the position, if it is one of the letters.
+fn words_with_one<R: Rows>(
+    rows: &mut R,
+    count: usize,
+    position: usize,
+    letters: LetterSet,
+    letter: Letter,
+    chunk: usize,
+) -> u64
+    ensures entries { R.entries rows.new ≡ R.entries rows.old }
+    ensures risen { R.ticks rows.old ≤ R.ticks rows.new }
+    ensures words { (k : ℕ) → k < 64 → has_bit result k ≡ (has letters letter && has_letter (R.entries rows.old count) position letter (64 * chunk + k)) }
+    ensures cost { R.ticks rows.new ≤ R.ticks rows.old + (if has letters letter then 1 else 0) }
+{
+    if letters.has(letter) {
+        rows.column(count, position, letter, chunk)
+    } else {
+        0
+    }
+}
+
+/// The words of a chunk that have one of the letters at the position.
+fn words_with<R: Rows>(
+    rows: &mut R,
+    count: usize,
+    position: usize,
+    letters: LetterSet,
+    chunk: usize,
+) -> u64
+    ensures entries { R.entries rows.new ≡ R.entries rows.old }
+    ensures risen { R.ticks rows.old ≤ R.ticks rows.new }
+    ensures words { AreWith (R.entries rows.old count) position letters (64 * chunk) (has_bit result) }
+    ensures cost { R.ticks rows.new ≤ R.ticks rows.old + letter_count letters }
+{
+    let mut words = 0;
+    for place in 0..26u32 {
+        words |= words_with_one(rows, count, position, letters, Letter::at(place), chunk);
+    }
+    words
+}
+
+/// The words of a chunk that are left once those with a pending letter at the position are gone.
+fn left_in<R: Rows>(
+    rows: &mut R,
+    own: u64,
+    count: usize,
+    position: usize,
+    pending: LetterSet,
+    alive: LetterSet,
+    chunk: usize,
+) -> u64
+    ensures entries { R.entries rows.new ≡ R.entries rows.old }
+    ensures risen { R.ticks rows.old ≤ R.ticks rows.new }
+    ensures fewer { (k : ℕ) → k < 64 → has_bit result k ≡ true → has_bit own k ≡ true }
+    ensures struck { AreApart pending alive → (k letter : ℕ) → k < 64 → has pending letter ≡ true → has_letter (R.entries rows.old count) position letter (64 * chunk + k) ≡ true → has_bit result k ≡ false }
+    ensures kept { AreApart pending alive → (k letter : ℕ) → k < 64 → has alive letter ≡ true → has_letter (R.entries rows.old count) position letter (64 * chunk + k) ≡ true → has_bit own k ≡ true → has_bit result k ≡ true }
+    ensures cost { R.ticks rows.new ≤ R.ticks rows.old + letter_count pending }
+{
+    if own == 0 {
+        0
+    } else if alive.len() < pending.len() {
+        own & words_with(rows, count, position, alive, chunk)
+    } else {
+        own & !words_with(rows, count, position, pending, chunk)
+    }
+}
+
+/// Takes the words with a pending letter at the position out of the row.
+pub(crate) fn strike_row<R: Rows>(
+    rows: &mut R,
+    row: &mut BitRow,
+    count: usize,
+    position: usize,
+    pending: LetterSet,
+    alive: LetterSet,
+)
+    ensures entries { R.entries rows.new ≡ R.entries rows.old }
+    ensures risen { R.ticks rows.old ≤ R.ticks rows.new }
+    ensures len { length row.new.bits ≡ length row.old.bits }
+    ensures strikes { AreApart pending alive → Strikes (R.entries rows.old count) position pending alive (λ word. slice_index_or row.old.bits word false) (λ word. slice_index_or row.new.bits word false) }
+    ensures room { row.new.room ≡ row.old.room }
+    ensures cost { R.ticks rows.new ≤ R.ticks rows.old + chunks_of (length row.old.bits) * letter_count pending }
+{
+    for chunk in 0..row.len().div_ceil(64) {
+        let left = left_in(
+            rows,
+            row.chunk(chunk),
+            count,
+            position,
+            pending,
+            alive,
+            chunk,
+        );
+        row.set_chunk(chunk, left);
+    }
+}
+
+/// Where the search for another word begins, unless the one that is held still stands.
+fn search_start(row: &BitRow, held: usize, is_new: bool) -> Option<usize>
+    ensures stands { IfNone result ((held < length row.now.bits) × (slice_index_or row.now.bits held false ≡ true)) }
+    ensures gone { IfSome result (λ _. held < length row.now.bits → slice_index_or row.now.bits held false ≡ false) }
+    ensures known { IfSome result (λ from. held < length row.now.bits → is_new ≡ false → from ≡ held / 64) }
+    ensures past { IfSome result (λ from. length row.now.bits ≤ held → from ≡ 0) }
+    ensures start { IfSome result (λ from. is_new ≡ true → from ≡ 0) }
+{
+    if held >= row.len() {
+        Some(0)
+    } else if row.has(held) {
+        None
+    } else if is_new {
+        Some(0)
+    } else {
+        Some(held / 64)
+    }
+}
+
+/// Whether the letter has a word of the row. The first one is held for it.
+pub(crate) fn find_support<R: Rows>(
+    rows: &mut R,
+    row: &BitRow,
+    here: Place,
+    letter: Letter,
+    held: &mut [usize],
+    restart: &mut [LetterSet],
+) -> bool
+    requires letter { IsLetter letter }
+    requires held { 26 * here.slot + (letter - 65) < length held.old }
+    requires restart { here.slot < length restart.old }
+    requires small { length held.old < 2 ^ 63 }
+    ensures entries { R.entries rows.new ≡ R.entries rows.old }
+    ensures risen { R.ticks rows.old ≤ R.ticks rows.new }
+    ensures held { length held.new ≡ length held.old }
+    ensures restart { length restart.new ≡ length restart.old }
+    ensures finds { Finds row.now.bits (R.entries rows.old here.count) here.place here.slot letter record { places = held.old; restart = restart.old } record { places = held.new; restart = restart.new } result (R.ticks rows.new - R.ticks rows.old) }
+{
+    let at = 26 * here.slot + (letter.byte() - b'A') as usize;
+    let Some(from) = search_start(row, held[at], restart[here.slot].has(letter)) else {
+        return true;
+    };
+    match first_support(rows, row, here.count, here.place, letter, from) {
+        Some(word) => {
+            held[at] = word;
+            restart[here.slot].remove(letter);
+            true
+        }
+        None => false,
+    }
+}

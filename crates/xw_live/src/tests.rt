@@ -1,0 +1,278 @@
+//! Worked examples, by calls on `Live`: tables of calls, each with its answer.
+mod bounds;
+mod edits;
+mod parts;
+
+use crate::live::Live;
+use std::alloc::Global;
+use std::process::Abort;
+use xw_feas::changed::Changed;
+use xw_feas::edit::{Edit, Found, Refusal};
+use xw_feas::feasible::Feasible;
+use xw_feas::words::{Spelled, words};
+use xw_grid::cell::{Cell, Direction, LightName, Side, Symmetry};
+use xw_grid::grid::Grid;
+use xw_words::bank::Bank;
+use xw_words::letter::Letter;
+use xw_words::letter_set::LetterSet;
+
+/// An edit as a table spells it: a letter by its byte, and a cell by row and column.
+#[derive(Clone, Copy)]
+enum Do {
+    Set(u32, u32, u8),
+    Clear(u32, u32),
+    Block(u32, u32),
+    Bar(u32, u32, Side),
+    Choose(Symmetry),
+    Add(&'static [u8]),
+    Strike(&'static [u8]),
+}
+
+/// Cells by row and column, each with its feasible letters.
+type Cells = &'static [(u32, u32, &'static [u8])];
+
+/// A call and its answer.
+#[derive(Clone, Copy)]
+enum Step {
+    /// An edit, and the cells that it tells.
+    Told(Do, Cells),
+    /// The same, with the least and the most ticks of the edit.
+    Spends(Do, Cells, u64, u64),
+    /// An edit that is refused, and spends nothing.
+    Refused(Do, Refusal),
+    /// The feasible words of a light, in order, by each query.
+    Words(LightName, &'static [&'static [u8]]),
+    Count(LightName, usize),
+    /// The first feasible word of a light at a place or later.
+    Next(LightName, usize, Option<Found>),
+    /// A light that no query finds.
+    NoLight(LightName),
+    /// The feasible letters of a cell.
+    Letters(u32, u32, &'static [u8]),
+}
+
+const ACROSS_1: LightName = LightName {
+    number: 1,
+    direction: Direction::Across,
+};
+
+const DOWN_1: LightName = LightName {
+    number: 1,
+    direction: Direction::Down,
+};
+
+const ACROSS_2: LightName = LightName {
+    number: 2,
+    direction: Direction::Across,
+};
+
+const DOWN_2: LightName = LightName {
+    number: 2,
+    direction: Direction::Down,
+};
+
+const ACROSS_3: LightName = LightName {
+    number: 3,
+    direction: Direction::Across,
+};
+
+/// A grid of so many columns and rows, and edits that are made before the table.
+type Start = (u32, u32, &'static [Do]);
+
+const SQUARE: Start = (
+    2,
+    2,
+    &[
+        Do::Add(b"AS"),
+        Do::Add(b"AT"),
+        Do::Add(b"SO"),
+        Do::Add(b"TO"),
+        Do::Add(b"IN"),
+    ],
+);
+
+/// What is feasible in the square while nothing is entered.
+const WHOLE_SQUARE: &[Step] = &[
+    Step::Words(ACROSS_1, &[b"AS", b"AT"]),
+    Step::Words(DOWN_1, &[b"AS", b"AT"]),
+    Step::Words(DOWN_2, &[b"SO", b"TO"]),
+    Step::Words(ACROSS_3, &[b"SO", b"TO"]),
+    Step::Letters(1, 1, b"A"),
+    Step::Letters(1, 2, b"ST"),
+    Step::Letters(2, 1, b"ST"),
+    Step::Letters(2, 2, b"O"),
+];
+
+fn at(row: u32, col: u32) -> Cell {
+    Cell { row, col }
+}
+
+/// An edit as the engine takes it, if its byte is a letter.
+fn edit_of(spelled: Do) -> Option<Edit<'static>> {
+    Some(match spelled {
+        Do::Set(row, col, byte) => Edit::Set(at(row, col), Letter::of(byte)?),
+        Do::Clear(row, col) => Edit::Clear(at(row, col)),
+        Do::Block(row, col) => Edit::Block(at(row, col)),
+        Do::Bar(row, col, side) => Edit::Bar(at(row, col), side),
+        Do::Choose(symmetry) => Edit::Symmetry(symmetry),
+        Do::Add(text) => Edit::Add(text),
+        Do::Strike(text) => Edit::Strike(text),
+    })
+}
+
+fn engine(alloc: Global, width: u32, height: u32) -> Result<Live, Refusal> {
+    Live::open(alloc, Grid::new(alloc, width, height)?, Bank::new(alloc)?)
+}
+
+/// Makes an edit, whatever it tells.
+fn make(engine: &mut Live, spelled: Do) -> Result<(), Refusal> {
+    match edit_of(spelled) {
+        Some(edit) => engine.edit_counted(&edit),
+        None => Ok(()),
+    }
+}
+
+fn make_all(engine: &mut Live, edits: &[Do]) -> Result<(), Refusal> {
+    for edit in edits {
+        make(engine, *edit)?;
+    }
+    Ok(())
+}
+
+/// Whether a word that is lent has these letters.
+fn spells(word: &Spelled<'_>, text: &[u8]) -> bool {
+    if word.len() != text.len() || word.letter(text.len()).is_some() {
+        return false;
+    }
+    for (k, byte) in text.iter().enumerate() {
+        match word.letter(k) {
+            Some(letter) if letter.byte() == *byte => {}
+            _ => return false,
+        }
+    }
+    true
+}
+
+/// Whether a light has these feasible words, in this order, by each query.
+fn lends(engine: &Live, name: LightName, texts: &[&[u8]]) -> Result<bool, Refusal> {
+    let mut left = words(engine, name)?;
+    for text in texts {
+        match left.next() {
+            Some(word) if spells(&word, *text) => {}
+            _ => return Ok(false),
+        }
+    }
+    Ok(left.next().is_none() && engine.word_count(name)? == texts.len())
+}
+
+/// Whether no query finds a light.
+fn lacks(engine: &Live, name: LightName) -> bool {
+    words(engine, name).err() == Some(Refusal::NoLight)
+        && engine.word_count(name) == Err(Refusal::NoLight)
+        && engine.next_word(name, 0) == Err(Refusal::NoLight)
+}
+
+fn is_set_of(set: LetterSet, text: &[u8]) -> bool {
+    for byte in text {
+        match Letter::of(*byte) {
+            Some(letter) if set.has(letter) => {}
+            _ => return false,
+        }
+    }
+    set.len() == text.len()
+}
+
+fn is_told(told: Option<(Cell, LetterSet)>, cell: Cell, text: &[u8]) -> bool {
+    match told {
+        Some((changed, letters)) => changed == cell && is_set_of(letters, text),
+        None => false,
+    }
+}
+
+/// Whether these cells were told to have changed, each with these letters now.
+fn tells(mut changed: Changed<'_>, cells: &[(u32, u32, &[u8])]) -> bool {
+    for place in 0..cells.len() {
+        let (row, col, text) = cells[place];
+        if !is_told(changed.next(), at(row, col), text) {
+            return false;
+        }
+    }
+    changed.next().is_none()
+}
+
+/// Whether an edit tells these cells, or is so refused.
+fn answers(engine: &mut Live, edit: &Edit<'_>, wanted: Result<Cells, Refusal>) -> bool {
+    match engine.edit(edit) {
+        Ok(changed) => match wanted {
+            Ok(cells) => tells(changed, cells),
+            Err(_) => false,
+        },
+        Err(refusal) => wanted == Err(refusal),
+    }
+}
+
+fn answers_spelled(engine: &mut Live, spelled: Do, wanted: Result<Cells, Refusal>) -> bool {
+    match edit_of(spelled) {
+        Some(edit) => answers(engine, &edit, wanted),
+        None => false,
+    }
+}
+
+/// Whether an edit tells these cells, in no fewer and no more ticks.
+fn spends(engine: &mut Live, spelled: Do, cells: Cells, least: u64, most: u64) -> bool {
+    let spent = engine.spent();
+    if !answers_spelled(engine, spelled, Ok(cells)) {
+        return false;
+    }
+    match engine.spent().checked_sub(spent) {
+        Some(risen) => least <= risen && risen <= most,
+        None => false,
+    }
+}
+
+/// Whether an edit is so refused, with no tick.
+fn refuses(engine: &mut Live, spelled: Do, refusal: Refusal) -> bool {
+    let spent = engine.spent();
+    answers_spelled(engine, spelled, Err(refusal)) && engine.spent() == spent
+}
+
+/// Whether a call answers as the table says.
+fn goes(engine: &mut Live, step: Step) -> Result<bool, Refusal> {
+    Ok(match step {
+        Step::Told(edit, cells) => answers_spelled(engine, edit, Ok(cells)),
+        Step::Spends(edit, cells, least, most) => spends(engine, edit, cells, least, most),
+        Step::Refused(edit, refusal) => refuses(engine, edit, refusal),
+        Step::Words(name, texts) => lends(engine, name, texts)?,
+        Step::Count(name, count) => engine.word_count(name) == Ok(count),
+        Step::Next(name, from, found) => engine.next_word(name, from) == Ok(found),
+        Step::NoLight(name) => lacks(engine, name),
+        Step::Letters(row, col, text) => is_set_of(engine.letters(at(row, col))?, text),
+    })
+}
+
+/// Makes the calls of a table, and compares what they answer.
+fn pass(rt: &impl Abort, engine: &mut Live, steps: &[Step]) -> Result<(), Refusal> {
+    for (place, step) in steps.iter().enumerate() {
+        assert!(rt; goes(engine, *step)?, "at step {place}");
+    }
+    Ok(())
+}
+
+fn pass_all(rt: &impl Abort, engine: &mut Live, tables: &[&[Step]]) -> Result<(), Refusal> {
+    for steps in tables {
+        pass(rt, engine, *steps)?;
+    }
+    Ok(())
+}
+
+/// Makes the calls of each table, in turn, of one engine.
+fn pass_from(
+    rt: &(impl Abort + AllocGlobal),
+    start: Start,
+    tables: &[&[Step]],
+) -> Result<(), Refusal> {
+    let (width, height, edits) = start;
+    let mut engine = engine(rt.alloc(), width, height)?;
+    make_all(&mut engine, edits)?;
+    pass_all(rt, &mut engine, tables)
+}
