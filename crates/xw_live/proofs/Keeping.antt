@@ -34,8 +34,8 @@ use Rattle.xw_feas.proofs.QueryLemmas.{count_is}
 use Rattle.xw_feas.proofs.FormedLemmas.{formed}
 use Rattle.xw_live.specs.declared.net.Net.{Net}
 use Rattle.xw_live.specs.Engine.{IsKept, net_answers}
-use Rattle.xw_live.specs.Layout.{Layout, layout_of}
-use Rattle.xw_live.specs.Net.{flags_of, flags_at, sets_of, IsSettledOn, IsSettledFor, HasRoomIn, IsAlike, StandsFor, StoodFor, known_counts}
+use Rattle.xw_live.specs.Layout.{layout_of}
+use Rattle.xw_live.specs.Net.{flags_of, flags_at, sets_of, IsSettledFor, HasRoomIn, IsAlike, StandsFor, StoodFor, known_counts}
 use Rattle.xw_live.specs.Room.{HasRoom}
 use Rattle.xw_live.specs.Fit.{HasRoomBetween}
 use Rattle.xw_live.specs.declared.room.Spare.{Spare}
@@ -60,16 +60,6 @@ settled_alike state old new alike known = ∥∥₁_elim known ∥∥₁_prop (�
 -- another net that stands for the same
 pub kept_alike : (state : State) (old new : Net) → IsAlike old new → is_some new.spare ≡ false → IsKept state old → IsKept state new
 kept_alike state old new alike none_waits kept = kept_from state new (settled_alike state old new alike kept.settled) none_waits kept.formed
-
-pub IsAlike-itself : (net : Net) → IsAlike net net
-IsAlike-itself net = record { flags = λ lights. refl; sets = refl; settled = λ layout dictionary settled. settled; room = λ same lights counts room. room }
-
--- another grid of the same layout
-pub kept_same : (old new : Grid) (words : Dictionary) (net : Net) → layout_of new ≡ layout_of old → IsWellFormed (record { grid = new; words = words }) → IsKept (record { grid = old; words = words }) net → IsKept (record { grid = new; words = words }) net
-kept_same old new words net same formed kept = kept_from (record { grid = new; words = words }) net
-    (subst (λ layout. ∥ IsSettledOn layout words net ∥₁) (sym same) kept.settled)
-    kept.none_waits
-    formed
 
 -- there is a set for each cell
 pub kept_cells : (state : State) (net : Net) → IsKept state net → length (sets_of net) ≡ length state.grid.squares
@@ -118,11 +108,6 @@ room_without lights after counts net (Some spare) none same room = absurd (false
 pub room_waiting : (before after : List Light) (counts : ℕ → ℕ) (net : Net) (waiting : Option Spare) → is_some waiting ≡ true → HasRoom before counts net → HasRoomIn after counts net waiting → HasRoomBetween before after counts net waiting
 room_waiting before after counts net (Some spare) waits room spare_room = (room, spare_room)
 room_waiting before after counts net None waits room spare_room = absurd (false≢true waits)
-
--- room in a net in which no arrays wait
-pub room_in_none : (lights : List Light) (counts : ℕ → ℕ) (net : Net) (waiting : Option Spare) → is_some waiting ≡ false → HasRoomIn lights counts net waiting → HasRoom lights counts net
-room_in_none lights counts net None none room = room
-room_in_none lights counts net (Some spare) none room = absurd (false≢true (sym none))
 
 one_if : (b : Bool) (n : ℕ) → (n ≤ n + (if b then 1 else 0)) × (n + (if b then 1 else 0) ≤ n + 1)
 one_if true n = (omega arith, omega arith)

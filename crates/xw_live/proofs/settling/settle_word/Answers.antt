@@ -1,4 +1,4 @@
-use Rattle.std.proofs.Common.{◌≡◌, [], map, refl, sym, ap, ◌∙◌}
+use Rattle.std.proofs.Common.{map, refl, sym, ap}
 use Rattle.xw_feas.specs.State.{State}
 use Rattle.xw_live.specs.Change.{with_entry_of}
 use Rattle.xw_live.proofs.Changing.{change_made}

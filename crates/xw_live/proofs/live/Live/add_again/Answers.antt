@@ -1,4 +1,4 @@
-use Rattle.std.proofs.Common.{◌≡◌, length, sym, ◌∙◌, ap}
+use Rattle.std.proofs.Common.{length, sym, ◌∙◌, ap}
 use Rattle.xw_feas.specs.State.{State, word_added}
 use Rattle.xw_live.specs.Engine.{IsKept}
 use Rattle.xw_live.specs.Live.{state_of}

@@ -1,9 +1,9 @@
-use Rattle.std.proofs.Common.{◌≡◌, length, refl, sym, ◌∙◌, ap, subst}
+use Rattle.std.proofs.Common.{◌≡◌, length, refl, sym, ◌∙◌, ap}
 use Rattle.std.specs.Prelude.{Ok}
-use Rattle.xw_feas.specs.State.{State, Action, action_of, after}
+use Rattle.xw_feas.specs.State.{State, action_of, after}
 use Rattle.xw_feas.specs.WellFormed.{IsWellFormed}
 use Rattle.xw_live.specs.Engine.{IsKept}
-use Rattle.xw_live.specs.Net.{sets_of, known_counts}
+use Rattle.xw_live.specs.Net.{known_counts}
 use Rattle.xw_live.specs.Live.{state_of}
 use Rattle.xw_live.proofs.Changing.{change_made}
 use Rattle.xw_live.proofs.Made.{letters_of_grid, grid_made}

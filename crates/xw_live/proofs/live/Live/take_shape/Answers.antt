@@ -1,6 +1,6 @@
-use Rattle.std.proofs.Common.{◌≡◌, length, refl, sym, ◌∙◌, ap, subst}
+use Rattle.std.proofs.Common.{◌≡◌, length, refl, sym, ◌∙◌, ap}
 use Rattle.std.specs.Prelude.{Ok, is_some}
-use Rattle.xw_feas.specs.State.{State, Action, action_of, after}
+use Rattle.xw_feas.specs.State.{State, action_of, after}
 use Rattle.xw_feas.specs.WellFormed.{IsWellFormed}
 use Rattle.xw_live.specs.Engine.{IsKept}
 use Rattle.xw_live.specs.Net.{known_counts}
