@@ -10,9 +10,9 @@ use crate::files;
 use std::alloc::Global;
 use std::rt::Files;
 use xw_feas::feasible::Feasible;
-use xw_live::live::Live;
 use xw_files::Kind;
 use xw_grid::{Grid, Lights};
+use xw_live::live::Live;
 use xw_session::{RunEnd, Session, Sink, Source, device};
 use xw_words::Bank;
 
