@@ -2,7 +2,7 @@
 use Rattle.std.specs.Prelude.{◌≡◌, ℕ, ◌+◌, ◌*◌, ◌/◌, ◌%◌, ◌<◌, ◌≤◌, length, nat_lt, ◌&&◌, vec_capacity}
 use Rattle.xw_words.specs.Row.{Row, entries_of}
 use Rattle.xw_words.specs.Index.{word_in, IsIndex}
-use Rattle.xw_words.specs.Columns.{column_at, column_of}
+use Rattle.xw_words.specs.Columns.{column_at, IsColumn}
 use Rattle.xw_words.specs.declared.row.Row.TheInside.{Inside}
 
 abbrev pub row_of : Inside → Row
@@ -20,7 +20,7 @@ pub record IsKeptRow (r : Inside) : Type 0 where
   pub index : IsIndex (word_in r.count r.letters.items) (length r.active.bits) r.index.places
   pub column_count : length r.columns.items ≤ 26 * r.count
   pub all_columns : 0 < r.reserved → length r.columns.items ≡ 26 * r.count
-  pub columns : (i : ℕ) → i < length r.columns.items → (column_at r.columns.items i).bits ≡ column_of (entries_of r.count r.letters.items r.active.bits) (i / 26) (65 + i % 26)
+  pub columns : (i : ℕ) → i < length r.columns.items → IsColumn (entries_of r.count r.letters.items r.active.bits) (i / 26) (65 + i % 26) (column_at r.columns.items i).bits
   pub letters_room : r.reserved * r.count ≤ vec_capacity r.letters
   pub active_room : r.reserved ≤ r.active.room
   pub columns_room : (i : ℕ) → i < length r.columns.items → r.reserved ≤ (column_at r.columns.items i).room

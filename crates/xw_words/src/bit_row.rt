@@ -1,5 +1,5 @@
 //! A row of bits.
-ghost use Rattle.std.specs.Prelude.{◌≡◌, ℕ, ◌+◌, ◌-◌, ◌*◌, ◌/◌, ◌^◌, ◌<◌, ◌≤◌, Bool, false, not, ◌&&◌, [], ◌∷◌, ◌++◌, length, min, slice_index_or, slice_set, count_by, OnOk, OnErr, IfErr, if◌then◌else◌, nat_eq};
+ghost use Rattle.std.specs.Prelude.{◌≡◌, ℕ, ◌+◌, ◌-◌, ◌*◌, ◌/◌, ◌%◌, ◌^◌, ◌<◌, ◌≤◌, Bool, false, not, ◌&&◌, [], ◌∷◌, ◌++◌, length, min, slice_index_or, slice_set, count_by, OnOk, OnErr, IfErr, if◌then◌else◌, nat_eq};
 ghost use Rattle.std.specs.Simd.Lanes.{zip2};
 ghost use Rattle.xw_words.specs.Bits.{RowOfBits, has_bit};
 ghost use Rattle.xw_words.specs.Places.{set_places};
@@ -100,6 +100,19 @@ impl BitRow {
         make_room_for_bit(&mut self.words, self.len);
         put_bit(&mut self.words, self.len, bit);
         self.len += 1;
+    }
+
+    /// Adds 64 bits at the end that are not set.
+    pub(crate) fn push_chunk(&mut self)
+        requires whole { length self.old.bits % 64 ≡ 0 }
+        requires room { length self.old.bits < self.old.room }
+        requires small { length self.old.bits < 2 ^ 56 }
+        ensures len { length self.new.bits ≡ length self.old.bits + 64 }
+        ensures bits { (i : ℕ) → slice_index_or self.new.bits i false ≡ slice_index_or self.old.bits i false }
+        ensures room { self.old.room ≤ self.new.room }
+    {
+        make_room_for_bit(&mut self.words, self.len);
+        self.len += 64;
     }
 
     /// The 64 bits from `64 * chunk` on, the first of them lowest. Bits past the row are 0.

@@ -1,6 +1,7 @@
 //! The columns of the words of one length: a row of bits for each position and letter.
-ghost use Rattle.std.specs.Prelude.{◌≡◌, ℕ, ◌+◌, ◌*◌, ◌<◌, ◌≤◌, [], ◌∷◌, ◌++◌, length, vec_len, OnOk, IfErr};
+ghost use Rattle.std.specs.Prelude.{◌≡◌, ℕ, ◌+◌, ◌*◌, ◌/◌, ◌%◌, ◌<◌, ◌≤◌, ◌==◌, true, false, [], length, slice_index_or, slice_set, vec_len, OnOk, IfErr, if◌then◌else◌};
 ghost use Rattle.xw_words.specs.Columns.{column_at, bit_in};
+ghost use Rattle.xw_words.specs.Dictionary.{most_words};
 
 use crate::bit_row::{BitRow, MAX_BITS};
 use crate::fault::WordFault;
@@ -44,16 +45,50 @@ pub(crate) fn reserve_columns(columns: &mut [BitRow], words: usize) -> Result<()
     Ok(())
 }
 
-/// Adds a word at the end.
-pub(crate) fn push_word(columns: &mut [BitRow], word: &[Letter])
-    requires many { length columns.old ≡ 26 * length word.now }
+/// Lengthens each column by 64 words that do not have its letter.
+fn lengthen(columns: &mut [BitRow])
+    requires whole { (i : ℕ) → i < length columns.old → length (column_at columns.old i).bits % 64 ≡ 0 }
     requires room { (i : ℕ) → i < length columns.old → length (column_at columns.old i).bits < (column_at columns.old i).room }
-    ensures bits { (i : ℕ) → i < length columns.old → (column_at columns.new i).bits ≡ (column_at columns.old i).bits ++ bit_in word.now i ∷ [] }
+    requires few { (i : ℕ) → i < length columns.old → length (column_at columns.old i).bits ≤ most_words }
+    ensures long { (i : ℕ) → i < length columns.old → length (column_at columns.new i).bits ≡ length (column_at columns.old i).bits + 64 }
+    ensures bits { (i place : ℕ) → slice_index_or (column_at columns.new i).bits place false ≡ slice_index_or (column_at columns.old i).bits place false }
     ensures more { (i : ℕ) → (column_at columns.old i).room ≤ (column_at columns.new i).room }
 {
     for i in 0..columns.len() {
-        let bit = word[i / LETTERS].byte() as usize == 65 + i % LETTERS;
         let column = &mut columns[i];
-        column.push(bit);
+        column.push_chunk();
     }
+}
+
+/// Sets the bits of a word in the columns of its letters.
+fn put_word(columns: &mut [BitRow], word: &[Letter], place: usize)
+    requires many { length columns.old ≡ 26 * length word.now }
+    requires short { length word.now ≤ 255 }
+    requires within { (i : ℕ) → i < length columns.old → place < length (column_at columns.old i).bits }
+    ensures bits { (i : ℕ) → i < length columns.old → (column_at columns.new i).bits ≡ (if bit_in word.now i then slice_set (column_at columns.old i).bits place true else (column_at columns.old i).bits) }
+    ensures more { (i : ℕ) → (column_at columns.old i).room ≤ (column_at columns.new i).room }
+{
+    for position in 0..word.len() {
+        let letter = word[position].byte() - b'A';
+        let column = &mut columns[position * LETTERS + letter as usize];
+        column.put(place, true);
+    }
+}
+
+/// Adds a word at the end, which is at this place.
+pub(crate) fn push_word(columns: &mut [BitRow], word: &[Letter], place: usize)
+    requires many { length columns.old ≡ 26 * length word.now }
+    requires short { length word.now ≤ 255 }
+    requires few { place < most_words }
+    requires long { (i : ℕ) → i < length columns.old → length (column_at columns.old i).bits ≡ 64 * ((place + 63) / 64) }
+    requires clear { (i : ℕ) → i < length columns.old → slice_index_or (column_at columns.old i).bits place false ≡ false }
+    requires room { (i : ℕ) → i < length columns.old → place < (column_at columns.old i).room }
+    ensures long { (i : ℕ) → i < length columns.old → length (column_at columns.new i).bits ≡ 64 * ((place + 64) / 64) }
+    ensures bits { (i other : ℕ) → i < length columns.old → slice_index_or (column_at columns.new i).bits other false ≡ (if other == place then bit_in word.now i else slice_index_or (column_at columns.old i).bits other false) }
+    ensures more { (i : ℕ) → (column_at columns.old i).room ≤ (column_at columns.new i).room }
+{
+    if place % 64 == 0 {
+        lengthen(columns);
+    }
+    put_word(columns, word, place);
 }

@@ -303,9 +303,9 @@ impl Row {
         ensures few { length self.old.entries < most_words }
         ensures long { 2 ≤ length word.now }
     {
-        let place = self.active.len() as u32;
-        self.index.insert(&self.letters, word, place);
-        push_word(&mut self.columns, word);
+        let place = self.active.len();
+        self.index.insert(&self.letters, word, place as u32);
+        push_word(&mut self.columns, word, place);
         self.active.push(true);
         append(&mut self.letters, word);
     }

@@ -1,4 +1,4 @@
-use Rattle.std.proofs.Common.{◌≡◌, ℕ, ◌+◌, ◌*◌, ◌<◌, ◌≤◌, Bool, true, List, ◌∷◌, [], ◌++◌, length, sym, ap, ◌∙◌, subst, arith, length-append}
+use Rattle.std.proofs.Common.{◌≡◌, ℕ, ◌+◌, ◌*◌, ◌/◌, ◌<◌, ◌≤◌, Bool, true, false, cond, eqb, get_or, List, ◌∷◌, [], ◌++◌, length, sym, ap, ◌∙◌, subst, arith, length-append}
 use Rattle.std.specs.Prelude.{None}
 use Rattle.std.specs.Vec.{with_items}
 use Rattle.std.proofs.lemmas.List.{with_items_is, length_push}
@@ -8,7 +8,7 @@ use Rattle.xw_words.specs.Dictionary.{place_in}
 use Rattle.xw_words.specs.Index.{word_in, IsIndex, IsInserted}
 use Rattle.xw_words.specs.Columns.{column_at, bit_in}
 use Rattle.xw_words.proofs.RowLemmas.{length-entries_of}
-use Rattle.xw_words.proofs.KeptRowLemmas.{AreColumns, column_room, columns_pushed, index_pushed, room_is}
+use Rattle.xw_words.proofs.KeptRowLemmas.{AreColumns, column_room, column_long, column_clear, columns_pushed, index_pushed, room_is}
 use Rattle.xw_words.proofs.row.Row.add_reserved.Goals as goal
 
 pub push_word-requires-clause-room : goal.push_word-requires-clause-room
@@ -16,9 +16,29 @@ push_word-requires-clause-room c =
     let r = c.self.inside in
     let kept = c.self.invariant in
     let some = room_is (length r.active.bits) r.reserved r.index.room c.args.self.now.room (ap (λ (row : Row). row.room) c.self.view_is) c.requires.room in
-    let P : List RowOfBits → Type 0 = λ columns. (i : ℕ) → i < length columns → length (column_at columns i).bits < (column_at columns i).room in
-    subst P (sym c.deref_mut.ensures.value)
-    (column_room r.count r.reserved r.letters.items r.active.bits r.columns.items (record { few = kept.column_count; all = kept.all_columns; bits = kept.columns; room = kept.columns_room }) some)
+    let P : List RowOfBits → Type 0 = λ columns. (i : ℕ) → i < length columns → c.len-place.result < (column_at columns i).room in
+    let known : (n : ℕ) → n ≡ length r.active.bits → ((i : ℕ) → i < length r.columns.items → length r.active.bits < (column_at r.columns.items i).room) → (i : ℕ) → i < length r.columns.items → n < (column_at r.columns.items i).room =
+    λ n e all i lt. omega (arith, e, all i lt) in
+    subst P (sym c.deref_mut.ensures.value) (known c.len-place.result c.len-place.ensures.value
+    (column_room r.count r.reserved r.letters.items r.active.bits r.columns.items (record { few = kept.column_count; all = kept.all_columns; bits = kept.columns; room = kept.columns_room }) some))
+
+pub push_word-requires-clause-long : goal.push_word-requires-clause-long
+push_word-requires-clause-long c =
+    let r = c.self.inside in
+    let kept = c.self.invariant in
+    let P : List RowOfBits → Type 0 = λ columns. (i : ℕ) → i < length columns → length (column_at columns i).bits ≡ 64 * ((c.len-place.result + 63) / 64) in
+    subst P (sym c.deref_mut.ensures.value) (λ i lt.
+    column_long r.count r.reserved r.letters.items r.active.bits r.columns.items (record { few = kept.column_count; all = kept.all_columns; bits = kept.columns; room = kept.columns_room }) i lt
+    ∙ ap (λ n. 64 * ((n + 63) / 64)) (sym c.len-place.ensures.value))
+
+pub push_word-requires-clause-clear : goal.push_word-requires-clause-clear
+push_word-requires-clause-clear c =
+    let r = c.self.inside in
+    let kept = c.self.invariant in
+    let P : List RowOfBits → Type 0 = λ columns. (i : ℕ) → i < length columns → get_or (column_at columns i).bits c.len-place.result false ≡ false in
+    subst P (sym c.deref_mut.ensures.value) (λ i lt.
+    ap (λ n. get_or (column_at r.columns.items i).bits n false) c.len-place.ensures.value
+    ∙ column_clear r.count r.reserved r.letters.items r.active.bits r.columns.items (record { few = kept.column_count; all = kept.all_columns; bits = kept.columns; room = kept.columns_room }) i lt)
 
 pub invariant_of-self : goal.invariant_of-self
 invariant_of-self c =
@@ -44,7 +64,9 @@ invariant_of-self c =
     let old_is = c.deref_mut.ensures.value in
     let same : length new ≡ length r.columns.items = c.push_word.auto.columns ∙ ap length old_is in
     let pushed = columns_pushed r.count r.reserved r.letters.items word flags r.columns.items new (record { few = kept.column_count; all = kept.all_columns; bits = kept.columns; room = kept.columns_room }) same kept.letters fits
-    (let P : List RowOfBits → Type 0 = λ old. (i : ℕ) → i < length old → (column_at new i).bits ≡ (column_at old i).bits ++ bit_in word i ∷ [] in subst P old_is c.push_word.ensures.bits)
+    (let P : List RowOfBits → ℕ → Type 0 = λ old place. (i : ℕ) → i < length old → length (column_at new i).bits ≡ 64 * ((place + 64) / 64) in subst (λ old. P old (length r.active.bits)) old_is (subst (P c.deref_mut.result.now) c.len-place.ensures.value c.push_word.ensures.long))
+    (let P : List RowOfBits → ℕ → Type 0 = λ old place. (i other : ℕ) → i < length old → get_or (column_at new i).bits other false ≡ cond (eqb other place) (bit_in word i) (get_or (column_at old i).bits other false) in
+    subst (λ old. P old (length r.active.bits)) old_is (subst (P c.deref_mut.result.now) c.len-place.ensures.value c.push_word.ensures.bits))
     (let P : List RowOfBits → Type 0 = λ old. (i : ℕ) → (column_at old i).room ≤ (column_at new i).room in subst P old_is c.push_word.ensures.more) in
     let columns_now : List RowOfBits = (with_items r.columns new).items in
     let placed : C (r.letters.items ++ word) (flags ++ true ∷ []) columns_now = subst (C (r.letters.items ++ word) (flags ++ true ∷ [])) (sym (with_items_is r.columns new (c.push_word.auto.columns ∙ c.deref_mut.ensures.len))) pushed in
