@@ -45,7 +45,9 @@ module _ (before now : State) (action : Action) (change : Change) (is : IsChange
     (is_settled : IsSettledNet (board_of before.grid) before.words (marks_of settled)) (holding : IsHolding (board_of before.grid) before.words (marks_of settled)) (moved : IsMoved before now settled net)
     (opening : IsOpening now.grid (board_of now.grid) (lights_of now.grid) (row now.words) change (arrays_of net) (arrays_of opened))
     (forgets : Forgets (board_of now.grid) (λ light. lost_from change.word (same_before change.before.now (lights_of now.grid) light) (length (light_at (board_of now.grid) light)) (length (row now.words (length (light_at (board_of now.grid) light)))))
-    net.held.items opened.held.items net.pending.items opened.pending.items) where
+    net.held.items opened.held.items net.pending.items opened.pending.items)
+    (seeds : (light : ℕ) → light < length (board_of now.grid).lights → is_marked opened.is_queued.items light ≡ true
+    → is_seed (board_of now.grid) change.word (light_at (board_of now.grid) light) (base_bits (board_of now.grid) (light_at (board_of now.grid) light) (row now.words (length (light_at (board_of now.grid) light)))) ≡ true → is_marked opened.is_marked.items light ≡ true) where
   abbrev seed : ℕ → Bool
   seed = is_marked opened.is_marked.items
 
@@ -91,7 +93,7 @@ module _ (before now : State) (action : Action) (change : Change) (is : IsChange
           let queued = opening.long word.0 word.1 light some in_board (sym (eqb-true word.0 (length (light_at (board_of now.grid) light)) both.0)) in
           let last : leb (length (base_bits (board_of now.grid) (light_at (board_of now.grid) light) (row now.words (length (light_at (board_of now.grid) light))))) (word.1 + 1) ≡ true = ap (λ n. leb n (word.1 + 1)) long ∙ both.1 in
           let has : may_have (Some word) (length (light_at (board_of now.grid) light)) (base_bits (board_of now.grid) (light_at (board_of now.grid) light) (row now.words (length (light_at (board_of now.grid) light)))) ≡ true = and_from _ _ both.0 (or_left _ _ last) in
-          absurd (both_ways _ no_seed (opening.prepared.seeds light in_board queued
+          absurd (both_ways _ no_seed (seeds light in_board queued
           (ap (λ w. is_seed (board_of now.grid) w (light_at (board_of now.grid) light) (base_bits (board_of now.grid) (light_at (board_of now.grid) light) (row now.words (length (light_at (board_of now.grid) light))))) some ∙ or_right (is_wholly_entered (board_of now.grid) (light_at (board_of now.grid) light)) _ has)))
     ]
 

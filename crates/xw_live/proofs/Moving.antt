@@ -1,5 +1,5 @@
 -- A net that was settled goes by the lights and the words after an edit.
-use Rattle.std.proofs.Common.{◌≡◌, ℕ, ◌<◌, ◌≤◌, Bool, true, false, cond, ltb, List, [], ◌∷◌, ◌++◌, length, get_or, Some, None, refl, sym, ◌∙◌, ap, inl, inr, arith}
+use Rattle.std.proofs.Common.{◌≡◌, ℕ, zero, suc, ◌<◌, ◌≤◌, Bool, true, false, cond, ltb, List, [], ◌∷◌, ◌++◌, length, get_or, Some, None, refl, sym, ◌∙◌, ap, inl, inr, arith}
 use Rattle.std.specs.Prelude.{Option, slice_get, unwrap_or}
 use Rattle.std.proofs.lemmas.Bool.{cases_lt, ltb-true}
 use Rattle.std.proofs.lemmas.Option.{unwrap_or-slice_get}
@@ -34,6 +34,18 @@ fitted_full known bits full = split (ltb (length bits) known) refl where
   split false is = refl
   split true is = let below = ltb-true (length bits) known is in absurd (omega (arith, below, full))
 
+get_or_past_one : (bits : List Bool) (place : ℕ) → get_or (bits ++ false ∷ []) place false ≡ get_or bits place false
+get_or_past_one [] zero = refl
+get_or_past_one [] (suc place) = refl
+get_or_past_one (b ∷ bits) zero = refl
+get_or_past_one (b ∷ bits) (suc place) = get_or_past_one bits place
+
+pub fitted_bit : (known : ℕ) (bits : List Bool) (place : ℕ) → get_or (fitted known bits) place false ≡ get_or bits place false
+fitted_bit known bits place = split (ltb (length bits) known) where
+  split : (b : Bool) → get_or (cond b (bits ++ false ∷ []) bits) place false ≡ get_or bits place false
+  split false = refl
+  split true = get_or_past_one bits place
+
 module _ (was now : State) (cells : ℕ) (old mid new : Net) (turned : IsTurned (lights_of was.grid) (lights_of now.grid) old mid)
     (rows : AreFitted (lights_of now.grid) (counts_of (row now.words)) mid.rows.items new.rows.items)
     (others : (light : ℕ) → length (lights_of now.grid) ≤ light → row_at new.rows.items light ≡ row_at mid.rows.items light)
@@ -59,6 +71,16 @@ module _ (was now : State) (cells : ℕ) (old mid new : Net) (turned : IsTurned 
       row_bits all-new light ∙ fits light lt ∙ ap (fitted (length (row now.words (size_at (lights_of now.grid) light)))) (turns light other lt at)
       ∙ fitted_full (length (row now.words (size_at (lights_of now.grid) light))) (row_at all other).bits full ∙ sym (row_bits all other)
 
+  -- and a bit more is off
+  kept_bit : (all all-mid all-new : List RowOfBits) → AreFitted (lights_of now.grid) (counts_of (row now.words)) all-mid all-new
+      → ((light other : ℕ) → light < length (lights_of now.grid) → same_before (lights_of was.grid) (lights_of now.grid) light ≡ Some other → (row_at all-mid light).bits ≡ (row_at all other).bits)
+      → (light other place : ℕ) → light < length (board_of now.grid).lights → same_light was.grid now.grid light ≡ Some other → get_or (bits_in all-new light) place false ≡ get_or (bits_in all other) place false
+  kept_bit all all-mid all-new fits turns light other place in_board at =
+      let lt = in_lights light in_board in
+      ap (λ bits. get_or bits place false) (row_bits all-new light ∙ fits light lt ∙ ap (fitted (length (row now.words (size_at (lights_of now.grid) light)))) (turns light other lt at))
+      ∙ fitted_bit (length (row now.words (size_at (lights_of now.grid) light))) (row_at all other).bits place
+      ∙ ap (λ bits. get_or bits place false) (sym (row_bits all other))
+
   same_rest : new ≡ record old { rows = new.rows; base = new.base; entered = mid.entered; is_queued = mid.is_queued; is_marked = mid.is_marked; spare = None }
   same_rest = rest ∙ ap (λ (n : Net). record n { rows = new.rows; base = new.base }) turned.rest
 
@@ -78,6 +100,7 @@ module _ (was now : State) (cells : ℕ) (old mid new : Net) (turned : IsTurned 
   moved_net = record {
     rows = kept_bits old.rows.items mid.rows.items new.rows.items rows turned.rows filled.whole.bits;
     base = kept_bits old.base.items mid.base.items new.base.items base turned.base filled.whole.base.bits;
+    base_at = kept_bit old.base.items mid.base.items new.base.items base turned.base;
     entered = λ light other in_board at. ap (λ (n : Net). get_or n.entered.items light false) rest ∙ turned.entered light other (in_lights light in_board) at;
     lights = stays_in;
     letters = ap (λ (n : Net). n.letters.items) same_rest;

@@ -1,23 +1,23 @@
 -- Rows and cells at the beginning of a settling.
 use Rattle.std.proofs.Common.{◌≡◌, ℕ, ◌+◌, ◌-◌, ◌*◌, ◌<◌, Bool, true, false, ◌&&◌, [], ◌∷◌, ◌++◌, length, get_or, Some, None, refl, sym, ◌∙◌, ap, subst, arith, inl, inr}
-use Rattle.std.specs.Prelude.{Option, Contains, slice_index, slice_get}
+use Rattle.std.specs.Prelude.{Option, Ok, List, Contains, slice_index, slice_get, unwrap_or}
 use Rattle.std.proofs.lemmas.Bool.{cases_Bool, both_ways, and_from}
 use Rattle.std.proofs.lemmas.List.{get_or_default, get_or_push, length-map}
-use Rattle.std.proofs.lemmas.Option.{slice_get-get_or}
-use Rattle.xw_words.specs.Dictionary.{Entry, row}
+use Rattle.std.proofs.lemmas.Option.{slice_get-get_or, unwrap_or-slice_get}
+use Rattle.xw_words.specs.Dictionary.{Entry, row, entry_at, no_entry}
 use Rattle.xw_grid.specs.declared.cell.Cell.{Cell}
 use Rattle.xw_grid.specs.Grid.{is_inside}
 use Rattle.xw_grid.specs.Light.{lights_of, no_light, step}
 use Rattle.xw_feas.specs.Board.{Board, board_of, entry, light_at, is_wholly_entered}
 use Rattle.xw_feas.specs.Choices.{is_base_at}
 use Rattle.xw_feas.specs.Flags.{set_has}
-use Rattle.xw_feas.specs.State.{State, Action}
+use Rattle.xw_feas.specs.State.{State, Action, after, letter_set, cell_cleared, word_placed, block_toggled, bar_toggled, symmetry_chosen, word_added, word_struck, add_word, strike_word}
 use Rattle.xw_feas.proofs.ChoicesLemmas.{base_flag_entered}
 use Rattle.xw_feas.proofs.FormedLemmas.{light_in, length-light_at, within_lights, place_is, inside_at}
 use Rattle.xw_live.specs.declared.net.Net.{Net}
 use Rattle.xw_live.specs.declared.change.Change.{Change}
-use Rattle.xw_live.specs.Change.{IsChange}
-use Rattle.xw_live.specs.Base.{base_bits}
+use Rattle.xw_live.specs.Change.{IsChange, IsPlaceOf, word_changed}
+use Rattle.xw_live.specs.Base.{base_bits, is_base_word}
 use Rattle.xw_live.specs.Revival.{IsMatching, same_light, StandsOn}
 use Rattle.xw_live.specs.Marks.{known}
 use Rattle.xw_live.specs.Nets.{word_stands}
@@ -25,16 +25,31 @@ use Rattle.xw_live.specs.Filled.{IsFilled}
 use Rattle.xw_live.specs.Renumber.{same_before}
 use Rattle.xw_live.specs.Spread.{is_marked, bits_in, HasAll}
 use Rattle.xw_live.specs.Brought.{IsBase}
-use Rattle.xw_live.specs.Begin.{common_bits}
+use Rattle.xw_live.specs.Begin.{common_bits, AreBaseBut, IsPrepared}
 use Rattle.xw_live.specs.Opened.{arrays_of, IsOpening, IsMoved}
 use Rattle.xw_live.proofs.Exact.{exact_base}
 use Rattle.xw_live.proofs.Same.{same_is_matching, same_is_whole}
 use Rattle.xw_live.proofs.Kept.{HaveSameEntries, entered_same}
-use Rattle.xw_live.proofs.BaseLemmas.{length-base_bits}
+use Rattle.xw_live.proofs.BaseLemmas.{base_bit, length-base_bits}
 use Rattle.xw_live.proofs.NetLemmas.{waiting_within}
+use Rattle.xw_live.proofs.Edits.{with_words-Ok}
 use Rattle.xw_live.proofs.Started.{empty_not_whole}
 use Rattle.xw_live.proofs.Listed.{inside_sized}
 use Rattle.xw_live.proofs.Changed.{changed_base, changed_entry_kept, changed_words_calm, changed_spelled, row_narrowed}
+
+-- a word that is added or struck leaves the grid
+word_keeps_grid : (before now : State) (action : Action) (word : ℕ × ℕ) → after before action ≡ Ok now → word_changed before.words action ≡ Some word → now.grid ≡ before.grid
+word_keeps_grid before now (word_added bytes) word made some = (with_words-Ok before now (add_word before.words bytes) made).1
+word_keeps_grid before now (word_struck bytes) word made some = (with_words-Ok before now (strike_word before.words bytes) made).1
+word_keeps_grid before now (letter_set cell letter) word made some = let never : None ≡ Some word = some in cc
+word_keeps_grid before now (cell_cleared cell) word made some = let never : None ≡ Some word = some in cc
+word_keeps_grid before now (word_placed name bytes) word made some = let never : None ≡ Some word = some in cc
+word_keeps_grid before now (block_toggled cell) word made some = let never : None ≡ Some word = some in cc
+word_keeps_grid before now (bar_toggled cell side) word made some = let never : None ≡ Some word = some in cc
+word_keeps_grid before now (symmetry_chosen kind) word made some = let never : None ≡ Some word = some in cc
+
+same_entry : (old new : List Entry) (place : ℕ) → slice_get old place ≡ slice_get new place → entry_at old place ≡ entry_at new place
+same_entry old new place same = sym (unwrap_or-slice_get old place no_entry) ∙ ap (λ o. unwrap_or o no_entry) same ∙ unwrap_or-slice_get new place no_entry
 
 module _ (before now : State) (action : Action) (change : Change) (is : IsChange before now action change) (settled net opened : Net)
     (filled : IsFilled (board_of before.grid) before.words settled) (moved : IsMoved before now settled net)
@@ -77,6 +92,22 @@ module _ (before now : State) (action : Action) (change : Change) (is : IsChange
 
   -- ---- base rows
 
+  -- an edit of a word leaves the grid, and the base words of each light but that one
+  base_but : AreBaseBut (board_of now.grid) (row now.words) change.word net.base.items
+  base_but light in_board place some k apart =
+      let grid = word_keeps_grid before now action (length (light_at (board_of now.grid) light), place) is.made (sym is.word ∙ some) in
+      let in_before : light < length (board_of before.grid).lights = subst (λ g. light < length (board_of g).lights) grid in_board in
+      let at = same_is_whole before.grid now.grid is.width light light in_board in_before (ap (λ g. light_at (board_of g) light) grid) in
+      let kept = is.entries (length (light_at (board_of now.grid) light)) k (λ found. let there = subst (λ w. IsPlaceOf w (length (light_at (board_of now.grid) light)) k) some found in apart (sym there.1)) in
+      moved.base_at light light k in_board at
+      ∙ ap (λ bits. get_or bits k false) (filled.is_base light in_before)
+      ∙ sym (base_bit (board_of before.grid) (light_at (board_of before.grid) light) (row before.words (length (light_at (board_of before.grid) light))) k)
+      ∙ ap (λ g. is_base_word (board_of g) (light_at (board_of g) light) (entry_at (row before.words (length (light_at (board_of g) light))) k)) (sym grid)
+      ∙ ap (is_base_word (board_of now.grid) (light_at (board_of now.grid) light)) (same_entry (row before.words (length (light_at (board_of now.grid) light))) (row now.words (length (light_at (board_of now.grid) light))) k (sym kept))
+
+  pub opened_prepared : IsPrepared (board_of now.grid) (row now.words) change.word net.rows.items opened.rows.items net.base.items opened.base.items (is_marked opened.is_queued.items) (is_marked opened.is_marked.items)
+  opened_prepared = opening.prepared base_but
+
   calm_known : (light other : ℕ) → light < length (board_of now.grid).lights → same_light before.grid now.grid light ≡ Some other → queued light ≡ false → known (board_of now.grid) now.words light ≡ known (board_of before.grid) before.words other
   calm_known light other in_board at calm =
       ap length (changed_words_calm before now action change is (set_has opened.letters.items) queued seed listed_inside opening.edited opening.long light in_board calm)
@@ -85,7 +116,7 @@ module _ (before now : State) (action : Action) (change : Change) (is : IsChange
   pub opened_base : IsBase (board_of now.grid) now.words opened.base.items
   opened_base =
       changed_base before now action change is (set_has opened.letters.items) queued seed listed_inside opening.edited opening.long new_queued settled.base.items net.base.items opened.base.items
-      filled.is_base (λ light other in_board at calm. moved.base light other in_board at (calm_known light other in_board at calm)) opening.prepared.base_on opening.prepared.base_off
+      filled.is_base (λ light other in_board at calm. moved.base light other in_board at (calm_known light other in_board at calm)) opened_prepared.base_on opened_prepared.base_off
 
   -- ---- words
 
@@ -97,14 +128,14 @@ module _ (before now : State) (action : Action) (change : Change) (is : IsChange
   unfolding word_stands
   opened_lights light choice stands = elim (cases_Bool (queued light)) [
     | inl on ↦ queued_in_board light on
-    | inr off ↦ moved.lights light choice (ap (λ bits. get_or (bits ++ get_or net.entered.items light false ∷ []) choice false) (sym (opening.prepared.rows_off light off))
+    | inr off ↦ moved.lights light choice (ap (λ bits. get_or (bits ++ get_or net.entered.items light false ∷ []) choice false) (sym (opened_prepared.rows_off light off))
         ∙ ap (λ flags. get_or (bits_in opened.rows.items light ++ get_or flags light false ∷ []) choice false) (sym entered_kept) ∙ stands)
   ]
 
   pub opened_words_off : (light other choice : ℕ) → light < length (board_of now.grid).lights → seed light ≡ false → queued light ≡ false → same_light before.grid now.grid light ≡ Some other → word_stands opened light choice ≡ word_stands settled other choice
   unfolding word_stands
   opened_words_off light other choice in_board no_seed calm at =
-      ap (λ bits. get_or (bits ++ get_or opened.entered.items light false ∷ []) choice false) (opening.prepared.rows_off light calm ∙ moved.rows light other in_board at (calm_known light other in_board at calm))
+      ap (λ bits. get_or (bits ++ get_or opened.entered.items light false ∷ []) choice false) (opened_prepared.rows_off light calm ∙ moved.rows light other in_board at (calm_known light other in_board at calm))
       ∙ ap (λ e. get_or (bits_in settled.rows.items other ++ e ∷ []) choice false) (ap (λ flags. get_or flags light false) entered_kept ∙ moved.entered light other in_board at)
 
   -- a light that is no seed stays wholly entered
@@ -119,7 +150,7 @@ module _ (before now : State) (action : Action) (change : Change) (is : IsChange
   kept_known : (light other : ℕ) → light < length (board_of now.grid).lights → seed light ≡ false → same_light before.grid now.grid light ≡ Some other → known (board_of now.grid) now.words light ≡ known (board_of before.grid) before.words other
   kept_known light other in_board no_seed at =
       sym (length-map (row now.words (length (light_at (board_of now.grid) light))) (λ (word : Entry). word.word))
-      ∙ ap length (changed_spelled before now action change is (set_has opened.letters.items) queued seed listed_inside opening.edited opening.long opening.prepared.seeds light in_board no_seed)
+      ∙ ap length (changed_spelled before now action change is (set_has opened.letters.items) queued seed listed_inside opening.edited opening.long opened_prepared.seeds light in_board no_seed)
       ∙ length-map (row before.words (length (light_at (board_of now.grid) light))) (λ (word : Entry). word.word)
       ∙ ap (λ cs. length (row before.words (length cs))) (matching.cells light other in_board at)
 
@@ -146,7 +177,7 @@ module _ (before now : State) (action : Action) (change : Change) (is : IsChange
       let whole = is_wholly_entered (board_of now.grid) (light_at (board_of now.grid) light) in
       let many = kept_known light other in_board no_seed at in
       let bits : bits_in opened.rows.items light ≡ common_bits (bits_in settled.rows.items other) base =
-      opening.prepared.rows_on light in_board on ∙ ap (λ b. common_bits b (base_bits (board_of now.grid) (light_at (board_of now.grid) light) (row now.words (length (light_at (board_of now.grid) light))))) (moved.rows light other in_board at many) in
+      opened_prepared.rows_on light in_board on ∙ ap (λ b. common_bits b (base_bits (board_of now.grid) (light_at (board_of now.grid) light) (row now.words (length (light_at (board_of now.grid) light))))) (moved.rows light other in_board at many) in
       let last : get_or settled.entered.items other false ≡ (get_or settled.entered.items other false && is_wholly_entered (board_of now.grid) (light_at (board_of now.grid) light)) = elim (cases_Bool (get_or settled.entered.items other false)) [
         | inl stood ↦ stood ∙ sym (and_from _ _ stood (entered_whole light other in_board no_seed at stood))
         | inr none ↦ none ∙ sym (ap (λ b. b && is_wholly_entered (board_of now.grid) (light_at (board_of now.grid) light)) none)

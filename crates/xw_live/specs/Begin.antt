@@ -6,7 +6,7 @@ use Rattle.xw_words.specs.Letter.{is_capital}
 use Rattle.xw_words.specs.Dictionary.{Entry, Dictionary, row}
 use Rattle.xw_feas.specs.Board.{Board, entry, light_at, is_wholly_entered}
 use Rattle.xw_feas.specs.Feasible.{may_stand}
-use Rattle.xw_live.specs.Base.{base_bits}
+use Rattle.xw_live.specs.Base.{base_bits, IsBaseBut}
 use Rattle.xw_feas.specs.Known.{spellings, actives}
 use Rattle.xw_feas.specs.Choices.{is_base_at}
 use Rattle.xw_live.specs.Revival.{StandsOn}
@@ -63,6 +63,10 @@ pub record IsStarted (before after : Board) (old new : Dictionary) (same : ℕ �
   pub restart : (slot letter : ℕ) → start.restart slot letter ≡ settled.restart slot letter
   pub pending : (light place letter : ℕ) → IsPlace after light place → start.pending (slot_at after light place) letter ≡ false
   pub hits : (light place letter : ℕ) → IsPlace after light place → is_capital letter ≡ true → start.held (slot_at after light place) letter < known after new light → puts after new light place letter (start.held (slot_at after light place) letter) ≡ true
+
+-- the base rows are those of the board, but at the place of a word that is changed
+abbrev pub AreBaseBut : Board → (ℕ → List Entry) → Option (ℕ × ℕ) → List RowOfBits → Type 0
+AreBaseBut board entries word base = (light : ℕ) → light < length board.lights → IsBaseBut board (light_at board light) (entries (length (light_at board light))) word (bits_in base light)
 
 -- Base rows and rows of words after an edit, where these lights are queued and those are seeds.
 pub record IsPrepared (board : Board) (entries : ℕ → List Entry) (word : Option (ℕ × ℕ)) (rows rows' base base' : List RowOfBits) (in_queue in_chain : ℕ → Bool) : Type 0 where

@@ -17,7 +17,7 @@ use Rattle.xw_live.specs.Nets.{marks_of, word_stands, letter_stands}
 use Rattle.xw_live.specs.Spread.{is_marked, is_waiting, no_places, HasAll, HasSeeds, IsSpread, bits_in}
 use Rattle.xw_live.specs.Renumber.{same_before}
 use Rattle.xw_live.specs.Brought.{IsBase, IsBegun, IsReadyBut}
-use Rattle.xw_live.specs.Begin.{IsEdited, IsPrepared}
+use Rattle.xw_live.specs.Begin.{IsEdited, AreBaseBut, IsPrepared}
 use Rattle.xw_live.specs.Gone.{IsFreed}
 
 -- the arrays that the beginning of a settling writes
@@ -51,7 +51,7 @@ pub record IsOpening (grid : Grid) (board : Board) (lights : List Light) (entrie
   pub long : (count place light : ℕ) → change.word ≡ Some (count, place) → light < length board.lights → length (light_at board light) ≡ count → is_marked new.is_queued light ≡ true
   pub spread : IsSpread board (set_has old.letters) (set_has new.letters) (is_marked new.is_marked) (is_waiting new.stack) no_places
   pub freed : (cell : ℕ) → IsFreed grid change.before.now lights (length change.before.now) cell → HasAll board (set_has new.letters) cell
-  pub prepared : IsPrepared board entries change.word old.rows new.rows old.base new.base (is_marked new.is_queued) (is_marked new.is_marked)
+  pub prepared : AreBaseBut board entries change.word old.base → IsPrepared board entries change.word old.rows new.rows old.base new.base (is_marked new.is_queued) (is_marked new.is_marked)
   pub queued_within : (member : ℕ → Bool)
       → ((light : ℕ) → is_marked old.is_queued light ≡ true → member light ≡ true)
       → ((light : ℕ) → light < length board.lights → same_before change.before.now lights light ≡ None → member light ≡ true)
@@ -68,12 +68,13 @@ pub record IsOpening (grid : Grid) (board : Board) (lights : List Light) (entrie
       → (light : ℕ) → is_marked new.is_marked light ≡ true → member light ≡ true
 
 module _ (before now : State) where
-  -- A net that was settled goes by the lights after an edit. Each light that stays has what it had, but where a word is new; nothing is to be seen to, and no light is marked.
+  -- A net that was settled goes by the lights after an edit. Each light that stays has what it had, but for the bit of a word that is new; nothing is to be seen to, and no light is marked.
   pub record IsMoved (settled net : Net) : Type 0 where
     pub rows : (light other : ℕ) → light < length (board_of now.grid).lights → same_light before.grid now.grid light ≡ Some other → known (board_of now.grid) now.words light ≡ known (board_of before.grid) before.words other
         → bits_in net.rows.items light ≡ bits_in settled.rows.items other
     pub base : (light other : ℕ) → light < length (board_of now.grid).lights → same_light before.grid now.grid light ≡ Some other → known (board_of now.grid) now.words light ≡ known (board_of before.grid) before.words other
         → bits_in net.base.items light ≡ bits_in settled.base.items other
+    pub base_at : (light other place : ℕ) → light < length (board_of now.grid).lights → same_light before.grid now.grid light ≡ Some other → slice_index_or (bits_in net.base.items light) place false ≡ slice_index_or (bits_in settled.base.items other) place false
     pub entered : (light other : ℕ) → light < length (board_of now.grid).lights → same_light before.grid now.grid light ≡ Some other → slice_index_or net.entered.items light false ≡ slice_index_or settled.entered.items other false
     pub lights : (light choice : ℕ) → word_stands net light choice ≡ true → light < length (board_of now.grid).lights
     pub letters : net.letters.items ≡ settled.letters.items

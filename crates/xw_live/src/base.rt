@@ -1,9 +1,9 @@
 //! The base words of a light, as a row of bits.
-ghost use Rattle.std.specs.Prelude.{◌≡◌, ℕ, ◌+◌, ◌*◌, ◌<◌, ◌≤◌, ◌&&◌, Bool, true, false, length, slice_index, All, Some};
+ghost use Rattle.std.specs.Prelude.{◌≡◌, ℕ, ◌+◌, ◌*◌, ◌<◌, ◌≤◌, ◌&&◌, Bool, true, false, length, slice_index, slice_index_or, All, Some, IfSome, IfNone};
 ghost use Rattle.xw_words.specs.Bits.{has_bit};
 ghost use Rattle.xw_words.specs.Dictionary.{Entry, entry_at};
 ghost use Rattle.xw_feas.specs.Board.{Board as BoardOfPlaces, light_at, entry, agrees, is_wholly_entered};
-ghost use Rattle.xw_live.specs.Base.{base_bits, is_base_word, has_entry, IsFilled};
+ghost use Rattle.xw_live.specs.Base.{base_bits, is_base_word, has_entry, IsFilled, IsBaseBut};
 ghost use Rattle.xw_live.specs.Region.{chunks_of};
 ghost use Rattle.xw_live.specs.Spread.{is_marked, bits_in};
 ghost use Rattle.xw_live.specs.Room.{row_at};
@@ -130,31 +130,106 @@ pub(crate) fn copy_row(from: &BitRow, to: &mut BitRow)
     }
 }
 
-/// Reads the base row of a light anew.
-fn read_row<R: Rows>(rows: &mut R, board: &Board<'_>, light: usize, base: &mut [BitRow])
+/// Reads the chunk of a base row anew in which a known word has its place.
+fn read_chunk<R: Rows>(
+    rows: &mut R,
+    board: &Board<'_>,
+    light: usize,
+    place: usize,
+    row: &mut BitRow,
+)
     requires light { light < length board.now.lights }
     requires long { All (λ (word : Entry). length word.word ≡ length (light_at board.now light)) (R.entries rows.old (length (light_at board.now light))) }
+    requires bits { length row.old.bits ≡ length (R.entries rows.old (length (light_at board.now light))) }
+    ensures entries { R.entries rows.new ≡ R.entries rows.old }
+    ensures risen { R.ticks rows.old ≤ R.ticks rows.new }
+    ensures len { length row.new.bits ≡ length row.old.bits }
+    ensures bits { ((k : ℕ) → (k ≡ place → ⊥) → slice_index_or row.old.bits k false ≡ is_base_word board.now (light_at board.now light) (entry_at (R.entries rows.old (length (light_at board.now light))) k)) → row.new.bits ≡ base_bits board.now (light_at board.now light) (R.entries rows.old (length (light_at board.now light))) }
+    ensures room { row.new.room ≡ row.old.room }
+    ensures cost { R.ticks rows.new ≤ R.ticks rows.old + (length (light_at board.now light) + 1) * chunks_of (length row.old.bits) }
+{
+    if place >= row.len() {
+        return;
+    }
+    let cells = board.light(light);
+    let entered = has_all_entries(board, &cells);
+    let words = base_chunk(rows, board, &cells, entered, place / 64);
+    row.set_chunk(place / 64, words);
+}
+
+/// The place of a word that is changed, if it is so long.
+fn place_if_long(word: Option<(usize, usize)>, count: usize) -> Option<usize>
+    ensures found { IfSome result (λ place. word ≡ Some (count, place)) }
+    ensures none { IfNone result ((place : ℕ) → word ≡ Some (count, place) → ⊥) }
+{
+    match word {
+        Some((long, place)) if long == count => Some(place),
+        _ => None,
+    }
+}
+
+/// Reads a base row anew: where a word as long as the light is changed, the chunk with its place.
+fn read_changed<R: Rows>(
+    rows: &mut R,
+    board: &Board<'_>,
+    word: Option<(usize, usize)>,
+    light: usize,
+    row: &mut BitRow,
+)
+    requires light { light < length board.now.lights }
+    requires long { All (λ (entry : Entry). length entry.word ≡ length (light_at board.now light)) (R.entries rows.old (length (light_at board.now light))) }
+    requires bits { length row.old.bits ≡ length (R.entries rows.old (length (light_at board.now light))) }
+    ensures entries { R.entries rows.new ≡ R.entries rows.old }
+    ensures risen { R.ticks rows.old ≤ R.ticks rows.new }
+    ensures len { length row.new.bits ≡ length row.old.bits }
+    ensures bits { IsBaseBut board.now (light_at board.now light) (R.entries rows.old (length (light_at board.now light))) word row.old.bits → row.new.bits ≡ base_bits board.now (light_at board.now light) (R.entries rows.old (length (light_at board.now light))) }
+    ensures room { row.new.room ≡ row.old.room }
+    ensures cost { R.ticks rows.new ≤ R.ticks rows.old + (length (light_at board.now light) + 1) * chunks_of (length row.old.bits) }
+{
+    match place_if_long(word, board.light(light).len()) {
+        Some(place) => read_chunk(rows, board, light, place, row),
+        None => read_base(rows, board, light, row),
+    }
+}
+
+/// The same for a light's row among those of all lights.
+fn read_row<R: Rows>(
+    rows: &mut R,
+    board: &Board<'_>,
+    word: Option<(usize, usize)>,
+    light: usize,
+    base: &mut [BitRow],
+)
+    requires light { light < length board.now.lights }
+    requires long { All (λ (entry : Entry). length entry.word ≡ length (light_at board.now light)) (R.entries rows.old (length (light_at board.now light))) }
     requires base { HasBase board.now (R.entries rows.old) base.old }
     ensures entries { R.entries rows.new ≡ R.entries rows.old }
     ensures risen { R.ticks rows.old ≤ R.ticks rows.new }
     ensures len { length base.new ≡ length base.old }
-    ensures here { bits_in base.new light ≡ base_bits board.now (light_at board.now light) (R.entries rows.old (length (light_at board.now light))) }
+    ensures bits { length (bits_in base.new light) ≡ length (bits_in base.old light) }
+    ensures here { IsBaseBut board.now (light_at board.now light) (R.entries rows.old (length (light_at board.now light))) word (bits_in base.old light) → bits_in base.new light ≡ base_bits board.now (light_at board.now light) (R.entries rows.old (length (light_at board.now light))) }
     ensures others { (other : ℕ) → (other ≡ light → ⊥) → bits_in base.new other ≡ bits_in base.old other }
     ensures row_room { (other : ℕ) → (row_at base.old other).room ≤ (row_at base.new other).room }
     ensures cost { R.ticks rows.new ≤ R.ticks rows.old + (length (light_at board.now light) + 1) * chunks_of (length (R.entries rows.old (length (light_at board.now light)))) }
 {
-    read_base(rows, board, light, &mut base[light]);
+    read_changed(rows, board, word, light, &mut base[light]);
 }
 
-/// Reads the base row of each marked light anew.
-pub fn read_marked<R: Rows>(rows: &mut R, board: &Board<'_>, marks: &[bool], base: &mut [BitRow])
-    requires long { (light : ℕ) → light < length board.now.lights → All (λ (word : Entry). length word.word ≡ length (light_at board.now light)) (R.entries rows.old (length (light_at board.now light))) }
+/// Reads the base row of each marked light anew, as far as the edit can have changed it.
+pub fn read_marked<R: Rows>(
+    rows: &mut R,
+    board: &Board<'_>,
+    word: Option<(usize, usize)>,
+    marks: &[bool],
+    base: &mut [BitRow],
+)
+    requires long { (light : ℕ) → light < length board.now.lights → All (λ (entry : Entry). length entry.word ≡ length (light_at board.now light)) (R.entries rows.old (length (light_at board.now light))) }
     requires marks { length board.now.lights ≤ length marks.now }
     requires base { HasBase board.now (R.entries rows.old) base.old }
     ensures entries { R.entries rows.new ≡ R.entries rows.old }
     ensures risen { R.ticks rows.old ≤ R.ticks rows.new }
     ensures base { HasBase board.now (R.entries rows.old) base.new }
-    ensures on { (light : ℕ) → light < length board.now.lights → is_marked marks.now light ≡ true → bits_in base.new light ≡ base_bits board.now (light_at board.now light) (R.entries rows.old (length (light_at board.now light))) }
+    ensures on { (light : ℕ) → light < length board.now.lights → is_marked marks.now light ≡ true → IsBaseBut board.now (light_at board.now light) (R.entries rows.old (length (light_at board.now light))) word (bits_in base.old light) → bits_in base.new light ≡ base_bits board.now (light_at board.now light) (R.entries rows.old (length (light_at board.now light))) }
     ensures off { (light : ℕ) → is_marked marks.now light ≡ false → bits_in base.new light ≡ bits_in base.old light }
     ensures row_room { (other : ℕ) → (row_at base.old other).room ≤ (row_at base.new other).room }
     ensures cost { (member : ℕ → Bool) → ((light : ℕ) → is_marked marks.now light ≡ true → member light ≡ true) → R.ticks rows.new ≤ R.ticks rows.old + base_cost board.now (R.entries rows.old) member }
@@ -163,6 +238,6 @@ pub fn read_marked<R: Rows>(rows: &mut R, board: &Board<'_>, marks: &[bool], bas
         if !marks[light] {
             continue;
         }
-        read_row(rows, board, light, base);
+        read_row(rows, board, word, light, base);
     }
 }

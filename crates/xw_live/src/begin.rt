@@ -7,7 +7,7 @@ ghost use Rattle.xw_feas.specs.Feasible.{may_stand};
 ghost use Rattle.xw_feas.specs.Flags.{set_has};
 ghost use Rattle.xw_live.specs.Marks.{IsPlace, cell_at};
 ghost use Rattle.xw_live.specs.Spread.{is_marked, is_waiting, no_places, IsSpread, HasAll, HasSeeds, Grows, bits_in};
-ghost use Rattle.xw_live.specs.Begin.{is_fill, IsEdited, may_have, is_seed as is_seed_of, common_bits, IsPrepared};
+ghost use Rattle.xw_live.specs.Begin.{is_fill, IsEdited, may_have, is_seed as is_seed_of, common_bits, AreBaseBut, IsPrepared};
 ghost use Rattle.xw_live.specs.Brought.{HasBase, base_cost};
 ghost use Rattle.xw_live.specs.Gone.{IsFreed};
 ghost use Rattle.xw_live.specs.Room.{row_at};
@@ -318,7 +318,7 @@ fn queue_long(
     }
 }
 
-/// Reads the base rows of the queued lights anew, and leaves of their words the base words. Those
+/// Reads the base rows of the queued lights anew as far as they can have changed, and leaves of their words the base words. Those
 /// to which a word may come back are seeds.
 fn prepare<R: Rows>(
     rows: &mut R,
@@ -349,11 +349,11 @@ fn prepare<R: Rows>(
     ensures room { vec_len stack.new + count_by (λ mark. not mark) marks.new ≤ vec_capacity stack.new }
     ensures capacity { vec_capacity stack.old ≤ vec_capacity stack.new }
     ensures grows { Grows marks.old stack.old.items marks.new stack.new.items }
-    ensures prepared { IsPrepared board.now (R.entries rows.old) word words.old words.new base.old base.new (is_marked is_queued.now) (is_marked marks.new) }
+    ensures prepared { AreBaseBut board.now (R.entries rows.old) word base.old → IsPrepared board.now (R.entries rows.old) word words.old words.new base.old base.new (is_marked is_queued.now) (is_marked marks.new) }
     ensures within { (member : ℕ → Bool) → ((light : ℕ) → is_marked marks.old light ≡ true → member light ≡ true) → ((light : ℕ) → is_marked is_queued.now light ≡ true → member light ≡ true) → (light : ℕ) → is_marked marks.new light ≡ true → member light ≡ true }
     ensures cost { (member : ℕ → Bool) → ((light : ℕ) → is_marked is_queued.now light ≡ true → member light ≡ true) → R.ticks rows.new ≤ R.ticks rows.old + base_cost board.now (R.entries rows.old) member }
 {
-    read_marked(rows, board, is_queued, base);
+    read_marked(rows, board, word, is_queued, base);
     touch_lights(board, word, base, is_queued, words, marks, stack);
 }
 
@@ -446,7 +446,7 @@ pub fn begin<R: Rows>(
     ensures long { (count place light : ℕ) → change.now.word ≡ Some (count, place) → light < length board.now.lights → length (light_at board.now light) ≡ count → is_marked is_queued.new light ≡ true }
     ensures spread { IsSpread board.now (set_has letters.old) (set_has letters.new) (is_marked marks.new) (is_waiting stack.new.items) no_places }
     ensures freed { (cell : ℕ) → IsFreed grid.now change.now.before.now lights.now (length change.now.before.now) cell → HasAll board.now (set_has letters.new) cell }
-    ensures prepared { IsPrepared board.now (R.entries rows.old) change.now.word words.old words.new base.old base.new (is_marked is_queued.new) (is_marked marks.new) }
+    ensures prepared { AreBaseBut board.now (R.entries rows.old) change.now.word base.old → IsPrepared board.now (R.entries rows.old) change.now.word words.old words.new base.old base.new (is_marked is_queued.new) (is_marked marks.new) }
     ensures queued_within { (member : ℕ → Bool) → ((light : ℕ) → is_marked is_queued.old light ≡ true → member light ≡ true) → ((light : ℕ) → light < length board.now.lights → option_and_then (place_with_cells change.now.before.now) (slice_get lights.now light) ≡ None → member light ≡ true) → ((listed : CellOfGrid × Option ℕ) (light place : ℕ) → Contains change.now.cells.now listed → IsPlace board.now light place → cell_at board.now light place ≡ index_of grid.now listed.0 → member light ≡ true) → ((count place light : ℕ) → change.now.word ≡ Some (count, place) → light < length board.now.lights → length (light_at board.now light) ≡ count → member light ≡ true) → (light : ℕ) → is_marked is_queued.new light ≡ true → member light ≡ true }
     ensures within { (member : ℕ → Bool) → ((light : ℕ) → is_marked is_queued.old light ≡ true → member light ≡ true) → ((light : ℕ) → is_marked marks.old light ≡ true → member light ≡ true) → ((light : ℕ) → light < length board.now.lights → option_and_then (place_with_cells change.now.before.now) (slice_get lights.now light) ≡ None → member light ≡ true) → ((cell light place : ℕ) → IsFreed grid.now change.now.before.now lights.now (length change.now.before.now) cell → ¬ HasAll board.now (set_has letters.old) cell → IsPlace board.now light place → cell_at board.now light place ≡ cell → member light ≡ true) → ((listed : CellOfGrid × Option ℕ) (light place : ℕ) → Contains change.now.cells.now listed → IsPlace board.now light place → cell_at board.now light place ≡ index_of grid.now listed.0 → member light ≡ true) → ((count place light : ℕ) → change.now.word ≡ Some (count, place) → light < length board.now.lights → length (light_at board.now light) ≡ count → member light ≡ true) → (light : ℕ) → is_marked marks.new light ≡ true → member light ≡ true }
     ensures cost { (member : ℕ → Bool) → ((light : ℕ) → is_marked is_queued.new light ≡ true → member light ≡ true) → R.ticks rows.new ≤ R.ticks rows.old + base_cost board.now (R.entries rows.old) member }

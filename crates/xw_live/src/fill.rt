@@ -52,7 +52,7 @@ impl Net {
     {
         fill_letters(board, &mut self.letters);
         mark_all(board, &mut self.is_marked, &mut self.stack);
-        read_marked(rows, board, &self.is_marked, &mut self.base);
+        read_marked(rows, board, None, &self.is_marked, &mut self.base);
         self.bring_back(board);
         self.unmark();
         self.strip(rows, board);

@@ -1,10 +1,9 @@
-use Rattle.std.proofs.Common.{◌≡◌, ◌≤◌, ◌+◌, ◌*◌, false, length, get_or, subst, sym, ap, ◌∙◌, inl, inr, arith}
+use Rattle.std.proofs.Common.{◌≡◌, ℕ, ◌≤◌, ◌+◌, ◌*◌, false, length, get_or, subst, sym, ap, ◌∙◌, inl, inr, arith}
 use Rattle.std.proofs.lemmas.Bool.{cases_eq, both_ways}
 use Rattle.xw_feas.specs.Board.{light_at}
-use Rattle.xw_live.specs.Base.{base_bits}
+use Rattle.xw_live.specs.Base.{base_bits, IsBaseBut}
 use Rattle.xw_live.specs.Region.{chunks_of}
 use Rattle.xw_live.specs.Spread.{is_marked, bits_in}
-use Rattle.xw_live.proofs.BaseLemmas.{length-base_bits}
 use Rattle.xw_live.proofs.CostLemmas.{cost_here, cost_more, cost_in, cost_all}
 use Rattle.xw_live.proofs.base.read_marked.Goals as goal
 
@@ -16,9 +15,10 @@ loop-light-preserved-then-not-marks-light g c =
       same = inv.same;
       risen = inv.risen;
       base = inv.base;
-      on = λ light lt m. elim (cases_eq light c.loop-light.light) [
+      later = λ light le. inv.later light (omega (arith, le));
+      on = λ light lt m but. elim (cases_eq light c.loop-light.light) [
         | inl e ↦ absurd (both_ways (get_or c.args.marks.now light false) (ap (λ n. get_or c.args.marks.now n false) e ∙ c.if-not-marks-light.true) m)
-        | inr n ↦ inv.on light (omega arith) m
+        | inr n ↦ inv.on light (omega arith) m but
       ];
       row_room = inv.row_room;
       off = inv.off;
@@ -32,23 +32,27 @@ loop-light-preserved g c =
     let k = c.read_row in
     let board = c.args.board.now in
     let o = c.loop-light.light in
-    let here : bits_in c.read_row.new.base c.loop-light.light ≡ base_bits c.args.board.now (light_at c.args.board.now c.loop-light.light) (g.R.Rows.entries c.args.rows.now (length (light_at c.args.board.now c.loop-light.light))) =
-    k.ensures.here ∙ ap (λ d. base_bits c.args.board.now (light_at c.args.board.now c.loop-light.light) (d (length (light_at c.args.board.now c.loop-light.light)))) inv.same in
+    let right : (light : ℕ) → light ≡ c.loop-light.light → IsBaseBut c.args.board.now (light_at c.args.board.now light) (g.R.Rows.entries c.args.rows.now (length (light_at c.args.board.now light))) c.args.word (bits_in c.args.base.now light)
+    → bits_in c.read_row.new.base light ≡ base_bits c.args.board.now (light_at c.args.board.now light) (g.R.Rows.entries c.args.rows.now (length (light_at c.args.board.now light))) =
+    λ light e but. subst (λ n. bits_in c.read_row.new.base n ≡ base_bits c.args.board.now (light_at c.args.board.now n) (g.R.Rows.entries c.args.rows.now (length (light_at c.args.board.now n)))) (sym e)
+    (k.ensures.here (subst (λ d. IsBaseBut c.args.board.now (light_at c.args.board.now c.loop-light.light) (d (length (light_at c.args.board.now c.loop-light.light))) c.args.word (bits_in c.loop-light.base c.loop-light.light)) (sym inv.same)
+    (subst (λ bits. IsBaseBut c.args.board.now (light_at c.args.board.now c.loop-light.light) (g.R.Rows.entries c.args.rows.now (length (light_at c.args.board.now c.loop-light.light))) c.args.word bits) (sym (inv.later c.loop-light.light (omega arith)))
+    (subst (λ n. IsBaseBut c.args.board.now (light_at c.args.board.now n) (g.R.Rows.entries c.args.rows.now (length (light_at c.args.board.now n))) c.args.word (bits_in c.args.base.now n)) e but)))
+    ∙ ap (λ d. base_bits c.args.board.now (light_at c.args.board.now c.loop-light.light) (d (length (light_at c.args.board.now c.loop-light.light)))) inv.same) in
     record {
       same = k.ensures.entries ∙ inv.same;
       risen = omega (arith, inv.risen, k.ensures.risen);
       base = record {
         rows = omega (arith, inv.base.rows, c.read_row.ensures.len);
         bits = λ light lt. elim (cases_eq light c.loop-light.light) [
-          | inl e ↦
-              subst (λ n. length (bits_in c.read_row.new.base n) ≡ length (g.R.Rows.entries c.args.rows.now (length (light_at c.args.board.now n)))) (sym e)
-              (ap length here ∙ length-base_bits c.args.board.now (light_at c.args.board.now c.loop-light.light) (g.R.Rows.entries c.args.rows.now (length (light_at c.args.board.now c.loop-light.light))))
+          | inl e ↦ ap (λ n. length (bits_in c.read_row.new.base n)) e ∙ k.ensures.bits ∙ ap (λ n. length (bits_in c.loop-light.base n)) (sym e) ∙ inv.base.bits light lt
           | inr n ↦ ap length (k.ensures.others light n) ∙ inv.base.bits light lt
         ];
       };
-      on = λ light lt m. elim (cases_eq light c.loop-light.light) [
-        | inl e ↦ subst (λ n. bits_in c.read_row.new.base n ≡ base_bits c.args.board.now (light_at c.args.board.now n) (g.R.Rows.entries c.args.rows.now (length (light_at c.args.board.now n)))) (sym e) here
-        | inr n ↦ k.ensures.others light n ∙ inv.on light (omega arith) m
+      later = λ light le. k.ensures.others light (λ e. omega (arith, le, e)) ∙ inv.later light (omega (arith, le));
+      on = λ light lt m but. elim (cases_eq light c.loop-light.light) [
+        | inl e ↦ right light e but
+        | inr n ↦ k.ensures.others light n ∙ inv.on light (omega arith) m but
       ];
       row_room = λ other. omega (arith, inv.row_room other, k.ensures.row_room other);
       off = λ light m.
