@@ -153,6 +153,7 @@ impl BitRow {
     /// The first chunk from one on that has a bit.
     pub fn next_chunk(&self, from: usize) -> Option<usize>
         ensures within { IfSome result (λ chunk. (from ≤ chunk) × (64 * chunk < length self.now.bits)) }
+        ensures small { IfSome result (λ chunk. chunk < 2 ^ 51) }
         ensures set { IfSome result (λ chunk. (k : ℕ) × (k < 64) × (slice_index_or self.now.bits (64 * chunk + k) false ≡ true)) }
         ensures first { IfSome result (λ chunk. (i : ℕ) → 64 * from ≤ i → i < 64 * chunk → slice_index_or self.now.bits i false ≡ false) }
         ensures none { IfNone result ((i : ℕ) → 64 * from ≤ i → slice_index_or self.now.bits i false ≡ false) }

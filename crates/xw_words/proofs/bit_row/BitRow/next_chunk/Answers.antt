@@ -1,5 +1,6 @@
 use Rattle.std.proofs.Common.{Option, Some, None, IfNone, ◌/◌, get_or, ap, ◌∙◌, sym, arith}
 use Rattle.std.proofs.lemmas.Option.{IfSome_then}
+use Rattle.xw_words.proofs.BitRowLemmas.{view_len}
 use Rattle.xw_words.proofs.ChunkLemmas.{clear_place, set_place, set_within}
 use Rattle.xw_words.proofs.bit_row.BitRow.next_chunk.Goals as goal
 
@@ -18,6 +19,10 @@ returns-clause-set c =
     IfSome_then c.next_word.result c.next_word.ensures.found (λ at found.
     let is = ap (λ ws. get_or ws at 0) c.deref.ensures.value in
     set_place c.self.inside c.self.view_is c.self.invariant at (omega (arith, found.2, is)) (omega (arith, found.3, is)))
+
+pub returns-clause-small : goal.returns-clause-small
+returns-clause-small c =
+    IfSome_then c.next_word.result (returns-clause-within c) (λ at within. omega (arith, within.1, view_len c.self.inside c.self.view_is, c.self.invariant.small))
 
 pub returns-clause-first : goal.returns-clause-first
 returns-clause-first c =
