@@ -92,6 +92,16 @@ impl Net {
         self.entered[light] &= !pending.has(board.letter(here.cell));
     }
 
+    /// Whether no letter is pending at a place of a light.
+    fn is_clear(&self, board: &Board<'_>, light: usize, place: usize) -> bool
+        requires shaped { IsShaped board.now self.now }
+        requires place { IsPlace board.now light place }
+        ensures { result ≡ true → (letter : ℕ) → pending_in self.now (slot_at board.now light place) letter ≡ false }
+    {
+        let here = place_of(board, light, place);
+        self.pending[here.slot].is_same(LetterSet::new())
+    }
+
     /// Takes the words with pending letters out of the light.
     fn strike_light<R: Rows>(&mut self, rows: &mut R, board: &Board<'_>, light: usize)
         requires shaped { IsShaped board.now self.old }
@@ -111,6 +121,9 @@ impl Net {
         ensures kept { (dictionary : Dictionary) (measure : Measure) → IsPosition board.now (R.entries rows.old) dictionary → queued_in self.old light ≡ true → measure.member light ≡ true → IsUnderway board.now dictionary measure (marks_of self.old) (queued_in self.old) (R.ticks rows.old) → IsUnderway board.now dictionary measure (marks_of self.new) (queued_in self.new) (R.ticks rows.new) }
     {
         for place in 0..board.light(light).len() {
+            if self.is_clear(board, light, place) {
+                continue;
+            }
             self.strike_place(rows, board, light, place);
         }
     }
@@ -163,6 +176,7 @@ impl Net {
         ensures rest { IsLeft self.old self.new }
         ensures bits { HasBits board.now (R.entries rows.old) self.new }
         ensures fewer { left_of self.new ≤ left_of self.old }
+        ensures alive { (cell other : ℕ) → letter_stands self.new cell other ≡ true → letter_stands self.old cell other ≡ true }
         ensures waits { (other : ℕ) → Waits self.old other → Waits self.new other }
         ensures held { (dictionary : Dictionary) → IsPosition board.now (R.entries rows.old) dictionary → letter_stands self.new here.cell letter ≡ true → IsHeld board.now dictionary (marks_of self.new) here.light here.place letter }
         ensures stays { (dictionary : Dictionary) → IsPosition board.now (R.entries rows.old) dictionary → Stays board.now dictionary here.light (marks_of self.old) (marks_of self.new) }
@@ -201,8 +215,11 @@ impl Net {
         ensures kept { (dictionary : Dictionary) (measure : Measure) → IsPosition board.now (R.entries rows.old) dictionary → measure.member light ≡ true → IsUnderway board.now dictionary measure (marks_of self.old) (and_light (queued_in self.old) light) (R.ticks rows.old) → IsUnderway board.now dictionary measure (marks_of self.new) (and_light (queued_in self.new) light) (R.ticks rows.new) }
     {
         let here = place_of(board, light, place);
-        for number in 0..26u32 {
+        let alive = self.letters[here.cell];
+        let mut from = 0;
+        while let Some(number) = alive.next_place(from) {
             self.keep_letter(rows, board, here, Letter::at(number));
+            from = number + 1;
         }
     }
 
@@ -223,6 +240,9 @@ impl Net {
         ensures pending { (slot other : ℕ) → pending_in self.new slot other ≡ true → (pending_in self.old slot other ≡ true) ⊎ IsSlot board.now slot }
         ensures kept { (dictionary : Dictionary) (measure : Measure) → IsPosition board.now (R.entries rows.old) dictionary → measure.member light ≡ true → IsUnderway board.now dictionary measure (marks_of self.old) (and_light (queued_in self.old) light) (R.ticks rows.old) → IsUnderway board.now dictionary measure (marks_of self.new) (and_light (queued_in self.new) light) (R.ticks rows.new) }
     {
+        if self.entered[light] {
+            return;
+        }
         for place in 0..board.light(light).len() {
             self.keep_place(rows, board, light, place);
         }

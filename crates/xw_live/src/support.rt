@@ -29,12 +29,7 @@ fn support_in<R: Rows>(
     ensures words { (k : ℕ) → k < 64 → has_bit result k ≡ supports row.now.bits (R.entries rows.old count) position letter (64 * chunk + k) }
     ensures cost { R.ticks rows.new ≤ R.ticks rows.old + 1 }
 {
-    let own = row.chunk(chunk);
-    if own == 0 {
-        0
-    } else {
-        own & rows.column(count, position, letter, chunk)
-    }
+    row.chunk(chunk) & rows.column(count, position, letter, chunk)
 }
 
 /// The first word of the row, from a chunk on, that has the letter at the position.
@@ -53,34 +48,15 @@ fn first_support<R: Rows>(
     ensures none { IfNone result ((other : ℕ) → 64 * from ≤ other → supports row.now.bits (R.entries rows.old count) position letter other ≡ false) }
     ensures cost { MatchOption result (R.ticks rows.new ≤ R.ticks rows.old + (chunks_of (length row.now.bits) - from)) (λ word. R.ticks rows.new + from ≤ R.ticks rows.old + (word / 64 + 1)) }
 {
-    for chunk in from..row.len().div_ceil(64) {
+    let mut at = from;
+    while let Some(chunk) = row.next_chunk(at) {
         let words = support_in(rows, row, count, position, letter, chunk);
         if words != 0 {
             return Some(64 * chunk + words.trailing_zeros() as usize);
         }
+        at = chunk + 1;
     }
     None
-}
-
-/// The words of a chunk that have the letter at the position, if it is one of the letters.
-fn words_with_one<R: Rows>(
-    rows: &mut R,
-    count: usize,
-    position: usize,
-    letters: LetterSet,
-    letter: Letter,
-    chunk: usize,
-) -> u64
-    ensures entries { R.entries rows.new ≡ R.entries rows.old }
-    ensures risen { R.ticks rows.old ≤ R.ticks rows.new }
-    ensures words { (k : ℕ) → k < 64 → has_bit result k ≡ (has letters letter && has_letter (R.entries rows.old count) position letter (64 * chunk + k)) }
-    ensures cost { R.ticks rows.new ≤ R.ticks rows.old + (if has letters letter then 1 else 0) }
-{
-    if letters.has(letter) {
-        rows.column(count, position, letter, chunk)
-    } else {
-        0
-    }
 }
 
 /// The words of a chunk that have one of the letters at the position.
@@ -97,8 +73,10 @@ fn words_with<R: Rows>(
     ensures cost { R.ticks rows.new ≤ R.ticks rows.old + letter_count letters }
 {
     let mut words = 0;
-    for place in 0..26u32 {
-        words |= words_with_one(rows, count, position, letters, Letter::at(place), chunk);
+    let mut from = 0;
+    while let Some(place) = letters.next_place(from) {
+        words |= rows.column(count, position, Letter::at(place), chunk);
+        from = place + 1;
     }
     words
 }
@@ -145,17 +123,12 @@ pub(crate) fn strike_row<R: Rows>(
     ensures room { row.new.room ≡ row.old.room }
     ensures cost { R.ticks rows.new ≤ R.ticks rows.old + chunks_of (length row.old.bits) * letter_count pending }
 {
-    for chunk in 0..row.len().div_ceil(64) {
-        let left = left_in(
-            rows,
-            row.chunk(chunk),
-            count,
-            position,
-            pending,
-            alive,
-            chunk,
-        );
+    let mut from = 0;
+    while let Some(chunk) = row.next_chunk(from) {
+        let own = row.chunk(chunk);
+        let left = left_in(rows, own, count, position, pending, alive, chunk);
         row.set_chunk(chunk, left);
+        from = chunk + 1;
     }
 }
 

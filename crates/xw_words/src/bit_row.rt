@@ -1,14 +1,15 @@
 //! A row of bits.
-ghost use Rattle.std.specs.Prelude.{◌≡◌, ℕ, ◌+◌, ◌-◌, ◌*◌, ◌/◌, ◌%◌, ◌^◌, ◌<◌, ◌≤◌, Bool, false, not, ◌&&◌, [], ◌∷◌, ◌++◌, length, min, slice_index_or, slice_set, count_by, OnOk, OnErr, IfErr, if◌then◌else◌, nat_eq};
+ghost use Rattle.std.specs.Prelude.{◌≡◌, ℕ, ◌+◌, ◌-◌, ◌*◌, ◌/◌, ◌%◌, ◌^◌, ◌<◌, ◌≤◌, Bool, false, not, ◌&&◌, [], ◌∷◌, ◌++◌, length, min, slice_index_or, slice_set, count_by, OnOk, OnErr, IfErr, IfSome, IfNone, true, if◌then◌else◌, nat_eq};
 ghost use Rattle.std.specs.Simd.Lanes.{zip2};
 ghost use Rattle.xw_words.specs.Bits.{RowOfBits, has_bit};
 ghost use Rattle.xw_words.specs.Places.{set_places};
 
 use crate::fault::WordFault;
 use crate::kernels::{
-    and_not_words, and_words, count_words, low_bits, make_room_for_bit, put_bit, with_bit,
+    and_not_words, and_words, count_words, low_bits, make_room_for_bit, next_word, put_bit,
+    with_bit,
 };
-use crate::ones::Ones;
+use crate::ones::{Ones, next_one};
 use std::alloc::Global;
 use std::marker::Model;
 
@@ -150,6 +151,27 @@ impl BitRow {
         ensures { result ≡ set_places self.now.bits 0 }
     {
         Ones::new(self)
+    }
+
+    /// The first place from one on that is set.
+    pub fn next_one(&self, from: usize) -> Option<usize>
+        ensures set { IfSome result (λ place. (from ≤ place) × (slice_index_or self.now.bits place false ≡ true)) }
+        ensures small { IfSome result (λ place. place < 2 ^ 57) }
+        ensures first { IfSome result (λ place. (i : ℕ) → from ≤ i → i < place → slice_index_or self.now.bits i false ≡ false) }
+        ensures none { IfNone result ((i : ℕ) → from ≤ i → slice_index_or self.now.bits i false ≡ false) }
+    {
+        next_one(self, from)
+    }
+
+    /// The first chunk from one on that has a bit.
+    pub fn next_chunk(&self, from: usize) -> Option<usize>
+        ensures within { IfSome result (λ chunk. (from ≤ chunk) × (64 * chunk < length self.now.bits)) }
+        ensures small { IfSome result (λ chunk. chunk < 2 ^ 51) }
+        ensures set { IfSome result (λ chunk. (k : ℕ) × (k < 64) × (slice_index_or self.now.bits (64 * chunk + k) false ≡ true)) }
+        ensures first { IfSome result (λ chunk. (i : ℕ) → 64 * from ≤ i → i < 64 * chunk → slice_index_or self.now.bits i false ≡ false) }
+        ensures none { IfNone result ((i : ℕ) → 64 * from ≤ i → slice_index_or self.now.bits i false ≡ false) }
+    {
+        next_word(&self.words, from)
     }
 
     pub fn has(&self, i: usize) -> bool

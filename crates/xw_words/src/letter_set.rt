@@ -1,5 +1,5 @@
 //! Sets of letters.
-ghost use Rattle.std.specs.Prelude.{◌≡◌, ℕ, ◌+◌, ◌<◌, ◌≤◌, true, false, not, ◌||◌, ◌&&◌, ◌==◌, length, bytes_eq};
+ghost use Rattle.std.specs.Prelude.{◌≡◌, ℕ, ◌+◌, ◌<◌, ◌≤◌, true, false, not, ◌||◌, ◌&&◌, ◌==◌, length, bytes_eq, IfSome, IfNone};
 ghost use Rattle.xw_words.specs.Letter.{is_capital};
 ghost use Rattle.xw_words.specs.LetterSet.{has, letters_in};
 
@@ -112,14 +112,25 @@ impl LetterSet {
         (self.bits >> place) & 1 == 1
     }
 
-    #[tactic(auto, using(crate::proofs::LetterSetLemmas::counting_steps))]
+    /// The first place of the alphabet, from one on, whose letter is in the set.
+    pub fn next_place(self, from: u32) -> Option<u32>
+        ensures set { IfSome result (λ place. (from ≤ place) × (place < 26) × (has self (65 + place) ≡ true)) }
+        ensures first { IfSome result (λ place. (other : ℕ) → from ≤ other → other < place → has self (65 + other) ≡ false) }
+        ensures none { IfNone result ((other : ℕ) → from ≤ other → has self (65 + other) ≡ false) }
+    {
+        if from >= 26 {
+            return None;
+        }
+        let rest = self.bits >> from;
+        if rest == 0 {
+            return None;
+        }
+        Some(from + rest.trailing_zeros())
+    }
+
     pub fn len(self) -> usize
         ensures { result ≡ length (letters_in self) }
     {
-        let mut count = 0;
-        for place in 0..26u32 {
-            count += usize::from(self.holds(place));
-        }
-        count
+        self.bits.count_ones() as usize
     }
 }

@@ -8,7 +8,7 @@ use crate::bit_row::BitRow;
 use std::marker::Model;
 
 /// The first place from one on whose bit is set.
-fn next_one(row: &BitRow, from: usize) -> Option<usize>
+pub(crate) fn next_one(row: &BitRow, from: usize) -> Option<usize>
     ensures set { IfSome result (λ place. (from ≤ place) × (slice_index_or row.now.bits place false ≡ true)) }
     ensures small { IfSome result (λ place. place < 2 ^ 57) }
     ensures first { IfSome result (λ place. (i : ℕ) → from ≤ i → i < place → slice_index_or row.now.bits i false ≡ false) }

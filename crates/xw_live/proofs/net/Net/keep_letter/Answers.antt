@@ -270,3 +270,13 @@ returns-then-not-find_support-clause-pending g c slot other pends =
 pub returns-else-not-find_support-clause-pending : goal.returns-else-not-find_support-clause-pending
 unfolding pending_in
 returns-else-not-find_support-clause-pending g c slot other pends = inl pends
+
+pub returns-then-not-find_support-clause-alive : goal.returns-then-not-find_support-clause-alive
+unfolding letter_stands
+returns-then-not-find_support-clause-alive g c cell other alive =
+    let at = cell_at c.args.board.now c.args.here.light c.args.here.place in
+    (and_parts (letter_stands c.args.self.now cell other) (not (eqb cell at && eqb other c.args.letter)) (sym (c.drop_letter.ensures.drops.letters cell other) ∙ alive)).0
+
+pub returns-else-not-find_support-clause-alive : goal.returns-else-not-find_support-clause-alive
+unfolding letter_stands
+returns-else-not-find_support-clause-alive g c cell other alive = alive

@@ -1,9 +1,11 @@
-use Rattle.std.proofs.Common.{◌≡◌, length, sym, ap, ◌∙◌, subst, inl, inr, arith}
+use Rattle.std.proofs.Common.{◌≡◌, ◌<◌, false, length, sym, ap, ◌∙◌, subst, inl, inr, arith}
 use Rattle.std.proofs.lemmas.Bool.{cases_lt}
+use Rattle.std.proofs.lemmas.List.{get_or_default}
 use Rattle.xw_words.specs.Dictionary.{Dictionary}
-use Rattle.xw_live.specs.Marks.{IsPosition, IsHeld, cell_at}
+use Rattle.xw_live.specs.Marks.{IsPosition, IsHeld, cell_at, known}
 use Rattle.xw_live.specs.Nets.{HasBits, marks_of, letter_stands}
 use Rattle.xw_live.proofs.Left.{left_left}
+use Rattle.xw_live.proofs.Rows.{entered_is, bits_known}
 use Rattle.xw_live.proofs.net.Net.keep_light.Goals as goal
 
 pub keep_place-requires-clause-bits : goal.keep_place-requires-clause-bits
@@ -40,3 +42,11 @@ loop-place-preserved g c =
 pub returns-clause-held : goal.returns-clause-held
 returns-clause-held g c dictionary position place letter here alive =
     c.loop-place.invariant.held dictionary position place letter here (omega (arith, here.1, c.len-place-end.ensures, ap length c.light.ensures.cells)) alive
+
+pub returns-then-index-clause-held : goal.returns-then-index-clause-held
+returns-then-index-clause-held g c dictionary position place letter here alive =
+    let old = c.args.self.now in
+    let i = c.args.light in
+    let within : i < length old.entered.items = omega (arith, c.requires.light, c.requires.shaped.entered) in
+    inr (entered_is old i (known c.args.board.now dictionary i) (bits_known c.args.board.now (g.R.Rows.entries c.args.rows.now) dictionary position old c.requires.bits i c.requires.light)
+    ∙ sym (get_or_default old.entered.items i c.index.result.now false within) ∙ sym c.index.ensures ∙ c.if-index.true)

@@ -1,4 +1,4 @@
-use Rattle.std.proofs.Common.{◌≡◌, ◌⊎◌, ◌<◌, ◌≤◌, ◌+◌, ℕ, true}
+use Rattle.std.proofs.Common.{◌≡◌, ◌⊎◌, ◌<◌, ◌≤◌, ◌+◌, ◌-◌, ℕ, true}
 use Rattle.xw_words.specs.Dictionary.{Dictionary}
 use Rattle.xw_live.specs.Marks.{IsHolding, IsSlot, IsPosition, IsHeld, Stays, cell_at}
 use Rattle.xw_live.specs.Due.{Measure, IsUnderway, and_light}
@@ -7,6 +7,8 @@ use Rattle.xw_live.proofs.net.Net.keep_place.Given as goal
 
 abbrev pub invariant-loop-number : goal.invariant-loop-number
 invariant-loop-number g l = record {
+  within : l.from ≤ 26;
+  alive : (cell letter : ℕ) → letter_stands l.self cell letter ≡ true → letter_stands l.fn.self cell letter ≡ true;
   same : g.R.Rows.entries l.rows ≡ g.R.Rows.entries l.fn.rows;
   risen : g.R.Rows.ticks l.fn.rows ≤ g.R.Rows.ticks l.rows;
   rest : IsLeft l.fn.self l.self;
@@ -14,7 +16,7 @@ invariant-loop-number g l = record {
   bits : HasBits l.board (g.R.Rows.entries l.fn.rows) l.self;
   fewer : left_of l.self ≤ left_of l.fn.self;
   waits : (other : ℕ) → Waits l.fn.self other → Waits l.self other;
-  held : (dictionary : Dictionary) → IsPosition l.board (g.R.Rows.entries l.fn.rows) dictionary → (letter : ℕ) → letter < 65 + l.number
+  held : (dictionary : Dictionary) → IsPosition l.board (g.R.Rows.entries l.fn.rows) dictionary → (letter : ℕ) → letter < 65 + l.from
       → letter_stands l.self (cell_at l.board l.light l.place) letter ≡ true → IsHeld l.board dictionary (marks_of l.self) l.light l.place letter;
   stays : (dictionary : Dictionary) → IsPosition l.board (g.R.Rows.entries l.fn.rows) dictionary → Stays l.board dictionary l.light (marks_of l.fn.self) (marks_of l.self);
   holding : (dictionary : Dictionary) → IsPosition l.board (g.R.Rows.entries l.fn.rows) dictionary → IsHolding l.board dictionary (marks_of l.fn.self) → IsHolding l.board dictionary (marks_of l.self);
@@ -22,3 +24,6 @@ invariant-loop-number g l = record {
   kept : (dictionary : Dictionary) (measure : Measure) → IsPosition l.board (g.R.Rows.entries l.fn.rows) dictionary → measure.member l.light ≡ true
       → IsUnderway l.board dictionary measure (marks_of l.fn.self) (and_light (queued_in l.fn.self) l.light) (g.R.Rows.ticks l.fn.rows) → IsUnderway l.board dictionary measure (marks_of l.self) (and_light (queued_in l.self) l.light) (g.R.Rows.ticks l.rows);
 }
+
+abbrev pub decreases-loop-number : goal.decreases-loop-number
+decreases-loop-number g l = 26 - l.from
