@@ -1,16 +1,18 @@
 -- What a net keeps, as its callers see it.
-use Rattle.std.specs.Prelude.{◌≡◌, ℕ, ◌+◌, ◌≤◌, Bool, false, List, [], ◌∷◌, ◌++◌, map, drop, length, slice_index_or, position, Option, Some, None, option_map}
+use Rattle.std.specs.Prelude.{◌≡◌, ℕ, ◌+◌, ◌≤◌, Bool, true, false, List, [], ◌∷◌, ◌++◌, map, drop, length, slice_index_or, position, Option, Some, None, option_map, IsTrue}
 use Rattle.std.specs.List.{range_with_len}
 use Rattle.xw_words.specs.Dictionary.{Dictionary, row}
 use Rattle.xw_grid.specs.declared.lights.Light.{Light}
 use Rattle.xw_grid.specs.Light.{lights_of}
+use Rattle.xw_feas.specs.Board.{board_of, light_at}
 use Rattle.xw_feas.specs.Choices.{IsExact}
 use Rattle.xw_feas.specs.Flags.{flag_at, set_has}
 use Rattle.xw_feas.specs.Standing.{HasRows}
-use Rattle.xw_feas.specs.State.{State}
-use Rattle.xw_live.specs.Nets.{bits_for}
+use Rattle.xw_feas.specs.State.{State, Action}
+use Rattle.xw_live.specs.Region.{IsRegion}
+use Rattle.xw_live.specs.Nets.{bits_for, queued_in}
 use Rattle.xw_live.specs.Room.{HasRoom, HasSpare}
-use Rattle.xw_live.specs.Filled.{IsFilled}
+use Rattle.xw_live.specs.Filled.{IsUnstripped, IsFilled}
 use Rattle.xw_live.specs.declared.net.Net.{Net}
 use Rattle.xw_live.specs.declared.room.Spare.{Spare}
 use Rattle.xw_live.specs.Layout.{Layout, layout_of}
@@ -39,6 +41,11 @@ pub record IsSettledOn (layout : Layout) (dictionary : Dictionary) (net : Net) :
 
 abbrev pub IsSettledFor : State → Net → Type 0
 IsSettledFor state net = IsSettledOn (layout_of state.grid) state.words net
+
+-- The net is revived after an edit: all that is feasible now stands, and perhaps more, and only lights of the region are to be seen to.
+pub record IsRevivedFor (before now : State) (action : Action) (net : Net) : Type 0 where
+  pub unstripped : IsUnstripped (board_of now.grid) now.words net
+  pub queued : (member : List ℕ → Bool) → IsRegion before now action member → (light : ℕ) → queued_in net light ≡ true → IsTrue (member (light_at (board_of now.grid) light))
 
 -- there is room for these lights, where so many words of each length are known: in the arrays that wait for an edit, or where there are none, in the net's own
 abbrev pub HasRoomIn : List Light → (ℕ → ℕ) → Net → Option Spare → Type 0

@@ -55,7 +55,7 @@ impl Net {
         read_marked(rows, board, None, &self.is_marked, &mut self.base);
         self.bring_back(board);
         self.unmark();
-        self.strip(rows, board);
+        self.strip_queued(rows, board);
     }
 
     /// A net with the answers for a grid and a dictionary.

@@ -273,7 +273,7 @@ impl Net {
     }
 
     /// Takes away words and letters until those that are left support one another.
-    pub fn strip<R: Rows>(&mut self, rows: &mut R, board: &Board<'_>)
+    pub(crate) fn strip_queued<R: Rows>(&mut self, rows: &mut R, board: &Board<'_>)
         requires shaped { IsShaped board.now self.old }
         requires bits { HasBits board.now (R.entries rows.old) self.old }
         requires queue { IsQueue self.old }

@@ -9,22 +9,25 @@ use xw_grid::lights::Lights;
 use xw_words::rows::Rows;
 
 impl Net {
-    ghost use Rattle.std.specs.Prelude.{◌≡◌, ℕ, ◌+◌, ◌≤◌, Bool, true, false, [], List, Option, None, Contains, length, vec_len, vec_capacity};
+    ghost use Rattle.std.specs.Prelude.{◌≡◌, ℕ, ◌+◌, ◌≤◌, Bool, true, false, List, Option, None, Contains, length, vec_len, vec_capacity};
     ghost use Rattle.xw_words.specs.Dictionary.{Dictionary};
     ghost use Rattle.xw_grid.specs.declared.cell.Cell.{Cell as CellOfGrid};
     ghost use Rattle.xw_grid.specs.Grid.{is_inside};
     ghost use Rattle.xw_grid.specs.Light.{lights_of};
     ghost use Rattle.xw_feas.specs.Board.{board_of};
+    ghost use Rattle.xw_feas.specs.Choices.{CoversSupported, IsWithinBase};
     ghost use Rattle.xw_feas.specs.State.{State, Action};
+    ghost use Rattle.xw_feas.specs.WellFormed.{IsWellFormed};
     ghost use Rattle.xw_live.specs.Room.{row_at, counts_of, HaveRoom};
-    ghost use Rattle.xw_live.specs.Fit.{AreNear, IsAtRest, HasRoomBetween};
+    ghost use Rattle.xw_live.specs.Fit.{HasRoomBetween};
     ghost use Rattle.xw_live.specs.Region.{IsRegion, cost};
-    ghost use Rattle.xw_live.specs.Nets.{pending_in, IsShaped, IsChained, HasBits, IsQueue};
+    ghost use Rattle.xw_live.specs.Cost.{revival_cost, stripping_cost};
+    ghost use Rattle.xw_live.specs.Nets.{word_stands, letter_stands, pending_in, IsShaped, IsChained, HasBits, IsQueue, IsLeft};
     ghost use Rattle.xw_live.specs.Spread.{is_marked, HasSeeds};
     ghost use Rattle.xw_live.specs.Brought.{HasBase, base_cost};
-    ghost use Rattle.xw_live.specs.Filled.{AreLong, HasRowRoom, IsFilled};
+    ghost use Rattle.xw_live.specs.Filled.{AreLong, HasRowRoom, IsUnstripped, IsFilled};
     ghost use Rattle.xw_live.specs.Change.{IsChange, AreReadsOf};
-    ghost use Rattle.xw_live.specs.Net.{StoodFor, IsSettledFor};
+    ghost use Rattle.xw_live.specs.Net.{StoodFor, IsSettledFor, IsRevivedFor};
     ghost use Rattle.xw_live.specs.Opened.{IsMoved, IsOpened};
 
     /// Brings a net that was settled before an edit, and goes by the lights after it, to the state
@@ -92,8 +95,8 @@ impl Net {
             &mut self.stack,
         );
     }
-    /// Settles a net that goes by the lights after an edit.
-    pub(crate) fn settle_moved<R: Rows>(
+    /// Revives a net that goes by the lights after an edit.
+    fn revive_moved<R: Rows>(
         &mut self,
         rows: &mut R,
         grid: &Grid,
@@ -115,33 +118,109 @@ impl Net {
         ensures entries { R.entries rows.new ≡ R.entries rows.old }
         ensures risen { R.ticks rows.old ≤ R.ticks rows.new }
         ensures shaped { IsShaped board.now self.new }
-        ensures chained { IsChained board.now self.new }
         ensures bits { HasBits board.now (R.entries rows.old) self.new }
-        ensures base { HasBase board.now (R.entries rows.old) self.new.base.items }
-        ensures stack { self.new.stack.items ≡ [] }
+        ensures queue { IsQueue self.new }
         ensures spare { self.new.spare ≡ self.old.spare }
         ensures row_room { (other : ℕ) → (row_at self.old.rows.items other).room ≤ (row_at self.new.rows.items other).room }
         ensures base_room { (other : ℕ) → (row_at self.old.base.items other).room ≤ (row_at self.new.base.items other).room }
-        ensures filled { (before : State) (words : Dictionary) (action : Action) (settled : Net) →
+        ensures revived { (before : State) (words : Dictionary) (action : Action) (settled : Net) →
             AreReadsOf (R.entries rows.old) words →
             IsChange before (record { grid = grid.now; words = words }) action change.now →
             IsFilled (board_of before.grid) before.words settled →
             IsMoved before (record { grid = grid.now; words = words }) settled self.old →
             HasRowRoom board.now (R.entries rows.old) self.old.rows.items →
             HasRowRoom board.now (R.entries rows.old) self.old.base.items →
-            IsFilled (board_of grid.now) words self.new }
+            IsRevivedFor before (record { grid = grid.now; words = words }) action self.new }
         ensures cost { (before : State) (words : Dictionary) (action : Action) (settled : Net) (member : List ℕ → Bool) →
             AreReadsOf (R.entries rows.old) words →
             IsChange before (record { grid = grid.now; words = words }) action change.now →
             IsFilled (board_of before.grid) before.words settled →
             IsMoved before (record { grid = grid.now; words = words }) settled self.old →
             IsRegion before (record { grid = grid.now; words = words }) action member →
-            R.ticks rows.new ≤ R.ticks rows.old + cost (record { grid = grid.now; words = words }) member }
+            R.ticks rows.new ≤ R.ticks rows.old + revival_cost (record { grid = grid.now; words = words }) member }
     {
         self.begin(rows, grid, board, lights, change);
         self.bring_back(board);
         self.unmark();
-        self.strip(rows, board);
+    }
+    /// Gives the lights on the chain that an edit begins their base words back, and the cells of these lights
+    /// their letters, so that all that is feasible after the edit stands.
+    pub fn revive<R: Rows>(
+        &mut self,
+        rows: &mut R,
+        change: &Change<'_>,
+        grid: &Grid,
+        lights: &Lights,
+    )
+        requires lights { lights.now ≡ lights_of grid.now }
+        requires inside { (listed : CellOfGrid × Option ℕ) → Contains change.now.cells.now listed → is_inside grid.now listed.0 ≡ true }
+        requires long { AreLong (board_of grid.now) (R.entries rows.old) }
+        requires cells { vec_len self.old.letters ≡ length grid.now.squares }
+        requires stood { StoodFor change.now.before.now (counts_of (R.entries rows.old)) self.old }
+        requires room { HasRoomBetween change.now.before.now lights.now (counts_of (R.entries rows.old)) self.old self.old.spare }
+        ensures entries { R.entries rows.new ≡ R.entries rows.old }
+        ensures risen { R.ticks rows.old ≤ R.ticks rows.new }
+        ensures spare { self.new.spare ≡ None }
+        ensures rows { HaveRoom lights.now (counts_of (R.entries rows.old)) self.new.rows.items }
+        ensures base { HaveRoom lights.now (counts_of (R.entries rows.old)) self.new.base.items }
+        ensures shaped { IsShaped (board_of grid.now) self.new }
+        ensures bits { HasBits (board_of grid.now) (R.entries rows.old) self.new }
+        ensures queue { IsQueue self.new }
+        ensures covers { (before : State) (words : Dictionary) (action : Action) →
+            AreReadsOf (R.entries rows.old) words →
+            IsChange before (record { grid = grid.now; words = words }) action change.now →
+            IsSettledFor before self.old →
+            CoversSupported (board_of grid.now) words (word_stands self.new) (letter_stands self.new) }
+        ensures within { (before : State) (words : Dictionary) (action : Action) →
+            AreReadsOf (R.entries rows.old) words →
+            IsChange before (record { grid = grid.now; words = words }) action change.now →
+            IsSettledFor before self.old →
+            IsWithinBase (board_of grid.now) words (word_stands self.new) (letter_stands self.new) }
+        ensures revived { (before : State) (words : Dictionary) (action : Action) →
+            AreReadsOf (R.entries rows.old) words →
+            IsChange before (record { grid = grid.now; words = words }) action change.now →
+            IsSettledFor before self.old →
+            IsRevivedFor before (record { grid = grid.now; words = words }) action self.new }
+        ensures cost { (before : State) (words : Dictionary) (action : Action) (member : List ℕ → Bool) →
+            AreReadsOf (R.entries rows.old) words →
+            IsChange before (record { grid = grid.now; words = words }) action change.now →
+            IsSettledFor before self.old →
+            IsRegion before (record { grid = grid.now; words = words }) action member →
+            R.ticks rows.new ≤ R.ticks rows.old + revival_cost (record { grid = grid.now; words = words }) member }
+    {
+        self.move_to(rows, change.before, lights);
+        let board = Board::new(grid, lights);
+        self.revive_moved(rows, grid, &board, lights, change);
+    }
+    /// Takes words and letters without support away until none is left, in a net that was revived.
+    pub fn strip<R: Rows>(
+        &mut self,
+        rows: &mut R,
+        _change: &Change<'_>,
+        grid: &Grid,
+        lights: &Lights,
+    )
+        requires lights { lights.now ≡ lights_of grid.now }
+        requires shaped { IsShaped (board_of grid.now) self.old }
+        requires bits { HasBits (board_of grid.now) (R.entries rows.old) self.old }
+        requires queue { IsQueue self.old }
+        ensures entries { R.entries rows.new ≡ R.entries rows.old }
+        ensures risen { R.ticks rows.old ≤ R.ticks rows.new }
+        ensures rest { IsLeft self.old self.new }
+        ensures settled { (words : Dictionary) →
+            AreReadsOf (R.entries rows.old) words →
+            IsWellFormed (record { grid = grid.now; words = words }) →
+            IsUnstripped (board_of grid.now) words self.old →
+            IsSettledFor (record { grid = grid.now; words = words }) self.new }
+        ensures cost { (before : State) (words : Dictionary) (action : Action) (member : List ℕ → Bool) →
+            AreReadsOf (R.entries rows.old) words →
+            IsWellFormed (record { grid = grid.now; words = words }) →
+            IsRevivedFor before (record { grid = grid.now; words = words }) action self.old →
+            IsRegion before (record { grid = grid.now; words = words }) action member →
+            R.ticks rows.new ≤ R.ticks rows.old + stripping_cost (record { grid = grid.now; words = words }) member }
+    {
+        let board = Board::new(grid, lights);
+        self.strip_queued(rows, &board);
     }
     /// Brings the net to the answers of the state after an edit.
     pub fn settle<R: Rows>(
@@ -174,8 +253,7 @@ impl Net {
             IsRegion before (record { grid = grid.now; words = words }) action member →
             R.ticks rows.new ≤ R.ticks rows.old + cost (record { grid = grid.now; words = words }) member }
     {
-        self.move_to(rows, change.before, lights);
-        let board = Board::new(grid, lights);
-        self.settle_moved(rows, grid, &board, lights, change);
+        self.revive(rows, change, grid, lights);
+        self.strip(rows, change, grid, lights);
     }
 }

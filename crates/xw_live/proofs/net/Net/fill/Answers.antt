@@ -32,9 +32,9 @@ bring_back-requires-clause-bits g c =
     let base_is = with_items_is c.args.self.now.base c.read_marked.new.base (omega (arith, c.read_marked.auto.base, c.deref_mut-3.ensures.len)) in
     (g.R.Rows.entries c.args.rows.now, c.requires.fresh.whole.bits, subst (HasBase c.args.board.now (g.R.Rows.entries c.args.rows.now)) (sym base_is) c.read_marked.ensures.base)
 
-pub strip-requires-clause-queue : goal.strip-requires-clause-queue
+pub strip_queued-requires-clause-queue : goal.strip_queued-requires-clause-queue
 unfolding queued_in
-strip-requires-clause-queue g c =
+strip_queued-requires-clause-queue g c =
     subst (λ (net : Net). IsQueue net) (sym c.unmark.ensures.rest) (c.bring_back.ensures.queue (quiet_queue c.args.self.now c.requires.fresh.quiet))
 
 pub unmark-requires-clause-room : goal.unmark-requires-clause-room
@@ -49,7 +49,7 @@ returns-clause-filled g c dictionary position =
     let fresh = c.requires.fresh in
     let entries = g.R.Rows.entries c.args.rows.now in
     let back = c.bring_back in
-    let last = c.strip in
+    let last = c.strip_queued in
     let base_is = with_items_is c.args.self.now.base c.read_marked.new.base (omega (arith, c.read_marked.auto.base, c.deref_mut-3.ensures.len)) in
     let marks_is = with_items_is c.args.self.now.is_marked c.mark_all.new.marks (omega (arith, c.mark_all.auto.marks, c.deref_mut-2.ensures.len)) in
     let letters_is = with_items_is c.args.self.now.letters c.fill_letters.new.letters (omega (arith, c.fill_letters.auto.letters, c.deref_mut.ensures.len)) in

@@ -1,59 +1,17 @@
-use Rattle.std.proofs.Common.{sym, subst}
-use Rattle.std.specs.Prelude.{vec_len}
-use Rattle.xw_live.specs.Nets.{IsShaped, IsChained, HasBits}
-use Rattle.xw_live.specs.Brought.{HasBase}
-use Rattle.xw_live.specs.Filled.{HasRowRoom}
-use Rattle.xw_live.specs.Room.{counts_of}
-use Rattle.xw_live.proofs.Settled.{filled_settled}
-use Rattle.xw_live.proofs.AtRest.{stood_rest, stood_rows, stood_base}
-use Rattle.xw_live.proofs.Resting.{rest_shaped, rest_chained, rest_bits, rest_base, rest_room, rest_queued, rest_marked}
+use Rattle.std.proofs.Common.{◌≡◌, ℕ, List, ◌∙◌, ap, arith}
+use Rattle.xw_words.specs.Dictionary.{Entry}
+use Rattle.xw_live.specs.Room.{row_at}
+use Rattle.xw_live.proofs.CostBound.{settled_cost}
 use Rattle.xw_live.proofs.net.Net.settle.Goals as goal
-
-pub settle_moved-requires-clause-shaped : goal.settle_moved-requires-clause-shaped
-settle_moved-requires-clause-shaped g c =
-    subst (λ b. IsShaped b c.move_to.new.self) (sym c.new-board.ensures)
-    (rest_shaped c.args.grid.now c.args.lights.now (vec_len c.args.self.now.letters) c.move_to.new.self c.requires.lights c.requires.cells c.move_to.ensures.rest)
-
-pub settle_moved-requires-clause-chained : goal.settle_moved-requires-clause-chained
-settle_moved-requires-clause-chained g c =
-    subst (λ b. IsChained b c.move_to.new.self) (sym c.new-board.ensures)
-    (rest_chained c.args.grid.now c.args.lights.now (vec_len c.args.self.now.letters) c.move_to.new.self c.requires.lights c.requires.cells c.move_to.ensures.rest)
-
-pub settle_moved-requires-clause-bits : goal.settle_moved-requires-clause-bits
-settle_moved-requires-clause-bits g c =
-    subst (λ b. HasBits b (g.R.Rows.entries c.args.rows.now) c.move_to.new.self) (sym c.new-board.ensures)
-    (rest_bits c.args.grid.now c.args.lights.now (vec_len c.args.self.now.letters) c.move_to.new.self c.requires.lights c.requires.cells c.move_to.ensures.rest (g.R.Rows.entries c.args.rows.now) c.move_to.ensures.whole.rows)
-
-pub settle_moved-requires-clause-base : goal.settle_moved-requires-clause-base
-settle_moved-requires-clause-base g c =
-    subst (λ b. HasBase b (g.R.Rows.entries c.args.rows.now) c.move_to.new.self.base.items) (sym c.new-board.ensures)
-    (rest_base c.args.grid.now c.args.lights.now (vec_len c.args.self.now.letters) c.move_to.new.self c.requires.lights c.requires.cells c.move_to.ensures.rest (g.R.Rows.entries c.args.rows.now) c.move_to.ensures.whole.base)
-
-pub settle_moved-requires-clause-queued : goal.settle_moved-requires-clause-queued
-settle_moved-requires-clause-queued g c = rest_queued c.args.grid.now c.args.lights.now (vec_len c.args.self.now.letters) c.move_to.new.self c.requires.lights c.requires.cells c.move_to.ensures.rest
-
-pub settle_moved-requires-clause-seeds : goal.settle_moved-requires-clause-seeds
-settle_moved-requires-clause-seeds g c = rest_marked c.args.grid.now c.args.lights.now (vec_len c.args.self.now.letters) c.move_to.new.self c.requires.lights c.requires.cells c.move_to.ensures.rest
-
-pub move_to-requires-clause-rest : goal.move_to-requires-clause-rest
-move_to-requires-clause-rest g c = stood_rest c.args.change.now.before.now (counts_of (g.R.Rows.entries c.args.rows.now)) c.args.self.now c.requires.stood
-
-pub move_to-requires-clause-rows : goal.move_to-requires-clause-rows
-move_to-requires-clause-rows g c = stood_rows c.args.change.now.before.now (counts_of (g.R.Rows.entries c.args.rows.now)) c.args.self.now c.requires.stood
-
-pub move_to-requires-clause-base : goal.move_to-requires-clause-base
-move_to-requires-clause-base g c = stood_base c.args.change.now.before.now (counts_of (g.R.Rows.entries c.args.rows.now)) c.args.self.now c.requires.stood
 
 pub returns-clause-settled : goal.returns-clause-settled
 returns-clause-settled g c before words action read is settled =
-    filled_settled c.args.grid.now words c.settle_moved.new.self (c.settle_moved.ensures.filled before words action c.args.self.now read is settled.filled
-    (c.move_to.ensures.moved before (record { grid = c.args.grid.now; words = words }) is.lights c.requires.lights read settled.filled)
-    (subst (λ b. HasRowRoom b (g.R.Rows.entries c.args.rows.now) c.move_to.new.self.rows.items) (sym c.new-board.ensures)
-    (rest_room c.args.grid.now c.args.lights.now (vec_len c.args.self.now.letters) c.move_to.new.self c.requires.lights c.requires.cells c.move_to.ensures.rest (g.R.Rows.entries c.args.rows.now) c.move_to.new.self.rows.items c.move_to.ensures.room.rows))
-    (subst (λ b. HasRowRoom b (g.R.Rows.entries c.args.rows.now) c.move_to.new.self.base.items) (sym c.new-board.ensures)
-    (rest_room c.args.grid.now c.args.lights.now (vec_len c.args.self.now.letters) c.move_to.new.self c.requires.lights c.requires.cells c.move_to.ensures.rest (g.R.Rows.entries c.args.rows.now) c.move_to.new.self.base.items c.move_to.ensures.room.base)))
+    c.strip.ensures.settled words (λ count. ap (λ (entries : ℕ → List Entry). entries count) c.revive.ensures.entries ∙ read count) is.formed_now
+    (c.revive.ensures.revived before words action read is settled).unstripped
 
 pub returns-clause-cost : goal.returns-clause-cost
 returns-clause-cost g c before words action member read is settled region =
-    c.settle_moved.ensures.cost before words action c.args.self.now member read is settled.filled
-    (c.move_to.ensures.moved before (record { grid = c.args.grid.now; words = words }) is.lights c.requires.lights read settled.filled) region
+    let reviving = c.revive.ensures.cost before words action member read is settled region in
+    let stripping = c.strip.ensures.cost before words action member (λ count. ap (λ (entries : ℕ → List Entry). entries count) c.revive.ensures.entries ∙ read count) is.formed_now
+    (c.revive.ensures.revived before words action read is settled) region in
+    omega (arith, reviving, stripping, settled_cost (record { grid = c.args.grid.now; words = words }) member is.formed_now.board)

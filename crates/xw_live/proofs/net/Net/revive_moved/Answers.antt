@@ -2,7 +2,6 @@ use Rattle.std.proofs.Common.{◌≡◌, ℕ, Bool, true, false, List, length, s
 use Rattle.std.proofs.lemmas.Bool.{cases_Bool}
 use Rattle.xw_words.specs.Dictionary.{Entry, row}
 use Rattle.xw_feas.specs.Board.{Board, board_of, light_at}
-use Rattle.xw_feas.specs.Choices.{IsWithinBase}
 use Rattle.xw_feas.specs.Flags.{set_has}
 use Rattle.xw_feas.specs.State.{State, Action}
 use Rattle.xw_live.specs.declared.net.Net.{Net}
@@ -10,20 +9,18 @@ use Rattle.xw_live.specs.declared.change.Change.{Change}
 use Rattle.xw_live.specs.Change.{IsChange, AreReadsOf}
 use Rattle.xw_live.specs.Revival.{IsMatching, same_light}
 use Rattle.xw_live.specs.Region.{IsRegion}
-use Rattle.xw_live.specs.Marks.{IsPosition, IsReady}
-use Rattle.xw_live.specs.Due.{IsClosed, HasQueued, set_cost}
+use Rattle.xw_live.specs.Marks.{IsPosition}
 use Rattle.xw_live.specs.Nets.{marks_of, word_stands, letter_stands, held_in, restart_in, pending_in, queued_in, IsQueue}
 use Rattle.xw_live.specs.Spread.{is_marked}
 use Rattle.xw_live.specs.Brought.{IsBase, IsBegun, IsReadyBut, base_cost}
-use Rattle.xw_live.specs.Filled.{IsWholeNet, IsFilled}
+use Rattle.xw_live.specs.Filled.{IsWholeNet, IsUnstripped}
 use Rattle.xw_live.specs.Opened.{IsOpened}
 use Rattle.xw_live.proofs.Same.{same_is_matching}
 use Rattle.xw_live.proofs.Slots.{slots_apart}
 use Rattle.xw_live.proofs.Left.{base_read}
 use Rattle.xw_live.proofs.Unstripped.{brought_unstripped}
-use Rattle.xw_live.proofs.Closed.{region_is_closed}
-use Rattle.xw_live.proofs.CostBound.{settled_cost}
-use Rattle.xw_live.proofs.net.Net.settle_moved.Goals as goal
+use Rattle.xw_live.proofs.CostBound.{revival-is}
+use Rattle.xw_live.proofs.net.Net.revive_moved.Goals as goal
 
 position_of : (before now : State) (action : Action) (change : Change) (board : Board) (entries : ℕ → List Entry) → board ≡ board_of now.grid → AreReadsOf entries now.words → IsChange before now action change → IsPosition board entries now.words
 position_of before now action change board entries same read is =
@@ -43,25 +40,18 @@ base_of before now action settled net board same opened = subst (λ b. IsBase b 
 ready_of : (before now : State) (action : Action) (settled net : Net) (board : Board) → board ≡ board_of now.grid → IsOpened before now action settled net → IsReadyBut board now.words (marks_of net) (is_marked net.is_marked.items)
 ready_of before now action settled net board same opened = subst (λ b. IsReadyBut b now.words (marks_of net) (is_marked net.is_marked.items)) (sym same) opened.ready
 
--- in a region there is what stripping wants to be closed
-closed_of : (before now : State) (action : Action) (member : List ℕ → Bool) (words letters : ℕ → ℕ → Bool) (board : Board) → board ≡ board_of now.grid → IsRegion before now action member → IsWithinBase board now.words words letters
-    → IsClosed board now.words (λ light. member (light_at board light)) letters
-closed_of before now action member words letters board same region within =
-    subst (λ b. IsClosed b now.words (λ light. member (light_at b light)) letters) (sym same)
-    (region_is_closed before now action member words letters region (subst (λ b. IsWithinBase b now.words words letters) same within))
-
 cost_of : (now : State) (member : List ℕ → Bool) (board : Board) (entries : ℕ → List Entry) → board ≡ board_of now.grid → entries ≡ row now.words
     → base_cost board entries (λ light. member (light_at board light)) ≡ base_cost (board_of now.grid) (row now.words) (λ light. member (light_at (board_of now.grid) light))
 cost_of now member board entries same read =
     ap (λ b. base_cost b entries (λ light. member (light_at b light))) same ∙ ap (λ es. base_cost (board_of now.grid) es (λ light. member (light_at (board_of now.grid) light))) read
 
-pub strip-requires-clause-queue : goal.strip-requires-clause-queue
+pub returns-clause-queue : goal.returns-clause-queue
 unfolding queued_in
-strip-requires-clause-queue g c = subst (λ (net : Net). IsQueue net) (sym c.unmark.ensures.rest) (c.bring_back.ensures.queue c.begin.ensures.queue)
+returns-clause-queue g c = subst (λ (net : Net). IsQueue net) (sym c.unmark.ensures.rest) (c.bring_back.ensures.queue c.begin.ensures.queue)
 
-pub returns-clause-filled : goal.returns-clause-filled
-unfolding pending_in
-returns-clause-filled g c before words action settled read is filled moved room base_room =
+pub returns-clause-revived : goal.returns-clause-revived
+unfolding word_stands letter_stands held_in restart_in pending_in queued_in is_marked
+returns-clause-revived g c before words action settled read is filled moved room base_room =
     let board = c.args.board.now in
     let opened = c.begin.ensures.opened before words action settled read is filled moved in
     let position = position_of before (record { grid = c.args.grid.now; words = words }) action c.args.change.now c.args.board.now (g.R.Rows.entries c.args.rows.now) c.requires.board read is in
@@ -71,7 +61,6 @@ returns-clause-filled g c before words action settled read is filled moved room 
     (matching_of before (record { grid = c.args.grid.now; words = words }) c.args.board.now c.requires.board is.width) filled.exact begun in
     let start = ready_of before (record { grid = c.args.grid.now; words = words }) action settled c.begin.new.self c.args.board.now c.requires.board opened in
     let ready = c.bring_back.ensures.ready (g.R.Rows.entries c.args.rows.now) words position is_base start covers in
-    let position' = subst (λ e. IsPosition c.args.board.now e words) (sym c.begin.ensures.entries) position in
     let words_read : (light : ℕ) → length (g.R.Rows.entries c.args.rows.now (length (light_at c.args.board.now light))) ≡ length (row words (length (light_at c.args.board.now light))) =
     λ light. ap (λ (entries : List Entry). length entries) (read (length (light_at board light))) in
     let whole : IsWholeNet c.args.board.now (row words) c.begin.new.self = record {
@@ -84,41 +73,30 @@ returns-clause-filled g c before words action settled read is filled moved room 
     } in
     let none_pending : (slot letter : ℕ) → pending_in c.begin.new.self slot letter ≡ false =
     λ slot letter. c.begin.ensures.pending slot letter (ap (λ ps. set_has ps slot letter) moved.pending ∙ filled.pending slot letter) in
+    let brought = c.bring_back.ensures.brought words is_base in
     let unstripped = brought_unstripped board words c.begin.new.self c.bring_back.new.self c.unmark.new.self whole is_base
     (c.unmark.ensures.shaped board c.bring_back.ensures.shaped) (c.unmark.ensures.chained board c.bring_back.ensures.chained)
-    (c.bring_back.ensures.bits (row words) whole.bits) c.bring_back.ensures.base c.bring_back.ensures.stack c.bring_back.ensures.row_room (is_marked c.bring_back.new.self.is_marked.items) (c.bring_back.ensures.brought words is_base)
+    (c.bring_back.ensures.bits (row words) whole.bits) c.bring_back.ensures.base c.bring_back.ensures.stack c.bring_back.ensures.row_room (is_marked c.bring_back.new.self.is_marked.items) brought
     ready start.hits none_pending c.unmark.ensures.rest c.unmark.ensures.marked in
-    subst (λ b. IsFilled b words c.strip.new.self) c.requires.board (c.strip.ensures.filled words position' unstripped)
+    record {
+      unstripped = subst (λ b. IsUnstripped b words c.unmark.new.self) c.requires.board unstripped;
+      queued = λ member region light on.
+          let seeds : (l : ℕ) → is_marked c.begin.new.self.is_marked.items l ≡ true → member (light_at c.args.board.now l) ≡ true =
+          λ l marked. ap (λ b. member (light_at b l)) c.requires.board ∙ opened.within member region l marked in
+          let chain = c.bring_back.ensures.region before (record { grid = c.args.grid.now; words = words }) action member (word_stands settled) (letter_stands settled) c.requires.board region filled.exact begun.letters_kept seeds in
+          let back : queued_in c.bring_back.new.self light ≡ true = ap (λ (net : Net). queued_in net light) (sym c.unmark.ensures.rest) ∙ on in
+          elim (cases_Bool (is_marked c.bring_back.new.self.is_marked.items light)) [
+            | inl marked ↦ ap (λ b. member (light_at b light)) (sym c.requires.board) ∙ chain light marked
+            | inr off ↦ opened.queued_within member region light (sym (brought.queued_off light off) ∙ back)
+          ];
+    }
 
 pub returns-clause-cost : goal.returns-clause-cost
-unfolding word_stands letter_stands held_in restart_in pending_in queued_in is_marked
 returns-clause-cost g c before words action settled member read is filled moved region =
     let opened = c.begin.ensures.opened before words action settled read is filled moved in
     let entries : g.R.Rows.entries c.args.rows.now ≡ row words = λ t. λ count. read count t in
-    let position = position_of before (record { grid = c.args.grid.now; words = words }) action c.args.change.now c.args.board.now (g.R.Rows.entries c.args.rows.now) c.requires.board read is in
-    let is_base = base_of before (record { grid = c.args.grid.now; words = words }) action settled c.begin.new.self c.args.board.now c.requires.board opened in
-    let begun = begun_of before (record { grid = c.args.grid.now; words = words }) action settled c.begin.new.self c.args.board.now c.requires.board opened in
-    let covers = c.bring_back.ensures.covers (board_of before.grid) before.words words (same_light before.grid c.args.grid.now) (word_stands settled) (letter_stands settled) is_base
-    (matching_of before (record { grid = c.args.grid.now; words = words }) c.args.board.now c.requires.board is.width) filled.exact begun in
-    let ready = c.bring_back.ensures.ready (g.R.Rows.entries c.args.rows.now) words position is_base (ready_of before (record { grid = c.args.grid.now; words = words }) action settled c.begin.new.self c.args.board.now c.requires.board opened) covers in
-    let position' = subst (λ e. IsPosition c.args.board.now e words) (sym c.begin.ensures.entries) position in
-    let seeds : (light : ℕ) → is_marked c.begin.new.self.is_marked.items light ≡ true → member (light_at c.args.board.now light) ≡ true =
-    λ light on. ap (λ b. member (light_at b light)) c.requires.board ∙ opened.within member region light on in
     let queued : (light : ℕ) → is_marked c.begin.new.self.is_queued.items light ≡ true → member (light_at c.args.board.now light) ≡ true =
     λ light on. ap (λ b. member (light_at b light)) c.requires.board ∙ opened.queued_within member region light on in
-    let chain = c.bring_back.ensures.region before (record { grid = c.args.grid.now; words = words }) action member (word_stands settled) (letter_stands settled) c.requires.board region filled.exact begun.letters_kept seeds in
-    let brought = c.bring_back.ensures.brought words is_base in
-    let has_queued : HasQueued c.args.board.now (λ light. member (light_at c.args.board.now light)) (marks_of c.bring_back.new.self) =
-    λ light in_board on. elim (cases_Bool (is_marked c.bring_back.new.self.is_marked.items light)) [
-      | inl marked ↦ chain light marked
-      | inr off ↦ queued light (sym (brought.queued_off light off) ∙ on)
-    ] in
-    let closed = closed_of before (record { grid = c.args.grid.now; words = words }) action member _ _ c.args.board.now c.requires.board region ready.sound.within in
     let reading = c.begin.ensures.cost (λ light. member (light_at c.args.board.now light)) queued in
-    let back = sym c.unmark.ensures.rest in
-    let stripping = c.strip.ensures.cost words (λ light. member (light_at c.args.board.now light)) position' (subst (λ (net : Net). IsReady c.args.board.now words (marks_of net)) back ready)
-    (subst (λ (net : Net). IsClosed c.args.board.now words (λ light. member (light_at c.args.board.now light)) (letter_stands net)) back closed)
-    (subst (λ (net : Net). HasQueued c.args.board.now (λ light. member (light_at c.args.board.now light)) (marks_of net)) back has_queued) in
     let bases = cost_of (record { grid = c.args.grid.now; words = words }) member c.args.board.now (g.R.Rows.entries c.args.rows.now) c.requires.board entries in
-    let sets = ap (λ b. set_cost b words (λ light. member (light_at b light))) c.requires.board in
-    omega (arith, reading, stripping, bases, sets, settled_cost (record { grid = c.args.grid.now; words = words }) member is.formed_now.board)
+    omega (arith, reading, bases, revival-is (record { grid = c.args.grid.now; words = words }) member)

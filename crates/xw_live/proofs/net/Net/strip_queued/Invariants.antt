@@ -3,7 +3,7 @@ use Rattle.xw_words.specs.Dictionary.{Dictionary}
 use Rattle.xw_live.specs.Marks.{IsHolding, IsSlot, IsPosition}
 use Rattle.xw_live.specs.Due.{Measure, IsUnderway}
 use Rattle.xw_live.specs.Nets.{IsShaped, IsLeft, HasBits, IsQueue, left_of, marks_of, pending_in, queued_in}
-use Rattle.xw_live.proofs.net.Net.strip.Given as goal
+use Rattle.xw_live.proofs.net.Net.strip_queued.Given as goal
 
 abbrev pub invariant-loop-light : goal.invariant-loop-light
 invariant-loop-light g l = record {
