@@ -1,5 +1,6 @@
 //! What stands of the words and letters of a grid, stripped of what has no support.
-ghost use Rattle.std.specs.Prelude.{◌≡◌, ℕ, ◌+◌, ◌<◌, ◌≤◌, true, false, not, ◌++◌, [], ◌∷◌, length, vec_len, vec_capacity, count_by, slice_index_or, slice_set, if◌then◌else◌, All};
+ghost use Rattle.std.specs.Prelude.{◌≡◌, ℕ, ◌+◌, ◌<◌, ◌≤◌, true, false, not, ◌++◌, [], ◌∷◌, length, vec_len, vec_capacity, count_by, slice_index_or, slice_set, if◌then◌else◌, All, IfSome, IfNone};
+ghost use Rattle.std.specs.List.Sorted.{IsPermutation};
 ghost use Rattle.xw_words.specs.Letter.{IsLetter};
 ghost use Rattle.xw_words.specs.Dictionary.{Dictionary};
 ghost use Rattle.xw_feas.specs.Board.{light_at};
@@ -45,6 +46,25 @@ fn enqueue(is_queued: &mut [bool], queue: &mut Vec<usize>, light: usize)
         is_queued[light] = true;
         let _ = queue.push(light);
     }
+}
+
+/// Takes a light from the queue. The turns go round, so that a light that comes anew waits for
+/// those before it.
+fn take_turn(queue: &mut Vec<usize>, turn: &mut usize) -> Option<usize>
+    ensures taken { IfSome result (λ light. IsPermutation queue.old.items (light ∷ queue.new.items)) }
+    ensures none { IfNone result (queue.old.items ≡ []) }
+    ensures left { IfNone result (queue.new.items ≡ []) }
+    ensures capacity { vec_capacity queue.new ≡ vec_capacity queue.old }
+{
+    if queue.is_empty() {
+        return None;
+    }
+    if *turn >= queue.len() {
+        *turn = 0;
+    }
+    let light = queue.swap_remove(*turn);
+    *turn += 1;
+    Some(light)
 }
 
 impl Net {
@@ -291,7 +311,8 @@ impl Net {
         ensures filled { (dictionary : Dictionary) → IsPosition board.now (R.entries rows.old) dictionary → IsUnstripped board.now dictionary self.old → IsFilled board.now dictionary self.new }
         ensures cost { (dictionary : Dictionary) (member : ℕ → Bool) → IsPosition board.now (R.entries rows.old) dictionary → IsReady board.now dictionary (marks_of self.old) → IsClosed board.now dictionary member (letter_stands self.old) → HasQueued board.now member (marks_of self.old) → R.ticks rows.new ≤ R.ticks rows.old + set_cost board.now dictionary member }
     {
-        while let Some(light) = self.queue.pop() {
+        let mut turn = 0;
+        while let Some(light) = take_turn(&mut self.queue, &mut turn) {
             self.see_to(rows, board, light);
         }
     }

@@ -4,7 +4,6 @@ use Rattle.std.proofs.Math.Nat.{mul-le-mul_right}
 use Rattle.xw_words.specs.Bits.{has_bit}
 use Rattle.xw_words.specs.Columns.{has_letter}
 use Rattle.xw_words.specs.LetterSet.{has}
-use Rattle.xw_live.specs.Region.{chunks_of}
 use Rattle.xw_live.specs.Support.{letter_count, AreApart}
 use Rattle.xw_live.proofs.Chunks.{chunk_fewer, chunk_struck, chunk_kept}
 use Rattle.xw_live.proofs.support.strike_row.Goals as goal

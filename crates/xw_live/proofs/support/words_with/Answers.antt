@@ -1,9 +1,8 @@
-use Rattle.std.proofs.Common.{◌≡◌, ℕ, ◌<◌, ◌+◌, ◌-◌, ◌*◌, ◌&&◌, true, false, cond, refl, ap, sym, ◌∙◌, inl, inr, arith}
+use Rattle.std.proofs.Common.{◌≡◌, ℕ, ◌<◌, ◌+◌, ◌-◌, ◌*◌, ◌&&◌, true, cond, refl, ap, sym, ◌∙◌, inl, inr, arith}
 use Rattle.std.proofs.lemmas.Bool.{cases_lt, both_ways}
 use Rattle.xw_words.specs.Bits.{has_bit}
 use Rattle.xw_words.specs.Columns.{has_letter}
 use Rattle.xw_words.specs.LetterSet.{has}
-use Rattle.xw_live.specs.Due.{sum_to}
 use Rattle.xw_live.specs.Support.{letter_count}
 use Rattle.xw_live.proofs.Chunks.{no_bit, more_some, more_each, set_letter}
 use Rattle.xw_live.proofs.Sums.{sum_to-more, sum_to-grows}

@@ -1,8 +1,8 @@
-use Rattle.std.proofs.Common.{◌≡◌, ◌+◌, true, length, append-nil, refl, sym, ap, ◌∙◌, subst, inl, inr, arith, rules}
+use Rattle.std.proofs.Common.{◌≡◌, ◌⊎◌, ◌<◌, ◌+◌, ℕ, suc, true, List, [], ◌∷◌, length, refl, sym, ap, ◌∙◌, subst, inl, inr, arith, rules}
 use Rattle.std.specs.Prelude.{Contains, vec_items}
 use Rattle.std.proofs.lemmas.Bool.{false_from_ne_true, both_ways}
-use Rattle.std.proofs.lemmas.List.{nil_from_length}
-use Rattle.std.proofs.lemmas.List.Elements.{Contains-push_cases}
+use Rattle.std.proofs.lemmas.List.Elements.{Contains-push_cases, Contains-append_cases}
+use Rattle.std.proofs.lemmas.List.Sorted.{All-permutation, Contains-permutation, length_permutation}
 use Rattle.xw_words.specs.Dictionary.{row}
 use Rattle.xw_feas.specs.Board.{light_at}
 use Rattle.xw_live.specs.Room.{row_at}
@@ -17,6 +17,44 @@ use Rattle.xw_live.proofs.Ending.{settled_net, settled_exact}
 use Rattle.xw_live.proofs.Left.{left_left, left_queue, left_chained}
 use Rattle.xw_live.proofs.net.Net.strip_queued.Goals as goal
 
+-- a light that waits is the one whose turn it is, or one of the rest
+of_two : (light : ℕ) (rest : List ℕ) (other : ℕ) → Contains (light ∷ rest) other → (light ≡ other) ⊎ Contains rest other
+of_two light rest other there =
+    elim (Contains-append_cases (light ∷ []) rest other there) [
+      | inl first ↦ elim (Contains-push_cases [] light other first) [ inl none ↦ absurd (omega (arith, none.1)) | inr same ↦ inl same ]
+      | inr later ↦ inr later
+    ]
+
+pub see_to-requires-clause-light : goal.see_to-requires-clause-light
+see_to-requires-clause-light g c =
+    All-permutation (λ light. light < length c.args.board.now.lights) c.loop-light.self.queue.items (c.in-Some.light ∷ c.take_turn.new.queue.items) c.in-Some.ensures.taken c.loop-light.invariant.shaped.queue 0 0 (omega arith)
+
+pub see_to-requires-clause-shaped : goal.see_to-requires-clause-shaped
+see_to-requires-clause-shaped g c =
+    let shaped = c.loop-light.invariant.shaped in
+    let left = c.take_turn.new.queue.items in
+    let long = length_permutation c.loop-light.self.queue.items (c.in-Some.light ∷ left) c.in-Some.ensures.taken in
+    record {
+      few_cells = shaped.few_cells;
+      rows = shaped.rows;
+      entered = shaped.entered;
+      letters = shaped.letters;
+      held = shaped.held;
+      restart = shaped.restart;
+      pending = shaped.pending;
+      is_queued = shaped.is_queued;
+      queue = λ k d lt. All-permutation (λ light. light < length c.args.board.now.lights) c.loop-light.self.queue.items (c.in-Some.light ∷ left) c.in-Some.ensures.taken shaped.queue (suc k) d (omega arith);
+      room = omega (arith, shaped.room, long, c.take_turn.ensures.capacity);
+    }
+
+pub see_to-requires-clause-room : goal.see_to-requires-clause-room
+see_to-requires-clause-room g c =
+    omega (arith, c.loop-light.invariant.shaped.room, length_permutation c.loop-light.self.queue.items (c.in-Some.light ∷ c.take_turn.new.queue.items) c.in-Some.ensures.taken, c.take_turn.ensures.capacity)
+
+pub loop-light-smaller : goal.loop-light-smaller
+loop-light-smaller g c =
+    omega (arith, c.see_to.ensures.fewer, length_permutation c.loop-light.self.queue.items (c.in-Some.light ∷ c.take_turn.new.queue.items) c.in-Some.ensures.taken)
+
 pub loop-light-preserved : goal.loop-light-preserved
 unfolding word_stands letter_stands held_in restart_in pending_in queued_in
 loop-light-preserved g c =
@@ -25,13 +63,13 @@ loop-light-preserved g c =
     record {
       same = k.ensures.entries ∙ inv.same;
       risen = omega (arith, inv.risen, k.ensures.risen);
-      rest = left_left inv.rest (left_left (left_queue c.loop-light.self (record c.loop-light.self { queue = c.pop.new.self }) refl (omega (arith, c.pop.ensures.capacity))) k.ensures.rest);
+      rest = left_left inv.rest (left_left (left_queue c.loop-light.self (record c.loop-light.self { queue = c.take_turn.new.queue }) refl (omega (arith, c.take_turn.ensures.capacity))) k.ensures.rest);
       shaped = k.ensures.shaped;
       bits = subst (λ e. HasBits c.args.board.now e c.see_to.new.self) inv.same k.ensures.bits;
       queue = λ light. k.ensures.waits light (λ apart is.
-          elim (Contains-push_cases c.pop.new.self.items c.in-Some.light light (subst (λ q. Contains q light) c.in-Some.ensures.items (inv.queue light is))) [
-            | inl there ↦ there
-            | inr e ↦ absurd (apart (sym e))
+          elim (of_two c.in-Some.light c.take_turn.new.queue.items light (Contains-permutation c.loop-light.self.queue.items (c.in-Some.light ∷ c.take_turn.new.queue.items) light c.in-Some.ensures.taken (inv.queue light is))) [
+            | inl e ↦ absurd (apart (sym e))
+            | inr there ↦ there
           ]);
       pending = λ slot letter pends. elim (k.ensures.pending slot letter pends) [ inl before ↦ inv.pending slot letter before | inr at ↦ inr at ];
       holding = λ dictionary position holding.
@@ -41,12 +79,12 @@ loop-light-preserved g c =
     }
 
 pub returns-clause-empty : goal.returns-clause-empty
-returns-clause-empty g c = nil_from_length c.pop.new.self.items (omega (arith, c.in_default.ensures.cases.1))
+returns-clause-empty g c = c.in_default.ensures.left
 
 pub returns-clause-none_queued : goal.returns-clause-none_queued
 unfolding queued_in
 returns-clause-none_queued g c light =
-    let long : length c.loop-light.self.queue.items ≡ 0 = omega (arith, c.in_default.ensures.cases.1, ap length (c.in_default.ensures.items ∙ append-nil c.pop.new.self.items)) in
+    let long : length c.loop-light.self.queue.items ≡ 0 = ap length c.in_default.ensures.none in
     false_from_ne_true (queued_in c.loop-light.self light) (λ is.
     let there = c.loop-light.invariant.queue light is in omega (arith, there.1, long))
 
@@ -67,7 +105,7 @@ returns-clause-settled g c dictionary position ready =
       paid = record { closed = λ light place other other_place letter here there meets stands lost has. refl; within = omega arith; queued = λ light lt h. refl; fewer = λ cell letter h. h };
     } in
     let under = inv.kept dictionary measure position start in
-    let long : length c.loop-light.self.queue.items ≡ 0 = omega (arith, c.in_default.ensures.cases.1, ap length (c.in_default.ensures.items ∙ append-nil c.pop.new.self.items)) in
+    let long : length c.loop-light.self.queue.items ≡ 0 = ap length c.in_default.ensures.none in
     settled_net board dictionary (marks_of c.loop-light.self) under.kept (λ light lt.
     false_from_ne_true (queued_in c.loop-light.self light) (λ is.
     let there = inv.queue light is in omega (arith, there.1, long)))
@@ -90,9 +128,9 @@ unfolding word_stands letter_stands held_in restart_in pending_in queued_in
 returns-clause-filled g c dictionary position from =
     let board = c.args.board.now in
     let old = c.args.self.now in
-    let last : Net = record c.loop-light.self { queue = c.pop.new.self } in
+    let last : Net = record c.loop-light.self { queue = c.take_turn.new.queue } in
     let inv = c.loop-light.invariant in
-    let rest : IsLeft c.args.self.now last = left_left inv.rest (left_queue c.loop-light.self last refl (omega (arith, c.pop.ensures.capacity))) in
+    let rest : IsLeft c.args.self.now last = left_left inv.rest (left_queue c.loop-light.self last refl (omega (arith, c.take_turn.ensures.capacity))) in
     let base = ap (λ v. vec_items v) rest.base in
     record {
       whole = record {
