@@ -1,7 +1,9 @@
 //! Worked examples, by calls on `Live`: tables of calls, each with its answer.
+mod beside;
 mod bounds;
 mod edits;
 mod parts;
+mod recount;
 
 use crate::live::Live;
 use std::alloc::Global;

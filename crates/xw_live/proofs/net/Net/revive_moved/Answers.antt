@@ -8,7 +8,6 @@ use Rattle.xw_live.specs.declared.net.Net.{Net}
 use Rattle.xw_live.specs.declared.change.Change.{Change}
 use Rattle.xw_live.specs.Change.{IsChange, AreReadsOf}
 use Rattle.xw_live.specs.Revival.{IsMatching, same_light}
-use Rattle.xw_live.specs.Region.{IsRegion}
 use Rattle.xw_live.specs.Marks.{IsPosition}
 use Rattle.xw_live.specs.Nets.{marks_of, word_stands, letter_stands, held_in, restart_in, pending_in, queued_in, IsQueue}
 use Rattle.xw_live.specs.Spread.{is_marked}

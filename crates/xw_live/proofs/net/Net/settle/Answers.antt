@@ -1,6 +1,5 @@
-use Rattle.std.proofs.Common.{◌≡◌, ℕ, List, ◌∙◌, ap, arith}
+use Rattle.std.proofs.Common.{ℕ, List, ◌∙◌, ap, arith}
 use Rattle.xw_words.specs.Dictionary.{Entry}
-use Rattle.xw_live.specs.Room.{row_at}
 use Rattle.xw_live.proofs.CostBound.{settled_cost}
 use Rattle.xw_live.proofs.net.Net.settle.Goals as goal
 

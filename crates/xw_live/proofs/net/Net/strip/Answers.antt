@@ -1,15 +1,12 @@
-use Rattle.std.proofs.Common.{◌≡◌, ℕ, Bool, List, sym, ap, subst, ◌∙◌, arith}
-use Rattle.xw_words.specs.Dictionary.{Dictionary, Entry, row}
-use Rattle.xw_grid.specs.Grid.{Grid}
+use Rattle.std.proofs.Common.{◌≡◌, ℕ, List, sym, ap, subst, arith}
+use Rattle.xw_words.specs.Dictionary.{Entry}
 use Rattle.xw_feas.specs.Board.{Board, board_of, light_at}
-use Rattle.xw_feas.specs.Choices.{IsWithinBase}
-use Rattle.xw_feas.specs.State.{State, Action}
+use Rattle.xw_feas.specs.State.{State}
 use Rattle.xw_feas.specs.WellFormed.{IsWellFormed}
 use Rattle.xw_live.specs.Change.{AreReadsOf}
-use Rattle.xw_live.specs.Region.{IsRegion}
 use Rattle.xw_live.specs.Marks.{IsPosition, IsReady}
 use Rattle.xw_live.specs.Due.{IsClosed, HasQueued, set_cost}
-use Rattle.xw_live.specs.Nets.{marks_of, letter_stands, queued_in, IsShaped, HasBits}
+use Rattle.xw_live.specs.Nets.{marks_of, letter_stands, IsShaped, HasBits}
 use Rattle.xw_live.specs.Filled.{IsUnstripped, IsFilled}
 use Rattle.xw_live.proofs.Slots.{slots_apart}
 use Rattle.xw_live.proofs.Closed.{region_is_closed}

@@ -1,0 +1,57 @@
+use Rattle.std.proofs.Common.{◌≡◌, length, sym, ◌∙◌, ap, subst}
+use Rattle.xw_words.specs.Dictionary.{Dictionary}
+use Rattle.xw_feas.specs.Shape.{GrowsAt}
+use Rattle.std.specs.Prelude.{Ok, is_some}
+use Rattle.xw_feas.specs.State.{State, word_added, add_word}
+use Rattle.xw_live.specs.Change.{IsWordEdit}
+use Rattle.xw_live.specs.Engine.{IsKept}
+use Rattle.xw_live.proofs.Made.{added_edit}
+use Rattle.xw_live.proofs.Keeping.{kept_alike, kept_cells, kept_stands, settled_alike, stood_grown, room_for_grown}
+use Rattle.xw_live.proofs.tests.beside.Beside.add_new.Goals as goal
+
+pub make_room-requires-clause-stands : goal.make_room-requires-clause-stands
+make_room-requires-clause-stands c =
+    let old = c.args.self.now in
+    kept_stands (record { grid = old.grid; words = old.bank.words }) old.net old.lights old.light_list old.kept
+
+pub invariant_of-self : goal.invariant_of-self
+invariant_of-self c =
+    let old = c.args.self.now in
+    record {
+      light_list = old.light_list;
+      kept = subst (λ (words : Dictionary). IsKept (record { grid = old.grid; words = words }) c.make_room.new.net) (sym c.make_room.ensures.words)
+          (kept_alike (record { grid = old.grid; words = old.bank.words }) old.net c.make_room.new.net c.make_room.ensures.same (ap is_some c.in_err-make_room.ensures.spare ∙ old.kept.none_waits) old.kept);
+    }
+
+pub settle_word-requires-clause-cells : goal.settle_word-requires-clause-cells
+settle_word-requires-clause-cells c =
+    let old = c.args.self.now in
+    ap length c.make_room.ensures.same.sets ∙ kept_cells (record { grid = old.grid; words = old.bank.words }) old.net old.kept
+
+pub settle_word-requires-clause-stood : goal.settle_word-requires-clause-stood
+settle_word-requires-clause-stood c =
+    let old = c.args.self.now in
+    let grown : GrowsAt old.bank.words c.add_in.new.bank.words (length c.args.word.now) = subst (λ (words : Dictionary). GrowsAt words c.add_in.new.bank.words (length c.args.word.now)) c.make_room.ensures.words c.add_in.ensures.counts in
+    stood_grown (record { grid = old.grid; words = old.bank.words }) c.make_room.new.net old.lights old.light_list (settled_alike (record { grid = old.grid; words = old.bank.words }) old.net c.make_room.new.net c.make_room.ensures.same old.kept.settled) c.add_in.new.bank.words (length c.args.word.now) grown
+
+pub settle_word-requires-clause-none_waits : goal.settle_word-requires-clause-none_waits
+settle_word-requires-clause-none_waits c = c.in_ok-make_room.ensures.none_waits
+
+pub settle_word-requires-clause-room : goal.settle_word-requires-clause-room
+settle_word-requires-clause-room c =
+    let old = c.args.self.now in
+    let grown : GrowsAt old.bank.words c.add_in.new.bank.words (length c.args.word.now) = subst (λ (words : Dictionary). GrowsAt words c.add_in.new.bank.words (length c.args.word.now)) c.make_room.ensures.words c.add_in.ensures.counts in
+    room_for_grown old.lights old.bank.words c.add_in.new.bank.words (length c.args.word.now) c.make_room.new.net grown c.in_ok-make_room.ensures.net_room
+
+pub invariant_of-self-2 : goal.invariant_of-self-2
+invariant_of-self-2 c =
+    let old = c.args.self.now in
+    let now : State = record { grid = old.grid; words = c.add_in.new.bank.words } in
+    let ready = settled_alike (record { grid = old.grid; words = old.bank.words }) old.net c.make_room.new.net c.make_room.ensures.same old.kept.settled in
+    let added : add_word old.bank.words c.args.word.now ≡ Ok c.add_in.new.bank.words = ap (λ (words : Dictionary). add_word words c.args.word.now) (sym c.make_room.ensures.words) ∙ c.add_in.ensures.words in
+    let edit : IsWordEdit old.grid old.bank.words c.add_in.new.bank.words (word_added c.args.word.now) (length c.args.word.now, c.args.place) = added_edit old.grid old.bank.words c.add_in.new.bank.words c.args.word.now c.args.place c.requires added in
+    let kept : IsKept now c.settle_word.new.net = c.settle_word.ensures old.bank.words (word_added c.args.word.now) edit old.kept.formed ready in
+    record {
+      light_list = old.light_list;
+      kept = kept;
+    }

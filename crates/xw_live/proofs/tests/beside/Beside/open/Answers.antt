@@ -1,0 +1,16 @@
+use Rattle.xw_feas.specs.State.{State}
+use Rattle.xw_live.specs.Engine.{IsKept}
+use Rattle.xw_live.proofs.Keeping.{kept_from, state_formed}
+use Rattle.xw_live.proofs.tests.beside.Beside.open.Goals as goal
+
+pub invariant_of-result : goal.invariant_of-result
+invariant_of-result c =
+    let state : State = record { grid = c.in_ok-grid.grid; words = c.in_ok-bank.bank.words } in
+    let net = c.in_ok-net.net in
+    let kept : IsKept state net = kept_from state net ∣ c.in_ok-net.ensures.settled ∣₁
+    c.in_ok-net.ensures.none_waits
+    (state_formed c.in_ok-grid.grid c.in_ok-bank.bank.words c.well_formed-2.ensures c.known_distinct.ensures) in
+    record {
+      light_list = c.in_ok-lights.ensures.ok;
+      kept = kept;
+    }

@@ -1,0 +1,29 @@
+use Rattle.std.proofs.Common.{sym, ap, subst, arith}
+use Rattle.std.specs.Prelude.{is_some}
+use Rattle.std.proofs.Math.Logic.{∥∥₁_elim}
+use mathlib.Core.Logic.{∥∥₁_prop}
+use Rattle.xw_words.specs.Dictionary.{Dictionary, row}
+use Rattle.xw_feas.specs.State.{State}
+use Rattle.xw_live.specs.Net.{StoodFor, known_counts, sets_of}
+use Rattle.xw_live.specs.Fit.{HasRoomBetween}
+use Rattle.xw_live.proofs.Keeping.{kept_from}
+use Rattle.xw_live.proofs.tests.beside.settle.Goals as goal
+
+pub settle-requires-clause-cells : goal.settle-requires-clause-cells
+unfolding sets_of
+settle-requires-clause-cells c = omega (arith, c.requires.cells)
+
+pub settle-requires-clause-stood : goal.settle-requires-clause-stood
+settle-requires-clause-stood c = subst (λ (words : Dictionary). StoodFor c.args.change.now.before.now (known_counts words) c.args.net.now) (sym c.new-rows.ensures.words) c.requires.stood
+
+pub settle-requires-clause-room : goal.settle-requires-clause-room
+settle-requires-clause-room c = subst (λ (words : Dictionary). HasRoomBetween c.args.change.now.before.now c.args.lights.now (known_counts words) c.args.net.now c.args.net.now.spare) (sym c.new-rows.ensures.words) c.requires.room
+
+pub returns : goal.returns
+returns c before action change known =
+    let now : State = record { grid = c.args.grid.now; words = c.args.bank.now.words } in
+    let net = c.settle.new.self in
+    kept_from now net
+    (∥∥₁_elim known ∥∥₁_prop (λ settled. ∣ c.settle.ensures.settled before now.words action (λ count. ap (λ (words : Dictionary). row words count) c.new-rows.ensures.words) change settled ∣₁))
+    (ap is_some c.settle.ensures.spare)
+    change.formed_now

@@ -1,0 +1,18 @@
+use Rattle.std.proofs.Common.{map, refl, sym, ap}
+use Rattle.xw_feas.specs.State.{State}
+use Rattle.xw_live.specs.Change.{with_entry_of}
+use Rattle.xw_live.proofs.Changing.{change_made}
+use Rattle.xw_live.proofs.Keeping.{state_formed, room_without}
+use Rattle.xw_live.specs.Net.{known_counts}
+use Rattle.xw_live.proofs.tests.beside.settle_word.Goals as goal
+
+pub settle-requires-clause-room : goal.settle-requires-clause-room
+settle-requires-clause-room c = room_without c.args.lights.now c.args.lights.now (known_counts c.args.bank.now.words) c.args.net.now c.args.net.now.spare c.requires.none_waits refl c.requires.room
+
+pub returns : goal.returns
+returns c words action edit formed_before known =
+    let grid = c.args.grid.now in
+    let before : State = record { grid = grid; words = words } in
+    let now : State = record { grid = grid; words = c.args.bank.now.words } in
+    let formed = state_formed grid c.args.bank.now.words formed_before.grid c.known_distinct.ensures in
+    c.settle.ensures before action (change_made before now action _ edit.made formed_before formed (sym (ap (map (with_entry_of grid)) edit.no_cells)) c.requires.lights (sym edit.names)) known

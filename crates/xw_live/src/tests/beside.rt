@@ -1,0 +1,191 @@
+//! A state of the tests' own, with a net that is settled over counted reads.
+ghost use Rattle.std.specs.Prelude.{◌≡◌, ℕ, length, true, false, is_some, Option, Contains, Ok};
+ghost use Rattle.xw_words.specs.Dictionary.{Dictionary, add_answer};
+ghost use Rattle.xw_grid.specs.declared.cell.Cell.{Cell as CellOfGrid};
+ghost use Rattle.xw_grid.specs.Grid.{is_inside};
+ghost use Rattle.xw_grid.specs.Light.{lights_of};
+ghost use Rattle.xw_feas.specs.State.{State, Action, action_of, is_of_letters, grid_after};
+ghost use Rattle.xw_feas.specs.WellFormed.{IsWellFormed};
+ghost use Rattle.xw_live.specs.Change.{IsChange, IsWordEdit};
+ghost use Rattle.xw_live.specs.Engine.{IsKept, IsKept-prop};
+ghost use Rattle.xw_live.specs.Fit.{HasRoomBetween};
+ghost use Rattle.xw_live.specs.Idle.{is_of_shape};
+ghost use Rattle.xw_live.specs.Net.{StoodFor, IsSettledFor, known_counts, sets_of};
+ghost use Rattle.xw_live.specs.Room.{HasRoom};
+
+use crate::change::Change;
+use crate::net::Net;
+use crate::settling::make_room;
+use crate::written::Written;
+use std::alloc::Global;
+use xw_feas::dictionary::{add_in, known_distinct, return_in, strike_in};
+use xw_feas::edit::{Edit, Refusal};
+use xw_feas::grid_edit::{edit_letters, with_bar, with_block};
+use xw_grid::grid::Grid;
+use xw_grid::lights::Lights;
+use xw_words::bank::{Added, Bank};
+use xw_words::counted::Counted;
+use xw_words::rows::Rows;
+
+/// A grid, a dictionary, and a net with the answers for them.
+#[derive(Drop)]
+pub struct Beside {
+    alloc: Global,
+    grid: Grid,
+    lights: Lights,
+    bank: Bank,
+    net: Net,
+    ghost light_list: { lights ≡ lights_of grid },
+    ghost kept: { IsKept (record { grid = grid; words = bank.words }) net } by { IsKept-prop (record { grid = grid; words = bank.words }) net },
+}
+
+/// Settles a net over counted reads, and answers the ticks.
+fn settle(net: &mut Net, change: &Change<'_>, grid: &Grid, lights: &Lights, bank: &Bank) -> u64
+    requires lights { lights.now ≡ lights_of grid.now }
+    requires inside { (listed : CellOfGrid × Option ℕ) → Contains change.now.cells.now listed → is_inside grid.now listed.0 ≡ true }
+    requires cells { length (sets_of net.old) ≡ length grid.now.squares }
+    requires stood { StoodFor change.now.before.now (known_counts bank.now.words) net.old }
+    requires room { HasRoomBetween change.now.before.now lights.now (known_counts bank.now.words) net.old net.old.spare }
+    ensures { (before : State) (action : Action) →
+        IsChange before (record { grid = grid.now; words = bank.now.words }) action change.now →
+        ∥ IsSettledFor before net.old ∥₁ →
+        IsKept (record { grid = grid.now; words = bank.now.words }) net.new }
+{
+    known_distinct(bank);
+    let mut rows = Counted::new(bank, 0);
+    net.settle(&mut rows, change, grid, lights);
+    rows.spent()
+}
+
+/// The same after a word was added or struck.
+fn settle_word(
+    net: &mut Net,
+    grid: &Grid,
+    lights: &Lights,
+    bank: &Bank,
+    word: (usize, usize),
+) -> u64
+    requires lights { lights.now ≡ lights_of grid.now }
+    requires cells { length (sets_of net.old) ≡ length grid.now.squares }
+    requires stood { StoodFor lights.now (known_counts bank.now.words) net.old }
+    requires none_waits { is_some net.old.spare ≡ false }
+    requires room { HasRoom lights.now (known_counts bank.now.words) net.old }
+    ensures { (words : Dictionary) (action : Action) →
+        IsWordEdit grid.now words bank.now.words action word →
+        IsWellFormed (record { grid = grid.now; words = words }) →
+        ∥ IsSettledFor (record { grid = grid.now; words = words }) net.old ∥₁ →
+        IsKept (record { grid = grid.now; words = bank.now.words }) net.new }
+{
+    known_distinct(bank);
+    let change = Change {
+        cells: &[],
+        before: lights,
+        word: Some(word),
+    };
+    settle(net, &change, grid, lights, bank)
+}
+
+impl Beside {
+    /// An empty grid and no words.
+    pub fn open(alloc: Global, width: u32, height: u32) -> Result<Beside, Refusal> {
+        let grid = Grid::new(alloc, width, height)?;
+        let bank = Bank::new(alloc)?;
+        let lights = Lights::of(alloc, &grid)?;
+        let net = Net::of(alloc, &grid, &lights, &bank)?;
+        grid.well_formed();
+        known_distinct(&bank);
+        Ok(Beside {
+            alloc,
+            grid,
+            lights,
+            bank,
+            net,
+        })
+    }
+
+    fn edit_letters(&mut self, edit: &Edit<'_>) -> Result<u64, Refusal>
+        requires { is_of_letters (action_of edit.now) ≡ true }
+    {
+        let written = Written::of(&self.grid, &self.lights, edit);
+        edit_letters(&mut self.grid, &self.lights, edit)?;
+        self.grid.well_formed();
+        let change = Change {
+            cells: written.as_slice(),
+            before: &self.lights,
+            word: None,
+        };
+        Ok(settle(&mut self.net, &change, &self.grid, &self.lights, &self.bank))
+    }
+
+    /// Takes the grid that an edit of the shape leaves.
+    fn take_shape(&mut self, edit: &Edit<'_>, grid: Grid) -> Result<u64, Refusal>
+        requires shape { is_of_shape (action_of edit.now) ≡ true }
+        requires made { grid_after self.old.grid (action_of edit.now) ≡ Ok grid }
+    {
+        grid.well_formed();
+        let lights = Lights::of(self.alloc, &grid)?;
+        self.net.reserve(&lights, &self.bank, None)?;
+        let written = Written::of(&self.grid, &self.lights, edit);
+        let change = Change {
+            cells: written.as_slice(),
+            before: &self.lights,
+            word: None,
+        };
+        let ticks = settle(&mut self.net, &change, &grid, &lights, &self.bank);
+        self.grid = grid;
+        self.lights = lights;
+        Ok(ticks)
+    }
+
+    fn edit_shape(&mut self, edit: &Edit<'_>) -> Result<u64, Refusal>
+        requires { is_of_shape (action_of edit.now) ≡ true }
+    {
+        let grid = match *edit {
+            Edit::Block(cell) => with_block(&self.grid, cell)?,
+            Edit::Bar(cell, side) => with_bar(&self.grid, cell, side)?,
+            _ => unreachable!(),
+        };
+        self.take_shape(edit, grid)
+    }
+
+    fn strike(&mut self, word: &[u8]) -> Result<u64, Refusal> {
+        let place = strike_in(&mut self.bank, word)?;
+        let changed = (word.len(), place);
+        Ok(settle_word(&mut self.net, &self.grid, &self.lights, &self.bank, changed))
+    }
+
+    fn add_again(&mut self, word: &[u8], place: usize) -> Result<u64, Refusal>
+        requires { add_answer self.old.bank.words word.now ≡ Ok (Added.Returned place) }
+    {
+        return_in(&mut self.bank, word)?;
+        let changed = (word.len(), place);
+        Ok(settle_word(&mut self.net, &self.grid, &self.lights, &self.bank, changed))
+    }
+
+    fn add_new(&mut self, word: &[u8], place: usize) -> Result<u64, Refusal>
+        requires { add_answer self.old.bank.words word.now ≡ Ok (Added.New place) }
+    {
+        make_room(&mut self.net, &mut self.bank, &self.lights, word)?;
+        add_in(&mut self.bank, word);
+        let changed = (word.len(), place);
+        Ok(settle_word(&mut self.net, &self.grid, &self.lights, &self.bank, changed))
+    }
+
+    fn add(&mut self, word: &[u8]) -> Result<u64, Refusal> {
+        match self.bank.judge_add(word)? {
+            Added::New(place) => self.add_new(word, place),
+            Added::Returned(place) => self.add_again(word, place),
+        }
+    }
+
+    /// Does an edit and settles the net, and answers the ticks of that.
+    pub fn edit(&mut self, edit: &Edit<'_>) -> Result<u64, Refusal> {
+        match *edit {
+            Edit::Block(_) => self.edit_shape(edit),
+            Edit::Bar(_, _) => self.edit_shape(edit),
+            Edit::Add(word) => self.add(word),
+            Edit::Strike(word) => self.strike(word),
+            _ => self.edit_letters(edit),
+        }
+    }
+}
