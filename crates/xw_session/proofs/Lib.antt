@@ -14,3 +14,7 @@ pub mod Decimals
 pub mod LetterTexts
 pub mod LightTexts
 pub mod Naming
+pub mod Escapes
+pub mod FieldTexts
+pub mod Telling
+pub mod Putting

@@ -1,12 +1,14 @@
 -- What a line asks for.
 use Rattle.std.specs.Prelude.{ℕ, ◌==◌, nat_lt, List, [], ◌∷◌, length, codes, slice_index, Option, Some, None, Result, Ok, Err, if◌then◌else◌}
 use Rattle.xw_session.specs.declared.command.Command.{Command}
-use Rattle.xw_session.specs.declared.command.Command.TheVariants.{Size, Symmetry, Add, Strike, Match, Set, Clear, Place, Block, Bar, Clue, Write, Circle, Circles, Show, Lights, Words, Letters, Duplicates, Unlisted, Suggest, Fill, Watch}
+use Rattle.xw_session.specs.declared.command.Command.TheVariants.{Size, Symmetry, Add, Strike, Match, Set, Clear, Place, Block, Bar, Clue, Write, Circle, Circles, Show, Lights, Words, Letters, Duplicates, Unlisted, Suggest, Fill, Watch, Tell, Put}
 use Rattle.xw_session.specs.declared.command.TextField.TheVariants.{Title, Author, Copyright, Notes}
+use Rattle.xw_session.specs.declared.command.Telling.TheVariants.{Cells, Counts, Texts}
+use Rattle.xw_session.specs.declared.command.Putting.TheVariants.{Instead, Behind}
 use Rattle.xw_session.specs.declared.command.SyntaxFault.{SyntaxFault}
 use Rattle.xw_session.specs.declared.command.SyntaxFault.TheVariants as faults
 use Rattle.xw_session.specs.Line.{without_cr, first_word}
-use Rattle.xw_session.specs.Reading.{Reading, ◌>>=◌, given, fault, word, number, number_if_any, byte, text, symmetry, side, switch, spot, named, lookup, is_ended}
+use Rattle.xw_session.specs.Reading.{Reading, ◌>>=◌, given, fault, word, number, number_if_any, byte, text, symmetry, side, switch, spot, named, field, lookup, is_ended}
 
 -- each command by its name, with its arguments
 abbrev pub commands : List (List ℕ × Reading Command)
@@ -37,6 +39,11 @@ commands =
     ∷ (codes "suggest", given Suggest)
     ∷ (codes "fill", do given (Fill (← number)))
     ∷ (codes "watch", do given (Watch (← switch)))
+    ∷ (codes "cells", given (Tell Cells))
+    ∷ (codes "counts", given (Tell Counts))
+    ∷ (codes "texts", given (Tell Texts))
+    ∷ (codes "text", do given (Put Instead (← field) (← text)))
+    ∷ (codes "more", do given (Put Behind (← field) (← text)))
     ∷ []
 
 abbrev arguments_of : Option (Reading Command) → Reading Command

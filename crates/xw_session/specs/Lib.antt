@@ -8,8 +8,11 @@ pub mod Reading
 pub mod Name
 pub mod Command
 pub mod State
+pub mod Escape
 pub mod Refusal
 pub mod Text
 pub mod Show
+pub mod Told
+pub mod Put
 pub mod Reply
 pub mod Answer

@@ -1,11 +1,13 @@
 -- The names of commands.
 use Rattle.std.specs.Prelude.{ℕ, List, codes}
 use Rattle.xw_session.specs.declared.command.Name.{Name}
-use Rattle.xw_session.specs.declared.command.Name.TheVariants.{Size, Symmetry, Word, Cell, Light, Text, Circles, Show, Lights, Duplicates, Unlisted, Suggest, Fill, Watch}
+use Rattle.xw_session.specs.declared.command.Name.TheVariants.{Size, Symmetry, Word, Cell, Light, Text, Circles, Show, Lights, Duplicates, Unlisted, Suggest, Fill, Watch, Tell, Put}
 use Rattle.xw_session.specs.declared.command.WithWord.TheVariants.{Add, Strike, Match}
 use Rattle.xw_session.specs.declared.command.WithCell.TheVariants.{Set, Clear, Block, Bar, Circle, Letters}
 use Rattle.xw_session.specs.declared.command.WithLight.TheVariants.{Place, Clue, Words}
 use Rattle.xw_session.specs.declared.command.TextField.TheVariants.{Title, Author, Copyright, Notes}
+use Rattle.xw_session.specs.declared.command.Telling.TheVariants.{Cells, Counts, Texts}
+use Rattle.xw_session.specs.declared.command.Putting.TheVariants.{Instead, Behind}
 
 -- the word of a name
 abbrev pub word_of : Name → List ℕ
@@ -35,3 +37,8 @@ word_of Unlisted = codes "unlisted"
 word_of Suggest = codes "suggest"
 word_of Fill = codes "fill"
 word_of Watch = codes "watch"
+word_of (Tell Cells) = codes "cells"
+word_of (Tell Counts) = codes "counts"
+word_of (Tell Texts) = codes "texts"
+word_of (Put Instead) = codes "text"
+word_of (Put Behind) = codes "more"

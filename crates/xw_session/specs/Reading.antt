@@ -8,6 +8,10 @@ use Rattle.xw_grid.specs.declared.cell.Symmetry.{Symmetry}
 use Rattle.xw_grid.specs.declared.cell.Symmetry.TheVariants as kinds
 use Rattle.xw_session.specs.declared.command.Spot.{Spot}
 use Rattle.xw_session.specs.declared.command.Named.{Named}
+use Rattle.xw_session.specs.declared.command.TextField.{TextField}
+use Rattle.xw_session.specs.declared.command.TextField.TheVariants.{Title, Author, Copyright, Notes}
+use Rattle.xw_session.specs.declared.command.Field.{Field}
+use Rattle.xw_session.specs.declared.command.Field.TheVariants as fields
 use Rattle.xw_session.specs.declared.command.SyntaxFault.{SyntaxFault}
 use Rattle.xw_session.specs.declared.command.SyntaxFault.TheVariants as faults
 use Rattle.xw_session.specs.Line.{first_word, trimmed, trimmed_start, number_in, byte_in}
@@ -111,3 +115,28 @@ named = do
   count ← number
   way ← direction
   given (record { number = count; direction = way })
+
+-- ---- texts by their names
+
+-- the name of a text that is no clue, or none for a clue
+abbrev pub text_name : Reading (Option TextField)
+text_name = key_word (
+    (codes "title", Some Title)
+    ∷ (codes "author", Some Author)
+    ∷ (codes "copyright", Some Copyright)
+    ∷ (codes "notes", Some Notes)
+    ∷ (codes "clue", None)
+    ∷ [])
+
+abbrev pub clue_place : Reading Field
+clue_place = do
+  start ← spot
+  way ← direction
+  given (fields.Clue start way)
+
+abbrev pub field_named : Option TextField → Reading Field
+field_named (Some name) = given (fields.Text name)
+field_named None = clue_place
+
+abbrev pub field : Reading Field
+field = text_name >>= field_named

@@ -33,7 +33,15 @@ use Rattle.xw_session.specs.declared.command.Command.TheVariants as commands
 use Rattle.xw_session.specs.declared.refusal.Refusal.{Refusal}
 use Rattle.xw_session.specs.declared.refusal.Refusal.TheVariants as refusals
 use Rattle.xw_session.specs.Refusal.{refusal_of}
+use Rattle.xw_session.specs.declared.command.Telling.{Telling}
+use Rattle.xw_session.specs.declared.command.Telling.TheVariants.{Cells, Counts, Texts}
+use Rattle.xw_session.specs.declared.command.Putting.{Putting}
+use Rattle.xw_session.specs.declared.command.Field.{Field}
 use Rattle.xw_session.specs.State.{State, with_text_in}
+pub use Rattle.xw_session.specs.State.{cell_of}
+use Rattle.xw_session.specs.Escape.{text_spelled}
+use Rattle.xw_session.specs.Told.{cell_lines, count_lines, text_lines}
+use Rattle.xw_session.specs.Put.{place_of, has_place, with_piece}
 use Rattle.xw_session.specs.Text.{word_line, light_lines, circle_lines, change_line, letters_line, counted_lines, light_of, duplicate_line, spelled_line, suggestion_line}
 use Rattle.xw_session.specs.Show.{show_lines}
 
@@ -41,9 +49,6 @@ use Rattle.xw_session.specs.Show.{show_lines}
 pub record Reply : Type 0 where
   pub lines : List ℕ
   pub state : State
-
-abbrev pub cell_of : Spot → Cell
-cell_of spot = record { row = spot.row; col = spot.col }
 
 abbrev pub name_of_light : Named → LightName
 name_of_light named = record { number = named.number; direction = named.direction }
@@ -102,6 +107,20 @@ with_clue_of state (Some light) text = if has_nul text then Err refusals.NulByte
 -- a text takes the place of the one of its field
 abbrev pub written : State → TextField → List ℕ → Result Reply Refusal
 written state field text = if has_nul text then Err refusals.NulByte else edited (record state { texts = with_text_in state.texts field text })
+
+-- what a line spells is put into a field
+abbrev pub put : State → Putting → Field → Option (List ℕ) → Result Reply Refusal
+put state putting field None = Err refusals.Escape
+put state putting field (Some text) =
+    if not (has_place state.position.grid (place_of field)) then Err (refusals.Grid grids.OutOfGrid)
+    else if has_nul text then Err refusals.NulByte
+    else edited (with_piece state putting (place_of field) text)
+
+-- what is told of the whole puzzle
+abbrev pub told_lines : State → Telling → List ℕ
+told_lines state Cells = cell_lines state.position
+told_lines state Counts = count_lines state.position
+told_lines state Texts = text_lines state
 
 -- a circle is set on an open cell, or taken away
 abbrev pub circle_toggled : State → Cell → Result Reply Refusal
@@ -166,6 +185,8 @@ reply_to state commands.Unlisted = shown state (flat_map (spelled_line state.pos
 reply_to state commands.Suggest = shown state (suggestion_line state.position (suggestion state.position))
 reply_to state (commands.Fill limit) = fill_tried state limit
 reply_to state (commands.Watch is_on) = edited (record state { is_watched = is_on })
+reply_to state (commands.Tell telling) = shown state (told_lines state telling)
+reply_to state (commands.Put putting field spelling) = put state putting field (text_spelled spelling)
 
 -- ---- want of memory
 
@@ -205,3 +226,5 @@ want_of state commands.Unlisted = Some grid_memory
 want_of state commands.Suggest = None
 want_of state (commands.Fill limit) = Some grid_memory
 want_of state (commands.Watch is_on) = None
+want_of state (commands.Tell telling) = None
+want_of state (commands.Put putting field spelling) = want_of_text spelling

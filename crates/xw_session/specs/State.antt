@@ -4,6 +4,7 @@ use Rattle.xw_grid.specs.declared.cell.Cell.{Cell}
 use Rattle.xw_grid.specs.Clue.{ClueMap}
 use Rattle.xw_feas.specs.State.{State as Position}
 use Rattle.xw_files.specs.Puzzle.{TextsShown}
+use Rattle.xw_session.specs.declared.command.Spot.{Spot}
 use Rattle.xw_session.specs.declared.command.TextField.{TextField}
 use Rattle.xw_session.specs.declared.command.TextField.TheVariants.{Title, Author, Copyright, Notes}
 
@@ -14,6 +15,10 @@ pub record State : Type 0 where
   pub clues : ClueMap
   pub circles : List Cell
   pub is_watched : Bool
+
+-- the cell that a line names
+abbrev pub cell_of : Spot → Cell
+cell_of spot = record { row = spot.row; col = spot.col }
 
 -- the texts with another one in a field
 abbrev pub with_text_in : TextsShown → TextField → List ℕ → TextsShown

@@ -68,6 +68,7 @@ name_of (refusals.Grid fault) = grid_fault fault
 name_of refusals.NoLight = codes "NoLight"
 name_of refusals.PlaceLength = codes "PlaceLength"
 name_of refusals.NulByte = codes "NulByte"
+name_of refusals.Escape = codes "Escape"
 
 abbrev pub refused : Refusal → List ℕ
 refused refusal = line_of (codes "no" ∷ name_of refusal ∷ [])

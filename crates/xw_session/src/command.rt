@@ -41,6 +41,28 @@ pub enum TextField {
     Notes,
 }
 
+/// A text of the puzzle, or the clue of a start cell and direction.
+#[derive(Clone, Copy, Debug, PartialEq, Eq)]
+pub enum Field {
+    Text(TextField),
+    Clue(Spot, Direction),
+}
+
+/// Where a text is put: instead of what its field has, or behind it.
+#[derive(Clone, Copy, Debug, PartialEq, Eq)]
+pub enum Putting {
+    Instead,
+    Behind,
+}
+
+/// What is told of the whole puzzle.
+#[derive(Clone, Copy, Debug, PartialEq, Eq)]
+pub enum Telling {
+    Cells,
+    Counts,
+    Texts,
+}
+
 /// Bytes of a line: a word, or a text.
 #[derive(Drop)]
 pub struct Text<'a> {
@@ -95,6 +117,8 @@ pub enum Command<'a> {
     Suggest,
     Fill(u64),
     Watch(bool),
+    Tell(Telling),
+    Put(Putting, Field, Text<'a>),
 }
 
 /// What a command does with a word.
@@ -141,10 +165,12 @@ enum Name {
     Suggest,
     Fill,
     Watch,
+    Tell(Telling),
+    Put(Putting),
 }
 
 /// The names, each beside its word.
-const NAMES: [(&str, Name); 26] = [
+const NAMES: [(&str, Name); 31] = [
     ("size", Name::Size),
     ("sym", Name::Symmetry),
     ("add", Name::Word(WithWord::Add)),
@@ -171,6 +197,11 @@ const NAMES: [(&str, Name); 26] = [
     ("suggest", Name::Suggest),
     ("fill", Name::Fill),
     ("watch", Name::Watch),
+    ("cells", Name::Tell(Telling::Cells)),
+    ("counts", Name::Tell(Telling::Counts)),
+    ("texts", Name::Tell(Telling::Texts)),
+    ("text", Name::Put(Putting::Instead)),
+    ("more", Name::Put(Putting::Behind)),
 ];
 
 /// The command of a name that a word comes after.
@@ -231,6 +262,8 @@ fn arguments<'a>(name: Name, words: &mut Words<'a>) -> Result<Command<'a>, Synta
         Name::Suggest => Ok(Command::Suggest),
         Name::Fill => Ok(Command::Fill(words.number()?)),
         Name::Watch => Ok(Command::Watch(words.switch()?)),
+        Name::Tell(telling) => Ok(Command::Tell(telling)),
+        Name::Put(putting) => Ok(Command::Put(putting, words.field()?, words.text())),
     }
 }
 

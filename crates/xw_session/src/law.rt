@@ -1,5 +1,6 @@
 //! What the definitions mean.
-ghost use Rattle.std.specs.Prelude.{◌≡◌, ℕ, List};
+ghost use Rattle.std.specs.Prelude.{◌≡◌, ℕ, List, Some};
+ghost use Rattle.xw_session.specs.Escape.{text_spelled, spelled};
 ghost use Rattle.xw_session.specs.Cut.{ended_lines, last_piece, with_lfs, AllHaveNoLf, HasNoLf};
 
 /// A text is its ended lines, each with its LF, and then its last piece, and it is nothing else of that form.
@@ -11,4 +12,9 @@ pub fn lines_are_cut_at_each_lf()
         → ended_lines (with_lfs lines rest) ≡ lines }
     ensures only_piece { (lines : List (List ℕ)) (rest : List ℕ) → AllHaveNoLf lines → HasNoLf rest
         → last_piece (with_lfs lines rest) ≡ rest }
+{}
+
+/// A text as answers spell it is read back as the same text.
+pub fn what_is_spelled_reads_back()
+    ensures { (text : List ℕ) → text_spelled (spelled text) ≡ Some text }
 {}

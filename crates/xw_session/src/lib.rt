@@ -3,6 +3,8 @@
 
 pub mod command;
 pub mod device;
+mod escape;
+mod fields;
 mod history;
 pub mod law;
 mod line;

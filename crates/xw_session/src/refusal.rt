@@ -16,6 +16,7 @@ pub enum Refusal {
     NoLight,
     PlaceLength,
     NulByte,
+    Escape,
 }
 
 /// The name of a refusal, without its place.
@@ -29,6 +30,7 @@ pub fn name(refusal: Refusal) -> &'static str
         Refusal::NoLight => "NoLight",
         Refusal::PlaceLength => "PlaceLength",
         Refusal::NulByte => "NulByte",
+        Refusal::Escape => "Escape",
     }
 }
 

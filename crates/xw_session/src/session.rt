@@ -1,7 +1,9 @@
 //! A session: lines answered, one after another.
 mod asking;
 mod changing;
+mod putting;
 mod queries;
+mod telling;
 
 ghost use Rattle.std.specs.Prelude.{◌≡◌, ℕ, ◌+◌, ◌-◌, ◌^◌, ◌≤◌, List, ◌++◌, length, IfOk, IfErr, IsTrue, IsOkUnless, true, false, []};
 ghost use Rattle.xw_grid.specs.Grid.{is_inside};
@@ -205,6 +207,10 @@ impl<E: Feasible> Session<E> {
             Command::Suggest => self.answer_suggestion(sink),
             Command::Fill(limit) => self.answer_fill(limit, sink),
             Command::Watch(is_on) => end_answer(sink, self.watch(is_on)),
+            Command::Tell(telling) => self.tell(telling, sink),
+            Command::Put(putting, field, text) => {
+                end_answer(sink, self.put(putting, field, text.bytes()))
+            }
         }
     }
 

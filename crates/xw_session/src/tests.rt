@@ -4,6 +4,7 @@ mod examples;
 mod points;
 mod puzzles;
 mod scripts;
+mod whole;
 
 use crate::{FromRead, RunEnd, Session, ToWrite};
 use std::alloc::Global;

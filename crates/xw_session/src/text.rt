@@ -5,6 +5,7 @@ ghost use Rattle.xw_grid.specs.Grid.{entry as entry_of};
 ghost use Rattle.xw_grid.specs.Light.{lights_of};
 ghost use Rattle.xw_feas.specs.Spelled.{spelling};
 ghost use Rattle.xw_session.specs.Sends.{Sends};
+ghost use Rattle.xw_session.specs.Told.{numbered_line};
 ghost use Rattle.xw_session.specs.Text.{line_of, accepted, refused, direction_name as name_of_direction, letter_or_dot as byte_of_entry, pattern as pattern_in, pattern_of, light_of, light_line, cell_line, letters_or_dash, letters_line, change_line, duplicate_line, spelled_line};
 
 use crate::device::{self, Sink, WriteFailed};
@@ -57,7 +58,7 @@ impl Decimal {
 }
 
 /// Writes a word and a space.
-fn write_spaced<W: Sink>(sink: &mut W, word: &[u8]) -> Result<(), WriteFailed>
+pub fn write_spaced<W: Sink>(sink: &mut W, word: &[u8]) -> Result<(), WriteFailed>
     ensures { Sends W.told W.failures sink.old sink.new result (word.now ++ codes " ") }
 {
     device::write_all(sink, word)?;
@@ -65,7 +66,7 @@ fn write_spaced<W: Sink>(sink: &mut W, word: &[u8]) -> Result<(), WriteFailed>
 }
 
 /// Writes a number and a space.
-fn write_number_spaced<W: Sink>(sink: &mut W, number: u16) -> Result<(), WriteFailed>
+pub fn write_number_spaced<W: Sink>(sink: &mut W, number: u16) -> Result<(), WriteFailed>
     ensures { Sends W.told W.failures sink.old sink.new result (decimal number ++ codes " ") }
 {
     let number = Decimal::new(u64::from(number));
@@ -73,7 +74,10 @@ fn write_number_spaced<W: Sink>(sink: &mut W, number: u16) -> Result<(), WriteFa
 }
 
 /// Writes the way of a light and a space.
-fn write_direction_spaced<W: Sink>(sink: &mut W, direction: Direction) -> Result<(), WriteFailed>
+pub fn write_direction_spaced<W: Sink>(
+    sink: &mut W,
+    direction: Direction,
+) -> Result<(), WriteFailed>
     ensures { Sends W.told W.failures sink.old sink.new result (name_of_direction direction ++ codes " ") }
 {
     write_spaced(sink, direction_name(direction).as_bytes())
@@ -295,6 +299,26 @@ pub fn write_number<W: Sink>(sink: &mut W, number: u64) -> Result<(), WriteFaile
 {
     let number = Decimal::new(number);
     write_line(sink, &[number.digits()])
+}
+
+/// Writes a light with a number.
+pub fn write_numbered<W: Sink>(
+    sink: &mut W,
+    light: LightName,
+    number: u64,
+) -> Result<(), WriteFailed>
+    ensures { Sends W.told W.failures sink.old sink.new result (numbered_line light number) }
+{
+    let name = Decimal::new(u64::from(light.number));
+    let number = Decimal::new(number);
+    write_line(
+        sink,
+        &[
+            name.digits(),
+            direction_name(light.direction).as_bytes(),
+            number.digits(),
+        ],
+    )
 }
 
 /// The letters, in order.

@@ -1,8 +1,8 @@
 //! Arguments read one after another.
 ghost use Rattle.std.specs.Prelude.{◌≡◌, Ok};
-ghost use Rattle.xw_session.specs.Reading.{word as word_of, number as number_of, byte as byte_of, text as text_of, number_if_any as number_if_any_of, is_ended as is_ended_text, direction as direction_of, side as side_of, symmetry as symmetry_of, switch as switch_of, spot as spot_of, named as named_of, Reads};
+ghost use Rattle.xw_session.specs.Reading.{word as word_of, number as number_of, byte as byte_of, text as text_of, number_if_any as number_if_any_of, is_ended as is_ended_text, direction as direction_of, side as side_of, symmetry as symmetry_of, switch as switch_of, spot as spot_of, named as named_of, text_name as text_name_of, field as field_of, Reads};
 
-use crate::command::{Named, Spot, SyntaxFault, Text};
+use crate::command::{Field, Named, Spot, SyntaxFault, Text, TextField};
 use crate::line;
 use std::marker::Model;
 use xw_grid::{Direction, Side, Symmetry};
@@ -141,5 +141,31 @@ impl<'a> Words<'a> {
         let number = self.number()?;
         let direction = self.direction()?;
         Ok(Named { number, direction })
+    }
+
+    /// The name of a text that is no clue, or none for a clue.
+    fn text_name(&mut self) -> Result<Option<TextField>, SyntaxFault>
+        ensures { Reads (λ name. name) result self.new (text_name_of self.old) }
+    {
+        let word = self.next()?;
+        match word {
+            _ if line::is(word, "title") => Ok(Some(TextField::Title)),
+            _ if line::is(word, "author") => Ok(Some(TextField::Author)),
+            _ if line::is(word, "copyright") => Ok(Some(TextField::Copyright)),
+            _ if line::is(word, "notes") => Ok(Some(TextField::Notes)),
+            _ if line::is(word, "clue") => Ok(None),
+            _ => Err(SyntaxFault::Arguments),
+        }
+    }
+
+    pub fn field(&mut self) -> Result<Field, SyntaxFault>
+        ensures { Reads (λ field. field) result self.new (field_of self.old) }
+    {
+        if let Some(name) = self.text_name()? {
+            return Ok(Field::Text(name));
+        }
+        let spot = self.spot()?;
+        let direction = self.direction()?;
+        Ok(Field::Clue(spot, direction))
     }
 }

@@ -1,6 +1,7 @@
 //! What commands change beside the engine: the grid as a whole, the texts, the clues and the circles.
 ghost use Rattle.std.specs.Prelude.{◌≡◌, IfOk, IsOk, IsOkUnless, [], true, false};
 ghost use Rattle.xw_session.specs.Reply.{has_nul as has_nul_byte, light_named as light_named_so};
+ghost use Rattle.xw_session.specs.State.{with_text_in};
 ghost use Rattle.xw_session.specs.Answer.{Edits};
 
 use crate::command::{Named, Spot, TextField};
@@ -12,7 +13,7 @@ use xw_feas::feasible::Feasible;
 use xw_grid::{Circles, Clues, Grid, GridFault, Light};
 
 /// Whether a text has a NUL.
-fn has_nul(text: &[u8]) -> bool
+pub(crate) fn has_nul(text: &[u8]) -> bool
     ensures { result ≡ has_nul_byte text.now }
 {
     text.iter().any(|byte| *byte == 0)
@@ -90,13 +91,19 @@ impl<E: Feasible> Session<E> {
             return Err(Refusal::NulByte);
         }
         let kept = kept(self.alloc, text)?;
+        self.keep_text(field, kept);
+        Ok(())
+    }
+
+    pub(crate) fn keep_text(&mut self, field: TextField, kept: Vec<u8>)
+        ensures { self.new ≡ record self.old { texts = with_text_in self.old.texts field kept.items } }
+    {
         match field {
             TextField::Title => self.texts.title = kept,
             TextField::Author => self.texts.author = kept,
             TextField::Copyright => self.texts.copyright = kept,
             TextField::Notes => self.texts.notes = kept,
         }
-        Ok(())
     }
 
     pub(crate) fn watch(&mut self, is_on: bool) -> Result<(), Refusal>

@@ -5,7 +5,7 @@ use std::process::Abort;
 use std::test::Fail;
 
 /// The square of AS, AT, SO, TO and IN.
-const SQUARE: Script = &[
+pub const SQUARE: Script = &[
     ("size 2 2", "ok\n"),
     ("add AS", "ok\n"),
     ("add AT", "ok\n"),
@@ -29,7 +29,7 @@ fn gather(lines: &mut Vec<u8>, answers: &mut Vec<u8>, script: Script) -> Result<
 }
 
 /// Runs two scripts after one another in a new session.
-fn says(rt: &(impl Abort + AllocGlobal), first: Script, then: Script) -> Result<(), Fail> {
+pub fn says(rt: &(impl Abort + AllocGlobal), first: Script, then: Script) -> Result<(), Fail> {
     let mut lines = Vec::new(rt.alloc());
     let mut answers = Vec::new(rt.alloc());
     let before = gather(&mut lines, &mut answers, first)?;

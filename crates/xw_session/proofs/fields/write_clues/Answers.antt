@@ -1,0 +1,15 @@
+use Rattle.std.proofs.Common.{List, subst, arith}
+use Rattle.std.specs.Prelude.{flat_map}
+use Rattle.std.proofs.lemmas.Result.{err_from_is_err_and}
+use Rattle.xw_grid.specs.declared.lights.Light.{Light}
+use Rattle.xw_grid.specs.Light.{no_light}
+use Rattle.xw_session.specs.Device.{Begins, HasFailed}
+use Rattle.xw_session.specs.Told.{clue_told}
+use Rattle.xw_session.proofs.SendsLemmas.{each_stops}
+use Rattle.xw_session.proofs.fields.write_clues.Goals as goal
+
+pub returns-in_err-write_clue_at : goal.returns-in_err-write_clue_at
+returns-in_err-write_clue_at g c =
+    let e = err_from_is_err_and c.from_residual.result c.from_residual.ensures.1 in
+    let stops = each_stops g.W.Sink.told g.W.Sink.failures (clue_told c.args.clues.now) c.args.lights.now c.args.sink.now c.loop-place.sink c.write_clue_at.new.sink c.loop-place.place no_light (omega (arith, c.loop-place-test.true, c.len-place-end.ensures.len)) (c.loop-place.invariant.told, c.loop-place.invariant.quiet) c.in_err-write_clue_at.ensures in
+    rw e.1 (subst (λ (lights : List Light). Begins (g.W.Sink.told c.args.sink.now) (g.W.Sink.told c.write_clue_at.new.sink) (flat_map (clue_told c.args.clues.now) lights) × HasFailed (g.W.Sink.failures c.args.sink.now) (g.W.Sink.failures c.write_clue_at.new.sink)) c.requires stops)

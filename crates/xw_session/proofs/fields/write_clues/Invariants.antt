@@ -1,0 +1,10 @@
+use Rattle.std.proofs.Common.{◌≡◌, ◌++◌, take}
+use Rattle.std.specs.Prelude.{flat_map}
+use Rattle.xw_session.specs.Told.{clue_told}
+use Rattle.xw_session.proofs.fields.write_clues.Given as goal
+
+abbrev pub invariant-loop-place : goal.invariant-loop-place
+invariant-loop-place g l = record {
+  told : g.W.Sink.told l.sink ≡ g.W.Sink.told l.initial.sink ++ flat_map (clue_told l.clues) (take l.place l.lights);
+  quiet : g.W.Sink.failures l.sink ≡ g.W.Sink.failures l.initial.sink;
+}

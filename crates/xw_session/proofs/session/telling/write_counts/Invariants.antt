@@ -1,0 +1,12 @@
+use Rattle.std.proofs.Common.{◌≡◌, ◌++◌, take, length}
+use Rattle.std.specs.Prelude.{flat_map}
+use Rattle.std.specs.List.{range_with_len}
+use Rattle.xw_grid.specs.Light.{lights_of}
+use Rattle.xw_session.specs.Told.{count_line}
+use Rattle.xw_session.proofs.session.telling.write_counts.Given as goal
+
+abbrev pub invariant-loop-place : goal.invariant-loop-place
+invariant-loop-place g l = record {
+  told : g.W.Sink.told l.sink ≡ g.W.Sink.told l.initial.sink ++ flat_map (count_line (g.E.Feasible.state l.engine)) (take l.place (range_with_len 0 (length (lights_of (g.E.Feasible.state l.engine).grid))));
+  quiet : g.W.Sink.failures l.sink ≡ g.W.Sink.failures l.initial.sink;
+}

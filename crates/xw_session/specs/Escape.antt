@@ -1,0 +1,70 @@
+-- Texts as lines spell them: an escape is a backslash and a letter, and each other byte stands for itself.
+use Rattle.std.specs.Prelude.{ℕ, ◌+◌, Bool, true, false, not, ◌&&◌, ◌||◌, ◌==◌, List, [], ◌∷◌, ◌++◌, length, flat_map, slice_index, Option, Some, None, if◌then◌else◌}
+use Rattle.std.specs.List.{range_with_len}
+
+-- ---- what a spelling means
+
+-- the byte that a letter after a backslash stands for: n, r, t, s, or a second backslash
+abbrev pub meaning : ℕ → Option ℕ
+meaning letter =
+    if letter == 110 then Some 10
+    else if letter == 114 then Some 13
+    else if letter == 116 then Some 9
+    else if letter == 115 then Some 32
+    else if letter == 92 then Some 92
+    else None
+
+abbrev pub one_byte : Option ℕ → Option (List ℕ)
+one_byte None = None
+one_byte (Some byte) = Some (byte ∷ [])
+
+-- what a byte adds to the text, in an escape whose backslash stands before it or not; the backslash adds nothing
+abbrev pub added : Bool → ℕ → Option (List ℕ)
+added true letter = one_byte (meaning letter)
+added false byte = if byte == 92 then Some [] else Some (byte ∷ [])
+
+-- whether the byte begins an escape
+abbrev pub begins_escape : Bool → ℕ → Bool
+begins_escape is_within byte = not is_within && (byte == 92)
+
+abbrev pub joined : Option (List ℕ) → Option (List ℕ) → Option (List ℕ)
+joined None rest = None
+joined (Some front) None = None
+joined (Some front) (Some rest) = Some (front ++ rest)
+
+-- the text of what is left of a spelling, in an escape or not; none where a backslash begins no escape
+abbrev pub text_left : Bool → List ℕ → Option (List ℕ)
+text_left true [] = None
+text_left false [] = Some []
+text_left is_within (byte ∷ bytes) = joined (added is_within byte) (text_left (begins_escape is_within byte) bytes)
+
+-- the text that a spelling stands for
+abbrev pub text_spelled : List ℕ → Option (List ℕ)
+text_spelled spelling = text_left false spelling
+
+-- ---- the one spelling that answers have
+
+-- the letter of the escape for a byte, at an end of its text or within it
+abbrev pub letter_for : Bool → ℕ → Option ℕ
+letter_for is_end byte =
+    if byte == 10 then Some 110
+    else if byte == 13 then Some 114
+    else if byte == 92 then Some 92
+    else if is_end && (byte == 32) then Some 115
+    else if is_end && (byte == 9) then Some 116
+    else None
+
+abbrev pub escaped : ℕ → Option ℕ → List ℕ
+escaped byte None = byte ∷ []
+escaped byte (Some letter) = 92 ∷ letter ∷ []
+
+-- whether a place is that of the first byte or of the last one
+abbrev pub is_end : List ℕ → ℕ → Bool
+is_end text place = (place == 0) || (place + 1 == length text)
+
+abbrev pub spelled_at : List ℕ → ℕ → List ℕ
+spelled_at text place = escaped (slice_index text place) (letter_for (is_end text place) (slice_index text place))
+
+-- a text with an escape for each LF, CR and backslash, and for a space or a tab at an end
+abbrev pub spelled : List ℕ → List ℕ
+spelled text = flat_map (spelled_at text) (range_with_len 0 (length text))

@@ -1,0 +1,138 @@
+//! Texts as lines spell them, with escapes.
+ghost use Rattle.std.specs.Prelude.{◌≡◌, ℕ, ◌<◌, ◌++◌, [], ◌∷◌, List, Some, length, not, codes, IfOk, MatchOption};
+ghost use Rattle.std.specs.Option.{is_some};
+ghost use Rattle.xw_session.specs.Sends.{Sends};
+ghost use Rattle.xw_session.specs.Text.{line_of};
+ghost use Rattle.xw_session.specs.Escape.{meaning as meaning_of, added as added_so, begins_escape as begins_escape_so, text_spelled, letter_for as letter_for_byte, escaped, is_end as is_end_of, spelled_at, spelled};
+
+use crate::device::{self, Sink, WriteFailed};
+use std::alloc::{AllocError, Global};
+
+/// What a letter after a backslash stands for.
+fn meaning(letter: u8) -> Option<u8>
+    ensures { result ≡ meaning_of letter }
+{
+    match letter {
+        b'n' => Some(b'\n'),
+        b'r' => Some(b'\r'),
+        b't' => Some(b'\t'),
+        b's' => Some(b' '),
+        b'\\' => Some(b'\\'),
+        _ => None,
+    }
+}
+
+fn begins_escape(is_within: bool, byte: u8) -> bool
+    ensures { result ≡ begins_escape_so is_within byte }
+{
+    !is_within && byte == b'\\'
+}
+
+/// Whether a byte ends an escape that there is not.
+fn is_fault(is_within: bool, byte: u8) -> bool
+    ensures { result ≡ not (is_some (added_so is_within byte)) }
+{
+    is_within && meaning(byte).is_none()
+}
+
+/// Whether each backslash begins an escape or ends one.
+pub fn is_spelling(spelling: &[u8]) -> bool
+    ensures { result ≡ is_some (text_spelled spelling.now) }
+{
+    let mut is_within = false;
+    for byte in spelling {
+        if is_fault(is_within, *byte) {
+            return false;
+        }
+        is_within = begins_escape(is_within, *byte);
+    }
+    !is_within
+}
+
+/// The byte that a byte of a spelling adds to its text, in an escape or not.
+fn added(is_within: bool, byte: u8) -> Option<u8>
+    ensures { MatchOption result
+        ((front : List ℕ) → added_so is_within byte ≡ Some front → front ≡ [])
+        (λ added. added_so is_within byte ≡ Some (added ∷ [])) }
+{
+    if is_within {
+        return meaning(byte);
+    }
+    if begins_escape(is_within, byte) {
+        None
+    } else {
+        Some(byte)
+    }
+}
+
+/// A text with the one that is spelled behind it.
+pub fn behind(alloc: Global, front: &[u8], spelling: &[u8]) -> Result<Vec<u8>, AllocError>
+    ensures { IfOk result (λ text. (piece : List ℕ) → text_spelled spelling.now ≡ Some piece → text.items ≡ front.now ++ piece) }
+{
+    let mut text = Vec::from_slice(alloc, front)?;
+    let mut is_within = false;
+    for byte in spelling {
+        if let Some(byte) = added(is_within, *byte) {
+            text.push(byte)?;
+        }
+        is_within = begins_escape(is_within, *byte);
+    }
+    Ok(text)
+}
+
+/// The letter of the escape for a byte, at an end of its text or within it.
+fn letter_for(is_end: bool, byte: u8) -> Option<u8>
+    ensures { result ≡ letter_for_byte is_end byte }
+{
+    match byte {
+        b'\n' => Some(b'n'),
+        b'\r' => Some(b'r'),
+        b'\\' => Some(b'\\'),
+        b' ' if is_end => Some(b's'),
+        b'\t' if is_end => Some(b't'),
+        _ => None,
+    }
+}
+
+fn is_end(text: &[u8], place: usize) -> bool
+    requires { place < length text.now }
+    ensures { result ≡ is_end_of text.now place }
+{
+    place == 0 || place + 1 == text.len()
+}
+
+/// Writes a byte, with a backslash and a letter in place of it where it has an escape.
+fn write_escaped<W: Sink>(sink: &mut W, byte: u8, letter: Option<u8>) -> Result<(), WriteFailed>
+    ensures { Sends W.told W.failures sink.old sink.new result (escaped byte letter) }
+{
+    match letter {
+        Some(letter) => device::write_all(sink, &[b'\\', letter]),
+        None => device::write_all(sink, &[byte]),
+    }
+}
+
+/// Writes the byte at a place of a text.
+fn write_at<W: Sink>(sink: &mut W, text: &[u8], place: usize) -> Result<(), WriteFailed>
+    requires { place < length text.now }
+    ensures { Sends W.told W.failures sink.old sink.new result (spelled_at text.now place) }
+{
+    let byte = text[place];
+    write_escaped(sink, byte, letter_for(is_end(text, place), byte))
+}
+
+fn write<W: Sink>(sink: &mut W, text: &[u8]) -> Result<(), WriteFailed>
+    ensures { Sends W.told W.failures sink.old sink.new result (spelled text.now) }
+{
+    for place in 0..text.len() {
+        write_at(sink, text, place)?;
+    }
+    Ok(())
+}
+
+/// Writes a text, and ends the line.
+pub fn write_line<W: Sink>(sink: &mut W, text: &[u8]) -> Result<(), WriteFailed>
+    ensures { Sends W.told W.failures sink.old sink.new result (line_of (spelled text.now ∷ [])) }
+{
+    write(sink, text)?;
+    device::write_all(sink, b"\n")
+}

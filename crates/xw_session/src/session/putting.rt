@@ -1,0 +1,130 @@
+//! Texts that are put into their places, each spelled with escapes.
+ghost use Rattle.std.specs.Prelude.{◌≡◌, ℕ, ◌++◌, List, [], true, false, Some, IfOk, IfErr, IsOk, OnOk, OnErr, IsOkUnless};
+ghost use Rattle.xw_session.specs.Escape.{text_spelled};
+ghost use Rattle.xw_session.specs.Put.{place_of, has_place, text_at as text_at_place, with_text_at, with_piece};
+ghost use Rattle.xw_session.specs.Answer.{Edits};
+
+use crate::command::{Field, Putting, TextField};
+use crate::escape;
+use crate::refusal::Refusal;
+use crate::session::Session;
+use crate::session::changing::has_nul;
+use std::alloc::{AllocError, Global};
+use xw_feas::feasible::Feasible;
+use xw_grid::{Cell, Direction, GridFault};
+
+/// Where a text is kept.
+#[derive(Clone, Copy)]
+pub enum Place {
+    Text(TextField),
+    Clue(Cell, Direction),
+}
+
+/// What a text with another one behind it is; nothing takes no memory.
+fn joined(alloc: Global, front: &[u8], spelling: &[u8]) -> Result<Vec<u8>, GridFault>
+    ensures ok { IfOk result (λ text. (piece : List ℕ) → text_spelled spelling.now ≡ Some piece → text.items ≡ front.now ++ piece) }
+    ensures memory { IsOkUnless result GridFault.Memory }
+    ensures freed { front.now ≡ [] → spelling.now ≡ [] → IsOk result }
+{
+    if front.is_empty() && spelling.is_empty() {
+        return Ok(Vec::new(alloc));
+    }
+    Ok(escape::behind(alloc, front, spelling)?)
+}
+
+impl<E: Feasible> Session<E> {
+    ghost use Rattle.xw_session.specs.declared.command.Command.TheVariants as commands;
+
+    fn field_place(&self, field: Field) -> Result<Place, Refusal>
+        ensures ok { IfOk result (λ place. (place ≡ place_of field) × (has_place self.now.position.grid (place_of field) ≡ true)) }
+        ensures refused { IfErr result (λ refusal. (refusal ≡ Refusal.Grid GridFault.OutOfGrid) × (has_place self.now.position.grid (place_of field) ≡ false)) }
+    {
+        match field {
+            Field::Text(name) => Ok(Place::Text(name)),
+            Field::Clue(spot, direction) => Ok(Place::Clue(self.cell(spot)?, direction)),
+        }
+    }
+
+    fn text_at(&self, place: Place) -> &[u8]
+        ensures { result.now ≡ text_at_place self.now place }
+    {
+        match place {
+            Place::Text(TextField::Title) => &self.texts.title,
+            Place::Text(TextField::Author) => &self.texts.author,
+            Place::Text(TextField::Copyright) => &self.texts.copyright,
+            Place::Text(TextField::Notes) => &self.texts.notes,
+            Place::Clue(cell, direction) => self.clues.get(cell, direction),
+        }
+    }
+
+    /// Keeps a text in its place.
+    fn keep(&mut self, place: Place, text: Vec<u8>) -> Result<(), GridFault>
+        ensures ok { OnOk result (self.new ≡ with_text_at self.old place text.items) }
+        ensures err { OnErr result (self.new ≡ self.old) }
+        ensures memory { IsOkUnless result GridFault.Memory }
+        ensures freed { text.items ≡ [] → IsOk result }
+    {
+        match place {
+            Place::Text(field) => {
+                self.keep_text(field, text);
+                Ok(())
+            }
+            Place::Clue(cell, direction) => self.clues.set(cell, direction, &text),
+        }
+    }
+
+    /// Puts what is spelled into a place, instead of what stands there or behind it.
+    pub(crate) fn put(
+        &mut self,
+        putting: Putting,
+        field: Field,
+        spelling: &[u8],
+    ) -> Result<(), Refusal>
+        ensures { Edits self.old (commands.Put putting field spelling.now) result self.new }
+    {
+        if !escape::is_spelling(spelling) {
+            return Err(Refusal::Escape);
+        }
+        let place = self.field_place(field)?;
+        if has_nul(spelling) {
+            return Err(Refusal::NulByte);
+        }
+        self.put_text(putting, place, spelling)?;
+        Ok(())
+    }
+
+    fn put_text(&mut self, putting: Putting, place: Place, spelling: &[u8]) -> Result<(), GridFault>
+        ensures ok { OnOk result ((piece : List ℕ) → text_spelled spelling.now ≡ Some piece → self.new ≡ with_piece self.old putting place piece) }
+        ensures err { OnErr result (self.new ≡ self.old) }
+        ensures memory { IsOkUnless result GridFault.Memory }
+        ensures freed { spelling.now ≡ [] → IsOk result }
+    {
+        match putting {
+            Putting::Instead => self.put_instead(place, spelling),
+            Putting::Behind => self.put_behind(place, spelling),
+        }
+    }
+
+    fn put_instead(&mut self, place: Place, spelling: &[u8]) -> Result<(), GridFault>
+        ensures ok { OnOk result ((piece : List ℕ) → text_spelled spelling.now ≡ Some piece → self.new ≡ with_piece self.old Putting.Instead place piece) }
+        ensures err { OnErr result (self.new ≡ self.old) }
+        ensures memory { IsOkUnless result GridFault.Memory }
+        ensures freed { spelling.now ≡ [] → IsOk result }
+    {
+        let text = joined(self.alloc, &[], spelling)?;
+        self.keep(place, text)
+    }
+
+    fn put_behind(&mut self, place: Place, spelling: &[u8]) -> Result<(), GridFault>
+        ensures ok { OnOk result ((piece : List ℕ) → text_spelled spelling.now ≡ Some piece → self.new ≡ with_piece self.old Putting.Behind place piece) }
+        ensures err { OnErr result (self.new ≡ self.old) }
+        ensures memory { IsOkUnless result GridFault.Memory }
+        ensures freed { spelling.now ≡ [] → IsOk result }
+    {
+        if spelling.is_empty() {
+            return Ok(());
+        }
+        let text = joined(self.alloc, self.text_at(place), spelling)?;
+        self.keep(place, text)
+    }
+}

@@ -1,0 +1,103 @@
+//! What is told of a whole puzzle: its cells, its lights, its texts.
+ghost use Rattle.std.specs.Prelude.{◌≡◌, ◌<◌, true, length};
+ghost use Rattle.xw_grid.specs.Grid.{is_inside};
+ghost use Rattle.xw_grid.specs.Light.{lights_of};
+ghost use Rattle.xw_session.specs.Sends.{Sends};
+ghost use Rattle.xw_session.specs.Told.{letters_told, cell_lines, count_line, count_lines, text_lines};
+ghost use Rattle.xw_session.specs.Reply.{told_lines};
+ghost use Rattle.xw_session.specs.Answer.{AnswersTo};
+
+use crate::command::Telling;
+use crate::device::{Sink, WriteFailed};
+use crate::outcome::Step;
+use crate::session::{Session, end_answer};
+use crate::{fields, text};
+use xw_feas::feasible::Feasible;
+use xw_grid::Cell;
+
+/// Writes a cell with its feasible letters, where it is open.
+fn write_cell_letters<E: Feasible, W: Sink>(
+    sink: &mut W,
+    engine: &E,
+    cell: Cell,
+) -> Result<(), WriteFailed>
+    ensures { Sends W.told W.failures sink.old sink.new result (letters_told (E.state engine.now) cell) }
+{
+    if !engine.grid().is_open(cell) {
+        return Ok(());
+    }
+    match engine.letters(cell) {
+        Ok(letters) => text::write_change(sink, cell, letters),
+        Err(_) => Ok(()),
+    }
+}
+
+/// Writes the open cells with their feasible letters.
+fn write_cells<E: Feasible, W: Sink>(sink: &mut W, engine: &E) -> Result<(), WriteFailed>
+    ensures { Sends W.told W.failures sink.old sink.new result (cell_lines (E.state engine.now)) }
+{
+    let grid = engine.grid();
+    for place in 0..grid.size() {
+        write_cell_letters(sink, engine, grid.cell_at(place))?;
+    }
+    Ok(())
+}
+
+/// Writes the light at a place with the number of its feasible words.
+fn write_count_at<E: Feasible, W: Sink>(
+    sink: &mut W,
+    engine: &E,
+    place: usize,
+) -> Result<(), WriteFailed>
+    requires { place < length (lights_of (E.state engine.now).grid) }
+    ensures { Sends W.told W.failures sink.old sink.new result (count_line (E.state engine.now) place) }
+{
+    let Some(light) = engine.lights().get(place) else {
+        return Ok(());
+    };
+    match engine.word_count(light.name) {
+        Ok(count) => text::write_numbered(sink, light.name, count as u64),
+        Err(_) => Ok(()),
+    }
+}
+
+/// Writes the lights with the numbers of their feasible words.
+fn write_counts<E: Feasible, W: Sink>(sink: &mut W, engine: &E) -> Result<(), WriteFailed>
+    ensures { Sends W.told W.failures sink.old sink.new result (count_lines (E.state engine.now)) }
+{
+    for place in 0..engine.lights().len() {
+        write_count_at(sink, engine, place)?;
+    }
+    Ok(())
+}
+
+impl<E: Feasible> Session<E> {
+    ghost use Rattle.xw_session.specs.declared.command.Command.TheVariants as commands;
+
+    /// Writes the texts, and the clues of the lights.
+    fn write_texts<W: Sink>(&self, sink: &mut W) -> Result<(), WriteFailed>
+        ensures { Sends W.told W.failures sink.old sink.new result (text_lines self.now) }
+    {
+        fields::write_fields(sink, &self.texts)?;
+        let engine = &self.engine;
+        fields::write_clues(sink, engine.grid(), engine.lights(), &self.clues)
+    }
+
+    fn write_told<W: Sink>(&self, telling: Telling, sink: &mut W) -> Result<(), WriteFailed>
+        ensures { Sends W.told W.failures sink.old sink.new result (told_lines self.now telling) }
+    {
+        match telling {
+            Telling::Cells => write_cells(sink, &self.engine),
+            Telling::Counts => write_counts(sink, &self.engine),
+            Telling::Texts => self.write_texts(sink),
+        }
+    }
+
+    /// Answers what is told of the whole puzzle.
+    pub(crate) fn tell<W: Sink>(&self, telling: Telling, sink: &mut W) -> Result<Step, WriteFailed>
+        ensures { AnswersTo W.told W.failures self.now (commands.Tell telling) result self.now sink.old sink.new }
+    {
+        self.write_told(telling, sink)?;
+        end_answer(sink, Ok(()))
+    }
+}
