@@ -22,7 +22,7 @@ each_alone : (xs : List ℕ) → flat_map (λ x. x ∷ []) xs ≡ xs
 each_alone [] = refl
 each_alone (x ∷ xs) = ap (λ ys. x ∷ ys) (each_alone xs)
 
-pub letters_stop : {S : Type 0} (told : S → List ℕ) (failures : S → ℕ) (letters : List ℕ) (old mid new : S) (at byte : ℕ) {item : ℕ} → at < length letters → item ≡ get_or letters at item → byte ≡ item
+letters_stop : {S : Type 0} (told : S → List ℕ) (failures : S → ℕ) (letters : List ℕ) (old mid new : S) (at byte : ℕ) {item : ℕ} → at < length letters → item ≡ get_or letters at item → byte ≡ item
     → (told mid ≡ told old ++ take at letters) × (failures mid ≡ failures old)
     → Begins (told mid) (told new) (byte ∷ []) × HasFailed (failures mid) (failures new)
     → Begins (told old) (told new) letters × HasFailed (failures old) (failures new)

@@ -16,6 +16,7 @@ pub mod refusal;
 mod run;
 pub mod session;
 mod show;
+mod spelling;
 pub mod standard;
 #[cfg(test)]
 mod tests;

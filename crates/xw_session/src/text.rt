@@ -11,6 +11,7 @@ ghost use Rattle.xw_session.specs.Text.{line_of, accepted, refused, direction_na
 use crate::device::{self, Sink, WriteFailed};
 use crate::lookup::light_named;
 use crate::refusal::{self, Refusal};
+use crate::spelling::write_letters;
 use std::marker::Model;
 use xw_feas::words::{Entries, Spelled};
 use xw_fill::listing::Duplicate;
@@ -154,16 +155,6 @@ pub fn write_line<W: Sink>(sink: &mut W, words: &[&[u8]]) -> Result<(), WriteFai
             write_line(sink, others)
         }
     }
-}
-
-/// Writes letters, one after another.
-fn write_letters<W: Sink>(sink: &mut W, letters: &[Letter]) -> Result<(), WriteFailed>
-    ensures { Sends W.told W.failures sink.old sink.new result letters.now }
-{
-    for letter in letters {
-        device::write_all(sink, &[letter.byte()])?;
-    }
-    Ok(())
 }
 
 /// Writes a word of the dictionary on a line of its own.

@@ -1,0 +1,35 @@
+//! Letters, many of which are written at once.
+ghost use Rattle.std.specs.Prelude.{◌≡◌, length, min, take};
+ghost use Rattle.xw_session.specs.Sends.{Sends};
+
+use crate::device::{self, Sink, WriteFailed};
+use xw_words::Letter;
+
+/// How many letters are put together to be written at once.
+const TOGETHER: usize = 64;
+
+/// Puts letters together as bytes, as many as there is room for.
+fn spell(letters: &[Letter], bytes: &mut [u8; TOGETHER]) -> usize
+    ensures count { result ≡ min (length letters.now) 64 }
+    ensures bytes { take result bytes.new ≡ take result letters.now }
+{
+    let count = letters.len().min(TOGETHER);
+    for place in 0..count {
+        bytes[place] = letters[place].byte();
+    }
+    count
+}
+
+/// Writes letters, many at once.
+pub fn write_letters<W: Sink>(sink: &mut W, letters: &[Letter]) -> Result<(), WriteFailed>
+    ensures { Sends W.told W.failures sink.old sink.new result letters.now }
+{
+    let mut bytes = [0; TOGETHER];
+    let count = spell(letters, &mut bytes);
+    device::write_all(sink, &bytes[..count])?;
+    if count < letters.len() {
+        write_letters(sink, &letters[count..])
+    } else {
+        Ok(())
+    }
+}
