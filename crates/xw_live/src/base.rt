@@ -44,6 +44,9 @@ fn base_in<R: Rows>(rows: &mut R, board: &Board<'_>, cells: &Cells, chunk: usize
 {
     let mut words = rows.active(cells.len(), chunk);
     for place in 0..cells.len() {
+        if words == 0 {
+            return 0;
+        }
         words &= agreeing_in(rows, board, cells, place, chunk);
     }
     words

@@ -1,11 +1,12 @@
-use Rattle.std.proofs.Common.{◌+◌, ◌*◌, ◌&&◌, length, get_or, ap, ◌∙◌, arith}
+use Rattle.std.proofs.Common.{◌≡◌, ◌+◌, ◌*◌, ◌&&◌, false, length, get_or, sym, ap, ◌∙◌, arith}
 use Rattle.xw_words.specs.Bits.{has_bit}
 use Rattle.xw_words.specs.Dictionary.{entry_at}
 use Rattle.xw_words.specs.Columns.{is_active}
 use Rattle.xw_words.proofs.BitLemmas.{has_bit-and}
 use Rattle.xw_feas.specs.Board.{entry}
 use Rattle.xw_live.specs.Base.{has_entry}
-use Rattle.xw_live.proofs.BaseLemmas.{base_so_far, base_first, base_more, base_all}
+use Rattle.xw_live.proofs.BaseLemmas.{base_so_far, base_first, base_more, base_all, base_never}
+use Rattle.xw_live.proofs.Chunks.{has_bit-none}
 use Rattle.xw_live.proofs.base.base_in.Goals as goal
 
 pub loop-place-init : goal.loop-place-init
@@ -38,3 +39,10 @@ pub returns-clause-words : goal.returns-clause-words
 returns-clause-words g c k lt =
     c.loop-place.invariant.words k lt
     ∙ base_all c.args.board.now c.args.cells.now (g.R.Rows.entries c.args.rows.now (length c.args.cells.now)) c.requires c.loop-place.place (64 * c.args.chunk + k) (omega arith)
+
+pub returns-then-words-eq0-clause-words : goal.returns-then-words-eq0-clause-words
+returns-then-words-eq0-clause-words g c k lt =
+    let entries = g.R.Rows.entries c.args.rows.now (length c.args.cells.now) in
+    let none : base_so_far c.args.board.now c.args.cells.now c.loop-place.place (entry_at entries (64 * c.args.chunk + k)) ≡ false =
+    sym (c.loop-place.invariant.words k lt) ∙ ap (λ w. has_bit w k) c.if-words-eq0.true ∙ has_bit-none k in
+    has_bit-none k ∙ sym (base_never c.args.board.now c.args.cells.now entries c.requires c.loop-place.place (64 * c.args.chunk + k) (omega arith) none)
