@@ -17,6 +17,7 @@ mod run;
 pub mod session;
 mod show;
 pub mod standard;
+mod stats;
 #[cfg(test)]
 mod tests;
 mod text;
