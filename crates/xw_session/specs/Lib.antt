@@ -13,6 +13,7 @@ pub mod Refusal
 pub mod Text
 pub mod Show
 pub mod Told
+pub mod Stats
 pub mod Put
 pub mod Reply
 pub mod Answer

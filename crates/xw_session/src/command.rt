@@ -61,6 +61,7 @@ pub enum Telling {
     Cells,
     Counts,
     Texts,
+    Stats,
 }
 
 /// Bytes of a line: a word, or a text.
@@ -170,7 +171,7 @@ enum Name {
 }
 
 /// The names, each beside its word.
-const NAMES: [(&str, Name); 31] = [
+const NAMES: [(&str, Name); 32] = [
     ("size", Name::Size),
     ("sym", Name::Symmetry),
     ("add", Name::Word(WithWord::Add)),
@@ -200,6 +201,7 @@ const NAMES: [(&str, Name); 31] = [
     ("cells", Name::Tell(Telling::Cells)),
     ("counts", Name::Tell(Telling::Counts)),
     ("texts", Name::Tell(Telling::Texts)),
+    ("stats", Name::Tell(Telling::Stats)),
     ("text", Name::Put(Putting::Instead)),
     ("more", Name::Put(Putting::Behind)),
 ];

@@ -18,6 +18,7 @@ pub mod session;
 mod show;
 mod spelling;
 pub mod standard;
+mod stats;
 #[cfg(test)]
 mod tests;
 mod text;

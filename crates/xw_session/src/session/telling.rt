@@ -4,6 +4,7 @@ ghost use Rattle.xw_grid.specs.Grid.{is_inside};
 ghost use Rattle.xw_grid.specs.Light.{lights_of};
 ghost use Rattle.xw_session.specs.Sends.{Sends};
 ghost use Rattle.xw_session.specs.Told.{letters_told, cell_lines, count_line, count_lines, text_lines};
+ghost use Rattle.xw_session.specs.Stats.{stat_lines};
 ghost use Rattle.xw_session.specs.Reply.{told_lines};
 ghost use Rattle.xw_session.specs.Answer.{AnswersTo};
 
@@ -11,7 +12,7 @@ use crate::command::Telling;
 use crate::device::{Sink, WriteFailed};
 use crate::outcome::Step;
 use crate::session::{Session, end_answer};
-use crate::{fields, text};
+use crate::{fields, stats, text};
 use xw_feas::feasible::Feasible;
 use xw_grid::Cell;
 
@@ -83,6 +84,14 @@ impl<E: Feasible> Session<E> {
         fields::write_clues(sink, engine.grid(), engine.lights(), &self.clues)
     }
 
+    /// Writes the counts over the grid.
+    fn write_stats<W: Sink>(&self, sink: &mut W) -> Result<(), WriteFailed>
+        ensures { Sends W.told W.failures sink.old sink.new result (stat_lines self.now.position.grid) }
+    {
+        let engine = &self.engine;
+        stats::write_stats(sink, engine.grid(), engine.lights())
+    }
+
     fn write_told<W: Sink>(&self, telling: Telling, sink: &mut W) -> Result<(), WriteFailed>
         ensures { Sends W.told W.failures sink.old sink.new result (told_lines self.now telling) }
     {
@@ -90,6 +99,7 @@ impl<E: Feasible> Session<E> {
             Telling::Cells => write_cells(sink, &self.engine),
             Telling::Counts => write_counts(sink, &self.engine),
             Telling::Texts => self.write_texts(sink),
+            Telling::Stats => self.write_stats(sink),
         }
     }
 

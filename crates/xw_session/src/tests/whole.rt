@@ -150,3 +150,60 @@ fn refusals_of_putting(rt: HostRuntime) -> Result<(), Fail> {
         ],
     )
 }
+
+/// Three lights of 2, 2 and 3 cells have a mean of 2.333.., four of 3 and one of 2 have 2.80.
+#[test]
+fn counts_over_grids(rt: HostRuntime) -> Result<(), Fail> {
+    says(
+        &rt,
+        &[],
+        &[
+            ("size 1 1", "ok\n"),
+            (
+                "stats",
+                "cells 1\nblocks 0\nbars 0\nentered 0\nlights 0\nunchecked 0\nmean 0.00\nok\n",
+            ),
+            ("size 7 1", "ok\n"),
+            ("bar 1 2 right", "ok\n"),
+            ("bar 1 4 right", "ok\n"),
+            ("set 1 7 z", "ok\n"),
+            ("set 1 1 A", "ok\n"),
+            ("set 1 3 A", "ok\n"),
+            (
+                "stats",
+                "cells 7\nblocks 0\nbars 2\nentered 3\nlights 3\nlight 2 2\nlight 3 1\nunchecked 7\nmean 2.33\nletter A 2\nletter Z 1\nok\n",
+            ),
+            ("size 3 3", "ok\n"),
+            ("block 1 1", "ok\n"),
+            ("bar 2 1 below", "ok\n"),
+            (
+                "stats",
+                "cells 9\nblocks 1\nbars 1\nentered 0\nlights 5\nlight 2 1\nlight 3 4\nunchecked 2\nmean 2.80\nok\n",
+            ),
+            ("stats 1", "no Arguments\n"),
+        ],
+    )
+}
+
+/// Eight lights of 21 cells together have a mean of 2.625, which is told as 2.63.
+#[test]
+fn half_a_hundredth_goes_up(rt: HostRuntime) -> Result<(), Fail> {
+    says(
+        &rt,
+        &[],
+        &[
+            ("size 21 1", "ok\n"),
+            ("bar 1 2 right", "ok\n"),
+            ("bar 1 4 right", "ok\n"),
+            ("bar 1 6 right", "ok\n"),
+            ("bar 1 9 right", "ok\n"),
+            ("bar 1 12 right", "ok\n"),
+            ("bar 1 15 right", "ok\n"),
+            ("bar 1 18 right", "ok\n"),
+            (
+                "stats",
+                "cells 21\nblocks 0\nbars 7\nentered 0\nlights 8\nlight 2 3\nlight 3 5\nunchecked 21\nmean 2.63\nok\n",
+            ),
+        ],
+    )
+}

@@ -1,0 +1,342 @@
+//! Counts over a whole grid.
+ghost use Rattle.std.specs.Prelude.{◌≡◌, ℕ, ◌+◌, ◌*◌, ◌<◌, ◌≤◌, ◌++◌, [], ◌∷◌, length, codes, decimal, slice_index_or};
+ghost use Rattle.xw_grid.specs.Light.{lights_of, no_light};
+ghost use Rattle.xw_session.specs.Sends.{Sends};
+ghost use Rattle.xw_session.specs.Text.{line_of};
+ghost use Rattle.xw_session.specs.Stats.{is_unchecked as is_unchecked_cell, is_letter as is_letter_entry, is_counted as is_counted_cell, count_of, count_of_size, total_size, mean_hundredths, two_places, number_line, some_line, size_line, letter_line, mean_line, cells_line, bars_line, lights_line, cells_and_blocks, bars_and_entries, size_lines, lights_and_sizes, unchecked_and_mean, letter_lines, stat_lines};
+
+use crate::device::{self, Sink, WriteFailed};
+use crate::text::{self, Decimal};
+use xw_grid::{Cell, Grid, Lights, Side};
+
+/// What a cell is counted for.
+#[derive(Clone, Copy)]
+pub enum Tally {
+    Block,
+    Bar(Side),
+    Entered,
+    Unchecked,
+    Letter(u8),
+}
+
+/// Whether a cell is in one light alone.
+fn is_unchecked(grid: &Grid, lights: &Lights, cell: Cell) -> bool
+    requires { lights.now ≡ lights_of grid.now }
+    ensures { result ≡ is_unchecked_cell grid.now cell }
+{
+    let has_down = lights.down_at(cell).is_some();
+    if lights.across_at(cell).is_some() {
+        !has_down
+    } else {
+        has_down
+    }
+}
+
+fn has_letter(grid: &Grid, cell: Cell, letter: u8) -> bool
+    ensures { result ≡ is_counted_cell grid.now (Tally.Letter letter) cell }
+{
+    match grid.entry(cell) {
+        Some(entered) => entered.byte() == letter,
+        None => false,
+    }
+}
+
+fn is_counted(grid: &Grid, lights: &Lights, tally: Tally, cell: Cell) -> bool
+    requires { lights.now ≡ lights_of grid.now }
+    ensures { result ≡ is_counted_cell grid.now tally cell }
+{
+    match tally {
+        Tally::Block => grid.is_block(cell),
+        Tally::Bar(side) => grid.is_barred(cell, side),
+        Tally::Entered => grid.entry(cell).is_some(),
+        Tally::Unchecked => is_unchecked(grid, lights, cell),
+        Tally::Letter(letter) => has_letter(grid, cell, letter),
+    }
+}
+
+fn count(grid: &Grid, lights: &Lights, tally: Tally) -> u64
+    requires { lights.now ≡ lights_of grid.now }
+    ensures count { result ≡ count_of grid.now tally }
+    ensures few { result ≤ 65025 }
+{
+    let mut count = 0;
+    for place in 0..grid.size() {
+        if is_counted(grid, lights, tally, grid.cell_at(place)) {
+            count += 1;
+        }
+    }
+    count
+}
+
+/// How many cells the light at a place has.
+fn size_at(lights: &Lights, place: usize) -> u32
+    requires { place < length lights.now }
+    ensures { result ≡ (slice_index_or lights.now place no_light).size }
+{
+    match lights.get(place) {
+        Some(light) => light.size,
+        None => 0,
+    }
+}
+
+fn count_size(lights: &Lights, size: u32) -> u64
+    ensures { result ≡ count_of_size lights.now size }
+{
+    let mut count = 0;
+    for place in 0..lights.len() {
+        if size_at(lights, place) == size {
+            count += 1;
+        }
+    }
+    count
+}
+
+/// The sum of the lengths of lights.
+fn total(lights: &Lights) -> u64
+    ensures total { result ≡ total_size lights.now }
+    ensures small { result ≤ 64770 * 4294967295 }
+{
+    let mut total = 0;
+    for place in 0..lights.len() {
+        total += u64::from(size_at(lights, place));
+    }
+    total
+}
+
+/// Hundredths of the mean length of lights.
+fn mean(lights: &Lights) -> u64
+    ensures { result ≡ mean_hundredths (length lights.now) (total_size lights.now) }
+{
+    hundredths(lights.len() as u64, total(lights))
+}
+
+/// Hundredths of a mean, to the nearest, a half up.
+fn hundredths(count: u64, total: u64) -> u64
+    requires few { count ≤ 64770 }
+    requires small { total ≤ 64770 * 4294967295 }
+    ensures { result ≡ mean_hundredths count total }
+{
+    if count == 0 {
+        return 0;
+    }
+    (200 * total + count) / (2 * count)
+}
+
+fn write_number<W: Sink>(sink: &mut W, name: &[u8], number: u64) -> Result<(), WriteFailed>
+    ensures { Sends W.told W.failures sink.old sink.new result (number_line name.now number) }
+{
+    let number = Decimal::new(number);
+    text::write_line(sink, &[name, number.digits()])
+}
+
+/// Writes how many there are of a thing, where there are some.
+fn write_some<W: Sink>(
+    sink: &mut W,
+    name: &[u8],
+    thing: &[u8],
+    count: u64,
+) -> Result<(), WriteFailed>
+    ensures { Sends W.told W.failures sink.old sink.new result (some_line name.now thing.now count) }
+{
+    if count == 0 {
+        return Ok(());
+    }
+    let count = Decimal::new(count);
+    text::write_line(sink, &[name, thing, count.digits()])
+}
+
+fn write_cells<W: Sink>(sink: &mut W, grid: &Grid) -> Result<(), WriteFailed>
+    ensures { Sends W.told W.failures sink.old sink.new result (cells_line grid.now) }
+{
+    write_number(sink, b"cells", grid.size() as u64)
+}
+
+fn write_count<W: Sink>(
+    sink: &mut W,
+    name: &[u8],
+    grid: &Grid,
+    lights: &Lights,
+    tally: Tally,
+) -> Result<(), WriteFailed>
+    requires { lights.now ≡ lights_of grid.now }
+    ensures { Sends W.told W.failures sink.old sink.new result (number_line name.now (count_of grid.now tally)) }
+{
+    write_number(sink, name, count(grid, lights, tally))
+}
+
+fn write_bars<W: Sink>(sink: &mut W, grid: &Grid, lights: &Lights) -> Result<(), WriteFailed>
+    requires { lights.now ≡ lights_of grid.now }
+    ensures { Sends W.told W.failures sink.old sink.new result (bars_line grid.now) }
+{
+    let right = count(grid, lights, Tally::Bar(Side::Right));
+    let below = count(grid, lights, Tally::Bar(Side::Below));
+    write_number(sink, b"bars", right + below)
+}
+
+fn write_light_count<W: Sink>(sink: &mut W, grid: &Grid, lights: &Lights) -> Result<(), WriteFailed>
+    requires { lights.now ≡ lights_of grid.now }
+    ensures { Sends W.told W.failures sink.old sink.new result (lights_line grid.now) }
+{
+    write_number(sink, b"lights", lights.len() as u64)
+}
+
+fn write_cells_and_blocks<W: Sink>(
+    sink: &mut W,
+    grid: &Grid,
+    lights: &Lights,
+) -> Result<(), WriteFailed>
+    requires { lights.now ≡ lights_of grid.now }
+    ensures { Sends W.told W.failures sink.old sink.new result (cells_and_blocks grid.now) }
+{
+    write_cells(sink, grid)?;
+    write_count(sink, b"blocks", grid, lights, Tally::Block)
+}
+
+fn write_bars_and_entries<W: Sink>(
+    sink: &mut W,
+    grid: &Grid,
+    lights: &Lights,
+) -> Result<(), WriteFailed>
+    requires { lights.now ≡ lights_of grid.now }
+    ensures { Sends W.told W.failures sink.old sink.new result (bars_and_entries grid.now) }
+{
+    write_bars(sink, grid, lights)?;
+    write_count(sink, b"entered", grid, lights, Tally::Entered)
+}
+
+/// Writes how many lights there are of a length, where there are some.
+fn write_size<W: Sink>(
+    sink: &mut W,
+    grid: &Grid,
+    lights: &Lights,
+    size: u32,
+) -> Result<(), WriteFailed>
+    requires { lights.now ≡ lights_of grid.now }
+    ensures { Sends W.told W.failures sink.old sink.new result (size_line grid.now size) }
+{
+    let length = Decimal::new(u64::from(size));
+    write_some(sink, b"light", length.digits(), count_size(lights, size))
+}
+
+fn write_sizes<W: Sink>(sink: &mut W, grid: &Grid, lights: &Lights) -> Result<(), WriteFailed>
+    requires { lights.now ≡ lights_of grid.now }
+    ensures { Sends W.told W.failures sink.old sink.new result (size_lines grid.now) }
+{
+    for before in 0..254 {
+        write_size(sink, grid, lights, before + 2)?;
+    }
+    Ok(())
+}
+
+fn write_lights_and_sizes<W: Sink>(
+    sink: &mut W,
+    grid: &Grid,
+    lights: &Lights,
+) -> Result<(), WriteFailed>
+    requires { lights.now ≡ lights_of grid.now }
+    ensures { Sends W.told W.failures sink.old sink.new result (lights_and_sizes grid.now) }
+{
+    write_light_count(sink, grid, lights)?;
+    write_sizes(sink, grid, lights)
+}
+
+fn write_digits<W: Sink>(sink: &mut W, number: u64) -> Result<(), WriteFailed>
+    ensures { Sends W.told W.failures sink.old sink.new result (decimal number) }
+{
+    let number = Decimal::new(number);
+    device::write_all(sink, number.digits())
+}
+
+/// Writes hundredths as a number with two places, and ends the line.
+fn write_two_places<W: Sink>(sink: &mut W, hundredths: u64) -> Result<(), WriteFailed>
+    ensures { Sends W.told W.failures sink.old sink.new result (line_of (two_places hundredths ∷ [])) }
+{
+    let tenth = b'0' + (hundredths / 10 % 10) as u8;
+    let hundredth = b'0' + (hundredths % 10) as u8;
+    write_digits(sink, hundredths / 100)?;
+    device::write_all(sink, &[b'.', tenth, hundredth, b'\n'])
+}
+
+fn write_hundredths<W: Sink>(sink: &mut W, hundredths: u64) -> Result<(), WriteFailed>
+    ensures { Sends W.told W.failures sink.old sink.new result (line_of (codes "mean" ∷ two_places hundredths ∷ [])) }
+{
+    text::write_spaced(sink, b"mean")?;
+    write_two_places(sink, hundredths)
+}
+
+fn write_mean<W: Sink>(sink: &mut W, grid: &Grid, lights: &Lights) -> Result<(), WriteFailed>
+    requires { lights.now ≡ lights_of grid.now }
+    ensures { Sends W.told W.failures sink.old sink.new result (mean_line grid.now) }
+{
+    write_hundredths(sink, mean(lights))
+}
+
+fn write_unchecked_and_mean<W: Sink>(
+    sink: &mut W,
+    grid: &Grid,
+    lights: &Lights,
+) -> Result<(), WriteFailed>
+    requires { lights.now ≡ lights_of grid.now }
+    ensures { Sends W.told W.failures sink.old sink.new result (unchecked_and_mean grid.now) }
+{
+    write_count(sink, b"unchecked", grid, lights, Tally::Unchecked)?;
+    write_mean(sink, grid, lights)
+}
+
+/// Writes in how many cells a letter is entered, where it is in some.
+fn write_letter<W: Sink>(
+    sink: &mut W,
+    grid: &Grid,
+    lights: &Lights,
+    letter: u8,
+) -> Result<(), WriteFailed>
+    requires { lights.now ≡ lights_of grid.now }
+    ensures { Sends W.told W.failures sink.old sink.new result (letter_line grid.now letter) }
+{
+    let count = count(grid, lights, Tally::Letter(letter));
+    write_some(sink, b"letter", &[letter], count)
+}
+
+fn write_letters<W: Sink>(sink: &mut W, grid: &Grid, lights: &Lights) -> Result<(), WriteFailed>
+    requires { lights.now ≡ lights_of grid.now }
+    ensures { Sends W.told W.failures sink.old sink.new result (letter_lines grid.now) }
+{
+    for before in 0..26 {
+        write_letter(sink, grid, lights, before + b'A')?;
+    }
+    Ok(())
+}
+
+fn write_grid_stats<W: Sink>(sink: &mut W, grid: &Grid, lights: &Lights) -> Result<(), WriteFailed>
+    requires { lights.now ≡ lights_of grid.now }
+    ensures { Sends W.told W.failures sink.old sink.new result (cells_and_blocks grid.now ++ bars_and_entries grid.now) }
+{
+    write_cells_and_blocks(sink, grid, lights)?;
+    write_bars_and_entries(sink, grid, lights)
+}
+
+fn write_light_stats<W: Sink>(sink: &mut W, grid: &Grid, lights: &Lights) -> Result<(), WriteFailed>
+    requires { lights.now ≡ lights_of grid.now }
+    ensures { Sends W.told W.failures sink.old sink.new result (lights_and_sizes grid.now ++ unchecked_and_mean grid.now) }
+{
+    write_lights_and_sizes(sink, grid, lights)?;
+    write_unchecked_and_mean(sink, grid, lights)
+}
+
+/// Writes the counts of cells and those of lights.
+fn write_counts<W: Sink>(sink: &mut W, grid: &Grid, lights: &Lights) -> Result<(), WriteFailed>
+    requires { lights.now ≡ lights_of grid.now }
+    ensures { Sends W.told W.failures sink.old sink.new result ((cells_and_blocks grid.now ++ bars_and_entries grid.now) ++ (lights_and_sizes grid.now ++ unchecked_and_mean grid.now)) }
+{
+    write_grid_stats(sink, grid, lights)?;
+    write_light_stats(sink, grid, lights)
+}
+
+/// Writes all counts over a grid.
+pub fn write_stats<W: Sink>(sink: &mut W, grid: &Grid, lights: &Lights) -> Result<(), WriteFailed>
+    requires { lights.now ≡ lights_of grid.now }
+    ensures { Sends W.told W.failures sink.old sink.new result (stat_lines grid.now) }
+{
+    write_counts(sink, grid, lights)?;
+    write_letters(sink, grid, lights)
+}
