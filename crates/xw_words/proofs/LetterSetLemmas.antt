@@ -258,6 +258,4 @@ letters_from-end set place past = ap (filter (has set)) (drop_all place alphabet
 
 pub ruleset walking_steps = (letters_from-next, letters_from-other, letters_from-end)
 
-pub ruleset counting_steps = (count-more, length-alphabet)
-
 pub ruleset set_steps = (letter_is_capital, has-all, has-common, has-none, is_same-letters)
