@@ -15,6 +15,7 @@ pub mod LetterTexts
 pub mod LightTexts
 pub mod Naming
 pub mod Escapes
+pub mod SpelledLines
 pub mod FieldTexts
 pub mod Telling
 pub mod Putting

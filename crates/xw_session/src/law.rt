@@ -1,5 +1,6 @@
 //! What the definitions mean.
 ghost use Rattle.std.specs.Prelude.{◌≡◌, ℕ, List, Some};
+ghost use Rattle.xw_session.specs.Line.{trimmed};
 ghost use Rattle.xw_session.specs.Escape.{text_spelled, spelled};
 ghost use Rattle.xw_session.specs.Cut.{ended_lines, last_piece, with_lfs, AllHaveNoLf, HasNoLf};
 
@@ -14,7 +15,9 @@ pub fn lines_are_cut_at_each_lf()
         → last_piece (with_lfs lines rest) ≡ rest }
 {}
 
-/// A text as answers spell it is read back as the same text.
+/// A text as answers spell it is read back as the same text, and stands in a line as it is.
 pub fn what_is_spelled_reads_back()
-    ensures { (text : List ℕ) → text_spelled (spelled text) ≡ Some text }
+    ensures back { (text : List ℕ) → text_spelled (spelled text) ≡ Some text }
+    ensures line { (text : List ℕ) → HasNoLf (spelled text) }
+    ensures ends { (text : List ℕ) → trimmed (spelled text) ≡ spelled text }
 {}

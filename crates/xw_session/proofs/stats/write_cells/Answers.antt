@@ -1,4 +1,4 @@
-use Rattle.std.proofs.Common.{◌≡◌, length, List, ℕ, codes, sym, ◌∙◌, subst}
+use Rattle.std.proofs.Common.{◌≡◌, length, ℕ, codes, sym, ◌∙◌, subst}
 use Rattle.xw_grid.specs.Grid.{cells}
 use Rattle.xw_grid.proofs.GridLemmas.{length-cells}
 use Rattle.xw_session.specs.Sends.{Sends}
