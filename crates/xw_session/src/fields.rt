@@ -1,5 +1,5 @@
 //! The texts and the clues of a puzzle, as answers tell them.
-ghost use Rattle.std.specs.Prelude.{◌≡◌, ◌<◌, [], ◌∷◌, ◌++◌, length, decimal, slice_index_or};
+ghost use Rattle.std.specs.Prelude.{◌≡◌, ◌<◌, [], ◌∷◌, length, decimal, slice_index_or};
 ghost use Rattle.xw_grid.specs.Light.{lights_of, no_light};
 ghost use Rattle.xw_files.specs.Puzzle.{texts_view};
 ghost use Rattle.xw_session.specs.Sends.{Sends};

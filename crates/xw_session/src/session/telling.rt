@@ -1,6 +1,5 @@
 //! What is told of a whole puzzle: its cells, its lights, its texts.
-ghost use Rattle.std.specs.Prelude.{◌≡◌, ◌<◌, true, length};
-ghost use Rattle.xw_grid.specs.Grid.{is_inside};
+ghost use Rattle.std.specs.Prelude.{◌<◌, length};
 ghost use Rattle.xw_grid.specs.Light.{lights_of};
 ghost use Rattle.xw_session.specs.Sends.{Sends};
 ghost use Rattle.xw_session.specs.Told.{letters_told, cell_lines, count_line, count_lines, text_lines};
