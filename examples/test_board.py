@@ -40,6 +40,18 @@ letters: S
 without a word: none
 """
 
+DEAD = """
+.1X> !.2!. !.3!
+  !  #  !  #  !
+ 4!  !  !  !  !
+  !  #  !  #  !
+ 5!  !  !  !  !
+
+1 across, feasible 0:
+letters: -
+without a word: 1 across, 1 down, 2 down, 3 down, 4 across, 5 across
+"""
+
 # what is shown, the keys, the screen
 CASES = [
     ("blocks are toggled with their images, and a letter that is forced is drawn small", LATTICE, FIRST),
@@ -67,17 +79,8 @@ without a word: none
 """),
     ("the last letter is taken back", LATTICE + "S H ^Z left left", FIRST.replace("1s", "1S")),
     ("backspace steps back and empties, space empties and steps on", LATTICE + "S H backspace left space left", FIRST),
-    ("no word has this letter, so no cell of the lattice has one that is feasible", LATTICE + "X", """
-.1X> !.2!. !.3!
-  !  #  !  #  !
- 4!  !  !  !  !
-  !  #  !  #  !
- 5!  !  !  !  !
-
-1 across, feasible 0:
-letters: -
-without a word: 1 across, 1 down, 2 down, 3 down, 4 across, 5 across
-"""),
+    ("no word has this letter, so no cell of the lattice has one that is feasible", LATTICE + "X", DEAD),
+    ("nor has a cell that had some before it was a block; the watch does not tell it", LATTICE + "right # left X #", DEAD),
     ("a block is opened, with lights of three cells and no such words; the watch does not tell the opened cells",
      LATTICE + "right right right down #", """
  1!  ! 2!.3! 4!
@@ -126,20 +129,13 @@ a block is here
 letters: S
 without a word: none
 """),
-    ("a light without words is gone to", LATTICE + "X down down ?", """
->1X. !.2!. !.3!
-  !  #  !  #  !
- 4!  !  !  !  !
-  !  #  !  #  !
- 5!  !  !  !  !
-
-1 across, feasible 0:
-letters: -
-without a word: 1 across, 1 down, 2 down, 3 down, 4 across, 5 across
-no word fits here
-"""),
+    ("a light without words is gone to", LATTICE + "X down down ?",
+     DEAD.replace(".1X> !", ">1X. !") + "no word fits here\n"),
+    ("and there is no fill", LATTICE + "X ^F", DEAD + "there is no fill\n"),
     ("a fill takes the words in their order, and none twice", LATTICE + "^F", FILLED + "filled\n"),
     ("after it every light is entered", LATTICE + "^F ?", FILLED + "every light is entered\n"),
+    ("a letter of it that is emptied is the only one that is feasible there", LATTICE + "^F right space left left",
+     FILLED.replace(" H", " h")),
     ("a fill is one edit", LATTICE + "^F ^Z", FIRST),
     ("undo goes back to the empty grid, and no further; there no word fits all five lights down that it crosses",
      LATTICE + "S H ^F left left ^Z ^Z ^Z ^Z ^Z ^Z ^Z", """
@@ -233,6 +229,9 @@ def saved_logs(program):
         yield agrees("the board saves when it quits, and takes no further key", folder.log.read_text(), LOG + "clear 1 1\n")
         folder.log.write_text("\n# a note\n" + LOG + "set 2 2 A\n")
         yield agrees("a line that is refused is told", folder.screen(""), FILLED + "set 2 2 A: OnBlock\n")
+        folder.log.write_text("set 1 2 A\n")
+        row = "> 1!. 2A" + "".join(f".{column:2}!" for column in range(3, 16))
+        yield agrees("without a size, undo goes back to a grid of 15 by 15", folder.screen("B ^Z left").splitlines()[0], row)
         folder.log = folder.path / "nowhere" / "board.log"
         seen = folder.screen("^S").splitlines()[-1]
         yield agrees("where it cannot be saved, this is told", seen.split(":")[0], "not saved")
