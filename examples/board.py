@@ -14,9 +14,9 @@
     ^S           saves the log
     ^Q, ^C       saves the log and quits; quits without
 
-A capital is entered, a small letter is the only one that is feasible in its cell, `!` is a cell without a feasible letter, `-` any
-other empty cell, `#` a block. `>` or `v` marks the cell under the cursor, `.` the other cells of the light through it. Bars are
-not drawn.
+A capital is entered, a small letter is the only one that is feasible in its cell, `!` is a cell without a feasible letter,
+`-` any other empty cell, `#` a block. `>` or `v` marks the cell under the cursor, `.` the other cells of the light through it.
+Bars are not drawn.
 
 The log has the line commands that make this grid, a fill as the letters that it entered: `xw edit --dict WORDS <LOG` makes it
 again. Where the file is there at the start, the board begins with its commands.
@@ -37,6 +37,7 @@ FILLS = {"filled": "filled", "nofill": "there is no fill", "limit": "no fill was
 PROPOSALS = {"done": "every light is entered", "try": "{2}? enter places it", "dead": "no word fits here",
              "noword": "no word here leaves every light a word"}
 MOST_PLACED = 10000
+ENCODING = "latin-1"  # a character for each byte, whatever character set the texts of a log are in
 
 
 class Refused(Exception):
@@ -78,7 +79,7 @@ def read_lights(lines):
 
 
 class Board:
-    """The grid as the program last told it, the log, and what each key does."""
+    """The grid as the program last told it, what was done to it, and what each key does."""
 
     def __init__(self, session, log_file, first):
         self.session, self.log_file = session, log_file
@@ -123,24 +124,21 @@ class Board:
         elif key in self.actions:
             self.actions[key]()
         elif key == "#":
-            self.edit(f"block {self.here()}")
-        elif key == "space":
-            self.edit(f"clear {self.here()}")
-            self.step(1)
+            self.edit("block {} {}".format(*self.cursor))
         elif key == "backspace":
             self.step(-1)
-            self.edit(f"clear {self.here()}")
+            self.edit("clear {} {}".format(*self.cursor))
+        elif key == "space":
+            self.edit("clear {} {}".format(*self.cursor))
+            self.step(1)
         elif len(key) == 1 and key.isascii() and key.isalpha():
-            self.edit(f"set {self.here()} {key}")
+            self.edit("set {} {} {}".format(*self.cursor, key.upper()))
             self.step(1)
 
     def edit(self, command):
         cells = self.session.ask(command)
         self.log.append([command])
         self.look(cells)
-
-    def here(self):
-        return "{} {}".format(*self.cursor)
 
     def step(self, cells):
         row, column = self.cursor
@@ -176,12 +174,13 @@ class Board:
         if len(self.log) > 1:
             self.log.pop()
             self.begin()
+            self.message = ""
 
     def save(self):
         """Writes the log beside the old one and then puts it in its place, and answers whether that could be done."""
         new = f"{self.log_file}.new"
         try:
-            pathlib.Path(new).write_text("".join(f"{command}\n" for command in itertools.chain(*self.log)), encoding="utf-8")
+            pathlib.Path(new).write_text("".join(f"{command}\n" for command in itertools.chain(*self.log)), ENCODING)
             os.replace(new, self.log_file)
             self.message = f"saved: {self.log_file}"
             return True
@@ -221,7 +220,7 @@ class Board:
             count, *words = self.session.ask(f"words {light} 8")
             yield " ".join([f"{light}, feasible {count}:", *words])
         if self.grid[self.cursor] != "#":
-            yield "letters: " + self.session.ask(f"letters {self.here()}")[0]
+            yield "letters: " + self.session.ask("letters {} {}".format(*self.cursor))[0]
         counts = [line.rsplit(maxsplit=1) for line in self.session.ask("counts")]
         yield "without a word: " + (", ".join(name for name, count in counts if count == "0") or "none")
         yield self.message
@@ -248,7 +247,7 @@ def press_in_terminal(board):
 
 
 def press_from_file(board, file):
-    for key in pathlib.Path(file).read_text(encoding="utf-8").split():
+    for key in pathlib.Path(file).read_text(ENCODING).split():
         if board.open:
             board.press(key)
     print(*(line.rstrip() for line in board.screen()), sep="\n")
@@ -258,7 +257,7 @@ def first_commands(options):
     """Those of the log that was saved, or else those of a new grid."""
     if not os.path.exists(options.log):
         return ["size " + options.size.replace("x", " "), f"sym {options.sym}"]
-    lines = pathlib.Path(options.log).read_text(encoding="utf-8").splitlines()
+    lines = pathlib.Path(options.log).read_text(ENCODING).split("\n")
     return [line for line in lines if line.strip() and not line.lstrip().startswith("#")]
 
 
@@ -268,13 +267,13 @@ def main():
     parser.add_argument("--log", metavar="LOG", default="board.xw", help="the file of the log (else %(default)s)")
     parser.add_argument("--size", metavar="WxH", default="15x15", help="of a new grid (else %(default)s)")
     parser.add_argument("--sym", metavar="KIND", default="half", help="symmetry of a new grid (else %(default)s)")
-    parser.add_argument("--keys", metavar="FILE", help="takes the keys from a file, parted by white space (`up space enter ^F A`), "
-                        "and prints the last screen, without a terminal")
+    parser.add_argument("--keys", metavar="FILE", help="takes the keys from a file, parted by white space (`up space enter "
+                        "^F A`), and prints the last screen, without a terminal")
     parser.add_argument("--xw", metavar="PROGRAM", default=TOP / "xw", help="the program (else %(default)s)")
     options = parser.parse_args()
     call = [options.xw, "edit", *(["--dict", options.dict] if options.dict else [])]
     try:
-        with Session(call, stdin=subprocess.PIPE, stdout=subprocess.PIPE, encoding="utf-8") as session:
+        with Session(call, stdin=subprocess.PIPE, stdout=subprocess.PIPE, encoding=ENCODING) as session:
             board = Board(session, options.log, first_commands(options))
             board.begin()
             if options.keys:

@@ -190,8 +190,8 @@ class Folder:
 
     def screen(self, keys):
         self.keys.write_text(keys)
-        call = [sys.executable, EXAMPLES / "board.py", "--xw", self.program, "--dict", self.words, "--log", self.log, "--size", "5x5",
-                "--keys", self.keys]
+        call = [sys.executable, EXAMPLES / "board.py", "--xw", self.program, "--dict", self.words, "--log", self.log,
+                "--size", "5x5", "--keys", self.keys]
         run = subprocess.run(call, stdout=subprocess.PIPE, stderr=subprocess.PIPE, encoding="utf-8", timeout=60)
         return run.stdout if run.returncode == 0 else f"status {run.returncode}\n{run.stderr}"
 
@@ -239,6 +239,7 @@ def saved_logs(program):
 
 def main():
     program = sys.argv[1] if len(sys.argv) > 1 else EXAMPLES.parent / "xw"
+    subprocess.run([program, "--version"], stdout=subprocess.DEVNULL, check=True)  # builds ./xw where that is due
     passed = [*screens(program), *saved_logs(program)]
     print(f"{passed.count(True)} passed, {passed.count(False)} failed")
     sys.exit(0 if all(passed) else 1)
