@@ -1,5 +1,5 @@
 #!/usr/bin/env python3
-"""Runs the board with keys from a file, and compares its last screen with what the rules say.
+"""Runs the board with keys from a file, and compares its last screen with what the rules say; and once in a terminal.
 
 usage: examples/test_board.py [PROGRAM]   (the program that the board drives: ./xw unless given)
 
@@ -7,7 +7,10 @@ The expected screens are written by hand. Most cases are on a lattice of 5 by 5 
 have the letters 1, 3 and 5: SHADE and STARE have S A E, ALONE and ATONE have A O E, ELEGY and ENEMY have E E Y. So each of
 these pairs is feasible in two lights, and TABLE nowhere. The last line is 'N passed, M failed'.
 """
+import os
 import pathlib
+import pty
+import signal
 import subprocess
 import sys
 import tempfile
@@ -188,12 +191,35 @@ class Folder:
         self.words, self.log, self.keys = (self.path / file for file in ("words.txt", "board.log", "keys.txt"))
         self.words.write_text("\n".join(WORDS.split()))
 
+    def call(self, *more):
+        words = [sys.executable, EXAMPLES / "board.py", "--xw", self.program, "--dict", self.words, "--log", self.log,
+                 "--size", "5x5", *more]
+        return [str(word) for word in words]
+
     def screen(self, keys):
         self.keys.write_text(keys)
-        call = [sys.executable, EXAMPLES / "board.py", "--xw", self.program, "--dict", self.words, "--log", self.log,
-                "--size", "5x5", "--keys", self.keys]
-        run = subprocess.run(call, stdout=subprocess.PIPE, stderr=subprocess.PIPE, encoding="utf-8", timeout=60)
+        run = subprocess.run(self.call("--keys", self.keys), stdout=subprocess.PIPE, stderr=subprocess.PIPE, encoding="utf-8",
+                             timeout=60)
         return run.stdout if run.returncode == 0 else f"status {run.returncode}\n{run.stderr}"
+
+    def press(self, keys):
+        """Sends bytes to the board in a terminal, once it is drawn there."""
+        child, terminal = pty.fork()
+        if child == 0:
+            os.environ["TERM"] = "xterm"
+            signal.alarm(60)
+            os.execv(sys.executable, self.call())
+        drawn = b""
+        try:
+            while b"without a word" not in drawn:
+                drawn += os.read(terminal, 4096)
+            os.write(terminal, keys)
+            while os.read(terminal, 4096):
+                pass
+        except OSError:
+            pass  # the board has ended, and the terminal with it
+        os.waitpid(child, 0)
+        os.close(terminal)
 
     def shown(self):
         """What the program shows after the commands of the log alone, with no word list."""
@@ -237,10 +263,21 @@ def saved_logs(program):
         yield agrees("where it cannot be saved, this is told", seen.split(":")[0], "not saved")
 
 
+def terminals(program):
+    up, down, right, left, backspace = b"\x1bOA", b"\x1bOB", b"\x1bOC", b"\x1bOD", b"\x7f"
+    undo, quit = b"\x1a", b"\x11"
+    with tempfile.TemporaryDirectory() as name:
+        folder = Folder(name, program)
+        folder.press(down + right + b"#" + 2 * right + b"#" + up + 3 * left + b"\t\tSh" + backspace + b" ?\r" + undo + undo
+                     + b"?\r" + quit)
+        log = folder.log.read_text() if folder.log.exists() else "no log"
+        yield agrees("keys of a terminal", log, "\n".join(LOG.split("\n")[:6]) + "\nclear 1 2\nplace 1 across SHADE\n")
+
+
 def main():
     program = sys.argv[1] if len(sys.argv) > 1 else EXAMPLES.parent / "xw"
     subprocess.run([program, "--version"], stdout=subprocess.DEVNULL, check=True)  # builds ./xw where that is due
-    passed = [*screens(program), *saved_logs(program)]
+    passed = [*screens(program), *saved_logs(program), *terminals(program)]
     print(f"{passed.count(True)} passed, {passed.count(False)} failed")
     sys.exit(0 if all(passed) else 1)
 
