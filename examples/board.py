@@ -1,0 +1,290 @@
+#!/usr/bin/env python3
+"""A front end, as an example: draws a grid in a terminal and changes it by keys, with `xw edit` behind a pair of pipes.
+
+    arrows       go to the next cell, and turn to across or to down
+    tab          turns between across and down
+    a letter     enters it, and steps on
+    space        empties the cell, and steps on
+    backspace    steps back, and empties that cell
+    #            toggles a block, with its images under the symmetry
+    ?            asks for a next word, and goes to its light
+    enter        places the word that ? asks for
+    ^F           looks for a fill
+    ^Z           takes the last edit back
+    ^S           saves the log
+    ^Q, ^C       saves the log and quits; quits without
+
+A capital is entered, a small letter is the only one that is feasible in its cell, `!` is a cell without a feasible letter,
+`-` any other empty cell, `#` a block. `>` or `v` marks the cell under the cursor, `.` the other cells of the light through it.
+Bars are not drawn.
+
+The log has the line commands that make this grid, a fill as the letters that it entered: `xw edit --dict WORDS <LOG` makes it
+again. Where the file is there at the start, the board begins with its commands.
+"""
+import argparse
+import itertools
+import os
+import pathlib
+import subprocess
+import sys
+
+TOP = pathlib.Path(__file__).resolve().parent.parent
+ARROWS = {"up": ("down", -1), "down": ("down", 1), "left": ("across", -1), "right": ("across", 1)}
+TERMINAL_KEYS = {"KEY_UP": "up", "KEY_DOWN": "down", "KEY_LEFT": "left", "KEY_RIGHT": "right", "^I": "tab", "^J": "enter",
+                 " ": "space", "KEY_BACKSPACE": "backspace", "^?": "backspace", "^H": "backspace"}
+REFUSALS = {"OnBlock": "a block is here", "Occupied": "a letter stands where a block would", "Memory": "memory is wanting"}
+FILLS = {"filled": "filled", "nofill": "there is no fill", "limit": "no fill was found"}
+PROPOSALS = {"done": "every light is entered", "try": "{2}? enter places it", "dead": "no word fits here",
+             "noword": "no word here leaves every light a word"}
+MOST_PLACED = 10000
+ENCODING = "latin-1"  # a character for each byte, whatever character set the texts of a log are in
+
+
+class Refused(Exception):
+    """A command was refused, by this name."""
+
+
+class Session(subprocess.Popen):
+    """`xw edit` behind a pair of pipes."""
+
+    def ask(self, command):
+        """The lines that answer a command. A blank line or a note must not come here, since it has no answer."""
+        print(command, file=self.stdin, flush=True)
+        lines = []
+        for line in self.stdout:
+            line = line.rstrip("\n")
+            if line == "ok":
+                return lines
+            if line.startswith("no "):
+                raise Refused(line[3:])
+            lines.append(line)
+        raise EOFError
+
+
+def read_grid(lines):
+    """What each cell holds, of the lines of `show`: the cells are at every other byte; a line with `=` is one of bars."""
+    rows = [line[::2] for line in lines if "=" not in line]
+    return {(row, column): entry for row, line in enumerate(rows, 1) for column, entry in enumerate(line, 1)}
+
+
+def read_lights(lines):
+    """The cells of each light, by its name, of the lines of `lights`."""
+    lights = {}
+    for line in lines:
+        number, direction, row, column, letters = line.split()
+        across, down = direction == "across", direction == "down"
+        cells = [(int(row) + step * down, int(column) + step * across) for step in range(len(letters))]
+        lights[f"{number} {direction}"] = cells
+    return lights
+
+
+class Board:
+    """The grid as the program last told it, what was done to it, and what each key does."""
+
+    def __init__(self, session, log_file, first):
+        self.session, self.log_file = session, log_file
+        self.log = [first]  # the commands that the board began with, and then those of each edit
+        self.grid, self.lights, self.letters = {}, {}, {}
+        self.cursor, self.direction = (1, 1), "across"
+        self.open, self.message = True, ""
+        self.actions = {"tab": self.turn, "?": self.suggest, "enter": self.accept, "^F": self.fill, "^Z": self.undo,
+                        "^S": self.save, "^Q": self.quit}
+
+    def begin(self):
+        """Does the whole log, on the grid that the program has at its start."""
+        for command in ["size 15 15", *itertools.chain(*self.log)]:
+            try:
+                self.session.ask(command)
+            except Refused as refusal:
+                self.message = f"{command}: {refusal}"
+        self.session.ask("watch on")
+        self.look(self.session.ask("cells"))
+
+    def look(self, cells):
+        """Takes in cells, as `cells` and the watch tell them, and asks for the grid and its lights."""
+        for line in cells:
+            _, row, column, letters = line.split()
+            self.letters[int(row), int(column)] = letters
+        self.grid = read_grid(self.session.ask("show"))
+        self.lights = read_lights(self.session.ask("lights"))
+        # the watch does not tell a block, nor an opened cell without letters
+        self.letters = {cell: letters for cell, letters in self.letters.items() if self.grid[cell] != "#"}
+
+    def press(self, key):
+        self.message = ""
+        try:
+            self.act(key)
+        except Refused as refusal:
+            self.message = REFUSALS.get(str(refusal), str(refusal))
+
+    def act(self, key):
+        if key in ARROWS:
+            self.direction, cells = ARROWS[key]
+            self.step(cells)
+        elif key in self.actions:
+            self.actions[key]()
+        elif key == "#":
+            self.edit("block {} {}".format(*self.cursor))
+        elif key == "backspace":
+            self.step(-1)
+            self.edit("clear {} {}".format(*self.cursor))
+        elif key == "space":
+            self.edit("clear {} {}".format(*self.cursor))
+            self.step(1)
+        elif len(key) == 1 and key.isascii() and key.isalpha():
+            self.edit("set {} {} {}".format(*self.cursor, key.upper()))
+            self.step(1)
+
+    def edit(self, command):
+        cells = self.session.ask(command)
+        self.log.append([command])
+        self.look(cells)
+
+    def step(self, cells):
+        row, column = self.cursor
+        cell = (row + cells, column) if self.direction == "down" else (row, column + cells)
+        if cell in self.grid:
+            self.cursor = cell
+
+    def turn(self):
+        self.direction = "across" if self.direction == "down" else "down"
+
+    def suggest(self):
+        what, *rest = self.session.ask("suggest")[0].split()
+        self.message = PROPOSALS[what].format(*rest)
+        if rest:
+            self.cursor, self.direction = self.lights[f"{rest[0]} {rest[1]}"][0], rest[1]
+
+    def accept(self):
+        what, *rest = self.session.ask("suggest")[0].split()
+        if what == "try":
+            self.edit("place {} {} {}".format(*rest))
+
+    def fill(self):
+        answer, = self.session.ask(f"fill {MOST_PLACED}")
+        self.message = FILLS[answer]
+        if answer == "filled":
+            before = self.grid
+            self.look(self.session.ask("cells"))  # the watch does not tell of a fill
+            self.log.append([f"set {row} {column} {entry}" for (row, column), entry in self.grid.items()
+                             if entry != before[row, column]])
+
+    def undo(self):
+        """Does the log again without the last edit. What the board began with stays."""
+        if len(self.log) > 1:
+            self.log.pop()
+            self.begin()
+            self.message = ""
+
+    def save(self):
+        """Writes the log beside the old one and then puts it in its place, and answers whether that could be done."""
+        new = f"{self.log_file}.new"
+        try:
+            pathlib.Path(new).write_text("".join(f"{command}\n" for command in itertools.chain(*self.log)), ENCODING)
+            os.replace(new, self.log_file)
+            self.message = f"saved: {self.log_file}"
+            return True
+        except OSError as fault:
+            self.message = f"not saved: {fault}"
+            return False
+
+    def quit(self):
+        self.open = not self.save()
+
+    def light(self):
+        """The name of the light through the cursor in its direction, or nothing."""
+        names = (name for name, cells in self.lights.items() if name.endswith(self.direction) and self.cursor in cells)
+        return next(names, "")
+
+    def screen(self):
+        """The grid, of each cell a mark, the number and what it shows; and then the panel."""
+        marks = dict.fromkeys(self.lights.get(self.light(), []), ".")
+        marks[self.cursor] = "v" if self.direction == "down" else ">"
+        numbers = {cells[0]: name.split()[0] for name, cells in self.lights.items()}
+        digits = max(map(len, numbers.values()), default=1)
+        rows = {}
+        for cell in self.grid:
+            rows.setdefault(cell[0], []).append(marks.get(cell, " ") + numbers.get(cell, "").rjust(digits) + self.face(cell))
+        return [*map("".join, rows.values()), "", *self.panel()]
+
+    def face(self, cell):
+        entry, feasible = self.grid[cell], self.letters.get(cell, "-")
+        if entry != "-" or len(feasible) > 1:
+            return entry
+        return "!" if feasible == "-" else feasible.lower()
+
+    def panel(self):
+        """The light and the cell under the cursor, the lights that no word fits, the message."""
+        light = self.light()
+        if light:
+            count, *words = self.session.ask(f"words {light} 8")
+            yield " ".join([f"{light}, feasible {count}:", *words])
+        if self.grid[self.cursor] != "#":
+            yield "letters: " + self.session.ask("letters {} {}".format(*self.cursor))[0]
+        counts = [line.rsplit(maxsplit=1) for line in self.session.ask("counts")]
+        yield "without a word: " + (", ".join(name for name, count in counts if count == "0") or "none")
+        yield self.message
+
+
+def press_in_terminal(board):
+    import curses
+
+    def loop(window):
+        curses.raw()
+        key = ""
+        while board.open and key != "^C":
+            height, width = window.getmaxyx()
+            window.erase()
+            for place, line in enumerate(board.screen()[:height]):
+                window.addnstr(place, 0, line, width - 1)
+            code = window.getch()
+            if code < 0:
+                raise EOFError
+            key = curses.keyname(code).decode()
+            board.press(TERMINAL_KEYS.get(key, key))
+
+    curses.wrapper(loop)
+
+
+def press_from_file(board, file):
+    for key in pathlib.Path(file).read_text(ENCODING).split():
+        if board.open:
+            board.press(key)
+    print(*(line.rstrip() for line in board.screen()), sep="\n")
+
+
+def first_commands(options):
+    """Those of the log that was saved, or else those of a new grid."""
+    if not os.path.exists(options.log):
+        return ["size " + options.size.replace("x", " "), f"sym {options.sym}"]
+    lines = pathlib.Path(options.log).read_text(ENCODING).split("\n")
+    return [line for line in lines if line.strip() and not line.lstrip().startswith("#")]
+
+
+def main():
+    parser = argparse.ArgumentParser(description=__doc__, formatter_class=argparse.RawDescriptionHelpFormatter)
+    parser.add_argument("--dict", metavar="WORDS", help="a word list")
+    parser.add_argument("--log", metavar="LOG", default="board.xw", help="the file of the log (else %(default)s)")
+    parser.add_argument("--size", metavar="WxH", default="15x15", help="of a new grid (else %(default)s)")
+    parser.add_argument("--sym", metavar="KIND", default="half", help="symmetry of a new grid (else %(default)s)")
+    parser.add_argument("--keys", metavar="FILE", help="takes the keys from a file, parted by white space (`up space enter "
+                        "^F A`), and prints the last screen, without a terminal")
+    parser.add_argument("--xw", metavar="PROGRAM", default=TOP / "xw", help="the program (else %(default)s)")
+    options = parser.parse_args()
+    call = [options.xw, "edit", *(["--dict", options.dict] if options.dict else [])]
+    try:
+        with Session(call, stdin=subprocess.PIPE, stdout=subprocess.PIPE, encoding=ENCODING) as session:
+            board = Board(session, options.log, first_commands(options))
+            board.begin()
+            if options.keys:
+                press_from_file(board, options.keys)
+            else:
+                press_in_terminal(board)
+    except (BrokenPipeError, EOFError):
+        if board.grid:
+            board.save()
+        sys.exit(f"board: the program or the terminal has ended; {board.message or 'nothing was begun'}")
+
+
+if __name__ == "__main__":
+    main()
