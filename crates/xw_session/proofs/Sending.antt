@@ -39,11 +39,23 @@ pub entry_stops : {S : Type 0} (told : S → List ℕ) (failures : S → ℕ) (l
 entry_stops told failures letters old mid new at h sent s =
     letters_stop told failures letters old mid new at (get_or letters at 0) {item = get_or letters at 0} h (get_or_default letters at 0 (get_or letters at 0) h) refl sent s
 
+number_at : (n i d : ℕ) → i < n → i ≡ get_or (range_with_len 0 n) i d
+number_at n i d h = sym (get_or-range_with_len 0 n i d h ∙ zero-add i)
+
+-- texts of the numbers below n, one after another
+module _ (text : ℕ → List ℕ) (n : ℕ) where
+  pub one_text_more : (i : ℕ) → i < n → flat_map text (take (i + 1) (range_with_len 0 n)) ≡ flat_map text (take i (range_with_len 0 n)) ++ text i
+  one_text_more i h =
+      let within : i < length (range_with_len 0 n) = rw length-range_with_len h in
+      let next : take (i + 1) (range_with_len 0 n) ≡ take i (range_with_len 0 n) ++ i ∷ [] =
+      take_more (range_with_len 0 n) i 0 within ∙ ap (λ j. take i (range_with_len 0 n) ++ j ∷ []) (sym (number_at n i 0 h)) in
+      ap (flat_map text) next ∙ flat_map-append text (take i (range_with_len 0 n)) (i ∷ []) ∙ ap (λ ys. flat_map text (take i (range_with_len 0 n)) ++ ys) (append-nil (text i))
+
+  pub all_texts : (i : ℕ) → n ≤ i → flat_map text (take i (range_with_len 0 n)) ≡ flat_map text (range_with_len 0 n)
+  all_texts i past = ap (flat_map text) (take_all i (range_with_len 0 n) (rw length-range_with_len past))
+
 -- texts of the numbers below n, sent one after another
 module _ {S : Type 0} (told : S → List ℕ) (failures : S → ℕ) (text : ℕ → List ℕ) (n : ℕ) where
-  number_at : (i d : ℕ) → i < n → i ≡ get_or (range_with_len 0 n) i d
-  number_at i d h = sym (get_or-range_with_len 0 n i d h ∙ zero-add i)
-
   within : (i : ℕ) → i < n → i < length (range_with_len 0 n)
   within i h = rw length-range_with_len h
 
@@ -51,21 +63,17 @@ module _ {S : Type 0} (told : S → List ℕ) (failures : S → ℕ) (text : ℕ
       → told mid ≡ told old ++ flat_map text (take i (range_with_len 0 n)) → told new ≡ told mid ++ text i
       → told new ≡ told old ++ flat_map text (take (i + 1) (range_with_len 0 n))
   one_more_sent old mid new i h m s =
-      let next : take (i + 1) (range_with_len 0 n) ≡ take i (range_with_len 0 n) ++ i ∷ [] =
-      take_more (range_with_len 0 n) i 0 (within i h) ∙ ap (λ j. take i (range_with_len 0 n) ++ j ∷ []) (sym (number_at i 0 h)) in
-      let parts : flat_map text (take (i + 1) (range_with_len 0 n)) ≡ flat_map text (take i (range_with_len 0 n)) ++ text i =
-      ap (flat_map text) next ∙ flat_map-append text (take i (range_with_len 0 n)) (i ∷ []) ∙ ap (λ ys. flat_map text (take i (range_with_len 0 n)) ++ ys) (append-nil (text i)) in
+      let parts = one_text_more text n i h in
       s ∙ ap (λ xs. xs ++ text i) m ∙ append_assoc (told old) _ (text i) ∙ ap (λ xs. told old ++ xs) (sym parts)
 
   pub stops_at : (old mid new : S) (i : ℕ) → i < n
       → (told mid ≡ told old ++ flat_map text (take i (range_with_len 0 n))) × (failures mid ≡ failures old)
       → Begins (told mid) (told new) (text i) × HasFailed (failures mid) (failures new)
       → Begins (told old) (told new) (flat_map text (range_with_len 0 n)) × HasFailed (failures old) (failures new)
-  stops_at old mid new i h m s = stops-in-each told failures text (range_with_len 0 n) old mid new i i (within i h) (number_at i i h) m s
+  stops_at old mid new i h m s = stops-in-each told failures text (range_with_len 0 n) old mid new i i (within i h) (number_at n i i h) m s
 
   pub all_sent : (old new : S) (i : ℕ) → n ≤ i
       → (told new ≡ told old ++ flat_map text (take i (range_with_len 0 n))) × (failures new ≡ failures old)
       → (told new ≡ told old ++ flat_map text (range_with_len 0 n)) × (failures new ≡ failures old)
   all_sent old new i h m =
-      let past : length (range_with_len 0 n) ≤ i = rw length-range_with_len h in
-      (m.0 ∙ ap (λ xs. told old ++ flat_map text xs) (take_all _ _ past), m.1)
+      (m.0 ∙ ap (λ xs. told old ++ xs) (all_texts text n i h), m.1)

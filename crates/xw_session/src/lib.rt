@@ -1,6 +1,7 @@
 //! Line commands, from any reader to any writer.
 #![tactic(auto)]
 
+mod answer_line;
 pub mod command;
 pub mod device;
 mod escape;

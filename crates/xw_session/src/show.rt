@@ -6,6 +6,7 @@ ghost use Rattle.xw_grid.specs.declared.cell.Side.TheVariants.{Below};
 ghost use Rattle.xw_grid.specs.Grid.{is_barred as is_barred_edge};
 ghost use Rattle.xw_session.specs.Show.{cell_glyph as glyph_of, after_cell as byte_after, cell_pair as pair_of_cell, bar_pair as pair_of_bar, cell_in as nth_cell, columns as columns_of, row_line, bar_line, has_bar_below as is_barred_below_row, row_lines, show_lines};
 
+use crate::answer_line::AnswerLine;
 use crate::device::{self, Sink, WriteFailed};
 use xw_grid::{Cell, Grid, Side};
 
@@ -78,22 +79,42 @@ fn has_bar_below(grid: &Grid, row: u32) -> bool
     false
 }
 
+/// A row of cells, put together.
+fn cells_of_row(grid: &Grid, row: u32) -> AnswerLine
+    ensures { result ≡ row_line grid.now row }
+{
+    grid.well_formed();
+    let mut line = AnswerLine::new();
+    for before in 0..grid.width() {
+        let _ = line.push(&cell_pair(grid, cell_in(row, before)));
+    }
+    line
+}
+
+/// The bars below a row, put together.
+fn bars_of_row(grid: &Grid, row: u32) -> AnswerLine
+    ensures { result ≡ bar_line grid.now row }
+{
+    grid.well_formed();
+    let mut line = AnswerLine::new();
+    for before in 0..grid.width() {
+        let _ = line.push(&bar_pair(grid, cell_in(row, before)));
+    }
+    line
+}
+
 fn write_row<W: Sink>(sink: &mut W, grid: &Grid, row: u32) -> Result<(), WriteFailed>
     ensures { Sends W.told W.failures sink.old sink.new result (row_line grid.now row) }
 {
-    for before in 0..grid.width() {
-        device::write_all(sink, &cell_pair(grid, cell_in(row, before)))?;
-    }
-    Ok(())
+    let line = cells_of_row(grid, row);
+    device::write_all(sink, line.bytes())
 }
 
 fn write_bars<W: Sink>(sink: &mut W, grid: &Grid, row: u32) -> Result<(), WriteFailed>
     ensures { Sends W.told W.failures sink.old sink.new result (bar_line grid.now row) }
 {
-    for before in 0..grid.width() {
-        device::write_all(sink, &bar_pair(grid, cell_in(row, before)))?;
-    }
-    Ok(())
+    let line = bars_of_row(grid, row);
+    device::write_all(sink, line.bytes())
 }
 
 /// Writes a row, and a line of bars where one is barred below.

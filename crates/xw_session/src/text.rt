@@ -8,6 +8,7 @@ ghost use Rattle.xw_session.specs.Sends.{Sends};
 ghost use Rattle.xw_session.specs.Told.{numbered_line};
 ghost use Rattle.xw_session.specs.Text.{line_of, accepted, refused, direction_name as name_of_direction, letter_or_dot as byte_of_entry, pattern as pattern_in, pattern_of, light_of, light_line, cell_line, letters_or_dash, letters_line, change_line, duplicate_line, spelled_line};
 
+use crate::answer_line::AnswerLine;
 use crate::device::{self, Sink, WriteFailed};
 use crate::lookup::light_named;
 use crate::refusal::{self, Refusal};
@@ -144,6 +145,18 @@ pub fn write_named<W: Sink>(sink: &mut W, said: &[u8], light: LightName) -> Resu
 pub fn write_line<W: Sink>(sink: &mut W, words: &[&[u8]]) -> Result<(), WriteFailed>
     ensures { Sends W.told W.failures sink.old sink.new result (line_of (map (λ word. word.now) words.now)) }
 {
+    let mut line = AnswerLine::new();
+    if line.join(words) {
+        device::write_all(sink, line.bytes())
+    } else {
+        write_apart(sink, words)
+    }
+}
+
+/// Writes a line that is too long to be put together, word by word.
+fn write_apart<W: Sink>(sink: &mut W, words: &[&[u8]]) -> Result<(), WriteFailed>
+    ensures { Sends W.told W.failures sink.old sink.new result (line_of (map (λ word. word.now) words.now)) }
+{
     match words {
         [] => device::write_all(sink, b"\n"),
         [word] => {
@@ -152,7 +165,7 @@ pub fn write_line<W: Sink>(sink: &mut W, words: &[&[u8]]) -> Result<(), WriteFai
         }
         [word, others @ ..] => {
             write_spaced(sink, word)?;
-            write_line(sink, others)
+            write_apart(sink, others)
         }
     }
 }

@@ -1,8 +1,8 @@
 //! The known words of one length.
 ghost use Rattle.xw_words.specs.Bits.{has_bit};
-ghost use Rattle.xw_words.specs.Columns.{has_letter, is_active};
+ghost use Rattle.xw_words.specs.Columns.{has_letter, is_active, AreFits};
 ghost use Rattle.std.specs.Prelude.{◌≡◌, ℕ, ◌+◌, ◌*◌, ◌<◌, ◌≤◌, ◌||◌, ◌==◌, Bool, true, false, None, [], ◌∷◌, ◌++◌, length, take, map, position, OnOk, OnErr, IfOk, IfErr, ◌≢◌, vec_len, vec_capacity};
-ghost use Rattle.xw_words.specs.Dictionary.{entry_at, marked, place_in, add_to, added_at, with_added, matches, strike_from, IsNew, most_words};
+ghost use Rattle.xw_words.specs.Dictionary.{entry_at, marked, place_in, add_to, added_at, with_added, strike_from, IsNew, most_words};
 ghost use Rattle.xw_words.specs.Letter.{folded};
 ghost use Rattle.xw_words.specs.Word.{is_bad_letter, is_bad_in_pattern};
 
@@ -161,11 +161,14 @@ impl Row {
     pub fn fits_chunk(&self, pattern: &[u8], chunk: usize) -> u64
         requires length { length pattern.now ≡ self.now.count }
         requires good { position is_bad_in_pattern pattern.now ≡ None }
-        ensures { (k : ℕ) → k < 64 → has_bit result k ≡ matches (map folded pattern.now) (entry_at self.now.entries (64 * chunk + k)) }
+        ensures { AreFits (map folded pattern.now) self.now.entries chunk result }
     {
         let _ = &self.count;
         let mut fits = self.active_chunk(chunk);
         for place in 0..pattern.len() {
+            if fits == 0 {
+                return 0;
+            }
             fits &= self.stand_in_chunk(pattern[place], place, chunk);
         }
         fits

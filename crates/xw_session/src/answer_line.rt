@@ -1,0 +1,67 @@
+//! A line of an answer, put together to be written at once.
+ghost use Rattle.std.specs.Prelude.{◌≡◌, ◌+◌, ◌≤◌, true, [], ◌++◌, length, map};
+ghost use Rattle.xw_session.specs.Text.{line_of};
+
+use std::marker::Model;
+
+/// How many bytes are put together: a row of the largest grid has 510.
+const MOST: usize = 512;
+
+/// The bytes of a line so far, which take no memory.
+#[derive(Drop)]
+pub struct AnswerLine {
+    bytes: [u8; MOST],
+    len: usize,
+}
+
+impl Model for AnswerLine {
+    ghost use Rattle.std.specs.Prelude.{ℕ, ◌≤◌, List, take};
+
+    ghost Value = { List ℕ };
+
+    ghost view = { λ line. take line.len line.bytes };
+
+    ghost invariant = { λ line. line.len ≤ 512 };
+}
+
+impl AnswerLine {
+    pub fn new() -> AnswerLine
+        ensures { result ≡ [] }
+    {
+        AnswerLine {
+            bytes: [0; MOST],
+            len: 0,
+        }
+    }
+
+    /// Puts bytes at the end, where there is room; else the line is not to be used.
+    pub fn push(&mut self, bytes: &[u8]) -> bool
+        ensures fits { result ≡ true → self.new ≡ self.old ++ bytes.now }
+        ensures room { length self.old + length bytes.now ≤ 512 → result ≡ true }
+    {
+        if bytes.len() > MOST - self.len {
+            return false;
+        }
+        let end = self.len + bytes.len();
+        self.bytes[self.len..end].copy_from_slice(bytes);
+        self.len = end;
+        true
+    }
+
+    /// Puts words at the end, with a space between them and an LF behind them, where there is room.
+    pub fn join(&mut self, words: &[&[u8]]) -> bool
+        ensures { result ≡ true → self.new ≡ self.old ++ line_of (map (λ word. word.now) words.now) }
+    {
+        match words {
+            [] => self.push(b"\n"),
+            [word] => self.push(word) && self.push(b"\n"),
+            [word, others @ ..] => self.push(word) && self.push(b" ") && self.join(others),
+        }
+    }
+
+    pub fn bytes(&self) -> &[u8]
+        ensures { result.now ≡ self.now }
+    {
+        &self.bytes[..self.len]
+    }
+}
