@@ -1,5 +1,5 @@
 -- How a cut text grows at its end.
-use Rattle.std.proofs.Common.{rules, ◌≢◌, ◌≡◌, ℕ, List, [], ◌∷◌, ◌++◌, length, Some, None, Bool, true, false, cond, refl, ap, ◌∙◌, append_assoc, append-nil}
+use Rattle.std.proofs.Common.{rules, ◌≢◌, ◌≡◌, ◌≤◌, ◌<◌, ℕ, zero, suc, List, [], ◌∷◌, ◌++◌, length, take, get_or, Some, None, Bool, true, false, cond, refl, sym, ap, ◌∙◌, append_assoc, append-nil, arith}
 use Rattle.std.specs.Prelude.{◌==◌, nat_le}
 use Rattle.xw_session.specs.Cut.{Cut, cut, with_first, ended_lines, last_piece, last_line, lines_of, held, HasNoLf, AllHaveNoLf, with_lfs}
 
@@ -38,6 +38,25 @@ cut-at_lf (b ∷ front) back = ap (λ c. cut_onto (b == 10) b c) (cut-at_lf fron
 pub cut-longer : (front : List ℕ) (b : ℕ) → (b == 10) ≡ false → cut (front ++ b ∷ []) ≡ longer (cut front) b
 cut-longer [] b h = ap (λ t. cut_onto t b (cut [])) h
 cut-longer (a ∷ front) b h = ap (λ c. cut_onto (a == 10) a c) (cut-longer front b h) ∙ onto-longer (a == 10) a (cut front) b
+
+-- the cut after more bytes without an LF
+pub cut-longer_by : (front bytes : List ℕ) → HasNoLf bytes → cut (front ++ bytes) ≡ record { ended = (cut front).ended; rest = (cut front).rest ++ bytes }
+cut-longer_by front [] h =
+    ap cut (append-nil front) ∙ ap (λ rest. record { ended = (cut front).ended; rest = rest }) (sym (append-nil (cut front).rest))
+cut-longer_by front (b ∷ bytes) h =
+    let no_lf : (b == 10) ≡ false = search (rules, h.0) in
+    ap cut (sym (append_assoc front (b ∷ []) bytes))
+    ∙ cut-longer_by (front ++ b ∷ []) bytes h.1
+    ∙ ap (λ (c : Cut). record { ended = c.ended; rest = c.rest ++ bytes }) (cut-longer front b no_lf)
+    ∙ ap (λ rest. record { ended = (cut front).ended; rest = rest }) (append_assoc (cut front).rest (b ∷ []) bytes)
+
+-- before the first LF there is none
+pub no_lf-before : (bytes : List ℕ) (end : ℕ) → (end ≤ length bytes) → ((k : ℕ) → k < end → (get_or bytes k 0 == 10) ≡ false) → HasNoLf (take end bytes)
+no_lf-before bytes zero le h = tt
+no_lf-before [] (suc end) le h = absurd (omega arith)
+no_lf-before (b ∷ bytes) (suc end) le h =
+    let other : b ≢ 10 = λ z. (let bad : (b == 10) ≡ true = rw z refl in cc) in
+    (other, no_lf-before bytes end (omega arith) (λ k lt. h (suc k) (omega arith)))
 
 -- the lines of a text with an LF in it
 pub lines_of-at_lf : (front back : List ℕ) → lines_of (front ++ 10 ∷ back) ≡ ended_lines front ++ last_piece front ∷ lines_of back

@@ -37,16 +37,14 @@ impl Piece {
         })
     }
 
-    /// Holds one more byte of the line, as long as the line isn't too long.
-    pub fn push(&mut self, byte: u8)
-        ensures { (line : List ℕ) → self.old ≡ held line → self.new ≡ held (line ++ byte ∷ []) }
+    /// Holds more of the line, as long as the line isn't too long.
+    pub fn hold(&mut self, bytes: &[u8])
+        ensures { (line : List ℕ) → self.old ≡ held line → self.new ≡ held (line ++ bytes.now) }
     {
-        if !self.is_long {
-            if self.bytes.len() < LINE_LIMIT {
-                self.bytes.push(byte).unwrap();
-            } else {
-                self.is_long = true;
-            }
+        if self.is_long || bytes.len() > LINE_LIMIT - self.bytes.len() {
+            self.is_long = true;
+        } else {
+            let _ = self.bytes.extend_from_slice(bytes);
         }
     }
 

@@ -1,6 +1,7 @@
 //! Letters, many of which are written at once.
-ghost use Rattle.std.specs.Prelude.{◌≡◌, length, min, take};
+ghost use Rattle.std.specs.Prelude.{◌≡◌, ◌<◌, ◌≤◌, [], ◌∷◌, length, min, take};
 ghost use Rattle.xw_session.specs.Sends.{Sends};
+ghost use Rattle.xw_session.specs.Text.{line_of};
 
 use crate::device::{self, Sink, WriteFailed};
 use xw_words::Letter;
@@ -20,8 +21,32 @@ fn spell(letters: &[Letter], bytes: &mut [u8; TOGETHER]) -> usize
     count
 }
 
+/// Puts few letters together as a line.
+fn spell_line(letters: &[Letter], bytes: &mut [u8; TOGETHER]) -> usize
+    requires { length letters.now < 64 }
+    ensures count { result ≤ 64 }
+    ensures line { take result bytes.new ≡ line_of (letters.now ∷ []) }
+{
+    let count = spell(letters, bytes);
+    bytes[count] = b'\n';
+    count + 1
+}
+
+/// Writes letters on a line of their own, which goes out at once where they are few.
+pub fn write_letters_line<W: Sink>(sink: &mut W, letters: &[Letter]) -> Result<(), WriteFailed>
+    ensures { Sends W.told W.failures sink.old sink.new result (line_of (letters.now ∷ [])) }
+{
+    if letters.len() < TOGETHER {
+        let mut bytes = [0; TOGETHER];
+        let count = spell_line(letters, &mut bytes);
+        return device::write_all(sink, &bytes[..count]);
+    }
+    write_letters(sink, letters)?;
+    device::write_all(sink, b"\n")
+}
+
 /// Writes letters, many at once.
-pub fn write_letters<W: Sink>(sink: &mut W, letters: &[Letter]) -> Result<(), WriteFailed>
+fn write_letters<W: Sink>(sink: &mut W, letters: &[Letter]) -> Result<(), WriteFailed>
     ensures { Sends W.told W.failures sink.old sink.new result letters.now }
 {
     let mut bytes = [0; TOGETHER];

@@ -12,7 +12,7 @@ use crate::answer_line::AnswerLine;
 use crate::device::{self, Sink, WriteFailed};
 use crate::lookup::light_named;
 use crate::refusal::{self, Refusal};
-use crate::spelling::write_letters;
+use crate::spelling::write_letters_line;
 use std::marker::Model;
 use xw_feas::words::{Entries, Spelled};
 use xw_fill::listing::Duplicate;
@@ -174,8 +174,7 @@ fn write_apart<W: Sink>(sink: &mut W, words: &[&[u8]]) -> Result<(), WriteFailed
 pub fn write_word<W: Sink>(sink: &mut W, word: &[Letter]) -> Result<(), WriteFailed>
     ensures { Sends W.told W.failures sink.old sink.new result (line_of (word.now ∷ [])) }
 {
-    write_letters(sink, word)?;
-    device::write_all(sink, b"\n")
+    write_letters_line(sink, word)
 }
 
 /// Answers that a command was accepted.
@@ -426,22 +425,22 @@ fn write_entries<W: Sink>(sink: &mut W, entries: &Entries<'_>) -> Result<(), Wri
     Ok(())
 }
 
-/// Writes the letters of a feasible word.
-fn write_spelling<W: Sink>(sink: &mut W, word: &Spelled<'_>) -> Result<(), WriteFailed>
-    ensures { Sends W.told W.failures sink.old sink.new result (spelling word.now) }
+/// Writes what is entered in a light on a line of its own.
+fn write_entries_line<W: Sink>(sink: &mut W, entries: &Entries<'_>) -> Result<(), WriteFailed>
+    ensures { Sends W.told W.failures sink.old sink.new result (line_of (entries.now ∷ [])) }
 {
-    match word {
-        Spelled::Listed(letters) => write_letters(sink, letters),
-        Spelled::Entered(entries) => write_entries(sink, entries),
-    }
+    write_entries(sink, entries)?;
+    device::write_all(sink, b"\n")
 }
 
 /// Writes a feasible word on a line of its own.
 pub fn write_spelled<W: Sink>(sink: &mut W, word: &Spelled<'_>) -> Result<(), WriteFailed>
     ensures { Sends W.told W.failures sink.old sink.new result (line_of (spelling word.now ∷ [])) }
 {
-    write_spelling(sink, word)?;
-    device::write_all(sink, b"\n")
+    match word {
+        Spelled::Listed(letters) => write_letters_line(sink, letters),
+        Spelled::Entered(entries) => write_entries_line(sink, entries),
+    }
 }
 
 /// Writes a light that spells what an earlier one does, the first such, and what both spell.
