@@ -12,6 +12,7 @@ mod lists;
 mod lookup;
 pub mod outcome;
 mod piece;
+mod record;
 pub mod refusal;
 mod run;
 pub mod session;
