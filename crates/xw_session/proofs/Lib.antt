@@ -19,3 +19,5 @@ pub mod SpelledLines
 pub mod FieldTexts
 pub mod Telling
 pub mod Putting
+pub mod Recording
+pub mod Replaying

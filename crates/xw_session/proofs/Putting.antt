@@ -23,7 +23,7 @@ first_of_three true true x y z p q = refl
 first_of_three true false x y z p q = cc
 first_of_three false b x y z p q = cc
 
-last_of_three : {X : Type 0} (a b : Bool) (x y z : X) → a ≡ true → b ≡ false → (if not a then x else if b then y else z) ≡ z
+pub last_of_three : {X : Type 0} (a b : Bool) (x y z : X) → a ≡ true → b ≡ false → (if not a then x else if b then y else z) ≡ z
 last_of_three true false x y z p q = refl
 last_of_three true true x y z p q = cc
 last_of_three false b x y z p q = cc

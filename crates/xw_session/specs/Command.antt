@@ -3,7 +3,7 @@ use Rattle.std.specs.Prelude.{ℕ, ◌==◌, nat_lt, List, [], ◌∷◌, length
 use Rattle.xw_session.specs.declared.command.Command.{Command}
 use Rattle.xw_session.specs.declared.command.Command.TheVariants.{Size, Symmetry, Add, Strike, Match, Set, Clear, Place, Block, Bar, Clue, Write, Circle, Circles, Show, Lights, Words, Letters, Duplicates, Unlisted, Suggest, Fill, Watch, Tell, Put}
 use Rattle.xw_session.specs.declared.command.TextField.TheVariants.{Title, Author, Copyright, Notes}
-use Rattle.xw_session.specs.declared.command.Telling.TheVariants.{Cells, Counts, Texts, Stats}
+use Rattle.xw_session.specs.declared.command.Telling.TheVariants.{Cells, Counts, Texts, Stats, Record}
 use Rattle.xw_session.specs.declared.command.Putting.TheVariants.{Instead, Behind}
 use Rattle.xw_session.specs.declared.command.SyntaxFault.{SyntaxFault}
 use Rattle.xw_session.specs.declared.command.SyntaxFault.TheVariants as faults
@@ -43,6 +43,7 @@ commands =
     ∷ (codes "counts", given (Tell Counts))
     ∷ (codes "texts", given (Tell Texts))
     ∷ (codes "stats", given (Tell Stats))
+    ∷ (codes "record", given (Tell Record))
     ∷ (codes "text", do given (Put Instead (← field) (← text)))
     ∷ (codes "more", do given (Put Behind (← field) (← text)))
     ∷ []

@@ -15,5 +15,8 @@ pub mod Show
 pub mod Told
 pub mod Stats
 pub mod Put
+pub mod Spelling
+pub mod Record
 pub mod Reply
 pub mod Answer
+pub mod Replay

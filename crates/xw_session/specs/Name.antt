@@ -6,7 +6,7 @@ use Rattle.xw_session.specs.declared.command.WithWord.TheVariants.{Add, Strike, 
 use Rattle.xw_session.specs.declared.command.WithCell.TheVariants.{Set, Clear, Block, Bar, Circle, Letters}
 use Rattle.xw_session.specs.declared.command.WithLight.TheVariants.{Place, Clue, Words}
 use Rattle.xw_session.specs.declared.command.TextField.TheVariants.{Title, Author, Copyright, Notes}
-use Rattle.xw_session.specs.declared.command.Telling.TheVariants.{Cells, Counts, Texts, Stats}
+use Rattle.xw_session.specs.declared.command.Telling.TheVariants.{Cells, Counts, Texts, Stats, Record}
 use Rattle.xw_session.specs.declared.command.Putting.TheVariants.{Instead, Behind}
 
 -- the word of a name
@@ -41,5 +41,6 @@ word_of (Tell Cells) = codes "cells"
 word_of (Tell Counts) = codes "counts"
 word_of (Tell Texts) = codes "texts"
 word_of (Tell Stats) = codes "stats"
+word_of (Tell Record) = codes "record"
 word_of (Put Instead) = codes "text"
 word_of (Put Behind) = codes "more"

@@ -34,7 +34,7 @@ use Rattle.xw_session.specs.declared.refusal.Refusal.{Refusal}
 use Rattle.xw_session.specs.declared.refusal.Refusal.TheVariants as refusals
 use Rattle.xw_session.specs.Refusal.{refusal_of}
 use Rattle.xw_session.specs.declared.command.Telling.{Telling}
-use Rattle.xw_session.specs.declared.command.Telling.TheVariants.{Cells, Counts, Texts, Stats}
+use Rattle.xw_session.specs.declared.command.Telling.TheVariants.{Cells, Counts, Texts, Stats, Record}
 use Rattle.xw_session.specs.declared.command.Putting.{Putting}
 use Rattle.xw_session.specs.declared.command.Field.{Field}
 use Rattle.xw_session.specs.State.{State, with_text_in}
@@ -42,6 +42,7 @@ pub use Rattle.xw_session.specs.State.{cell_of}
 use Rattle.xw_session.specs.Escape.{text_spelled}
 use Rattle.xw_session.specs.Told.{cell_lines, count_lines, text_lines}
 use Rattle.xw_session.specs.Stats.{stat_lines}
+use Rattle.xw_session.specs.Record.{record_lines}
 use Rattle.xw_session.specs.Put.{place_of, has_place, with_piece}
 use Rattle.xw_session.specs.Text.{word_line, light_lines, circle_lines, change_line, letters_line, counted_lines, light_of, duplicate_line, spelled_line, suggestion_line}
 use Rattle.xw_session.specs.Show.{show_lines}
@@ -123,6 +124,7 @@ told_lines state Cells = cell_lines state.position
 told_lines state Counts = count_lines state.position
 told_lines state Texts = text_lines state
 told_lines state Stats = stat_lines state.position.grid
+told_lines state Record = record_lines state
 
 -- a circle is set on an open cell, or taken away
 abbrev pub circle_toggled : State → Cell → Result Reply Refusal

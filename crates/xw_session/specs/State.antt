@@ -8,13 +8,15 @@ use Rattle.xw_session.specs.declared.command.Spot.{Spot}
 use Rattle.xw_session.specs.declared.command.TextField.{TextField}
 use Rattle.xw_session.specs.declared.command.TextField.TheVariants.{Title, Author, Copyright, Notes}
 
--- the grid with the dictionary, the four texts, the clues, the circled cells, and whether the watch is on
+-- the grid with the dictionary, the four texts, the clues, the circled cells, whether the watch is on, and how many words
+-- of each length were known at the beginning
 pub record State : Type 0 where
   pub position : Position
   pub texts : TextsShown
   pub clues : ClueMap
   pub circles : List Cell
   pub is_watched : Bool
+  pub begun : List ℕ
 
 -- the cell that a line names
 abbrev pub cell_of : Spot → Cell

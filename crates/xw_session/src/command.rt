@@ -62,6 +62,7 @@ pub enum Telling {
     Counts,
     Texts,
     Stats,
+    Record,
 }
 
 /// Bytes of a line: a word, or a text.
@@ -171,7 +172,7 @@ enum Name {
 }
 
 /// The names, each beside its word.
-const NAMES: [(&str, Name); 32] = [
+const NAMES: [(&str, Name); 33] = [
     ("size", Name::Size),
     ("sym", Name::Symmetry),
     ("add", Name::Word(WithWord::Add)),
@@ -202,6 +203,7 @@ const NAMES: [(&str, Name); 32] = [
     ("counts", Name::Tell(Telling::Counts)),
     ("texts", Name::Tell(Telling::Texts)),
     ("stats", Name::Tell(Telling::Stats)),
+    ("record", Name::Tell(Telling::Record)),
     ("text", Name::Put(Putting::Instead)),
     ("more", Name::Put(Putting::Behind)),
 ];

@@ -46,7 +46,7 @@ pub fn write_fields<W: Sink>(sink: &mut W, texts: &Texts) -> Result<(), WriteFai
 }
 
 /// Writes the way of a light and a text, and ends the line.
-fn write_directed_text<W: Sink>(
+pub fn write_directed_text<W: Sink>(
     sink: &mut W,
     direction: Direction,
     text: &[u8],

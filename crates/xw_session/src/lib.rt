@@ -13,6 +13,7 @@ mod lists;
 mod lookup;
 pub mod outcome;
 mod piece;
+mod record;
 pub mod refusal;
 mod run;
 pub mod session;

@@ -3,6 +3,7 @@ mod asking;
 mod changing;
 mod putting;
 mod queries;
+mod recording;
 mod telling;
 
 ghost use Rattle.std.specs.Prelude.{◌≡◌, ℕ, ◌+◌, ◌-◌, ◌^◌, ◌≤◌, List, ◌++◌, length, IfOk, IfErr, IsTrue, IsOkUnless, true, false, []};
@@ -14,12 +15,14 @@ ghost use Rattle.xw_session.specs.Device.{saturated, HasFailed};
 ghost use Rattle.xw_session.specs.Run.{Speaks, StopsIn, IfDone, OnReadFailed, OnWriteFailed, OnEndless, OnMemory, UnlessWriteFailed, IsPassedOn};
 ghost use Rattle.xw_session.specs.Sends.{Sends};
 ghost use Rattle.xw_session.specs.State.{State};
+ghost use Rattle.xw_session.specs.Record.{known_counts};
 ghost use Rattle.xw_session.specs.Reply.{cell_of};
 ghost use Rattle.xw_session.specs.Answer.{AnswersTo, AnswersLine, Answers, reply_of, text_of, step_of};
 
 use crate::command::{self, Command, Spot, SyntaxFault};
 use crate::device::{Sink, Source, WriteFailed};
 use crate::outcome::{RunEnd, Step};
+use crate::record::{LENGTHS, known_words};
 use crate::refusal::Refusal;
 use crate::run::{self, Speaker};
 use crate::text;
@@ -39,6 +42,7 @@ pub struct Session<E: Feasible> {
     clues: Clues,
     circles: Circles,
     is_watched: bool,
+    begun: [usize; LENGTHS],
 }
 
 impl<E: Feasible> Model for Session<E> {
@@ -53,6 +57,7 @@ impl<E: Feasible> Model for Session<E> {
       clues = session.clues;
       circles = session.circles;
       is_watched = session.is_watched;
+      begun = session.begun;
     } };
 }
 
@@ -97,6 +102,7 @@ impl<E: Feasible> Session<E> {
           clues = no_clues;
           circles = [];
           is_watched = false;
+          begun = known_counts (E.state engine).words;
         } }
     {
         let texts = Texts {
@@ -116,9 +122,11 @@ impl<E: Feasible> Session<E> {
           clues = clues;
           circles = circles;
           is_watched = false;
+          begun = known_counts (E.state engine).words;
         } }
     {
         let alloc = *texts.title.allocator();
+        let begun = known_words(engine.bank());
         Session {
             alloc,
             engine,
@@ -126,6 +134,7 @@ impl<E: Feasible> Session<E> {
             clues,
             circles,
             is_watched: false,
+            begun,
         }
     }
 

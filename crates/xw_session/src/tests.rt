@@ -3,6 +3,7 @@ mod devices;
 mod examples;
 mod points;
 mod puzzles;
+mod record;
 mod scripts;
 mod whole;
 

@@ -45,7 +45,7 @@ impl<E: Feasible> Session<E> {
         }
     }
 
-    fn text_at(&self, place: Place) -> &[u8]
+    pub(crate) fn text_at(&self, place: Place) -> &[u8]
         ensures { result.now ≡ text_at_place self.now place }
     {
         match place {

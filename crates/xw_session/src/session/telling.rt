@@ -99,6 +99,7 @@ impl<E: Feasible> Session<E> {
             Telling::Counts => write_counts(sink, &self.engine),
             Telling::Texts => self.write_texts(sink),
             Telling::Stats => self.write_stats(sink),
+            Telling::Record => self.write_record(sink),
         }
     }
 

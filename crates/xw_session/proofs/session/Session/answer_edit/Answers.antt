@@ -10,7 +10,7 @@ use Rattle.xw_session.proofs.session.Session.answer_edit.Goals as goal
 pub returns : goal.returns
 returns g c =
     let left = c.self.inside in
-    let start : State = record { position = g.E.Feasible.state left.engine; texts = texts_view left.texts; clues = left.clues; circles = left.circles; is_watched = left.is_watched } in
+    let start : State = record { position = g.E.Feasible.state left.engine; texts = texts_view left.texts; clues = left.clues; circles = left.circles; is_watched = left.is_watched; begun = left.begun } in
     let now = c.edit.follows.lender-at-none in
     let action = action_of c.args.edit.now in
     let end : State = record start { position = g.E.Feasible.state now } in

@@ -9,7 +9,7 @@ use Rattle.xw_session.proofs.session.Session.answer_fill.Goals as goal
 pub returns : goal.returns
 returns g c =
     let left = c.self.inside in
-    let start : State = record { position = g.E.Feasible.state left.engine; texts = texts_view left.texts; clues = left.clues; circles = left.circles; is_watched = left.is_watched } in
+    let start : State = record { position = g.E.Feasible.state left.engine; texts = texts_view left.texts; clues = left.clues; circles = left.circles; is_watched = left.is_watched; begun = left.begun } in
     let now = c.fill-filled.new.engine in
     let end : State = record start { position = g.E.Feasible.state now } in
     subst (λ (s : State). AnswersBy g.W.Sink.told g.W.Sink.failures s (fill_tried s c.args.limit) (Some grid_memory) c.end_filling.result end c.args.sink.now c.end_filling.new.sink) c.self.view_is (record {

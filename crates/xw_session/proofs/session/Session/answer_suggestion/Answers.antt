@@ -12,7 +12,7 @@ use Rattle.xw_session.proofs.session.Session.answer_suggestion.Goals as goal
 pub returns-in_err-write_suggestion : goal.returns-in_err-write_suggestion
 returns-in_err-write_suggestion g c =
     let left = c.self.inside in
-    let start : State = record { position = g.E.Feasible.state left.engine; texts = texts_view left.texts; clues = left.clues; circles = left.circles; is_watched = left.is_watched } in
+    let start : State = record { position = g.E.Feasible.state left.engine; texts = texts_view left.texts; clues = left.clues; circles = left.circles; is_watched = left.is_watched; begun = left.begun } in
     let e = err_from_is_err_and c.from_residual.result c.from_residual.ensures.1 in
     let f = c.suggest-suggestion.ensures in
     let lines : suggestion_line (g.E.Feasible.state c.suggest-suggestion.new.engine) c.suggest-suggestion.result ≡ suggestion_line start.position (suggestion start.position) =
@@ -24,7 +24,7 @@ returns-in_err-write_suggestion g c =
 pub returns : goal.returns
 returns g c =
     let left = c.self.inside in
-    let start : State = record { position = g.E.Feasible.state left.engine; texts = texts_view left.texts; clues = left.clues; circles = left.circles; is_watched = left.is_watched } in
+    let start : State = record { position = g.E.Feasible.state left.engine; texts = texts_view left.texts; clues = left.clues; circles = left.circles; is_watched = left.is_watched; begun = left.begun } in
     let f = c.suggest-suggestion.ensures in
     let lines : suggestion_line (g.E.Feasible.state c.suggest-suggestion.new.engine) c.suggest-suggestion.result ≡ suggestion_line start.position (suggestion start.position) =
     ap (λ (p : Position). suggestion_line p c.suggest-suggestion.result) f.unchanged ∙ ap (suggestion_line start.position) f.suggestion in

@@ -1,0 +1,12 @@
+use Rattle.std.proofs.Common.{◌≡◌, ◌++◌, take, length}
+use Rattle.std.specs.Prelude.{flat_map}
+use Rattle.std.specs.List.{range_with_len}
+use Rattle.xw_session.specs.Spelling.{command_line}
+use Rattle.xw_session.specs.Record.{more_command, further_pieces}
+use Rattle.xw_session.proofs.record.write_further.Given as goal
+
+abbrev pub invariant-loop-before : goal.invariant-loop-before
+invariant-loop-before g l = record {
+  told : g.W.Sink.told l.sink ≡ g.W.Sink.told l.initial.sink ++ flat_map (λ before. command_line (more_command l.field l.text before)) (take l.before (range_with_len 0 (further_pieces l.text)));
+  quiet : g.W.Sink.failures l.sink ≡ g.W.Sink.failures l.initial.sink;
+}

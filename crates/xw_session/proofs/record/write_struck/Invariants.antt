@@ -1,0 +1,11 @@
+use Rattle.std.proofs.Common.{◌≡◌, ◌++◌, take}
+use Rattle.std.specs.Prelude.{flat_map}
+use Rattle.xw_words.specs.Dictionary.{row}
+use Rattle.xw_session.specs.Record.{command_lines, strike_commands}
+use Rattle.xw_session.proofs.record.write_struck.Given as goal
+
+abbrev pub invariant-loop-place : goal.invariant-loop-place
+invariant-loop-place g l = record {
+  told : g.W.Sink.told l.sink ≡ g.W.Sink.told l.initial.sink ++ flat_map (λ entry. command_lines (strike_commands entry)) (take l.place (row l.bank.words l.count));
+  quiet : g.W.Sink.failures l.sink ≡ g.W.Sink.failures l.initial.sink;
+}

@@ -1,0 +1,90 @@
+-- The line of a command.
+use Rattle.std.specs.Prelude.{ℕ, Bool, true, false, List, [], ◌∷◌, ◌++◌, codes, decimal, Option, Some, None}
+use Rattle.xw_grid.specs.declared.cell.Side.{Side}
+use Rattle.xw_grid.specs.declared.cell.Side.TheVariants.{Right, Below}
+use Rattle.xw_grid.specs.declared.cell.Symmetry.{Symmetry}
+use Rattle.xw_grid.specs.declared.cell.Symmetry.TheVariants as kinds
+use Rattle.xw_session.specs.declared.command.Command.{Command}
+use Rattle.xw_session.specs.declared.command.Command.TheVariants as commands
+use Rattle.xw_session.specs.declared.command.Field.{Field}
+use Rattle.xw_session.specs.declared.command.Field.TheVariants as fields
+use Rattle.xw_session.specs.declared.command.Name.{Name}
+use Rattle.xw_session.specs.declared.command.Name.TheVariants as names
+use Rattle.xw_session.specs.declared.command.Named.{Named}
+use Rattle.xw_session.specs.declared.command.Putting.{Putting}
+use Rattle.xw_session.specs.declared.command.Spot.{Spot}
+use Rattle.xw_session.specs.declared.command.TextField.{TextField}
+use Rattle.xw_session.specs.declared.command.TextField.TheVariants.{Title, Author, Copyright, Notes}
+use Rattle.xw_session.specs.declared.command.WithWord.TheVariants as with_word
+use Rattle.xw_session.specs.declared.command.WithCell.TheVariants as with_cell
+use Rattle.xw_session.specs.declared.command.WithLight.TheVariants as with_light
+use Rattle.xw_session.specs.Name.{word_of}
+use Rattle.xw_session.specs.Text.{line_of, direction_name}
+
+abbrev pub symmetry_name : Symmetry → List ℕ
+symmetry_name kinds.None = codes "none"
+symmetry_name kinds.Half = codes "half"
+symmetry_name kinds.Quarter = codes "quarter"
+symmetry_name kinds.LeftRight = codes "leftright"
+symmetry_name kinds.UpDown = codes "updown"
+
+abbrev pub side_name : Side → List ℕ
+side_name Right = codes "right"
+side_name Below = codes "below"
+
+abbrev pub switch_name : Bool → List ℕ
+switch_name true = codes "on"
+switch_name false = codes "off"
+
+abbrev pub field_name : TextField → List ℕ
+field_name Title = codes "title"
+field_name Author = codes "author"
+field_name Copyright = codes "copyright"
+field_name Notes = codes "notes"
+
+-- the words of a cell, of a light and of a text's place, with further ones behind them
+abbrev pub at_spot : Spot → List (List ℕ) → List (List ℕ)
+at_spot spot rest = decimal spot.row ∷ decimal spot.col ∷ rest
+
+abbrev pub at_light : Named → List (List ℕ) → List (List ℕ)
+at_light named rest = decimal named.number ∷ direction_name named.direction ∷ rest
+
+abbrev pub in_field : Field → List (List ℕ) → List (List ℕ)
+in_field (fields.Text name) rest = field_name name ∷ rest
+in_field (fields.Clue spot direction) rest = codes "clue" ∷ at_spot spot (direction_name direction ∷ rest)
+
+abbrev number_if_any : Option ℕ → List (List ℕ)
+number_if_any None = []
+number_if_any (Some number) = decimal number ∷ []
+
+-- the words of a command; a text is one word, whatever it has
+abbrev pub command_words : Command → List (List ℕ)
+command_words (commands.Size width height) = word_of names.Size ∷ decimal width ∷ decimal height ∷ []
+command_words (commands.Symmetry kind) = word_of names.Symmetry ∷ symmetry_name kind ∷ []
+command_words (commands.Add word) = word_of (names.Word with_word.Add) ∷ word ∷ []
+command_words (commands.Strike word) = word_of (names.Word with_word.Strike) ∷ word ∷ []
+command_words (commands.Match pattern) = word_of (names.Word with_word.Match) ∷ pattern ∷ []
+command_words (commands.Set spot letter) = word_of (names.Cell with_cell.Set) ∷ at_spot spot ((letter ∷ []) ∷ [])
+command_words (commands.Clear spot) = word_of (names.Cell with_cell.Clear) ∷ at_spot spot []
+command_words (commands.Place named word) = word_of (names.Light with_light.Place) ∷ at_light named (word ∷ [])
+command_words (commands.Block spot) = word_of (names.Cell with_cell.Block) ∷ at_spot spot []
+command_words (commands.Bar spot side) = word_of (names.Cell with_cell.Bar) ∷ at_spot spot (side_name side ∷ [])
+command_words (commands.Clue named text) = word_of (names.Light with_light.Clue) ∷ at_light named (text ∷ [])
+command_words (commands.Write field text) = word_of (names.Text field) ∷ text ∷ []
+command_words (commands.Circle spot) = word_of (names.Cell with_cell.Circle) ∷ at_spot spot []
+command_words commands.Circles = word_of names.Circles ∷ []
+command_words commands.Show = word_of names.Show ∷ []
+command_words commands.Lights = word_of names.Lights ∷ []
+command_words (commands.Words named most) = word_of (names.Light with_light.Words) ∷ at_light named (number_if_any most)
+command_words (commands.Letters spot) = word_of (names.Cell with_cell.Letters) ∷ at_spot spot []
+command_words commands.Duplicates = word_of names.Duplicates ∷ []
+command_words commands.Unlisted = word_of names.Unlisted ∷ []
+command_words commands.Suggest = word_of names.Suggest ∷ []
+command_words (commands.Fill limit) = word_of names.Fill ∷ decimal limit ∷ []
+command_words (commands.Watch is_on) = word_of names.Watch ∷ switch_name is_on ∷ []
+command_words (commands.Tell telling) = word_of (names.Tell telling) ∷ []
+command_words (commands.Put putting field spelling) = word_of (names.Put putting) ∷ in_field field (spelling ∷ [])
+
+-- the words with a space between them, and an LF
+abbrev pub command_line : Command → List ℕ
+command_line command = line_of (command_words command)

@@ -1,0 +1,426 @@
+//! The record of a session: lines of commands, section by section.
+ghost use Rattle.std.specs.Prelude.{◌≡◌, ℕ, ◌+◌, ◌*◌, ◌<◌, ◌≤◌, ◌++◌, [], ◌∷◌, map, flat_map, drop, length, codes, decimal};
+ghost use Rattle.std.specs.List.{range_with_len};
+ghost use Rattle.xw_words.specs.Dictionary.{row as words_of, entry_at};
+ghost use Rattle.xw_grid.specs.Clue.{clue_at};
+ghost use Rattle.xw_grid.specs.Grid.{entry as entry_of};
+ghost use Rattle.xw_session.specs.declared.command.Command.TheVariants as commands;
+ghost use Rattle.xw_session.specs.declared.command.Name.TheVariants as names;
+ghost use Rattle.xw_session.specs.Sends.{Sends};
+ghost use Rattle.xw_session.specs.Escape.{spelled};
+ghost use Rattle.xw_session.specs.Name.{word_of};
+ghost use Rattle.xw_session.specs.Spelling.{symmetry_name as name_of_symmetry, side_name as name_of_side, field_name as name_of_field, at_spot, command_line};
+ghost use Rattle.xw_session.specs.Text.{line_of, direction_name as name_of_direction};
+ghost use Rattle.xw_session.specs.Record.{command_lines, known_counts, add_command, strike_commands, row_commands, length_commands, word_commands, piece_at, further_pieces, more_command, text_commands, spot_of, circle_commands, bar_commands, block_commands, letter_commands, clue_commands, cell_commands, part_commands};
+
+use crate::command::{Field, Putting, Spot, TextField};
+use crate::device::{Sink, WriteFailed};
+use crate::text::{self, Decimal};
+use crate::{escape, fields};
+use xw_grid::{Cell, Circles, Clues, Direction, Grid, Side, Symmetry};
+use xw_words::{Bank, Letter};
+
+/// What is kept for some cells of a grid.
+#[derive(Clone, Copy)]
+pub enum Part {
+    Circles,
+    Bars(Side),
+    Blocks,
+    Letters,
+    Clues(Direction),
+}
+
+/// Commands of a record that belong together.
+#[derive(Clone, Copy)]
+pub enum Section {
+    Words,
+    Size,
+    Cells(Part),
+    Symmetry,
+    Text(TextField),
+    Watch,
+}
+
+/// The sections, in their order.
+pub const SECTIONS: &[Section; 15] = &[
+    Section::Words,
+    Section::Size,
+    Section::Cells(Part::Circles),
+    Section::Cells(Part::Bars(Side::Right)),
+    Section::Cells(Part::Bars(Side::Below)),
+    Section::Cells(Part::Blocks),
+    Section::Symmetry,
+    Section::Cells(Part::Letters),
+    Section::Text(TextField::Title),
+    Section::Text(TextField::Author),
+    Section::Text(TextField::Copyright),
+    Section::Text(TextField::Notes),
+    Section::Cells(Part::Clues(Direction::Across)),
+    Section::Cells(Part::Clues(Direction::Down)),
+    Section::Watch,
+];
+
+/// How many lengths of words there are, 0 to 255.
+pub const LENGTHS: usize = 256;
+
+/// How many bytes of a text one line spells at most.
+const PIECE: usize = 2000;
+
+/// How many words of each length are known.
+pub fn known_words(bank: &Bank) -> [usize; LENGTHS]
+    ensures { result ≡ known_counts bank.now.words }
+{
+    let mut counts = [0; LENGTHS];
+    for count in 0..LENGTHS {
+        counts[count] = bank.known(count);
+    }
+    counts
+}
+
+// ---- words
+
+/// Writes what is done with a word.
+fn write_word_command<W: Sink>(
+    sink: &mut W,
+    name: &[u8],
+    word: &[Letter],
+) -> Result<(), WriteFailed>
+    ensures { Sends W.told W.failures sink.old sink.new result (line_of (name.now ∷ word.now ∷ [])) }
+{
+    text::write_spaced(sink, name)?;
+    text::write_word(sink, word)
+}
+
+/// Writes that the words of a length are added that came after the first ones.
+fn write_added<W: Sink>(
+    sink: &mut W,
+    bank: &Bank,
+    count: usize,
+    begun: usize,
+) -> Result<(), WriteFailed>
+    ensures { Sends W.told W.failures sink.old sink.new result (command_lines (map add_command (drop begun (words_of bank.now.words count)))) }
+{
+    for place in begun..bank.known(count) {
+        write_word_command(sink, b"add", bank.word(count, place))?;
+    }
+    Ok(())
+}
+
+/// Writes that a word is struck, where it is.
+fn write_struck_at<W: Sink>(
+    sink: &mut W,
+    bank: &Bank,
+    count: usize,
+    place: usize,
+) -> Result<(), WriteFailed>
+    requires { place < length (words_of bank.now.words count) }
+    ensures { Sends W.told W.failures sink.old sink.new result (command_lines (strike_commands (entry_at (words_of bank.now.words count) place))) }
+{
+    if bank.is_active(count, place) {
+        return Ok(());
+    }
+    write_word_command(sink, b"strike", bank.word(count, place))
+}
+
+/// Writes which words of a length are struck.
+fn write_struck<W: Sink>(sink: &mut W, bank: &Bank, count: usize) -> Result<(), WriteFailed>
+    ensures { Sends W.told W.failures sink.old sink.new result (command_lines (flat_map strike_commands (words_of bank.now.words count))) }
+{
+    for place in 0..bank.known(count) {
+        write_struck_at(sink, bank, count, place)?;
+    }
+    Ok(())
+}
+
+fn write_row<W: Sink>(
+    sink: &mut W,
+    bank: &Bank,
+    count: usize,
+    begun: usize,
+) -> Result<(), WriteFailed>
+    ensures { Sends W.told W.failures sink.old sink.new result (command_lines (row_commands (words_of bank.now.words count) begun)) }
+{
+    write_added(sink, bank, count, begun)?;
+    write_struck(sink, bank, count)
+}
+
+/// Writes the words that were added to so many of each length, and those that are struck.
+pub fn write_words<W: Sink>(
+    sink: &mut W,
+    bank: &Bank,
+    begun: &[usize; LENGTHS],
+) -> Result<(), WriteFailed>
+    ensures { Sends W.told W.failures sink.old sink.new result (command_lines (word_commands begun.now bank.now.words)) }
+{
+    for count in 0..LENGTHS {
+        write_row(sink, bank, count, begun[count])?;
+    }
+    Ok(())
+}
+
+// ---- texts
+
+/// So many bytes of a text, after some pieces of as many.
+fn piece(text: &[u8], before: usize) -> &[u8]
+    requires { 2000 * before ≤ length text.now }
+    ensures { result.now ≡ piece_at text.now before }
+{
+    let rest = &text[PIECE * before..];
+    &rest[..rest.len().min(PIECE)]
+}
+
+fn field_name(field: TextField) -> &'static str
+    ensures { result.now ≡ name_of_field field }
+{
+    match field {
+        TextField::Title => "title",
+        TextField::Author => "author",
+        TextField::Copyright => "copyright",
+        TextField::Notes => "notes",
+    }
+}
+
+fn putting_name(putting: Putting) -> &'static str
+    ensures { result.now ≡ word_of (names.Put putting) }
+{
+    match putting {
+        Putting::Instead => "text",
+        Putting::Behind => "more",
+    }
+}
+
+/// Writes a text behind its name, and ends the line.
+fn write_named_text<W: Sink>(sink: &mut W, name: &[u8], text: &[u8]) -> Result<(), WriteFailed>
+    ensures { Sends W.told W.failures sink.old sink.new result (line_of (name.now ∷ spelled text.now ∷ [])) }
+{
+    text::write_spaced(sink, name)?;
+    escape::write_line(sink, text)
+}
+
+/// Writes a row and a column, and a space after each.
+fn write_spot_spaced<W: Sink>(sink: &mut W, spot: Spot) -> Result<(), WriteFailed>
+    ensures { Sends W.told W.failures sink.old sink.new result ((decimal spot.row ++ codes " ") ++ (decimal spot.col ++ codes " ")) }
+{
+    let row = Decimal::new(spot.row);
+    let col = Decimal::new(spot.col);
+    text::write_spaced(sink, row.digits())?;
+    text::write_spaced(sink, col.digits())
+}
+
+/// Writes a cell, the way of a light and a text, and ends the line.
+fn write_spot_text<W: Sink>(
+    sink: &mut W,
+    spot: Spot,
+    direction: Direction,
+    text: &[u8],
+) -> Result<(), WriteFailed>
+    ensures { Sends W.told W.failures sink.old sink.new result (line_of (at_spot spot (name_of_direction direction ∷ spelled text.now ∷ []))) }
+{
+    write_spot_spaced(sink, spot)?;
+    fields::write_directed_text(sink, direction, text)
+}
+
+fn write_clue_text<W: Sink>(
+    sink: &mut W,
+    spot: Spot,
+    direction: Direction,
+    text: &[u8],
+) -> Result<(), WriteFailed>
+    ensures { Sends W.told W.failures sink.old sink.new result (line_of (codes "clue" ∷ at_spot spot (name_of_direction direction ∷ spelled text.now ∷ []))) }
+{
+    text::write_spaced(sink, b"clue")?;
+    write_spot_text(sink, spot, direction, text)
+}
+
+/// Writes that a piece of a text is put into a field.
+fn write_put<W: Sink>(
+    sink: &mut W,
+    putting: Putting,
+    field: Field,
+    text: &[u8],
+) -> Result<(), WriteFailed>
+    ensures { Sends W.told W.failures sink.old sink.new result (command_line (commands.Put putting field (spelled text.now))) }
+{
+    text::write_spaced(sink, putting_name(putting).as_bytes())?;
+    match field {
+        Field::Text(name) => write_named_text(sink, field_name(name).as_bytes(), text),
+        Field::Clue(spot, direction) => write_clue_text(sink, spot, direction, text),
+    }
+}
+
+/// Writes the pieces of a text after its first one.
+fn write_further<W: Sink>(sink: &mut W, field: Field, text: &[u8]) -> Result<(), WriteFailed>
+    ensures { Sends W.told W.failures sink.old sink.new result (command_lines (map (more_command field text.now) (range_with_len 0 (further_pieces text.now)))) }
+{
+    let further = text.len().saturating_sub(1) / PIECE;
+    for before in 0..further {
+        write_put(sink, Putting::Behind, field, piece(text, before + 1))?;
+    }
+    Ok(())
+}
+
+/// Writes a text in pieces.
+pub fn write_text<W: Sink>(sink: &mut W, field: Field, text: &[u8]) -> Result<(), WriteFailed>
+    ensures { Sends W.told W.failures sink.old sink.new result (command_lines (text_commands field text.now)) }
+{
+    write_put(sink, Putting::Instead, field, piece(text, 0))?;
+    write_further(sink, field, text)
+}
+
+// ---- the grid
+
+/// Writes a command without its name's cell: its width and height.
+pub fn write_size<W: Sink>(sink: &mut W, grid: &Grid) -> Result<(), WriteFailed>
+    ensures { Sends W.told W.failures sink.old sink.new result (command_lines (commands.Size grid.now.width grid.now.height ∷ [])) }
+{
+    let width = Decimal::new(u64::from(grid.width()));
+    let height = Decimal::new(u64::from(grid.height()));
+    text::write_line(sink, &[b"size", width.digits(), height.digits()])
+}
+
+fn symmetry_name(kind: Symmetry) -> &'static str
+    ensures { result.now ≡ name_of_symmetry kind }
+{
+    match kind {
+        Symmetry::None => "none",
+        Symmetry::Half => "half",
+        Symmetry::Quarter => "quarter",
+        Symmetry::LeftRight => "leftright",
+        Symmetry::UpDown => "updown",
+    }
+}
+
+pub fn write_symmetry<W: Sink>(sink: &mut W, kind: Symmetry) -> Result<(), WriteFailed>
+    ensures { Sends W.told W.failures sink.old sink.new result (command_lines (commands.Symmetry kind ∷ [])) }
+{
+    text::write_line(sink, &[b"sym", symmetry_name(kind).as_bytes()])
+}
+
+pub fn write_watch<W: Sink>(sink: &mut W, is_on: bool) -> Result<(), WriteFailed>
+    ensures { Sends W.told W.failures sink.old sink.new result (command_lines (commands.Watch is_on ∷ [])) }
+{
+    let switch = if is_on { b"on".as_slice() } else { b"off" };
+    text::write_line(sink, &[b"watch", switch])
+}
+
+/// Writes what is done with a cell.
+fn write_cell_command<W: Sink>(sink: &mut W, name: &[u8], cell: Cell) -> Result<(), WriteFailed>
+    ensures { Sends W.told W.failures sink.old sink.new result (line_of (name.now ∷ at_spot (spot_of cell) [])) }
+{
+    text::write_spaced(sink, name)?;
+    text::write_cell(sink, cell)
+}
+
+/// Writes what is done with a cell, and a word more.
+fn write_cell_and_word<W: Sink>(
+    sink: &mut W,
+    name: &[u8],
+    cell: Cell,
+    word: &[u8],
+) -> Result<(), WriteFailed>
+    ensures { Sends W.told W.failures sink.old sink.new result (line_of (name.now ∷ at_spot (spot_of cell) (word.now ∷ []))) }
+{
+    let row = Decimal::new(u64::from(cell.row));
+    let col = Decimal::new(u64::from(cell.col));
+    text::write_line(sink, &[name, row.digits(), col.digits(), word])
+}
+
+fn write_circle<W: Sink>(sink: &mut W, circles: &Circles, cell: Cell) -> Result<(), WriteFailed>
+    ensures { Sends W.told W.failures sink.old sink.new result (command_lines (circle_commands circles.now cell)) }
+{
+    if !circles.has(cell) {
+        return Ok(());
+    }
+    write_cell_command(sink, b"circle", cell)
+}
+
+fn side_name(side: Side) -> &'static str
+    ensures { result.now ≡ name_of_side side }
+{
+    match side {
+        Side::Right => "right",
+        Side::Below => "below",
+    }
+}
+
+fn write_bar<W: Sink>(sink: &mut W, grid: &Grid, side: Side, cell: Cell) -> Result<(), WriteFailed>
+    ensures { Sends W.told W.failures sink.old sink.new result (command_lines (bar_commands grid.now side cell)) }
+{
+    if !grid.is_barred(cell, side) {
+        return Ok(());
+    }
+    write_cell_and_word(sink, b"bar", cell, side_name(side).as_bytes())
+}
+
+fn write_block<W: Sink>(sink: &mut W, grid: &Grid, cell: Cell) -> Result<(), WriteFailed>
+    ensures { Sends W.told W.failures sink.old sink.new result (command_lines (block_commands grid.now cell)) }
+{
+    if !grid.is_block(cell) {
+        return Ok(());
+    }
+    write_cell_command(sink, b"block", cell)
+}
+
+fn write_letter<W: Sink>(sink: &mut W, grid: &Grid, cell: Cell) -> Result<(), WriteFailed>
+    ensures { Sends W.told W.failures sink.old sink.new result (command_lines (letter_commands cell (entry_of grid.now cell))) }
+{
+    match grid.entry(cell) {
+        Some(letter) => write_cell_and_word(sink, b"set", cell, &[letter.byte()]),
+        None => Ok(()),
+    }
+}
+
+fn write_clue<W: Sink>(
+    sink: &mut W,
+    clues: &Clues,
+    direction: Direction,
+    cell: Cell,
+) -> Result<(), WriteFailed>
+    ensures { Sends W.told W.failures sink.old sink.new result (command_lines (clue_commands cell direction (clue_at clues.now cell direction))) }
+{
+    let text = clues.get(cell, direction);
+    if text.is_empty() {
+        return Ok(());
+    }
+    let spot = Spot {
+        row: u64::from(cell.row),
+        col: u64::from(cell.col),
+    };
+    write_text(sink, Field::Clue(spot, direction), text)
+}
+
+/// Writes what is kept for a cell.
+fn write_kept<W: Sink>(
+    sink: &mut W,
+    grid: &Grid,
+    clues: &Clues,
+    circles: &Circles,
+    part: Part,
+    cell: Cell,
+) -> Result<(), WriteFailed>
+    ensures { Sends W.told W.failures sink.old sink.new result (command_lines (cell_commands grid.now clues.now circles.now part cell)) }
+{
+    match part {
+        Part::Circles => write_circle(sink, circles, cell),
+        Part::Bars(side) => write_bar(sink, grid, side, cell),
+        Part::Blocks => write_block(sink, grid, cell),
+        Part::Letters => write_letter(sink, grid, cell),
+        Part::Clues(direction) => write_clue(sink, clues, direction, cell),
+    }
+}
+
+/// Writes what is kept for the cells of a grid, whether it is shown or not.
+pub fn write_part<W: Sink>(
+    sink: &mut W,
+    grid: &Grid,
+    clues: &Clues,
+    circles: &Circles,
+    part: Part,
+) -> Result<(), WriteFailed>
+    ensures { Sends W.told W.failures sink.old sink.new result (command_lines (part_commands grid.now clues.now circles.now part)) }
+{
+    for place in 0..grid.size() {
+        write_kept(sink, grid, clues, circles, part, grid.cell_at(place))?;
+    }
+    Ok(())
+}

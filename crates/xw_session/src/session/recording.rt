@@ -1,0 +1,41 @@
+//! The record of a session: what it has, as commands that make it again.
+ghost use Rattle.xw_session.specs.Sends.{Sends};
+ghost use Rattle.xw_session.specs.Record.{command_lines, section_commands, record_lines};
+
+use crate::command::Field;
+use crate::device::{Sink, WriteFailed};
+use crate::record::{self, SECTIONS, Section};
+use crate::session::Session;
+use crate::session::putting::Place;
+use xw_feas::feasible::Feasible;
+
+impl<E: Feasible> Session<E> {
+    /// Writes the commands of a section.
+    fn write_section<W: Sink>(&self, section: Section, sink: &mut W) -> Result<(), WriteFailed>
+        ensures { Sends W.told W.failures sink.old sink.new result (command_lines (section_commands self.now section)) }
+    {
+        let grid = self.engine.grid();
+        match section {
+            Section::Words => record::write_words(sink, self.engine.bank(), &self.begun),
+            Section::Size => record::write_size(sink, grid),
+            Section::Cells(part) => {
+                record::write_part(sink, grid, &self.clues, &self.circles, part)
+            }
+            Section::Symmetry => record::write_symmetry(sink, grid.symmetry()),
+            Section::Text(name) => {
+                record::write_text(sink, Field::Text(name), self.text_at(Place::Text(name)))
+            }
+            Section::Watch => record::write_watch(sink, self.is_watched),
+        }
+    }
+
+    /// Writes lines of commands that make this session again from one that begins with the same words.
+    pub fn write_record<W: Sink>(&self, sink: &mut W) -> Result<(), WriteFailed>
+        ensures { Sends W.told W.failures sink.old sink.new result (record_lines self.now) }
+    {
+        for section in SECTIONS {
+            self.write_section(*section, sink)?;
+        }
+        Ok(())
+    }
+}
