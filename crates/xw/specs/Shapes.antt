@@ -11,8 +11,12 @@ option name = record (new_rule name) { long = Some name; value_names = 1 }
 abbrev pub operand : Text → Rule
 operand name = record (new_rule name) { value_names = 1; required = true }
 
+-- a session, with what it may start with
+abbrev pub begun : App
+begun = with_rule (with_rule (with_rule (new_app (codes "edit")) (option (codes "dict"))) (option (codes "from"))) (option (codes "resume"))
+
 abbrev pub edit : App
-edit = with_rule (with_rule (with_rule (new_app (codes "edit")) (option (codes "dict"))) (option (codes "from"))) (option (codes "to"))
+edit = with_rule (with_rule begun (option (codes "to"))) (option (codes "save"))
 
 abbrev pub convert : App
 convert = with_rule (with_rule (new_app (codes "convert")) (operand (codes "from"))) (operand (codes "to"))

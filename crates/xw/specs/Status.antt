@@ -1,5 +1,5 @@
 -- How a run went, and the exit status that tells it.
-use Rattle.std.specs.Prelude.{ℕ, ◌==◌, if◌then◌else◌, Result, Ok, Err}
+use Rattle.std.specs.Prelude.{ℕ, ◌+◌, ◌==◌, if◌then◌else◌, Result, Ok, Err}
 use Rattle.xw.specs.declared.failure.Status.{Status}
 use Rattle.xw.specs.declared.failure.Status.TheVariants.{Accepted, Refused, Usage, Format, Failed}
 use Rattle.xw.specs.declared.failure.Failure.{Failure}
@@ -23,11 +23,12 @@ status_of (failures.CannotRead file) = Failed
 status_of (failures.CannotWrite file) = Failed
 status_of (failures.File file name) = Format
 status_of (failures.OneFile file) = Usage
+status_of (failures.TwoTexts file) = Usage
 
--- how a run over commands went, by how their reading and answering ended
-abbrev pub run_ended : RunEnd → Result Status Failure
-run_ended (Done refused) = if refused == 0 then Ok Accepted else Ok Refused
-run_ended ReadFailed = Err failures.Input
-run_ended Endless = Err failures.Input
-run_ended WriteFailed = Err failures.Output
-run_ended Memory = Err failures.Memory
+-- how a run over commands went, by how many lines were refused before it, and how their reading and answering ended
+abbrev pub run_ended : ℕ → RunEnd → Result Status Failure
+run_ended before (Done refused) = if before + refused == 0 then Ok Accepted else Ok Refused
+run_ended before ReadFailed = Err failures.Input
+run_ended before Endless = Err failures.Input
+run_ended before WriteFailed = Err failures.Output
+run_ended before Memory = Err failures.Memory

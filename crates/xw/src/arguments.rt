@@ -1,9 +1,9 @@
 //! The arguments of the program.
-ghost use Rattle.std.specs.Prelude.{◌≡◌, IfOk, IfErr, OnOk, IfSome, None, map, false, []};
+ghost use Rattle.std.specs.Prelude.{◌≡◌, ◌&&◌, is_some, IfOk, IfErr, OnOk, IfSome, None, map, false, []};
 ghost use Rattle.clap.specs.Values.{kind_of};
-ghost use Rattle.clap.specs.Words.{app_of, fault_of, rule_of, subcommand_of, subcommand_rows_of};
+ghost use Rattle.clap.specs.Words.{app_of, fault_of, found_of, rows_of, rule_of, subcommand_of, subcommand_rows_of};
 ghost use Rattle.clap.specs.declared.builder.command.Command.TheViews.{out-Command as fields_of};
-ghost use Rattle.xw.specs.Calls.{IsCall};
+ghost use Rattle.xw.specs.Calls.{AreFiles, IsCall};
 ghost use Rattle.xw.specs.Usage.{IsTold, IsNoCall, IsUsageOf};
 ghost use Rattle.xw.specs.Shapes as shapes;
 
@@ -32,14 +32,30 @@ const EXAMPLE: &str = "Example:
   clue 1 across It purrs
   ok";
 
+/// The files of a session, each where it is named.
+#[derive(Clone, Copy, Debug, PartialEq, Eq)]
+pub struct SessionFiles<'a> {
+    /// The word list.
+    pub dict: Option<&'a str>,
+    /// The puzzle that it starts on.
+    pub from_file: Option<&'a str>,
+    /// The lines of commands that it starts with.
+    pub resume_file: Option<&'a str>,
+    /// Where its puzzle is written.
+    pub to_file: Option<&'a str>,
+    /// Where its record is written.
+    pub save_file: Option<&'a str>,
+}
+
+/// What is told of a session that is to start on a puzzle and with commands.
+const TWO_STARTS: &str = "xw: --from and --resume cannot be given together\n";
+
 /// What the program is to do.
 #[derive(Clone, Copy, Debug, PartialEq, Eq)]
 pub enum Call<'a> {
-    /// Answers commands over a word list and a puzzle, each where it is named, and writes the puzzle where a file is named.
+    /// Answers commands over what files give, and writes what files are named for.
     Edit {
-        dict: Option<&'a str>,
-        from_file: Option<&'a str>,
-        to_file: Option<&'a str>,
+        files: SessionFiles<'a>,
     },
     /// Writes the puzzle of a file into another.
     Convert {
@@ -82,8 +98,9 @@ fn operand<'a>(alloc: Global, name: &'a str, shown: &'a str, help: &'a str) -> A
         .required(true)
 }
 
-fn edit<'a>(alloc: Global) -> Result<Command<'a>, AllocError>
-    ensures shape { IfOk result (λ command. app_of command ≡ shapes.edit) }
+/// A session, with the files that it starts with.
+fn begun<'a>(alloc: Global) -> Result<Command<'a>, AllocError>
+    ensures shape { IfOk result (λ command. app_of command ≡ shapes.begun) }
     ensures local { IfOk result (λ command. (fields_of command).has_globals ≡ false) }
 {
     Command::new(alloc, "edit")
@@ -97,8 +114,25 @@ fn edit<'a>(alloc: Global) -> Result<Command<'a>, AllocError>
         ))?
         .arg(option(
             alloc,
+            "resume",
+            "Commands to do first, without answers, as --save wrote them",
+        ))
+}
+
+fn edit<'a>(alloc: Global) -> Result<Command<'a>, AllocError>
+    ensures shape { IfOk result (λ command. app_of command ≡ shapes.edit) }
+    ensures local { IfOk result (λ command. (fields_of command).has_globals ≡ false) }
+{
+    begun(alloc)?
+        .arg(option(
+            alloc,
             "to",
             "Where to write the puzzle at the end, as .puz if it is called so, else as text",
+        ))?
+        .arg(option(
+            alloc,
+            "save",
+            "Where to write the session at the end, as commands for --resume",
         ))
 }
 
@@ -162,11 +196,38 @@ pub fn arguments<'a, S: AsStr>(alloc: Global, words: &'a [S]) -> Result<Call<'a>
     };
     match call_of(&matches) {
         Some(call) => Ok(call),
-        None => Err(Usage::Wrong(String::from_str(alloc, "xw: a file is missing\n")?)),
+        // all else that may be wrong was told by `clap`
+        None => Err(Usage::Wrong(String::from_str(alloc, TWO_STARTS)?)),
     }
 }
 
-/// The call of the matches, or `None` where they lack a file.
+/// Whether a session is to start on a puzzle and with commands.
+fn starts_twice(from_file: Option<&str>, resume_file: Option<&str>) -> bool
+    ensures { result ≡ (is_some from_file.entry && is_some resume_file.entry) }
+{
+    from_file.is_some() && resume_file.is_some()
+}
+
+/// The files of a session, or `None` where it has two to start with.
+fn session_files<'a>(matches: &ArgMatches<'a>) -> Option<SessionFiles<'a>>
+    ensures files { IfSome result (λ files. AreFiles files (rows_of (found_of matches.now))) }
+    ensures none { result ≡ None → (files : SessionFiles) → AreFiles files (rows_of (found_of matches.now)) → ⊥ }
+{
+    let from_file = matches.get_str("from");
+    let resume_file = matches.get_str("resume");
+    if starts_twice(from_file, resume_file) {
+        return None;
+    }
+    Some(SessionFiles {
+        dict: matches.get_str("dict"),
+        from_file,
+        resume_file,
+        to_file: matches.get_str("to"),
+        save_file: matches.get_str("save"),
+    })
+}
+
+/// The call of the matches, or `None` where they lack a file or have one too many.
 fn call_of<'a>(matches: &ArgMatches<'a>) -> Option<Call<'a>>
     ensures call { IfSome result (λ call. IsCall call (subcommand_rows_of matches.now)) }
     ensures none { result ≡ None → IsNoCall (subcommand_rows_of matches.now) }
@@ -174,9 +235,7 @@ fn call_of<'a>(matches: &ArgMatches<'a>) -> Option<Call<'a>>
     let (name, files) = matches.subcommand()?;
     match name {
         "edit" => Some(Call::Edit {
-            dict: files.get_str("dict"),
-            from_file: files.get_str("from"),
-            to_file: files.get_str("to"),
+            files: session_files(files)?,
         }),
         "convert" => Some(Call::Convert {
             from_file: files.get_str("from")?,

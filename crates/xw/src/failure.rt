@@ -56,6 +56,8 @@ pub enum Failure {
     File { file: String, name: &'static str },
     #[error("xw: {file}: the word list cannot be the file to write")]
     OneFile { file: String },
+    #[error("xw: {file}: the puzzle and the session cannot be written into one file")]
+    TwoTexts { file: String },
 }
 
 impl Failure {
@@ -65,6 +67,7 @@ impl Failure {
         match self {
             Failure::File { .. } => Status::Format,
             Failure::OneFile { .. } => Status::Usage,
+            Failure::TwoTexts { .. } => Status::Usage,
             _ => Status::Failed,
         }
     }

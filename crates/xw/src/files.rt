@@ -1,21 +1,26 @@
 //! The files of the program: word lists and puzzles.
-ghost use Rattle.std.specs.Prelude.{◌≡◌};
+ghost use Rattle.std.specs.Prelude.{◌≡◌, IfOk};
+ghost use Rattle.xw_session.specs.Record.{record_lines};
 ghost use Rattle.xw.specs.Names.{IsKindNamed, read_fault, write_fault};
 
+use crate::arguments::SessionFiles;
 use crate::failure::Failure;
+use crate::gathered::Gathered;
 use crate::replacing::replace;
+use std::alloc::Global;
 use std::os::unix::fs::MetadataExt;
 use std::rt::Files;
 use std::{fs, io};
+use xw_feas::feasible::Feasible;
 use xw_files::fault::{ReadFault, WriteFault};
 use xw_files::puzzle::Puzzle;
 use xw_files::{Kind, kind_of, read_puz, read_text, write_puz, write_text};
 use xw_session::refusal::{self, Refusal};
-use xw_session::{Sink, device};
+use xw_session::{Session, Sink, device};
 use xw_words::{Bank, WordFault};
 
 /// The bytes of a file.
-fn read_file<R: Files + AllocGlobal>(rt: &R, file: &str) -> Result<Vec<u8>, Failure> {
+pub fn read_file<R: Files + AllocGlobal>(rt: &R, file: &str) -> Result<Vec<u8>, Failure> {
     match fs::read(rt, file) {
         Ok(bytes) => Ok(bytes),
         Err(error) => {
@@ -92,25 +97,63 @@ pub fn write_puzzle<R: Files + AllocGlobal>(
             return Err(Failure::File { file, name });
         }
     };
-    match replace(rt, file, bytes.as_slice()) {
+    write_file(rt, file, bytes.as_slice())
+}
+
+/// The record of a session.
+fn record<F: Feasible>(alloc: Global, session: &Session<F>) -> Result<Vec<u8>, Failure>
+    ensures { IfOk result (λ bytes. bytes.items ≡ record_lines session.now) }
+{
+    let mut gathered = Gathered::new(alloc);
+    match session.write_record(&mut gathered) {
+        Ok(()) => Ok(gathered.into_bytes()),
+        Err(_) => Err(Failure::Memory),
+    }
+}
+
+/// Writes the record of a session into a file, which is not opened before all its bytes are made.
+pub fn write_record<R: Files + AllocGlobal, F: Feasible>(
+    rt: &R,
+    file: &str,
+    session: &Session<F>,
+) -> Result<(), Failure> {
+    let bytes = record(rt.alloc(), session)?;
+    write_file(rt, file, bytes.as_slice())
+}
+
+fn write_file<R: Files + AllocGlobal>(rt: &R, file: &str, bytes: &[u8]) -> Result<(), Failure> {
+    match replace(rt, file, bytes) {
         Ok(()) => Ok(()),
         Err(error) => {
             if error.kind() == io::ErrorKind::OutOfMemory {
                 return Err(Failure::Memory);
             }
-            let file = String::from_str(alloc, file)?;
+            let file = String::from_str(rt.alloc(), file)?;
             Err(Failure::CannotWrite { file })
         }
     }
 }
 
-/// Refuses to write the puzzle into the word list, whatever the two names are.
-pub fn keep_apart<R: Files + AllocGlobal>(
+/// Refuses to write into the word list, and to write two texts into one file, whatever the names are.
+pub fn keep_apart<R: Files + AllocGlobal>(rt: &R, named: SessionFiles<'_>) -> Result<(), Failure> {
+    spare(rt, named.dict, named.to_file)?;
+    spare(rt, named.dict, named.save_file)?;
+    match (named.to_file, named.save_file) {
+        (Some(to_file), Some(file)) if is_one_file(rt, to_file, file) => {
+            let file = String::from_str(rt.alloc(), file)?;
+            Err(Failure::TwoTexts { file })
+        }
+        _ => Ok(()),
+    }
+}
+
+/// Refuses to write into the word list.
+fn spare<R: Files + AllocGlobal>(
     rt: &R,
     dict: Option<&str>,
-    to_file: Option<&str>,
+    written: Option<&str>,
 ) -> Result<(), Failure> {
-    match (dict, to_file) {
+    match (dict, written) {
         (Some(dict), Some(file)) if is_one_file(rt, dict, file) => {
             let file = String::from_str(rt.alloc(), file)?;
             Err(Failure::OneFile { file })

@@ -4,8 +4,10 @@
 mod arguments;
 mod failure;
 mod files;
+mod gathered;
 mod perform;
 mod replacing;
+mod resuming;
 #[cfg(test)]
 mod tests;
 

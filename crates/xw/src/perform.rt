@@ -4,9 +4,9 @@ ghost use Rattle.xw_session.specs.Sends.{Sends};
 ghost use Rattle.xw.specs.Status.{run_ended};
 ghost use Rattle.xw.specs.Usage.{IsExplained};
 
-use crate::arguments::{Call, Usage};
+use crate::arguments::{Call, SessionFiles, Usage};
 use crate::failure::{Failure, Status};
-use crate::files;
+use crate::{files, resuming};
 use std::alloc::Global;
 use std::rt::Files;
 use xw_feas::feasible::Feasible;
@@ -91,33 +91,39 @@ fn run<R: Files + AllocGlobal, I: Source, O: Sink, E: Sink>(
     errors: &mut E,
 ) -> Result<Status, Failure> {
     match call {
-        Call::Edit {
-            dict,
-            from_file,
-            to_file,
-        } => {
-            files::keep_apart(rt, dict, to_file)?;
-            let mut session = open(rt, dict, from_file, errors)?;
-            edit(rt, &mut session, to_file, input, output)
-        }
+        Call::Edit { files } => edit(rt, files, input, output, errors),
         Call::Convert { from_file, to_file } => convert(rt, from_file, to_file),
         Call::Check { file } => check(rt, file, output),
     }
 }
 
+/// Does a session: starts it with what its files give, answers the input, writes its files.
+fn edit<R: Files + AllocGlobal, I: Source, O: Sink, E: Sink>(
+    rt: &R,
+    named: SessionFiles<'_>,
+    input: &mut I,
+    output: &mut O,
+    errors: &mut E,
+) -> Result<Status, Failure> {
+    files::keep_apart(rt, named)?;
+    let mut session = open(rt, named, errors)?;
+    let refused = resume(rt, &mut session, named.resume_file, errors)?;
+    let answered = run_status(session.run_lines(input, output), refused);
+    close(rt, &session, named, answered)
+}
+
 /// A session over a word list and a puzzle, each where it is named; the word list is read first.
 fn open<R: Files + AllocGlobal, E: Sink>(
     rt: &R,
-    dict: Option<&str>,
-    from_file: Option<&str>,
+    named: SessionFiles<'_>,
     errors: &mut E,
 ) -> Result<Session<Engine>, Failure> {
     let alloc = rt.alloc();
-    let bank = match dict {
+    let bank = match named.dict {
         Some(file) => files::read_dictionary(rt, file, errors)?,
         None => Bank::new(alloc).map_err(|_| Failure::Memory)?,
     };
-    match from_file {
+    match named.from_file {
         Some(file) => {
             let (_, puzzle) = files::read_puzzle(rt, file)?;
             let engine = Engine::open(alloc, puzzle.grid, bank).map_err(|_| Failure::Memory)?;
@@ -131,36 +137,57 @@ fn open<R: Files + AllocGlobal, E: Sink>(
     }
 }
 
-/// Answers the commands of the input, and then writes the puzzle where a file is named.
-fn edit<R: Files + AllocGlobal, I: Source, O: Sink>(
+/// Does the lines of a file where it is named, and returns how many are refused.
+fn resume<R: Files + AllocGlobal, E: Sink>(
     rt: &R,
     session: &mut Session<Engine>,
-    to_file: Option<&str>,
-    input: &mut I,
-    output: &mut O,
+    named: Option<&str>,
+    errors: &mut E,
+) -> Result<usize, Failure> {
+    match named {
+        Some(file) => {
+            let text = files::read_file(rt, file)?;
+            resuming::resume(rt.alloc(), session, file, text.as_slice(), errors)
+        }
+        None => Ok(0),
+    }
+}
+
+/// Writes the files of a session that has ended, each where it is named: first its record, whatever
+/// ended it, and then its puzzle, unless a device failed or memory was wanting.
+fn close<R: Files + AllocGlobal>(
+    rt: &R,
+    session: &Session<Engine>,
+    named: SessionFiles<'_>,
+    answered: Result<Status, Failure>,
 ) -> Result<Status, Failure> {
-    let status = answer(session, input, output)?;
-    if let Some(file) = to_file {
+    let saved = save(rt, session, named.save_file);
+    let status = answered?;
+    saved?;
+    if let Some(file) = named.to_file {
         keep(rt, file, session)?;
     }
     Ok(status)
 }
 
-/// Answers the commands of the input.
-fn answer<I: Source, O: Sink>(
-    session: &mut Session<Engine>,
-    input: &mut I,
-    output: &mut O,
-) -> Result<Status, Failure> {
-    run_status(session.run_lines(input, output))
+/// Writes the record of a session into a file, where one is named.
+fn save<R: Files + AllocGlobal>(
+    rt: &R,
+    session: &Session<Engine>,
+    named: Option<&str>,
+) -> Result<(), Failure> {
+    match named {
+        Some(file) => files::write_record(rt, file, session),
+        None => Ok(()),
+    }
 }
 
-/// How a run went, by how it ended.
-fn run_status(end: RunEnd) -> Result<Status, Failure>
-    ensures { result ≡ run_ended end }
+/// How a run went, by how many lines were refused before it and how it ended.
+fn run_status(end: RunEnd, before: usize) -> Result<Status, Failure>
+    ensures { result ≡ run_ended before end }
 {
     match end {
-        RunEnd::Done { refused: 0 } => Ok(Status::Accepted),
+        RunEnd::Done { refused: 0 } if before == 0 => Ok(Status::Accepted),
         RunEnd::Done { .. } => Ok(Status::Refused),
         RunEnd::ReadFailed | RunEnd::Endless => Err(Failure::Input),
         RunEnd::WriteFailed => Err(Failure::Output),

@@ -4,8 +4,9 @@ mod large;
 mod puzzles;
 mod replacing;
 mod samples;
+mod sessions;
 
-use crate::arguments::{Call, Usage, arguments};
+use crate::arguments::{Call, SessionFiles, Usage, arguments};
 use crate::failure::Status;
 use crate::perform::{explain, perform};
 use std::fs;
@@ -180,6 +181,8 @@ fn wrong_words(rt: HostRuntime) -> Result<(), Fail> {
         &["xw", "edit", "--frob"],
         &["xw", "edit", "--to", "a", "--to", "b"],
         &["xw", "edit", "--from"],
+        &["xw", "edit", "--from", "a", "--resume", "b"],
+        &["xw", "edit", "--save", "a", "--save", "b"],
         &["xw", "convert"],
         &["xw", "convert", "a"],
         &["xw", "convert", "a", "b", "c"],
@@ -210,9 +213,13 @@ fn wrong_words(rt: HostRuntime) -> Result<(), Fail> {
         matches!(
             arguments(rt.alloc(), &words),
             Ok(Call::Edit {
-                dict: None,
-                from_file: None,
-                to_file: None
+                files: SessionFiles {
+                    dict: None,
+                    from_file: None,
+                    resume_file: None,
+                    to_file: None,
+                    save_file: None,
+                },
             })
         )
     );

@@ -1,7 +1,7 @@
 //! Runs over devices that fail.
 ghost use Rattle.std.specs.Prelude.{◌≡◌, ◌≤◌, take, false};
 
-use crate::arguments::Call;
+use crate::arguments::{Call, SessionFiles};
 use crate::failure::Status;
 use crate::perform::perform;
 use crate::tests::samples::PLAIN;
@@ -13,9 +13,24 @@ use xw_session::{DeviceFault, FromRead, Sink, ToWrite};
 
 /// A session that ends by writing a file.
 const TO_FILE: Call<'static> = Call::Edit {
-    dict: None,
-    from_file: None,
-    to_file: Some("unwritten.puz"),
+    files: SessionFiles {
+        dict: None,
+        from_file: None,
+        resume_file: None,
+        to_file: Some("unwritten.puz"),
+        save_file: None,
+    },
+};
+
+/// A session that ends by writing its record.
+const SAVED: Call<'static> = Call::Edit {
+    files: SessionFiles {
+        dict: None,
+        from_file: None,
+        resume_file: None,
+        to_file: None,
+        save_file: Some("saved.xw"),
+    },
 };
 
 /// A reader that fails: a file that is open for writing alone.
@@ -135,12 +150,17 @@ fn run_unflushed(
     status
 }
 
-/// Nothing is read after an answer that was not passed on, and no file is written.
+/// Nothing is read after an answer that was not passed on, and no puzzle is written. The session is
+/// saved.
 #[test]
 fn output_fault_of_a_flush(rt: HostRuntime) -> Result<(), Fail> {
-    let status = run_unflushed(&rt, TO_FILE, b"add CAT\nadd DOG\n", b"ok\n");
-    assert_eq!(&rt; status, Status::Failed);
+    for call in [TO_FILE, SAVED] {
+        let status = run_unflushed(&rt, call, b"add CAT\nadd DOG\n", b"ok\n");
+        assert_eq!(&rt; status, Status::Failed);
+    }
     assert!(&rt; fs::read(&rt, "unwritten.puz").is_err());
+    assert!(&rt; !fs::read(&rt, "saved.xw")?.is_empty());
+    fs::remove_file(&rt, "saved.xw")?;
     fs::write(&rt, "checked", PLAIN)?;
     let check = Call::Check { file: "checked" };
     let status = run_unflushed(&rt, check, b"", b"puz 2x2 4 lights\n");
