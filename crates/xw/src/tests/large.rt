@@ -138,20 +138,22 @@ fn many_lights(rt: HostRuntime) -> Result<(), Fail> {
     Ok(())
 }
 
-/// Five columns with four lights that cross none, and 1,100 words: each light gets the first word that none before it has.
+/// Five columns with fifteen lights that cross none, and 1,100 words: each light gets the first word that none before it
+/// has, and one of them a late word, so that more than a hundred placements are tried.
 #[test]
 fn many_choices(rt: HostRuntime) -> Result<(), Fail> {
     let list = word_list(rt.alloc(), 1100)?;
     let mut lines = Vec::new(rt.alloc());
-    put_blocks(rt.alloc(), &mut lines, &[2, 4, 6], &[1, 2, 3, 4, 5])?;
-    lines.extend_from_slice(b"add zzzzz\nstrike ZZZZZ\nadd fghij\nadd zzzzz\n")?;
-    lines.extend_from_slice(b"fill 10\ndups\nunlisted\nmatch fgh..\n")?;
+    let rows = [2, 4, 6, 8, 10, 12, 14, 16, 18, 20, 22, 24, 26, 28];
+    put_blocks(rt.alloc(), &mut lines, &rows, &[1, 2, 3, 4, 5])?;
+    lines.extend_from_slice(b"add zzzzz\nstrike ZZZZZ\nadd fghij\nadd zzzzz\nset 1 3 B\n")?;
+    lines.extend_from_slice(b"fill 999999999999999999\ndups\nunlisted\nmatch fgh..\n")?;
     let mut answers = Vec::new(rt.alloc());
-    put_oks(&mut answers, 19)?;
+    put_oks(&mut answers, 75)?;
     answers.extend_from_slice(b"filled\nok\nok\nok\nFGHIJ\nok\n")?;
     both_say(
         &rt,
-        ((5, 7), list.as_slice()),
+        ((5, 29), list.as_slice()),
         lines.as_slice(),
         answers.as_slice(),
     )
