@@ -1,7 +1,11 @@
 -- How a cut text grows at its end.
-use Rattle.std.proofs.Common.{rules, ◌≢◌, ◌≡◌, ◌≤◌, ◌<◌, ℕ, zero, suc, List, [], ◌∷◌, ◌++◌, length, take, get_or, Some, None, Bool, true, false, cond, refl, sym, ap, ◌∙◌, append_assoc, append-nil, arith}
-use Rattle.std.specs.Prelude.{◌==◌, nat_le}
-use Rattle.xw_session.specs.Cut.{Cut, cut, with_first, ended_lines, last_piece, last_line, lines_of, held, HasNoLf, AllHaveNoLf, with_lfs}
+use Rattle.std.proofs.Common.{rules, ◌≢◌, ◌≡◌, ◌≤◌, ◌<◌, ◌+◌, ◌-◌, ℕ, zero, suc, List, [], ◌∷◌, ◌++◌, length, length-drop, take, take-add, drop, get_or, subst, Some, None, Bool, true, false, cond, refl, sym, ap, ◌∙◌, append_assoc, append-nil, arith}
+use Rattle.std.proofs.lemmas.Bool.{true≢false, eqb-true}
+use Rattle.std.proofs.lemmas.List.{take_all, take-append-drop, drop_more, get_or-drop}
+use Rattle.std.proofs.lemmas.List.Quantifiers.{position-Some}
+use Rattle.xw_words.proofs.Position.{position-None}
+use Rattle.std.specs.Prelude.{◌==◌, nat_le, position}
+use Rattle.xw_session.specs.Cut.{Cut, cut, with_first, ended_lines, last_piece, last_line, lines_of, held, is_lf, HasNoLf, EndsLine, AllHaveNoLf, with_lfs}
 
 -- the cut after one more byte at the front
 abbrev cut_onto : Bool → ℕ → Cut → Cut
@@ -55,8 +59,47 @@ pub no_lf-before : (bytes : List ℕ) (end : ℕ) → (end ≤ length bytes) →
 no_lf-before bytes zero le h = tt
 no_lf-before [] (suc end) le h = absurd (omega arith)
 no_lf-before (b ∷ bytes) (suc end) le h =
-    let other : b ≢ 10 = λ z. (let bad : (b == 10) ≡ true = rw z refl in cc) in
+    let other : b ≢ 10 = λ z. (let bad : (b == 10) ≡ true = rw z refl in true≢false (sym bad ∙ h zero (omega arith))) in
     (other, no_lf-before bytes end (omega arith) (λ k lt. h (suc k) (omega arith)))
+
+pub no_lf : (bytes : List ℕ) → position is_lf bytes ≡ None → HasNoLf bytes
+no_lf bytes none =
+    subst HasNoLf (take_all (length bytes) bytes (omega arith)) (no_lf-before bytes (length bytes) (omega arith) (λ k lt. position-None is_lf bytes none k 0 lt))
+
+-- the first LF of what stands from a place on ends a line
+pub first_lf-ends : (bytes : List ℕ) (from more : ℕ) → position is_lf (drop from bytes) ≡ Some more → EndsLine bytes from (from + more)
+first_lf-ends bytes from more some =
+    let found = position-Some is_lf (drop from bytes) more 0 some in
+    let count : more ≡ from + more - from = omega arith in
+    let long = length-drop from bytes in
+    let lf : get_or bytes (from + more) 0 ≡ 10 = sym (get_or-drop from bytes more 0) ∙ eqb-true _ _ found.1 in
+    let within : from + more < length bytes = omega (arith, found.0, long) in (
+      subst (λ n. HasNoLf (take n (drop from bytes))) count (no_lf-before (drop from bytes) more (omega (arith, found.0)) found.2),
+      drop_more bytes (from + more) 0 within ∙ ap (λ b. b ∷ drop (from + more + 1) bytes) lf,
+    )
+
+before_end : (bytes : List ℕ) (from end : ℕ) → from ≤ end → take from bytes ++ take (end - from) (drop from bytes) ≡ take end bytes
+before_end bytes from end le =
+    let e : from + (end - from) ≡ end = omega arith in
+    sym (take-add from (end - from) bytes) ∙ ap (λ n. take n bytes) e
+
+-- a text whose bytes are read to the end of a line, and what is left of them
+pub line-within : (text bytes : List ℕ) (from end : ℕ) → from ≤ end → EndsLine bytes from end
+    → ((text ++ take from bytes) ++ take (end - from) (drop from bytes)) ++ 10 ∷ drop (end + 1) bytes ≡ text ++ bytes
+line-within text bytes from end le h =
+    ap (λ xs. xs ++ 10 ∷ drop (end + 1) bytes) (append_assoc text _ _ ∙ ap (λ xs. text ++ xs) (before_end bytes from end le))
+    ∙ ap (λ xs. (text ++ take end bytes) ++ xs) (sym h.1)
+    ∙ append_assoc text _ _
+    ∙ ap (λ xs. text ++ xs) (take-append-drop end bytes)
+
+-- a text whose bytes are read past the end of a line
+pub line-through : (text bytes : List ℕ) (from end : ℕ) → from ≤ end → EndsLine bytes from end
+    → ((text ++ take from bytes) ++ take (end - from) (drop from bytes)) ++ 10 ∷ [] ≡ text ++ take (end + 1) bytes
+line-through text bytes from end le h =
+    ap (λ xs. xs ++ 10 ∷ []) (append_assoc text _ _ ∙ ap (λ xs. text ++ xs) (before_end bytes from end le))
+    ∙ append_assoc text _ _
+    ∙ ap (λ xs. text ++ (take end bytes ++ xs)) (sym (ap (take 1) h.1))
+    ∙ ap (λ xs. text ++ xs) (sym (take-add end 1 bytes))
 
 -- the lines of a text with an LF in it
 pub lines_of-at_lf : (front back : List ℕ) → lines_of (front ++ 10 ∷ back) ≡ ended_lines front ++ last_piece front ∷ lines_of back

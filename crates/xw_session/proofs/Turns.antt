@@ -1,12 +1,11 @@
 -- One line after another.
-use Rattle.std.proofs.Common.{◌≡◌, ℕ, ◌+◌, List, [], ◌∷◌, ◌++◌, Option, Some, false, arith, refl, sym, ◌∙◌, ap, subst, append_assoc, append-nil}
-use Rattle.std.specs.Prelude.{◌==◌}
-use Rattle.xw_session.specs.Cut.{Cut, held, ended_lines, last_piece, lines_of}
+use Rattle.std.proofs.Common.{◌≡◌, ℕ, ◌+◌, List, [], ◌∷◌, ◌++◌, Option, Some, arith, refl, sym, ◌∙◌, ap, subst, append_assoc, append-nil}
+use Rattle.xw_session.specs.Cut.{Cut, held, ended_lines, last_piece, lines_of, HasNoLf}
 use Rattle.xw_session.specs.Device.{saturated}
 use Rattle.xw_session.specs.Spoken.{Spoken, Answered, BrokeOff, refusals, flush_after}
 use Rattle.xw_session.specs.Run.{Speaks, StopsIn, Progress}
 use Rattle.xw_session.specs.declared.outcome.Step.{Step}
-use Rattle.xw_session.proofs.Cuts.{cut-at_lf, cut-longer, lines_of-at_lf, lines_of-ended, lines_of-rest}
+use Rattle.xw_session.proofs.Cuts.{cut-at_lf, cut-longer_by, lines_of-at_lf, lines_of-ended, lines_of-rest}
 
 pub saturated-add : (count more : ℕ) → saturated (saturated count + more) ≡ saturated (count + more)
 saturated-add count more = omega arith
@@ -60,17 +59,17 @@ module _ {S : Type 0} (Answers : S → List ℕ → Step → List ℕ → S → 
     refused-is = r;
   }
 
-  -- a byte that is no LF is held
-  pub progress-byte : (start state : S) (begun text : List ℕ) (piece piece' : Option (List ℕ)) (refused : ℕ) (told : List ℕ) (b : ℕ) → (b == 10) ≡ false → ((line : List ℕ) → piece ≡ held line → piece' ≡ held (line ++ b ∷ []))
-      → Progress Answers start begun text state piece refused told → Progress Answers start begun (text ++ b ∷ []) state piece' refused told
-  progress-byte start state begun text piece piece' refused told b h push p =
-      let e = cut-longer text b h in
-      let lines-is : ended_lines (text ++ b ∷ []) ≡ ended_lines text = ap (λ (c : Cut). c.ended) e in
-      let rest-is : last_piece (text ++ b ∷ []) ≡ last_piece text ++ b ∷ [] = ap (λ (c : Cut). c.rest) e in
+  -- bytes without an LF are held
+  pub progress-held : (start state : S) (begun text bytes : List ℕ) (piece piece' : Option (List ℕ)) (refused : ℕ) (told : List ℕ) → HasNoLf bytes → ((line : List ℕ) → piece ≡ held line → piece' ≡ held (line ++ bytes))
+      → Progress Answers start begun text state piece refused told → Progress Answers start begun (text ++ bytes) state piece' refused told
+  progress-held start state begun text bytes piece piece' refused told h hold p =
+      let e = cut-longer_by text bytes h in
+      let lines-is : ended_lines (text ++ bytes) ≡ ended_lines text = ap (λ (c : Cut). c.ended) e in
+      let rest-is : last_piece (text ++ bytes) ≡ last_piece text ++ bytes = ap (λ (c : Cut). c.rest) e in
       record {
         count = p.count;
         speaks = subst (λ lines. Speaks Answers start lines p.count state begun told) (sym lines-is) p.speaks;
-        piece-is = push (last_piece text) p.piece-is ∙ ap held (sym rest-is);
+        piece-is = hold (last_piece text) p.piece-is ∙ ap held (sym rest-is);
         refused-is = p.refused-is;
       }
 

@@ -1,7 +1,7 @@
 //! Answering the lines of a reader on a writer.
-ghost use Rattle.std.specs.Prelude.{true, ◌≡◌, ℕ, ◌+◌, ◌-◌, ◌^◌, ◌<◌, ◌≤◌, List, [], ◌∷◌, ◌++◌, length, take, drop, Option, Some, None, IfOk, OnOk, OnErr, IsTrue};
+ghost use Rattle.std.specs.Prelude.{true, ◌≡◌, ℕ, ◌+◌, ◌-◌, ◌^◌, ◌<◌, ◌≤◌, List, [], ◌∷◌, ◌++◌, length, take, drop, position, Option, Some, None, IfOk, IfSome, IfNone, OnOk, OnErr, IsTrue};
 ghost use Rattle.std.specs.Option.{option_map};
-ghost use Rattle.xw_session.specs.Cut.{lines_of, ended_lines, held};
+ghost use Rattle.xw_session.specs.Cut.{lines_of, ended_lines, held, HasNoLf, EndsLine, is_lf};
 ghost use Rattle.xw_session.specs.Device.{flushed, saturated, HasFailed};
 ghost use Rattle.xw_session.specs.Spoken.{Answered, BrokeOff, refusals, flush_after};
 ghost use Rattle.xw_session.specs.Run.{Speaks, StopsIn, Progress, IfDone, OnReadFailed, OnWriteFailed, OnEndless, OnMemory, UnlessWriteFailed};
@@ -92,27 +92,44 @@ fn answer_piece<S: Speaker, W: Sink>(
     Ok(())
 }
 
-/// Goes on by one byte of the reader.
-fn take_byte<S: Speaker, W: Sink>(
+fn first_lf(bytes: &[u8]) -> Option<usize>
+    ensures { result ≡ position is_lf bytes.now }
+{
+    bytes.iter().position(|byte| *byte == b'\n')
+}
+
+/// The first LF of some bytes from a place on.
+fn next_lf(bytes: &[u8], from: usize) -> Option<usize>
+    requires { from ≤ length bytes.now }
+    ensures within { IfSome result (λ end. (from ≤ end) × (end < length bytes.now)) }
+    ensures ends { IfSome result (λ end. EndsLine bytes.now from end) }
+    ensures none { IfNone result (HasNoLf (drop from bytes.now)) }
+{
+    match first_lf(&bytes[from..]) {
+        Some(more) => Some(from + more),
+        None => None,
+    }
+}
+
+/// Goes on by bytes without an LF and the LF behind them, which end a line.
+fn take_line<S: Speaker, W: Sink>(
     speaker: &mut S,
     piece: &mut Piece,
     refused: &mut u64,
-    byte: u8,
+    bytes: &[u8],
     sink: &mut W,
 ) -> Result<(), WriteFailed>
+    requires { HasNoLf bytes.now }
     ensures ok { OnOk result ((start : S) (begun text : List ℕ)
         → Progress S.answers start begun text speaker.old piece.old refused.old (W.told sink.old)
-        → Progress S.answers start begun (text ++ byte ∷ []) speaker.new piece.new refused.new (W.told sink.new)) }
+        → Progress S.answers start begun ((text ++ bytes.now) ++ 10 ∷ []) speaker.new piece.new refused.new (W.told sink.new)) }
     ensures quiet { OnOk result (W.failures sink.new ≡ W.failures sink.old) }
     ensures err { OnErr result ((start : S) (begun text more : List ℕ)
         → Progress S.answers start begun text speaker.old piece.old refused.old (W.told sink.old)
-        → StopsIn S.answers start (text ++ byte ∷ more) speaker.new begun (W.told sink.new)) }
+        → StopsIn S.answers start ((text ++ bytes.now) ++ 10 ∷ more) speaker.new begun (W.told sink.new)) }
     ensures failed { OnErr result (HasFailed (W.failures sink.old) (W.failures sink.new)) }
 {
-    if byte != b'\n' {
-        piece.push(byte);
-        return Ok(());
-    }
+    piece.hold(bytes);
     answer_piece(speaker, piece, refused, sink)?;
     Ok(())
 }
@@ -134,9 +151,12 @@ fn take_bytes<S: Speaker, W: Sink>(
         → StopsIn S.answers start (text ++ bytes.now) speaker.new begun (W.told sink.new)) }
     ensures failed { OnErr result (HasFailed (W.failures sink.old) (W.failures sink.new)) }
 {
-    for byte in bytes {
-        take_byte(speaker, piece, refused, *byte, sink)?;
+    let mut from = 0;
+    while let Some(end) = next_lf(bytes, from) {
+        take_line(speaker, piece, refused, &bytes[from..end], sink)?;
+        from = end + 1;
     }
+    piece.hold(&bytes[from..]);
     Ok(())
 }
 
