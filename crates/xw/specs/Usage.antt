@@ -1,10 +1,10 @@
 -- Why words are no call, by the kinds of error that `clap` states for them.
-use Rattle.std.specs.Prelude.{◌≡◌, ◌≢◌, ◌⊎◌, ◌++◌, ℕ, List, [], Option}
+use Rattle.std.specs.Prelude.{◌≡◌, ◌≢◌, ◌⊎◌, ◌++◌, ℕ, List, [], ◌∷◌, Option}
 use Rattle.clap.specs.Kinds.{Kinds, IsAmong}
 use Rattle.clap.specs.Words.{Row, Text}
 use Rattle.clap.specs.declared.error.kind.ErrorKind.{ErrorKind}
 use Rattle.clap.specs.declared.error.kind.ErrorKind.TheVariants.{DisplayHelp, DisplayVersion, OutOfMemory}
-use Rattle.xw_session.specs.Device.{HasFailed}
+use Rattle.xw_session.specs.Device.{HasFailed, flushed}
 use Rattle.xw.specs.Calls.{IsCall}
 use Rattle.xw.specs.declared.arguments.Call.{Call}
 use Rattle.xw.specs.declared.arguments.Usage.{Usage}
@@ -33,9 +33,9 @@ IsUsageOf kinds found (Help text) = (kind : ErrorKind) × IsAmong kind kinds × 
 IsUsageOf kinds found (Wrong text) = ((kind : ErrorKind) × IsAmong kind kinds × IsTold kind (Wrong text)) ⊎ ((kinds ≡ []) × IsNoCall found)
 IsUsageOf kinds found Memory = Unit {0}
 
--- Help goes out whole, or the writer failed; of wrong usage and want of memory nothing goes there. It takes what the
--- writer tells, and the writer before and after.
+-- Help goes out whole and is flushed, or the writer failed; of wrong usage and want of memory nothing goes there. It
+-- takes what the writer tells, and the writer before and after.
 abbrev pub IsExplained : {S : Type 0} → (S → List ℕ) → (S → ℕ) → Usage → S → S → Status → Type 0
-IsExplained told failures (Help text) old new status = ((status ≡ Accepted) × (told new ≡ told old ++ text.bytes.items)) ⊎ ((status ≡ Failed) × HasFailed (failures old) (failures new))
+IsExplained told failures (Help text) old new status = ((status ≡ Accepted) × (told new ≡ told old ++ text.bytes.items ++ flushed ∷ [])) ⊎ ((status ≡ Failed) × HasFailed (failures old) (failures new))
 IsExplained told failures (Wrong text) old new status = (status ≡ statuses.Usage) × (new ≡ old)
 IsExplained told failures Memory old new status = (status ≡ Failed) × (new ≡ old)

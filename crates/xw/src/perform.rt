@@ -1,5 +1,6 @@
 //! Doing what a call asks for.
-ghost use Rattle.std.specs.Prelude.{◌≡◌};
+ghost use Rattle.std.specs.Prelude.{◌≡◌, [], ◌∷◌, ◌++◌};
+ghost use Rattle.xw_session.specs.Device.{flushed};
 ghost use Rattle.xw_session.specs.Sends.{Sends};
 ghost use Rattle.xw.specs.Status.{run_ended};
 ghost use Rattle.xw.specs.Usage.{IsExplained};
@@ -64,7 +65,7 @@ pub fn explain<O: Sink, E: Sink>(usage: &Usage, output: &mut O, errors: &mut E) 
 
 /// Writes a text, and passes it on.
 fn show<O: Sink>(output: &mut O, text: &[u8]) -> Result<(), Failure>
-    ensures { Sends O.told O.failures output.old output.new result text.now }
+    ensures { Sends O.told O.failures output.old output.new result (text.now ++ flushed ∷ []) }
 {
     device::write_all(output, text).map_err(|_| Failure::Output)?;
     output.flush().map_err(|_| Failure::Output)

@@ -1,24 +1,28 @@
 -- One line after another.
-use Rattle.std.proofs.Common.{inl, inr, ◌≢◌, true, Bool, ◌≡◌, ℕ, ◌+◌, List, [], ◌∷◌, ◌++◌, Option, Some, false, arith, refl, sym, ◌∙◌, ap, subst, append_assoc, append-nil}
+use Rattle.std.proofs.Common.{◌≡◌, ℕ, ◌+◌, List, [], ◌∷◌, ◌++◌, Option, Some, false, arith, refl, sym, ◌∙◌, ap, subst, append_assoc, append-nil}
 use Rattle.std.specs.Prelude.{◌==◌}
 use Rattle.xw_session.specs.Cut.{Cut, held, ended_lines, last_piece, lines_of}
 use Rattle.xw_session.specs.Device.{saturated}
-use Rattle.xw_session.specs.Spoken.{Spoken, Answered, BrokeOff, refusals}
-use Rattle.xw_session.specs.Run.{Speaks, StopsIn, Progress, IsPassedOn}
+use Rattle.xw_session.specs.Spoken.{Spoken, Answered, BrokeOff, refusals, flush_after}
+use Rattle.xw_session.specs.Run.{Speaks, StopsIn, Progress}
 use Rattle.xw_session.specs.declared.outcome.Step.{Step}
-use Rattle.xw_session.specs.declared.outcome.Step.TheVariants.{Silent, Accepted, Refused}
 use Rattle.xw_session.proofs.Cuts.{cut-at_lf, cut-longer, lines_of-at_lf, lines_of-ended, lines_of-rest}
 
 pub saturated-add : (count more : ℕ) → saturated (saturated count + more) ≡ saturated (count + more)
 saturated-add count more = omega arith
 
+-- what is told after one more answer and its flush
+told-more : (begun out told answer mid flush told' : List ℕ) → told ≡ begun ++ out → mid ≡ told ++ answer → told' ≡ mid ++ flush → told' ≡ begun ++ (out ++ (answer ++ flush))
+told-more begun out told answer mid flush told' t m f =
+    f ∙ ap (λ xs. xs ++ flush) (m ∙ ap (λ xs. xs ++ answer) t) ∙ append_assoc (begun ++ out) answer flush ∙ append_assoc begun out (answer ++ flush)
+
 module _ {S : Type 0} (Answers : S → List ℕ → Step → List ℕ → S → Type 0) where
-  -- an answer at an equal piece and equal bytes
-  pub answered-along : (start end : S) (outcome : Step) (old new new' : List ℕ) (piece piece' : Option (List ℕ)) → piece ≡ piece' → new' ≡ new → Answered Answers start piece outcome end old new → Answered Answers start piece' outcome end old new'
-  answered-along start end outcome old new new' piece piece' p n a = record {
+  -- an answer at an equal piece
+  pub answered-along : (start end : S) (outcome : Step) (old new : List ℕ) (piece piece' : Option (List ℕ)) → piece ≡ piece' → Answered Answers start piece outcome end old new → Answered Answers start piece' outcome end old new
+  answered-along start end outcome old new piece piece' p a = record {
     answer = a.answer;
     fits = λ line h. a.fits line (h ∙ sym p);
-    told = n ∙ a.told;
+    told = a.told;
   }
 
   -- a whole answer is a beginning of itself
@@ -31,19 +35,19 @@ module _ {S : Type 0} (Answers : S → List ℕ → Step → List ℕ → S → 
   }
 
   -- one more line is answered
-  pub spoken-more : (lines : List (List ℕ)) (start mid end : S) (out answer line : List ℕ) (count : ℕ) (outcome : Step) → Spoken Answers start lines out count mid → Answers mid line outcome answer end → Spoken Answers start (lines ++ line ∷ []) (out ++ answer) (count + refusals outcome) end
+  pub spoken-more : (lines : List (List ℕ)) (start mid end : S) (out answer line : List ℕ) (count : ℕ) (outcome : Step) → Spoken Answers start lines out count mid → Answers mid line outcome answer end → Spoken Answers start (lines ++ line ∷ []) (out ++ (answer ++ flush_after outcome)) (count + refusals outcome) end
   spoken-more [] start mid end out answer line count outcome s a =
       let a' : Answers start line outcome answer end = subst (λ m. Answers m line outcome answer end) s.2 a in
-      (outcome, answer, end, [], 0, a', (refl, refl, refl), rw s.0 (sym (append-nil answer)), rw s.1 (omega arith))
+      (outcome, answer, end, [], 0, a', (refl, refl, refl), rw s.0 (sym (append-nil (answer ++ flush_after outcome))), rw s.1 (omega arith))
   spoken-more (first ∷ lines) start mid end out answer line count outcome (first_outcome, first_answer, next, others, more, said, rest, out-is, count-is) a = (
     first_outcome,
     first_answer,
     next,
-    others ++ answer,
+    others ++ (answer ++ flush_after outcome),
     more + refusals outcome,
     said,
     spoken-more lines next mid end others answer line more outcome rest a,
-    rw out-is (append_assoc first_answer others answer),
+    rw out-is (append_assoc (first_answer ++ flush_after first_outcome) others (answer ++ flush_after outcome)),
     rw count-is (omega arith),
   )
 
@@ -71,18 +75,18 @@ module _ {S : Type 0} (Answers : S → List ℕ → Step → List ℕ → S → 
       }
 
   -- an LF ends a line, which is answered
-  pub progress-line : (start state end : S) (begun text : List ℕ) (piece piece' : Option (List ℕ)) (refused refused' : ℕ) (told told' : List ℕ) (outcome : Step)
-      → Answered Answers state piece outcome end told told' → refused' ≡ saturated (refused + refusals outcome) → piece' ≡ Some []
+  pub progress-line : (start state end : S) (begun text : List ℕ) (piece piece' : Option (List ℕ)) (refused refused' : ℕ) (told mid told' : List ℕ) (outcome : Step)
+      → Answered Answers state piece outcome end told mid → told' ≡ mid ++ flush_after outcome → refused' ≡ saturated (refused + refusals outcome) → piece' ≡ Some []
       → Progress Answers start begun text state piece refused told → Progress Answers start begun (text ++ 10 ∷ []) end piece' refused' told'
-  progress-line start state end begun text piece piece' refused refused' told told' outcome a r e p =
+  progress-line start state end begun text piece piece' refused refused' told mid told' outcome a f r e p =
       let c = cut-at_lf text [] in
       let lines-is : ended_lines (text ++ 10 ∷ []) ≡ ended_lines text ++ last_piece text ∷ [] = ap (λ (c : Cut). c.ended) c in
       let rest-is : last_piece (text ++ 10 ∷ []) ≡ [] = ap (λ (c : Cut). c.rest) c in
       let said = a.fits (last_piece text) (sym p.piece-is) in
       let all : Speaks Answers start (ended_lines text ++ last_piece text ∷ []) (p.count + refusals outcome) end begun told' = record {
-        out = p.speaks.out ++ a.answer;
+        out = p.speaks.out ++ (a.answer ++ flush_after outcome);
         spoken = spoken-more (ended_lines text) start state end p.speaks.out a.answer (last_piece text) p.count outcome p.speaks.spoken said;
-        told-is = a.told ∙ ap (λ xs. xs ++ a.answer) p.speaks.told-is ∙ append_assoc begun p.speaks.out a.answer;
+        told-is = told-more begun p.speaks.out told a.answer mid (flush_after outcome) told' p.speaks.told-is a.told f;
       } in
       record {
         count = p.count + refusals outcome;
@@ -121,15 +125,15 @@ module _ {S : Type 0} (Answers : S → List ℕ → Step → List ℕ → S → 
       subst (λ lines. Speaks Answers start lines p.count state begun told) (sym (lines_of-ended text (sym p.piece-is ∙ e))) p.speaks
 
   -- at the end the piece that is held is the last line
-  pub speaks-last : (start state end : S) (begun text : List ℕ) (piece : Option (List ℕ)) (refused : ℕ) (told told' : List ℕ) (outcome : Step) → (piece ≡ Some [] → ⊥)
-      → Answered Answers state piece outcome end told told' → (p : Progress Answers start begun text state piece refused told)
+  pub speaks-last : (start state end : S) (begun text : List ℕ) (piece : Option (List ℕ)) (refused : ℕ) (told mid told' : List ℕ) (outcome : Step) → (piece ≡ Some [] → ⊥)
+      → Answered Answers state piece outcome end told mid → told' ≡ mid ++ flush_after outcome → (p : Progress Answers start begun text state piece refused told)
       → Speaks Answers start (lines_of text) (p.count + refusals outcome) end begun told'
-  speaks-last start state end begun text piece refused told told' outcome e a p =
+  speaks-last start state end begun text piece refused told mid told' outcome e a f p =
       let said = a.fits (last_piece text) (sym p.piece-is) in
       let all : Speaks Answers start (ended_lines text ++ last_piece text ∷ []) (p.count + refusals outcome) end begun told' = record {
-        out = p.speaks.out ++ a.answer;
+        out = p.speaks.out ++ (a.answer ++ flush_after outcome);
         spoken = spoken-more (ended_lines text) start state end p.speaks.out a.answer (last_piece text) p.count outcome p.speaks.spoken said;
-        told-is = a.told ∙ ap (λ xs. xs ++ a.answer) p.speaks.told-is ∙ append_assoc begun p.speaks.out a.answer;
+        told-is = told-more begun p.speaks.out told a.answer mid (flush_after outcome) told' p.speaks.told-is a.told f;
       } in
       subst (λ lines. Speaks Answers start lines (p.count + refusals outcome) end begun told') (sym (lines_of-rest text (λ h. e (p.piece-is ∙ h)))) all
 
@@ -170,14 +174,3 @@ speaks-map meaning Answers start lines count state begun told s = record {
   spoken = spoken-map meaning Answers lines start s.out count state s.spoken;
   told-is = s.told-is;
 }
-
--- an answer that was passed on, and a silent line
-pub passed-by : {S : Type 0} (is_flushed : S → Bool) (old mid new : S) (outcome : Step) → (outcome ≡ Silent → mid ≡ old) → (outcome ≡ Silent → new ≡ mid) → (outcome ≢ Silent → is_flushed new ≡ true) → IsPassedOn is_flushed old new
-passed-by is_flushed old mid new Silent a b f = inl (b refl ∙ a refl)
-passed-by is_flushed old mid new Accepted a b f = inr (f (λ e. cc))
-passed-by is_flushed old mid new Refused a b f = inr (f (λ e. cc))
-
-pub passed-then : {S : Type 0} (is_flushed : S → Bool) (old mid new : S) → IsPassedOn is_flushed old mid → IsPassedOn is_flushed mid new → IsPassedOn is_flushed old new
-passed-then is_flushed old mid new a (inr f) = inr f
-passed-then is_flushed old mid new (inl a) (inl b) = inl (b ∙ a)
-passed-then is_flushed old mid new (inr f) (inl b) = inr (ap is_flushed b ∙ f)

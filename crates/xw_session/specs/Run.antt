@@ -1,5 +1,5 @@
 -- What a run over a reader and a writer did.
-use Rattle.std.specs.Prelude.{◌≡◌, ◌⊎◌, ℕ, Bool, true, List, ◌∷◌, ◌++◌, Option}
+use Rattle.std.specs.Prelude.{◌≡◌, ℕ, List, ◌∷◌, ◌++◌, Option}
 use Rattle.xw_session.specs.Cut.{ended_lines, last_piece, lines_of, held}
 use Rattle.xw_session.specs.Device.{saturated, Begins}
 use Rattle.xw_session.specs.Spoken.{Spoken}
@@ -7,15 +7,15 @@ use Rattle.xw_session.specs.declared.outcome.Step.{Step}
 use Rattle.xw_session.specs.declared.outcome.RunEnd.{RunEnd}
 use Rattle.xw_session.specs.declared.outcome.RunEnd.TheVariants.{Done, ReadFailed, WriteFailed, Endless, Memory}
 
--- What went out since begun is answers that the lines may have in this order, from start on; count of them are
--- refused, and the state is the one that they leave.
+-- What went out since begun is answers that the lines may have in this order, from start on, each flushed; count of
+-- them are refused, and the state is the one that they leave.
 pub record Speaks {S : Type 0} (Answers : S → List ℕ → Step → List ℕ → S → Type 0) (start : S) (lines : List (List ℕ)) (count : ℕ) (state : S) (begun told : List ℕ) : Type 0 where
   pub out : List ℕ
   pub spoken : Spoken Answers start lines out count state
   pub told-is : told ≡ begun ++ out
 
--- What went out since begun is answers of some first lines of the text, and a beginning of an answer of the next line.
--- The state is the one that these lines leave, the last one included.
+-- What went out since begun is answers of some first lines of the text, each flushed, and a beginning of an answer of
+-- the next line. The state is the one that these lines leave, the last one included.
 pub record StopsIn {S : Type 0} (Answers : S → List ℕ → Step → List ℕ → S → Type 0) (start : S) (text : List ℕ) (state : S) (begun told : List ℕ) : Type 0 where
   pub before : List (List ℕ)
   pub line : List ℕ
@@ -79,7 +79,3 @@ UnlessWriteFailed ReadFailed P = P
 UnlessWriteFailed WriteFailed P = Unit {0}
 UnlessWriteFailed Endless P = P
 UnlessWriteFailed Memory P = P
-
--- Between two moments the writer was left alone, or flushed after all that was written.
-abbrev pub IsPassedOn : {S : Type 0} → (S → Bool) → S → S → Type 0
-IsPassedOn is_flushed old new = (new ≡ old) ⊎ (is_flushed new ≡ true)

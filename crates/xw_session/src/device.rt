@@ -1,6 +1,6 @@
 //! Readers and writers that tell their bytes and how often they failed.
-ghost use Rattle.std.specs.Prelude.{◌≡◌, ℕ, ◌+◌, ◌<◌, ◌≤◌, List, ◌++◌, length, take, drop, MatchResult, IfOk, OnOk, OnErr, IsTrue, Bool, true, false};
-ghost use Rattle.xw_session.specs.Device.{failures_after, counted_up};
+ghost use Rattle.std.specs.Prelude.{◌≡◌, ℕ, ◌+◌, ◌<◌, ◌≤◌, List, [], ◌∷◌, ◌++◌, length, take, drop, MatchResult, IfOk, OnOk, OnErr, IsTrue, Bool};
+ghost use Rattle.xw_session.specs.Device.{flushed, failures_after, counted_up};
 ghost use Rattle.xw_session.specs.Sends.{Sends};
 
 /// A fault of a device.
@@ -33,16 +33,13 @@ pub trait Source {
         ensures failures { failures self.new ≡ failures_after result (failures self.old) };
 }
 
-/// A writer that tells all bytes that it took.
+/// A writer that tells all bytes that it took, and where it was flushed.
 pub trait Sink {
-    // all bytes that writes took so far
+    // all bytes that writes took so far, and `flushed` behind what a flush brought on its way
     ghost told: { Self → List ℕ };
 
     // how many calls failed, or took no byte of a write of some; it stays at the greatest u64 once there
     ghost failures: { Self → ℕ };
-
-    // nothing was taken since a flush
-    ghost is_flushed: { Self → Bool };
 
     /// Takes some of the bytes, from the first on, and returns how many. A failed call takes none.
     fn write(&mut self, bytes: &[u8]) -> Result<usize, DeviceFault>
@@ -53,15 +50,14 @@ pub trait Sink {
         ensures ok { IfOk result (λ count. 0 < count → failures self.new ≡ failures self.old) }
         ensures none_taken { IfOk result (λ count. count ≡ 0 → 0 < length bytes.now → failures self.new ≡ counted_up (failures self.old)) }
         ensures none_due { IfOk result (λ count. length bytes.now ≡ 0 → failures self.new ≡ failures self.old) }
-        ensures err { OnErr result (failures self.new ≡ counted_up (failures self.old)) }
-        ensures unflushed { IfOk result (λ count. 0 < count → is_flushed self.new ≡ false) }
-        ensures unmoved { OnErr result (is_flushed self.new ≡ is_flushed self.old) };
+        ensures err { OnErr result (failures self.new ≡ counted_up (failures self.old)) };
 
     /// Brings what was taken on its way.
     fn flush(&mut self) -> Result<(), DeviceFault>
-        ensures told { told self.new ≡ told self.old }
-        ensures failures { failures self.new ≡ failures_after result (failures self.old) }
-        ensures flushed { OnOk result (is_flushed self.new ≡ true) };
+        ensures told { MatchResult result
+            (λ _. told self.new ≡ told self.old ++ flushed ∷ [])
+            (λ _. told self.new ≡ told self.old) }
+        ensures failures { failures self.new ≡ failures_after result (failures self.old) };
 }
 
 /// Writes all the bytes, in as many writes as it takes. After an error a beginning of them went out.

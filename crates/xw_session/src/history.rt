@@ -1,14 +1,15 @@
 //! A history that only proofs read.
-ghost use Rattle.std.specs.Prelude.{◌≡◌, ℕ, List, [], ◌++◌};
+ghost use Rattle.std.specs.Prelude.{◌≡◌, ℕ, List, [], ◌∷◌, ◌++◌};
 ghost use Rattle.std.specs.Borrow.{ftrue};
+ghost use Rattle.xw_session.specs.Device.{flushed};
 
 use std::marker::{Model, PhantomData};
 
-/// Bytes that only proofs read, as `bytes`. They take no memory, and the methods do nothing at run time.
+/// What a device tells, which only proofs read. It takes no memory, and the methods do nothing at run time.
 #[derive(Drop)]
 pub struct History {
     of: PhantomData<()>,
-    pub ghost bytes: { List ℕ },
+    pub ghost told: { List ℕ },
 }
 
 impl Model for History {
@@ -17,13 +18,18 @@ impl Model for History {
 
 impl History {
     pub fn new() -> History
-        ensures { result.bytes ≡ [] }
+        ensures { result.told ≡ [] }
     {
         History { of: PhantomData }
     }
 
     /// Adds some bytes at the end.
     pub fn note(&mut self, _bytes: &[u8])
-        ensures { self.new.bytes ≡ self.old.bytes ++ _bytes.now }
+        ensures { self.new.told ≡ self.old.told ++ _bytes.now }
+    {}
+
+    /// Adds a flush at the end.
+    pub fn note_flush(&mut self)
+        ensures { self.new.told ≡ self.old.told ++ flushed ∷ [] }
     {}
 }

@@ -1,10 +1,10 @@
 //! Answering the lines of a reader on a writer.
-ghost use Rattle.std.specs.Prelude.{true, ◌≡◌, ◌≢◌, ℕ, ◌+◌, ◌-◌, ◌^◌, ◌<◌, ◌≤◌, List, [], ◌∷◌, ◌++◌, length, take, drop, Option, Some, None, IfOk, OnOk, OnErr, IsTrue, MatchResult};
+ghost use Rattle.std.specs.Prelude.{true, ◌≡◌, ℕ, ◌+◌, ◌-◌, ◌^◌, ◌<◌, ◌≤◌, List, [], ◌∷◌, ◌++◌, length, take, drop, Option, Some, None, IfOk, OnOk, OnErr, IsTrue};
 ghost use Rattle.std.specs.Option.{option_map};
 ghost use Rattle.xw_session.specs.Cut.{lines_of, ended_lines, held};
-ghost use Rattle.xw_session.specs.Device.{saturated, HasFailed};
-ghost use Rattle.xw_session.specs.Spoken.{Answered, BrokeOff, refusals};
-ghost use Rattle.xw_session.specs.Run.{Speaks, StopsIn, Progress, IfDone, OnReadFailed, OnWriteFailed, OnEndless, OnMemory, UnlessWriteFailed, IsPassedOn};
+ghost use Rattle.xw_session.specs.Device.{flushed, saturated, HasFailed};
+ghost use Rattle.xw_session.specs.Spoken.{Answered, BrokeOff, refusals, flush_after};
+ghost use Rattle.xw_session.specs.Run.{Speaks, StopsIn, Progress, IfDone, OnReadFailed, OnWriteFailed, OnEndless, OnMemory, UnlessWriteFailed};
 
 use crate::device::{Sink, Source, WriteFailed};
 use crate::outcome::{RunEnd, Step};
@@ -46,11 +46,10 @@ fn with_outcome(refused: u64, outcome: Step) -> u64
 
 /// Passes an answer on; a silent line has none.
 fn pass_on<W: Sink>(step: Step, sink: &mut W) -> Result<(), WriteFailed>
-    ensures told { W.told sink.new ≡ W.told sink.old }
+    ensures told { OnOk result (W.told sink.new ≡ W.told sink.old ++ flush_after step) }
+    ensures unmoved { OnErr result (W.told sink.new ≡ W.told sink.old) }
     ensures quiet { OnOk result (W.failures sink.new ≡ W.failures sink.old) }
     ensures failed { OnErr result (HasFailed (W.failures sink.old) (W.failures sink.new)) }
-    ensures silent { step ≡ Step.Silent → sink.new ≡ sink.old }
-    ensures flushed { OnOk result (step ≢ Step.Silent → W.is_flushed sink.new ≡ true) }
 {
     match step {
         Step::Silent => Ok(()),
@@ -59,10 +58,10 @@ fn pass_on<W: Sink>(step: Step, sink: &mut W) -> Result<(), WriteFailed>
 }
 
 fn flush<W: Sink>(sink: &mut W) -> Result<(), WriteFailed>
-    ensures told { W.told sink.new ≡ W.told sink.old }
+    ensures told { OnOk result (W.told sink.new ≡ W.told sink.old ++ flushed ∷ []) }
+    ensures unmoved { OnErr result (W.told sink.new ≡ W.told sink.old) }
     ensures quiet { OnOk result (W.failures sink.new ≡ W.failures sink.old) }
     ensures failed { OnErr result (HasFailed (W.failures sink.old) (W.failures sink.new)) }
-    ensures flushed { OnOk result (W.is_flushed sink.new ≡ true) }
 {
     match sink.flush() {
         Ok(()) => Ok(()),
@@ -70,18 +69,19 @@ fn flush<W: Sink>(sink: &mut W) -> Result<(), WriteFailed>
     }
 }
 
-/// Answers the piece as a line, and counts the refused ones.
+/// Answers the piece as a line and passes the answer on, and counts the refused ones.
 fn answer_piece<S: Speaker, W: Sink>(
     speaker: &mut S,
     piece: &mut Piece,
     refused: &mut u64,
     sink: &mut W,
 ) -> Result<(), WriteFailed>
-    ensures ok { OnOk result ((outcome : Step) × Answered S.answers speaker.old piece.old outcome speaker.new (W.told sink.old) (W.told sink.new)
+    ensures ok { OnOk result ((outcome : Step) × (answered : List ℕ)
+        × Answered S.answers speaker.old piece.old outcome speaker.new (W.told sink.old) answered
+        × (W.told sink.new ≡ answered ++ flush_after outcome)
         × (refused.new ≡ saturated (refused.old + refusals outcome))) }
     ensures cleared { OnOk result (piece.new ≡ Some []) }
     ensures quiet { OnOk result (W.failures sink.new ≡ W.failures sink.old) }
-    ensures passed_on { OnOk result (IsPassedOn W.is_flushed sink.old sink.new) }
     ensures err { OnErr result (BrokeOff S.answers speaker.old piece.old speaker.new (W.told sink.old) (W.told sink.new)) }
     ensures failed { OnErr result (HasFailed (W.failures sink.old) (W.failures sink.new)) }
 {
@@ -104,7 +104,6 @@ fn take_byte<S: Speaker, W: Sink>(
         → Progress S.answers start begun text speaker.old piece.old refused.old (W.told sink.old)
         → Progress S.answers start begun (text ++ byte ∷ []) speaker.new piece.new refused.new (W.told sink.new)) }
     ensures quiet { OnOk result (W.failures sink.new ≡ W.failures sink.old) }
-    ensures passed_on { OnOk result (IsPassedOn W.is_flushed sink.old sink.new) }
     ensures err { OnErr result ((start : S) (begun text more : List ℕ)
         → Progress S.answers start begun text speaker.old piece.old refused.old (W.told sink.old)
         → StopsIn S.answers start (text ++ byte ∷ more) speaker.new begun (W.told sink.new)) }
@@ -130,7 +129,6 @@ fn take_bytes<S: Speaker, W: Sink>(
         → Progress S.answers start begun text speaker.old piece.old refused.old (W.told sink.old)
         → Progress S.answers start begun (text ++ bytes.now) speaker.new piece.new refused.new (W.told sink.new)) }
     ensures quiet { OnOk result (W.failures sink.new ≡ W.failures sink.old) }
-    ensures passed_on { OnOk result (IsPassedOn W.is_flushed sink.old sink.new) }
     ensures err { OnErr result ((start : S) (begun text : List ℕ)
         → Progress S.answers start begun text speaker.old piece.old refused.old (W.told sink.old)
         → StopsIn S.answers start (text ++ bytes.now) speaker.new begun (W.told sink.new)) }
@@ -153,7 +151,6 @@ fn finish<S: Speaker, W: Sink>(
         → Progress S.answers start begun text speaker.old piece refused (W.told sink.old)
         → (count : ℕ) × (total ≡ saturated count) × Speaks S.answers start (lines_of text) count speaker.new begun (W.told sink.new)) }
     ensures quiet { OnOk result (W.failures sink.new ≡ W.failures sink.old) }
-    ensures passed_on { OnOk result (IsPassedOn W.is_flushed sink.old sink.new) }
     ensures err { OnErr result ((start : S) (begun text : List ℕ)
         → Progress S.answers start begun text speaker.old piece refused (W.told sink.old)
         → StopsIn S.answers start text speaker.new begun (W.told sink.new)) }
@@ -166,7 +163,8 @@ fn finish<S: Speaker, W: Sink>(
     Ok(refused)
 }
 
-/// Reads lines to the end of the reader, and answers each on the writer, which is flushed after each answer.
+/// Reads lines to the end of the reader, and answers each on the writer. What the writer tells is all these answers,
+/// each with its flush before anything of the next one.
 pub fn run_lines<S: Speaker, R: Source, W: Sink>(
     alloc: Global,
     speaker: &mut S,
@@ -201,9 +199,6 @@ pub fn run_lines<S: Speaker, R: Source, W: Sink>(
 
     // In no other case did the writer fail: after a write or a flush that failed no line is read.
     ensures unfailed { UnlessWriteFailed result (W.failures sink.new ≡ W.failures sink.old) }
-
-    // The last answer was passed on.
-    ensures passed_on { UnlessWriteFailed result (IsPassedOn W.is_flushed sink.old sink.new) }
 {
     let Ok(mut piece) = Piece::new(alloc) else {
         return RunEnd::Memory;

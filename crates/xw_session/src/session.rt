@@ -11,7 +11,7 @@ ghost use Rattle.xw_grid.specs.Clue.{no_clues};
 ghost use Rattle.xw_files.specs.Puzzle.{texts_view, puzzle_view};
 ghost use Rattle.xw_session.specs.Cut.{lines_of, ended_lines};
 ghost use Rattle.xw_session.specs.Device.{saturated, HasFailed};
-ghost use Rattle.xw_session.specs.Run.{Speaks, StopsIn, IfDone, OnReadFailed, OnWriteFailed, OnEndless, OnMemory, UnlessWriteFailed, IsPassedOn};
+ghost use Rattle.xw_session.specs.Run.{Speaks, StopsIn, IfDone, OnReadFailed, OnWriteFailed, OnEndless, OnMemory, UnlessWriteFailed};
 ghost use Rattle.xw_session.specs.Sends.{Sends};
 ghost use Rattle.xw_session.specs.State.{State};
 ghost use Rattle.xw_session.specs.Reply.{cell_of};
@@ -227,7 +227,8 @@ impl<E: Feasible> Session<E> {
         }
     }
 
-    /// Reads lines to the end of the reader, and answers each on the writer, which is flushed after each answer.
+    /// Reads lines to the end of the reader, and answers each on the writer. What the writer tells is all these answers,
+    /// each with its flush before anything of the next one.
     pub fn run_lines<R: Source, W: Sink>(&mut self, source: &mut R, sink: &mut W) -> RunEnd
         // The reader came to its end, and all lines of what was read are answered.
         ensures done { IfDone result (λ refused. (text : List ℕ) × (R.told source.new ≡ R.told source.old ++ text)
@@ -257,9 +258,6 @@ impl<E: Feasible> Session<E> {
 
         // In no other case did the writer fail: after a write or a flush that failed no line is read.
         ensures unfailed { UnlessWriteFailed result (W.failures sink.new ≡ W.failures sink.old) }
-
-        // The last answer was passed on.
-        ensures passed_on { UnlessWriteFailed result (IsPassedOn W.is_flushed sink.old sink.new) }
     {
         let alloc = self.alloc;
         run::run_lines(alloc, self, source, sink)

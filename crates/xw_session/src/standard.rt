@@ -16,7 +16,7 @@ pub struct FromRead<R> {
 
 impl<R: Read> FromRead<R> {
     pub fn new(reader: R) -> FromRead<R>
-        ensures told { result.told.bytes ≡ [] }
+        ensures told { result.told.told ≡ [] }
         ensures failures { result.failures ≡ 0 }
         ensures end { result.is_at_end ≡ false }
     {
@@ -30,7 +30,7 @@ impl<R: Read> FromRead<R> {
 }
 
 impl<R: Read> Source for FromRead<R> {
-    ghost told = { λ source. source.told.bytes };
+    ghost told = { λ source. source.told.told };
 
     ghost failures = { λ source. source.failures };
 
@@ -76,20 +76,17 @@ pub struct ToWrite<W> {
     writer: W,
     told: History,
     failures: u64,
-    is_flushed: bool,
 }
 
 impl<W: Write> ToWrite<W> {
     pub fn new(writer: W) -> ToWrite<W>
-        ensures told { result.told.bytes ≡ [] }
+        ensures told { result.told.told ≡ [] }
         ensures failures { result.failures ≡ 0 }
-        ensures flushed { result.is_flushed ≡ true }
     {
         ToWrite {
             writer,
             told: History::new(),
             failures: 0,
-            is_flushed: true,
         }
     }
 
@@ -102,19 +99,14 @@ impl<W: Write> ToWrite<W> {
 }
 
 impl<W: Write> Sink for ToWrite<W> {
-    ghost told = { λ sink. sink.told.bytes };
+    ghost told = { λ sink. sink.told.told };
 
     ghost failures = { λ sink. sink.failures };
-
-    ghost is_flushed = { λ sink. sink.is_flushed };
 
     fn write(&mut self, bytes: &[u8]) -> Result<usize, DeviceFault> {
         match write_retrying(&mut self.writer, bytes) {
             Ok(count) => {
                 self.told.note(&bytes[..count]);
-                if count > 0 {
-                    self.is_flushed = false;
-                }
                 if count == 0 && !bytes.is_empty() {
                     self.failures = self.failures.saturating_add(1);
                 }
@@ -132,7 +124,7 @@ impl<W: Write> Sink for ToWrite<W> {
             self.failures = self.failures.saturating_add(1);
             return Err(DeviceFault);
         }
-        self.is_flushed = true;
+        self.told.note_flush();
         Ok(())
     }
 }

@@ -91,8 +91,6 @@ impl Sink for Unflushed {
 
     ghost failures = { λ sink. sink.failures };
 
-    ghost is_flushed = { λ sink. false };
-
     fn write(&mut self, bytes: &[u8]) -> Result<usize, DeviceFault> {
         let count = bytes.len().min(64 - self.taken);
         self.bytes[self.taken..self.taken + count].copy_from_slice(&bytes[..count]);

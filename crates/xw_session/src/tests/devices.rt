@@ -1,6 +1,7 @@
 //! Runs over readers and writers that fail.
 ghost use Rattle.std.specs.Prelude.{◌≡◌, ◌≤◌, ◌<◌, length, take, true, false};
 
+use crate::history::History;
 use crate::tests::{engine_of, session};
 use crate::{DeviceFault, RunEnd, Session, Sink, Source, Step};
 use std::process::Abort;
@@ -51,16 +52,14 @@ struct Buffer {
     piece: usize,
     calls_left: u64,
     failures: u64,
-    is_flushed: bool,
+    told: History,
     ghost within: { taken ≤ 512 },
 }
 
 impl Sink for Buffer {
-    ghost told = { λ buffer. take buffer.taken buffer.bytes };
+    ghost told = { λ buffer. buffer.told.told };
 
     ghost failures = { λ buffer. buffer.failures };
-
-    ghost is_flushed = { λ buffer. buffer.is_flushed };
 
     fn write(&mut self, bytes: &[u8]) -> Result<usize, DeviceFault> {
         if self.calls_left == 0 {
@@ -71,7 +70,7 @@ impl Sink for Buffer {
         let count = bytes.len().min(512 - self.taken).min(self.piece);
         self.bytes[self.taken..self.taken + count].copy_from_slice(&bytes[..count]);
         self.taken += count;
-        self.is_flushed = false;
+        self.told.note(&bytes[..count]);
         if count == 0 && !bytes.is_empty() {
             self.failures = self.failures.saturating_add(1);
         }
@@ -84,7 +83,7 @@ impl Sink for Buffer {
             return Err(DeviceFault);
         }
         self.calls_left -= 1;
-        self.is_flushed = true;
+        self.told.note_flush();
         Ok(())
     }
 }
@@ -120,7 +119,7 @@ fn runs(rt: &(impl Abort + AllocGlobal), lines: &[u8], case: Case) -> Result<Ses
         piece: case.piece,
         calls_left: case.writes,
         failures: 0,
-        is_flushed: true,
+        told: History::new(),
     };
     let end = session.run_lines(&mut source, &mut sink);
     assert_eq!(rt; end, case.end);
@@ -137,7 +136,7 @@ fn has_cat(mut session: Session<Plain>) -> bool {
         piece: 512,
         calls_left: 9,
         failures: 0,
-        is_flushed: true,
+        told: History::new(),
     };
     session.step(b"add CAT", &mut told) == Ok(Step::Refused)
 }
@@ -235,7 +234,7 @@ fn writer_takes_none(rt: HostRuntime) -> Result<(), Fail> {
         piece: 0,
         calls_left: 100,
         failures: 0,
-        is_flushed: true,
+        told: History::new(),
     };
     assert_eq!(rt;
         session.run_lines(&mut source, &mut sink),
@@ -314,7 +313,7 @@ fn begins(
         piece: written,
         calls_left: writes,
         failures: 0,
-        is_flushed: true,
+        told: History::new(),
     };
     let end = session.run_lines(&mut source, &mut sink);
     assert!(rt; answers.starts_with(&sink.bytes[..sink.taken]));

@@ -17,6 +17,6 @@ returns-clause-ok g c =
     let full : c.args.piece ≡ Some [] → ⊥ = search rules in
     λ start begun text p. (
       p.count + refusals said.0,
-      said.2 ∙ ap (λ n. saturated (n + refusals said.0)) p.refused-is ∙ saturated-add p.count (refusals said.0),
-      speaks-last g.S.Speaker.answers start _ _ begun text _ _ _ _ said.0 full said.1 p,
+      said.4 ∙ ap (λ n. saturated (n + refusals said.0)) p.refused-is ∙ saturated-add p.count (refusals said.0),
+      speaks-last g.S.Speaker.answers start _ _ begun text _ _ _ said.1 _ said.0 full said.2 said.3 p,
     )

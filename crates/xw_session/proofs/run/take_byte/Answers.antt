@@ -17,4 +17,4 @@ pub returns-clause-ok : goal.returns-clause-ok
 returns-clause-ok g c =
     let said = c.in_ok-answer_piece.ensures.ok in
     λ start begun text p.
-    rw c.if-byte-ne10.false (progress-line g.S.Speaker.answers start _ _ begun text _ _ _ _ _ _ said.0 said.1 said.2 c.in_ok-answer_piece.ensures.cleared p)
+    rw c.if-byte-ne10.false (progress-line g.S.Speaker.answers start _ _ begun text _ _ _ _ _ said.1 _ said.0 said.2 said.3 said.4 c.in_ok-answer_piece.ensures.cleared p)
