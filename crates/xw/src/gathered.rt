@@ -1,5 +1,5 @@
 //! A writer into memory.
-ghost use Rattle.std.specs.Prelude.{◌≡◌, [], false};
+ghost use Rattle.std.specs.Prelude.{◌≡◌, []};
 
 use std::alloc::Global;
 use xw_session::{DeviceFault, Sink};
@@ -33,8 +33,6 @@ impl Sink for Gathered {
     ghost told = { λ sink. sink.bytes.items };
 
     ghost failures = { λ sink. sink.failures };
-
-    ghost is_flushed = { λ sink. false };
 
     fn write(&mut self, bytes: &[u8]) -> Result<usize, DeviceFault> {
         match self.bytes.extend_from_slice(bytes) {
