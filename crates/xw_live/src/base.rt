@@ -77,7 +77,7 @@ fn base_chunk<R: Rows>(
 }
 
 /// Clears all bits of a row.
-fn clear_row(row: &mut BitRow)
+pub(crate) fn clear_row(row: &mut BitRow)
     ensures len { length row.new.bits ≡ length row.old.bits }
     ensures clear { (i : ℕ) → slice_index_or row.new.bits i false ≡ false }
     ensures room { row.new.room ≡ row.old.room }

@@ -7,6 +7,7 @@ ghost use Rattle.xw_feas.specs.Flags.{set_has};
 ghost use Rattle.xw_live.specs.Region.{chunks_of};
 ghost use Rattle.xw_live.specs.Support.{supports, letter_count, Strikes, AreApart, Held, Finds, is_read_in, search_from, place_for};
 
+use crate::base::clear_row;
 use crate::place::Place;
 use xw_words::bit_row::BitRow;
 use xw_words::letter::Letter;
@@ -30,6 +31,13 @@ fn first_support<R: Rows>(
     ensures cost { MatchOption result (R.ticks rows.new ≤ R.ticks rows.old + (chunks_of (length row.now.bits) - from)) (λ word. R.ticks rows.new + from ≤ R.ticks rows.old + (word / 64 + 1)) }
 {
     rows.next_with(count, position, letter, row, from)
+}
+
+/// Whether a set has no letter.
+fn is_empty(letters: LetterSet) -> bool
+    ensures { result ≡ true → (letter : ℕ) → has letters letter ≡ false }
+{
+    letters.is_same(LetterSet::new())
 }
 
 /// The letter of a set that has no other one.
@@ -69,8 +77,8 @@ fn strike_letters<R: Rows>(
     }
 }
 
-/// Takes the words with a pending letter at the position out of the row. Where one letter alone is
-/// left, its words stay.
+/// Takes the words with a pending letter at the position out of the row. Where no letter is left, all
+/// words go; where one alone is left, its words stay.
 pub(crate) fn strike_row<R: Rows>(
     rows: &mut R,
     row: &mut BitRow,
@@ -88,6 +96,10 @@ pub(crate) fn strike_row<R: Rows>(
     ensures room { row.new.room ≡ row.old.room }
     ensures cost { R.ticks rows.new ≤ R.ticks rows.old + chunks_of (length row.old.bits) * letter_count pending }
 {
+    if is_empty(alive) {
+        clear_row(row);
+        return;
+    }
     match only_letter(alive) {
         Some(letter) if pending.len() > 1 => rows.keep_column(count, position, letter, row),
         _ => strike_letters(rows, row, count, position, pending),
