@@ -14,7 +14,7 @@ use Rattle.xw_live.specs.Support.Finds.{stands, moves, nowhere}
 use Rattle.xw_live.specs.Nets.{bits_for, word_stands, letter_stands, held_in, restart_in, pending_in, queued_in, marks_of, HasBits}
 use Rattle.xw_live.specs.declared.net.Net.{Net}
 use Rattle.xw_live.proofs.Dues.{IsFrom}
-use Rattle.xw_live.proofs.Chunks.{set_letter}
+use Rattle.xw_live.proofs.Striking.{set_letter}
 use Rattle.xw_live.proofs.Steps.{IsHung, IsMoved, IsDropped, hung_held, hung_stays, same_stays, moves_sound, moves_paid, drops_sound, drops_paid}
 use Rattle.xw_live.proofs.HeldWords.{hung_holding, same_holding}
 use Rattle.xw_live.proofs.Rows.{listed_is, word_cases, bits_known, letter_listed}

@@ -7,7 +7,7 @@ pub mod Edits
 pub mod Kept
 pub mod Same
 pub mod Untouched
-mod Chunks
+mod Striking
 mod Sums
 mod Searches
 mod Dues

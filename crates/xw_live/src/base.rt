@@ -1,9 +1,10 @@
 //! The base words of a light, as a row of bits.
 ghost use Rattle.std.specs.Prelude.{◌≡◌, ℕ, ◌+◌, ◌*◌, ◌<◌, ◌≤◌, ◌&&◌, Bool, true, false, length, slice_index, slice_index_or, All, Some, IfSome, IfNone};
 ghost use Rattle.xw_words.specs.Bits.{has_bit};
+ghost use Rattle.xw_words.specs.Columns.{is_active};
 ghost use Rattle.xw_words.specs.Dictionary.{Entry, entry_at};
-ghost use Rattle.xw_feas.specs.Board.{Board as BoardOfPlaces, light_at, entry, agrees, is_wholly_entered};
-ghost use Rattle.xw_live.specs.Base.{base_bits, is_base_word, has_entry, IsFilled, IsBaseBut};
+ghost use Rattle.xw_feas.specs.Board.{light_at, entry, agrees, is_wholly_entered};
+ghost use Rattle.xw_live.specs.Base.{base_bits, is_base_word, has_entry, IsBaseBut};
 ghost use Rattle.xw_live.specs.Region.{chunks_of};
 ghost use Rattle.xw_live.specs.Spread.{is_marked, bits_in};
 ghost use Rattle.xw_live.specs.Room.{row_at};
@@ -75,6 +76,72 @@ fn base_chunk<R: Rows>(
     }
 }
 
+/// Clears all bits of a row.
+pub(crate) fn clear_row(row: &mut BitRow)
+    ensures len { length row.new.bits ≡ length row.old.bits }
+    ensures clear { (i : ℕ) → slice_index_or row.new.bits i false ≡ false }
+    ensures room { row.new.room ≡ row.old.room }
+{
+    for chunk in 0..row.len().div_ceil(64) {
+        row.set_chunk(chunk, 0);
+    }
+}
+
+/// Writes which known words of a length are active.
+fn read_active<R: Rows>(rows: &mut R, count: usize, row: &mut BitRow)
+    requires { length row.old.bits ≡ length (R.entries rows.old count) }
+    ensures entries { R.entries rows.new ≡ R.entries rows.old }
+    ensures risen { R.ticks rows.old ≤ R.ticks rows.new }
+    ensures len { length row.new.bits ≡ length row.old.bits }
+    ensures bits { (i : ℕ) → slice_index_or row.new.bits i false ≡ is_active (R.entries rows.old count) i }
+    ensures room { row.new.room ≡ row.old.room }
+    ensures cost { R.ticks rows.new ≤ R.ticks rows.old + chunks_of (length row.old.bits) }
+{
+    for chunk in 0..row.len().div_ceil(64) {
+        let words = rows.active(count, chunk);
+        row.set_chunk(chunk, words);
+    }
+}
+
+/// Keeps the words that agree with what is entered at a place of the light.
+fn keep_agreeing<R: Rows>(
+    rows: &mut R,
+    board: &Board<'_>,
+    cells: &Cells,
+    place: usize,
+    row: &mut BitRow,
+)
+    requires place { place < length cells.now }
+    requires row { length row.old.bits ≡ length (R.entries rows.old (length cells.now)) }
+    ensures entries { R.entries rows.new ≡ R.entries rows.old }
+    ensures risen { R.ticks rows.old ≤ R.ticks rows.new }
+    ensures len { length row.new.bits ≡ length row.old.bits }
+    ensures bits { (i : ℕ) → slice_index_or row.new.bits i false ≡ (slice_index_or row.old.bits i false && has_entry (entry board.now (slice_index cells.now place)) (R.entries rows.old (length cells.now)) place i) }
+    ensures room { row.new.room ≡ row.old.room }
+    ensures cost { R.ticks rows.new ≤ R.ticks rows.old + chunks_of (length row.old.bits) }
+{
+    if let Some(letter) = board.entry(cells.at(place)) {
+        rows.keep_column(cells.len(), place, letter, row);
+    }
+}
+
+/// Writes which known words are active and agree with what is entered.
+fn read_open<R: Rows>(rows: &mut R, board: &Board<'_>, cells: &Cells, row: &mut BitRow)
+    requires long { All (λ (word : Entry). length word.word ≡ length cells.now) (R.entries rows.old (length cells.now)) }
+    requires row { length row.old.bits ≡ length (R.entries rows.old (length cells.now)) }
+    ensures entries { R.entries rows.new ≡ R.entries rows.old }
+    ensures risen { R.ticks rows.old ≤ R.ticks rows.new }
+    ensures len { length row.new.bits ≡ length row.old.bits }
+    ensures bits { (i : ℕ) → slice_index_or row.new.bits i false ≡ ((entry_at (R.entries rows.old (length cells.now)) i).active && agrees board.now cells.now (entry_at (R.entries rows.old (length cells.now)) i).word) }
+    ensures room { row.new.room ≡ row.old.room }
+    ensures cost { R.ticks rows.new ≤ R.ticks rows.old + (length cells.now + 1) * chunks_of (length row.old.bits) }
+{
+    read_active(rows, cells.len(), row);
+    for place in 0..cells.len() {
+        keep_agreeing(rows, board, cells, place, row);
+    }
+}
+
 /// Writes which known words are base words of a light. Where it is wholly entered nothing is read.
 pub fn read_base<R: Rows>(rows: &mut R, board: &Board<'_>, light: usize, row: &mut BitRow)
     requires light { light < length board.now.lights }
@@ -88,37 +155,10 @@ pub fn read_base<R: Rows>(rows: &mut R, board: &Board<'_>, light: usize, row: &m
     ensures unread { is_wholly_entered board.now (light_at board.now light) ≡ true → R.ticks rows.new ≡ R.ticks rows.old }
 {
     let cells = board.light(light);
-    let entered = has_all_entries(board, &cells);
-    for chunk in 0..row.len().div_ceil(64) {
-        let words = base_chunk(rows, board, &cells, entered, chunk);
-        row.set_chunk(chunk, words);
-    }
-}
-
-/// Keeps the base words that have a letter which was entered at an empty place of a light. Some
-/// place of the light is still empty.
-pub fn keep_column<R: Rows>(
-    rows: &mut R,
-    board: &Board<'_>,
-    light: usize,
-    place: usize,
-    row: &mut BitRow,
-)
-    requires light { light < length board.now.lights }
-    requires place { place < length (light_at board.now light) }
-    requires long { All (λ (word : Entry). length word.word ≡ length (light_at board.now light)) (R.entries rows.old (length (light_at board.now light))) }
-    requires not_entered { is_wholly_entered board.now (light_at board.now light) ≡ false }
-    ensures entries { R.entries rows.new ≡ R.entries rows.old }
-    ensures risen { R.ticks rows.old ≤ R.ticks rows.new }
-    ensures bits { (before : BoardOfPlaces) (letter : ℕ) → IsFilled before board.now (light_at board.now light) place letter → row.old.bits ≡ base_bits before (light_at board.now light) (R.entries rows.old (length (light_at board.now light))) → row.new.bits ≡ base_bits board.now (light_at board.now light) (R.entries rows.old (length (light_at board.now light))) }
-    ensures len { length row.new.bits ≡ length row.old.bits }
-    ensures room { row.new.room ≡ row.old.room }
-    ensures cost { R.ticks rows.new ≤ R.ticks rows.old + chunks_of (length row.old.bits) }
-{
-    let cells = board.light(light);
-    for chunk in 0..row.len().div_ceil(64) {
-        let words = row.chunk(chunk) & agreeing_in(rows, board, &cells, place, chunk);
-        row.set_chunk(chunk, words);
+    if has_all_entries(board, &cells) {
+        clear_row(row);
+    } else {
+        read_open(rows, board, &cells, row);
     }
 }
 

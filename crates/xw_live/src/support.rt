@@ -1,36 +1,18 @@
 //! The words that support a letter at a place of a light.
 ghost use Rattle.std.specs.Prelude.{◌≡◌, ℕ, ◌+◌, ◌-◌, ◌*◌, ◌/◌, ◌^◌, ◌<◌, ◌≤◌, true, false, not, ◌&&◌, length, slice_index_or, IfSome, IfNone, MatchOption, if◌then◌else◌};
-ghost use Rattle.xw_words.specs.Bits.{has_bit};
 ghost use Rattle.xw_words.specs.Columns.{has_letter};
 ghost use Rattle.xw_words.specs.Letter.{IsLetter};
 ghost use Rattle.xw_words.specs.LetterSet.{has};
 ghost use Rattle.xw_feas.specs.Flags.{set_has};
 ghost use Rattle.xw_live.specs.Region.{chunks_of};
-ghost use Rattle.xw_live.specs.Support.{supports, letter_count, AreWith, Strikes, AreApart, Held, Finds, is_read_in, search_from, place_for};
+ghost use Rattle.xw_live.specs.Support.{supports, letter_count, Strikes, AreApart, Held, Finds, is_read_in, search_from, place_for};
 
+use crate::base::clear_row;
 use crate::place::Place;
 use xw_words::bit_row::BitRow;
 use xw_words::letter::Letter;
 use xw_words::letter_set::LetterSet;
 use xw_words::rows::Rows;
-
-/// The words of a chunk of the row that have the letter at the position.
-fn support_in<R: Rows>(
-    rows: &mut R,
-    row: &BitRow,
-    count: usize,
-    position: usize,
-    letter: Letter,
-    chunk: usize,
-) -> u64
-    requires { 64 * chunk < length row.now.bits }
-    ensures entries { R.entries rows.new ≡ R.entries rows.old }
-    ensures risen { R.ticks rows.old ≤ R.ticks rows.new }
-    ensures words { (k : ℕ) → k < 64 → has_bit result k ≡ supports row.now.bits (R.entries rows.old count) position letter (64 * chunk + k) }
-    ensures cost { R.ticks rows.new ≤ R.ticks rows.old + 1 }
-{
-    row.chunk(chunk) & rows.column(count, position, letter, chunk)
-}
 
 /// The first word of the row, from a chunk on, that has the letter at the position.
 fn first_support<R: Rows>(
@@ -48,66 +30,55 @@ fn first_support<R: Rows>(
     ensures none { IfNone result ((other : ℕ) → 64 * from ≤ other → supports row.now.bits (R.entries rows.old count) position letter other ≡ false) }
     ensures cost { MatchOption result (R.ticks rows.new ≤ R.ticks rows.old + (chunks_of (length row.now.bits) - from)) (λ word. R.ticks rows.new + from ≤ R.ticks rows.old + (word / 64 + 1)) }
 {
-    let mut at = from;
-    while let Some(chunk) = row.next_chunk(at) {
-        let words = support_in(rows, row, count, position, letter, chunk);
-        if words != 0 {
-            return Some(64 * chunk + words.trailing_zeros() as usize);
-        }
-        at = chunk + 1;
-    }
-    None
+    rows.next_with(count, position, letter, row, from)
 }
 
-/// The words of a chunk that have one of the letters at the position.
-fn words_with<R: Rows>(
+/// Whether a set has no letter.
+fn is_empty(letters: LetterSet) -> bool
+    ensures { result ≡ true → (letter : ℕ) → has letters letter ≡ false }
+{
+    letters.is_same(LetterSet::new())
+}
+
+/// The letter of a set that has no other one.
+fn only_letter(letters: LetterSet) -> Option<Letter>
+    ensures is { IfSome result (λ letter. has letters letter ≡ true) }
+    ensures only { IfSome result (λ letter. (other : ℕ) → has letters other ≡ true → other ≡ letter) }
+{
+    let place = letters.next_place(0)?;
+    match letters.next_place(place + 1) {
+        Some(_) => None,
+        None => Some(Letter::at(place)),
+    }
+}
+
+/// Takes the words with a letter of a set at the position out of the row, a letter after another.
+fn strike_letters<R: Rows>(
     rows: &mut R,
+    row: &mut BitRow,
     count: usize,
     position: usize,
     letters: LetterSet,
-    chunk: usize,
-) -> u64
+)
+    requires { length row.old.bits ≡ length (R.entries rows.old count) }
     ensures entries { R.entries rows.new ≡ R.entries rows.old }
     ensures risen { R.ticks rows.old ≤ R.ticks rows.new }
-    ensures words { AreWith (R.entries rows.old count) position letters (64 * chunk) (has_bit result) }
-    ensures cost { R.ticks rows.new ≤ R.ticks rows.old + letter_count letters }
+    ensures len { length row.new.bits ≡ length row.old.bits }
+    ensures fewer { (word : ℕ) → slice_index_or row.new.bits word false ≡ true → slice_index_or row.old.bits word false ≡ true }
+    ensures struck { (word letter : ℕ) → has letters letter ≡ true → has_letter (R.entries rows.old count) position letter word ≡ true → slice_index_or row.new.bits word false ≡ false }
+    ensures kept { (word : ℕ) → slice_index_or row.old.bits word false ≡ true → ((letter : ℕ) → has letters letter ≡ true → has_letter (R.entries rows.old count) position letter word ≡ false) → slice_index_or row.new.bits word false ≡ true }
+    ensures room { row.new.room ≡ row.old.room }
+    ensures cost { R.ticks rows.new ≤ R.ticks rows.old + chunks_of (length row.old.bits) * letter_count letters }
 {
-    let mut words = 0;
     let mut from = 0;
     while let Some(place) = letters.next_place(from) {
-        words |= rows.column(count, position, Letter::at(place), chunk);
+        rows.strike_column(count, position, Letter::at(place), row);
         from = place + 1;
     }
-    words
 }
 
-/// The words of a chunk that are left once those with a pending letter at the position are gone.
-fn left_in<R: Rows>(
-    rows: &mut R,
-    own: u64,
-    count: usize,
-    position: usize,
-    pending: LetterSet,
-    alive: LetterSet,
-    chunk: usize,
-) -> u64
-    ensures entries { R.entries rows.new ≡ R.entries rows.old }
-    ensures risen { R.ticks rows.old ≤ R.ticks rows.new }
-    ensures fewer { (k : ℕ) → k < 64 → has_bit result k ≡ true → has_bit own k ≡ true }
-    ensures struck { AreApart pending alive → (k letter : ℕ) → k < 64 → has pending letter ≡ true → has_letter (R.entries rows.old count) position letter (64 * chunk + k) ≡ true → has_bit result k ≡ false }
-    ensures kept { AreApart pending alive → (k letter : ℕ) → k < 64 → has alive letter ≡ true → has_letter (R.entries rows.old count) position letter (64 * chunk + k) ≡ true → has_bit own k ≡ true → has_bit result k ≡ true }
-    ensures cost { R.ticks rows.new ≤ R.ticks rows.old + letter_count pending }
-{
-    if own == 0 {
-        0
-    } else if alive.len() < pending.len() {
-        own & words_with(rows, count, position, alive, chunk)
-    } else {
-        own & !words_with(rows, count, position, pending, chunk)
-    }
-}
-
-/// Takes the words with a pending letter at the position out of the row.
+/// Takes the words with a pending letter at the position out of the row. Where no letter is left, all
+/// words go; where one alone is left, its words stay.
 pub(crate) fn strike_row<R: Rows>(
     rows: &mut R,
     row: &mut BitRow,
@@ -116,6 +87,8 @@ pub(crate) fn strike_row<R: Rows>(
     pending: LetterSet,
     alive: LetterSet,
 )
+    requires position { position < count }
+    requires row { length row.old.bits ≡ length (R.entries rows.old count) }
     ensures entries { R.entries rows.new ≡ R.entries rows.old }
     ensures risen { R.ticks rows.old ≤ R.ticks rows.new }
     ensures len { length row.new.bits ≡ length row.old.bits }
@@ -123,12 +96,13 @@ pub(crate) fn strike_row<R: Rows>(
     ensures room { row.new.room ≡ row.old.room }
     ensures cost { R.ticks rows.new ≤ R.ticks rows.old + chunks_of (length row.old.bits) * letter_count pending }
 {
-    let mut from = 0;
-    while let Some(chunk) = row.next_chunk(from) {
-        let own = row.chunk(chunk);
-        let left = left_in(rows, own, count, position, pending, alive, chunk);
-        row.set_chunk(chunk, left);
-        from = chunk + 1;
+    if is_empty(alive) {
+        clear_row(row);
+        return;
+    }
+    match only_letter(alive) {
+        Some(letter) if pending.len() > 1 => rows.keep_column(count, position, letter, row),
+        _ => strike_letters(rows, row, count, position, pending),
     }
 }
 

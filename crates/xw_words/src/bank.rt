@@ -1,12 +1,13 @@
 //! The dictionary.
-ghost use Rattle.std.specs.Prelude.{◌≡◌, ◌≢◌, ℕ, ◌+◌, ◌*◌, ◌<◌, ◌≤◌, Bool, true, false, [], map, replicate, length, Ok, Err, None, All, IsOk, IfErr, IfOk, OnOk, OnErr, IsOkUnless, position};
+ghost use Rattle.std.specs.Prelude.{◌≡◌, ◌≢◌, ℕ, ◌+◌, ◌*◌, ◌<◌, ◌≤◌, Bool, true, false, [], map, replicate, length, Ok, Err, None, All, IsOk, IfErr, IfOk, IfSome, IfNone, OnOk, OnErr, IsOkUnless, position};
 ghost use Rattle.xw_words.specs.Letter.{folded, IsLetter};
 ghost use Rattle.xw_words.specs.Dictionary.{row as words_of, entry_at, place_of, add_answer, after_add, strike_answer, after_strike, IsNew, IsDictionary, matching_answer, reserve_answer, most_words};
 ghost use Rattle.xw_words.specs.Bank.{has_room, KeepsRoom, KeepsOtherRoom};
 ghost use Rattle.xw_words.specs.Word.{is_bad_letter};
 ghost use Rattle.xw_words.specs.Bits.{has_bit};
-ghost use Rattle.xw_words.specs.Columns.{has_letter, is_active as word_is_active};
+ghost use Rattle.xw_words.specs.Columns.{has_letter, is_active as word_is_active, IsColumn};
 
+use crate::bit_row::BitRow;
 use crate::fault::WordFault;
 use crate::letter::{Letter, are_letters};
 use crate::matching::Matching;
@@ -89,6 +90,16 @@ impl Bank {
         ensures { result ≡ place_of self.now.words word.now }
     {
         self.rows.get(word.len())?.find(word)
+    }
+
+    /// The column of a letter at a position of the words of a length, where there is one. Only where
+    /// there are no words has a position of theirs none.
+    pub(crate) fn column_of(&self, count: usize, position: usize, letter: Letter) -> Option<&BitRow>
+        ensures some { IfSome result (λ column. IsColumn (words_of self.now.words count) position letter column.now.bits) }
+        ensures none { IfNone result ((place : ℕ) → has_letter (words_of self.now.words count) position letter place ≡ false) }
+        ensures within { position < count → IfNone result (length (words_of self.now.words count) ≡ 0) }
+    {
+        self.rows.get(count)?.column_of(position, letter)
     }
 
     /// Which of 64 known words of a length have the letter at the position, the first of them lowest.

@@ -6,8 +6,8 @@ ghost use Rattle.xw_words.specs.Places.{set_places};
 
 use crate::fault::WordFault;
 use crate::kernels::{
-    and_not_words, and_words, count_words, low_bits, make_room_for_bit, next_word, put_bit,
-    with_bit,
+    and_not_words, and_words, count_words, low_bits, make_room_for_bit, next_common, next_word,
+    put_bit, with_bit,
 };
 use crate::ones::{Ones, next_one};
 use std::alloc::Global;
@@ -68,6 +68,41 @@ impl BitRow {
         ensures room { self.new.room ≡ self.old.room }
     {
         and_not_words(&mut self.words, &other.words);
+    }
+
+    /// Keeps the bits that a column of as many chunks has as well.
+    pub(crate) fn keep(&mut self, column: &BitRow)
+        requires { length column.now.bits ≡ 64 * ((length self.old.bits + 63) / 64) }
+        ensures len { length self.new.bits ≡ length self.old.bits }
+        ensures bits { (i : ℕ) → slice_index_or self.new.bits i false ≡ (slice_index_or self.old.bits i false && slice_index_or column.now.bits i false) }
+        ensures room { self.new.room ≡ self.old.room }
+    {
+        and_words(&mut self.words, &column.words);
+    }
+
+    /// Keeps the bits that a column of as many chunks lacks.
+    pub(crate) fn strike(&mut self, column: &BitRow)
+        requires { length column.now.bits ≡ 64 * ((length self.old.bits + 63) / 64) }
+        ensures len { length self.new.bits ≡ length self.old.bits }
+        ensures bits { (i : ℕ) → slice_index_or self.new.bits i false ≡ (slice_index_or self.old.bits i false && not (slice_index_or column.now.bits i false)) }
+        ensures room { self.new.room ≡ self.old.room }
+    {
+        and_not_words(&mut self.words, &column.words);
+    }
+
+    /// The first place from a chunk on that both rows have set.
+    pub(crate) fn next_common(&self, other: &BitRow, from: usize) -> Option<usize>
+        ensures found { IfSome result (λ place. (64 * from ≤ place) × ((slice_index_or self.now.bits place false && slice_index_or other.now.bits place false) ≡ true)) }
+        ensures first { IfSome result (λ place. (i : ℕ) → 64 * from ≤ i → i < place → (slice_index_or self.now.bits i false && slice_index_or other.now.bits i false) ≡ false) }
+        ensures none { IfNone result ((i : ℕ) → 64 * from ≤ i → (slice_index_or self.now.bits i false && slice_index_or other.now.bits i false) ≡ false) }
+    {
+        match next_common(&self.words, &other.words, from) {
+            Some(chunk) => {
+                let common = self.words[chunk] & other.words[chunk];
+                Some(64 * chunk + common.trailing_zeros() as usize)
+            }
+            None => None,
+        }
     }
 
     /// How many bits are set.

@@ -1,7 +1,7 @@
 //! The known words of one length.
 ghost use Rattle.xw_words.specs.Bits.{has_bit};
-ghost use Rattle.xw_words.specs.Columns.{has_letter, is_active, AreFits};
-ghost use Rattle.std.specs.Prelude.{◌≡◌, ℕ, ◌+◌, ◌*◌, ◌<◌, ◌≤◌, ◌||◌, ◌==◌, Bool, true, false, None, [], ◌∷◌, ◌++◌, length, take, map, position, OnOk, OnErr, IfOk, IfErr, ◌≢◌, vec_len, vec_capacity};
+ghost use Rattle.xw_words.specs.Columns.{has_letter, is_active, AreFits, IsColumn};
+ghost use Rattle.std.specs.Prelude.{◌≡◌, ℕ, ◌+◌, ◌*◌, ◌<◌, ◌≤◌, ◌||◌, ◌==◌, Bool, true, false, None, [], ◌∷◌, ◌++◌, length, take, map, position, OnOk, OnErr, IfOk, IfErr, IfSome, IfNone, ◌≢◌, vec_len, vec_capacity};
 ghost use Rattle.xw_words.specs.Dictionary.{entry_at, marked, place_in, add_to, added_at, with_added, strike_from, IsNew, most_words};
 ghost use Rattle.xw_words.specs.Letter.{folded};
 ghost use Rattle.xw_words.specs.Word.{is_bad_letter, is_bad_in_pattern};
@@ -130,6 +130,20 @@ impl Row {
             return 0;
         }
         self.active.chunk(chunk)
+    }
+
+    /// The column of a letter at a position, where there is one. Only where there are no words has a
+    /// position of theirs none.
+    pub fn column_of(&self, position: usize, letter: Letter) -> Option<&BitRow>
+        ensures some { IfSome result (λ column. IsColumn self.now.entries position letter column.now.bits) }
+        ensures none { IfNone result ((place : ℕ) → has_letter self.now.entries position letter place ≡ false) }
+        ensures within { position < self.now.count → IfNone result (length self.now.entries ≡ 0) }
+    {
+        if position >= self.count {
+            return None;
+        }
+        self.columns
+            .get(position * LETTERS + (letter.byte() - b'A') as usize)
     }
 
     /// Which of 64 words have the letter at the position, the first of them lowest.

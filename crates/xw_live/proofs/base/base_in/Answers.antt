@@ -2,11 +2,10 @@ use Rattle.std.proofs.Common.{◌≡◌, ◌+◌, ◌*◌, ◌&&◌, false, leng
 use Rattle.xw_words.specs.Bits.{has_bit}
 use Rattle.xw_words.specs.Dictionary.{entry_at}
 use Rattle.xw_words.specs.Columns.{is_active}
-use Rattle.xw_words.proofs.BitLemmas.{has_bit-and}
+use Rattle.xw_words.proofs.BitLemmas.{has_bit-and, has_bit-none}
 use Rattle.xw_feas.specs.Board.{entry}
 use Rattle.xw_live.specs.Base.{has_entry}
 use Rattle.xw_live.proofs.BaseLemmas.{base_so_far, base_first, base_more, base_all, base_never}
-use Rattle.xw_live.proofs.Chunks.{has_bit-none}
 use Rattle.xw_live.proofs.base.base_in.Goals as goal
 
 pub loop-place-init : goal.loop-place-init

@@ -1,30 +1,25 @@
-use Rattle.std.proofs.Common.{◌≡◌, ◌+◌, ◌*◌, length, ap, ◌∙◌, arith}
+use Rattle.std.proofs.Common.{◌≡◌, not, ◌&&◌, length, ap, sym, ◌∙◌}
 use Rattle.xw_words.specs.Dictionary.{entry_at}
-use Rattle.xw_live.specs.Base.{base_bits, is_base_word}
-use Rattle.xw_live.proofs.BaseLemmas.{below_chunk, below_all, base_bit, length-base_bits}
+use Rattle.xw_feas.specs.Board.{agrees, is_wholly_entered, light_at}
+use Rattle.xw_live.proofs.BaseLemmas.{all_read}
 use Rattle.xw_live.proofs.base.read_base.Goals as goal
 
-pub loop-chunk-preserved : goal.loop-chunk-preserved
-loop-chunk-preserved g c =
-    let inv = c.loop-chunk.invariant in
-    let one = c.base_chunk-words in
-    let cells = c.light-cells.result in
-    let more : (length c.light-cells.result + 1) * (c.loop-chunk.chunk + 1) ≡ (length c.light-cells.result + 1) * c.loop-chunk.chunk + (length c.light-cells.result + 1) = grind arith in
-    record {
-      same = one.ensures.entries ∙ inv.same;
-      risen = omega (arith, inv.risen, one.ensures.risen);
-      spent = omega (arith, c.base_chunk-words.ensures.cost, inv.spent, more);
-      unread = λ entered. one.ensures.unread entered ∙ inv.unread entered;
-      below = below_chunk c.loop-chunk.row.bits c.set_chunk.new.self.bits (base_bits c.args.board.now cells (g.R.Rows.entries c.args.rows.now (length cells))) c.loop-chunk.chunk one.result c.set_chunk.ensures.len c.set_chunk.ensures.inside c.set_chunk.ensures.others
-          (λ k lt. one.ensures.words k lt
-          ∙ ap (λ d. is_base_word c.args.board.now c.light-cells.result (entry_at (d (length c.light-cells.result)) (64 * c.loop-chunk.chunk + k))) inv.same
-          ∙ base_bit c.args.board.now c.light-cells.result (g.R.Rows.entries c.args.rows.now (length c.light-cells.result)) (64 * c.loop-chunk.chunk + k))
-          inv.below;
-      room = c.set_chunk.ensures.room ∙ inv.room;
-    }
+pub returns-then-has_all_entries-clause-bits : goal.returns-then-has_all_entries-clause-bits
+returns-then-has_all_entries-clause-bits g c =
+    let board = c.args.board.now in
+    let cells = light_at c.args.board.now c.args.light in
+    let entries = g.R.Rows.entries c.args.rows.now (length cells) in
+    let entered = ap (is_wholly_entered board) (sym c.light-cells.ensures.cells) ∙ sym c.has_all_entries.ensures ∙ c.if-has_all_entries.true in
+    all_read board cells entries c.clear_row.new.row.bits (c.clear_row.ensures.len ∙ c.requires.bits)
+    (λ k. c.clear_row.ensures.clear k ∙ sym (ap (λ b. let word = entry_at entries k in not b && (word.active && agrees board cells word.word)) entered))
 
-pub returns-clause-bits : goal.returns-clause-bits
-returns-clause-bits g c =
-    below_all c.loop-chunk.row.bits (base_bits c.args.board.now c.light-cells.result (g.R.Rows.entries c.args.rows.now (length c.light-cells.result))) (64 * c.loop-chunk.chunk) c.loop-chunk.invariant.below
-    (omega (arith, c.len.ensures.value, c.loop-chunk-test.false, c.loop-chunk.invariant.below.long, length-base_bits c.args.board.now c.light-cells.result (g.R.Rows.entries c.args.rows.now (length c.light-cells.result)), c.requires.bits, ap (λ cells. length (g.R.Rows.entries c.args.rows.now (length cells))) c.light-cells.ensures.cells))
-    ∙ ap (λ cells. base_bits c.args.board.now cells (g.R.Rows.entries c.args.rows.now (length cells))) c.light-cells.ensures.cells
+pub returns-else-has_all_entries-clause-bits : goal.returns-else-has_all_entries-clause-bits
+returns-else-has_all_entries-clause-bits g c =
+    let board = c.args.board.now in
+    let cells = light_at c.args.board.now c.args.light in
+    let entries = g.R.Rows.entries c.args.rows.now (length cells) in
+    let open_ = ap (is_wholly_entered board) (sym c.light-cells.ensures.cells) ∙ sym c.has_all_entries.ensures ∙ c.if-has_all_entries.false in
+    all_read board cells entries c.read_open.new.row.bits (c.read_open.ensures.len ∙ c.requires.bits)
+    (λ k. c.read_open.ensures.bits k
+    ∙ ap (λ cs. let word = entry_at (g.R.Rows.entries c.args.rows.now (length cs)) k in word.active && agrees board cs word.word) c.light-cells.ensures.cells
+    ∙ sym (ap (λ b. let word = entry_at entries k in not b && (word.active && agrees board cells word.word)) open_))

@@ -9,7 +9,7 @@ use Rattle.xw_live.specs.Marks.{cell_at, slot_at, known}
 use Rattle.xw_live.specs.Support.{Held}
 use Rattle.xw_live.specs.Nets.{marks_of, bits_at, bits_for, word_stands, letter_stands, held_in, restart_in, pending_in, queued_in}
 use Rattle.xw_live.specs.declared.net.Net.{Net}
-use Rattle.xw_live.proofs.Chunks.{set_letter}
+use Rattle.xw_live.proofs.Striking.{set_letter}
 use Rattle.xw_live.proofs.Rows.{entered_is, bits_known}
 use Rattle.xw_live.proofs.HeldWords.{same_holding}
 use Rattle.xw_live.proofs.Found.{finds_at, found_held, found_stays, found_holding, found_kept, none_kept, none_stays}

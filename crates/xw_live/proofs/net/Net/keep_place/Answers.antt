@@ -6,7 +6,7 @@ use Rattle.xw_words.specs.Dictionary.{Dictionary}
 use Rattle.xw_live.specs.Marks.{IsPosition, IsHeld, Stays, cell_at}
 use Rattle.xw_live.specs.Due.{IsUnderway, and_light}
 use Rattle.xw_live.specs.Nets.{HasBits, marks_of, letter_stands, queued_in}
-use Rattle.xw_live.proofs.Chunks.{set_letter}
+use Rattle.xw_live.proofs.Striking.{set_letter}
 use Rattle.xw_live.proofs.Left.{left_left, left_same}
 use Rattle.xw_live.specs.declared.net.Net.{Net}
 use Rattle.xw_live.proofs.net.Net.keep_place.Goals as goal

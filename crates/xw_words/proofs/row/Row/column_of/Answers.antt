@@ -1,0 +1,11 @@
+use Rattle.std.proofs.Common.{ap, sym, ◌∙◌, arith}
+use Rattle.xw_words.specs.Row.{entries_of}
+use Rattle.xw_words.proofs.ColumnLemmas.{no_position}
+use Rattle.xw_words.proofs.KeptRowLemmas.{entries_long}
+use Rattle.xw_words.proofs.row.Row.column_of.Goals as goal
+
+pub returns-then-position-self-clause-none : goal.returns-then-position-self-clause-none
+returns-then-position-self-clause-none c = λ place.
+    let r = c.self.inside in
+    let entries = entries_of r.count r.letters.items r.active.bits in
+    rw (← c.self.view_is) (no_position r.count entries c.args.position c.args.letter place (entries_long r.count r.letters.items r.active.bits c.self.invariant.letters) c.if-position-self.true)
