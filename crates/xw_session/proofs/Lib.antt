@@ -21,3 +21,6 @@ pub mod Telling
 pub mod Putting
 pub mod Recording
 pub mod Replaying
+pub mod CellsAgain
+pub mod CirclesAgain
+pub mod BarsAgain

@@ -1,6 +1,11 @@
 -- Commands done one after another, where no memory is wanting.
-use Rattle.std.specs.Prelude.{ℕ, List, [], ◌∷◌, Option, Some, None, Result, Ok, Err}
+use Rattle.std.specs.Prelude.{◌≡◌, ℕ, false, List, [], ◌∷◌, slice_index_or, Option, Some, None, Result, Ok, Err}
 use Rattle.std.specs.Option.{option_and_then}
+use Rattle.xw_grid.specs.declared.cell.Square.{Square}
+use Rattle.xw_grid.specs.declared.cell.Square.TheVariants.{Block, Open}
+use Rattle.xw_grid.specs.declared.cell.Cell.{Cell}
+use Rattle.xw_grid.specs.declared.cell.Side.{Side}
+use Rattle.xw_grid.specs.Grid.{Grid, is_edge, bars, index_of}
 use Rattle.xw_session.specs.declared.command.Command.{Command}
 use Rattle.xw_session.specs.declared.command.SyntaxFault.{SyntaxFault}
 use Rattle.xw_session.specs.declared.refusal.Refusal.{Refusal}
@@ -27,3 +32,16 @@ left_by_line state (Err fault) = None
 abbrev pub replayed_lines : State → List (List ℕ) → Option State
 replayed_lines state [] = Some state
 replayed_lines state (line ∷ lines) = option_and_then (λ next. replayed_lines next lines) (left_by_line state (command_of line))
+
+-- a square as it is before its letter is entered
+abbrev pub bared : Square → Square
+bared Block = Block
+bared (Open entered) = Open None
+
+-- the state with a grid in place of the one it has
+abbrev pub with_grid : State → Grid → State
+with_grid state grid = record state { position = record state.position { grid = grid } }
+
+-- no bar stands where no cell is beyond
+abbrev pub BarsAreOnEdges : Grid → Type 0
+BarsAreOnEdges grid = (side : Side) (cell : Cell) → is_edge grid cell side ≡ false → slice_index_or (bars grid side) (index_of grid cell) false ≡ false

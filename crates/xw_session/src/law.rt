@@ -1,17 +1,23 @@
 //! What the definitions mean.
-ghost use Rattle.std.specs.Prelude.{◌≡◌, ℕ, ◌++◌, List, Some, false};
+ghost use Rattle.std.specs.Prelude.{◌≡◌, ℕ, ◌++◌, ◌*◌, List, [], map, replicate, filter, None, Some, true, false};
 ghost use Rattle.std.specs.Option.{option_and_then};
+ghost use Rattle.xw_grid.specs.declared.cell.Side.TheVariants.{Right, Below};
+ghost use Rattle.xw_grid.specs.declared.cell.Square.TheVariants.{Open};
+ghost use Rattle.xw_grid.specs.declared.cell.Symmetry.TheVariants as kinds;
+ghost use Rattle.xw_grid.specs.Grid.{IsGrid, cells};
+ghost use Rattle.xw_grid.specs.Edit.{blank};
+ghost use Rattle.xw_grid.specs.Clue.{no_clues, is_circled};
 ghost use Rattle.xw_session.specs.Line.{trimmed};
 ghost use Rattle.xw_session.specs.Escape.{text_spelled, spelled};
 ghost use Rattle.xw_session.specs.declared.command.Command.{Command};
-ghost use Rattle.xw_session.specs.declared.command.Field.TheVariants as fields;
-ghost use Rattle.xw_session.specs.declared.command.TextField.{TextField};
-ghost use Rattle.xw_session.specs.declared.session.putting.Place.TheVariants as places;
+ghost use Rattle.xw_session.specs.declared.command.Field.{Field};
+ghost use Rattle.xw_session.specs.declared.record.Section.TheVariants as sections;
+ghost use Rattle.xw_session.specs.declared.record.Part.TheVariants as parts;
 ghost use Rattle.xw_session.specs.State.{State};
 ghost use Rattle.xw_session.specs.Reply.{has_nul};
-ghost use Rattle.xw_session.specs.Put.{with_text_at};
-ghost use Rattle.xw_session.specs.Record.{text_commands};
-ghost use Rattle.xw_session.specs.Replay.{replayed};
+ghost use Rattle.xw_session.specs.Put.{place_of, has_place, with_text_at};
+ghost use Rattle.xw_session.specs.Record.{text_commands, section_commands};
+ghost use Rattle.xw_session.specs.Replay.{replayed, bared, with_grid, BarsAreOnEdges};
 ghost use Rattle.xw_session.specs.Cut.{ended_lines, last_piece, with_lfs, AllHaveNoLf, HasNoLf};
 
 /// A text is its ended lines, each with its LF, and then its last piece, and it is nothing else of that form.
@@ -38,8 +44,59 @@ pub fn commands_follow_one_another()
         → replayed state (front ++ rest) ≡ option_and_then (λ mid. replayed mid rest) (replayed state front) }
 {}
 
-/// The commands that a record has for a text, however long it is, put it into its field.
+/// The commands that a record has for a text, however long it is, put it into its place.
 pub fn texts_are_made_again()
-    ensures { (state : State) (name : TextField) (text : List ℕ) → has_nul text ≡ false
-        → replayed state (text_commands (fields.Text name) text) ≡ Some (with_text_at state (places.Text name) text) }
+    ensures { (state : State) (field : Field) (text : List ℕ) → has_place state.position.grid (place_of field) ≡ true → has_nul text ≡ false
+        → replayed state (text_commands field text) ≡ Some (with_text_at state (place_of field) text) }
+{}
+
+/// What a record has for the size leaves a blank grid of the same, without clues and circles, for the symmetry that one, and for the
+/// watch that it is on or off.
+pub fn size_symmetry_and_watch_are_made_again()
+    ensures size { (state made : State) → IsGrid made.position.grid
+        → replayed state (section_commands made sections.Size) ≡ Some (record state {
+          position = record { grid = blank made.position.grid.width made.position.grid.height; words = state.position.words };
+          clues = no_clues;
+          circles = [];
+        }) }
+    ensures symmetry { (state made : State) → IsGrid made.position.grid
+        → state.position.grid.width ≡ made.position.grid.width → state.position.grid.height ≡ made.position.grid.height
+        → replayed state (section_commands made sections.Symmetry) ≡ Some (record state {
+          position = record state.position { grid = record state.position.grid { symmetry = made.position.grid.symmetry } };
+        }) }
+    ensures watch { (state made : State)
+        → replayed state (section_commands made sections.Watch) ≡ Some (record state { is_watched = made.is_watched }) }
+{}
+
+/// What a record has for the circles, in a blank grid without any, circles the cells of the grid that were circled, hidden or not.
+pub fn circles_are_made_again()
+    ensures { (state made : State) → IsGrid made.position.grid
+        → replayed (record (with_grid state (blank made.position.grid.width made.position.grid.height)) { circles = [] }) (section_commands made (sections.Cells parts.Circles))
+        ≡ Some (record (with_grid state (blank made.position.grid.width made.position.grid.height)) { circles = filter (is_circled made.circles) (cells made.position.grid) }) }
+{}
+
+/// What a record has for the bars, in a blank grid, makes those to the right of cells, and then those below. It takes that no bar
+/// stands where no cell is beyond.
+pub fn bars_are_made_again()
+    ensures right { (state made : State) → IsGrid made.position.grid → BarsAreOnEdges made.position.grid
+        → replayed (with_grid state (blank made.position.grid.width made.position.grid.height)) (section_commands made (sections.Cells (parts.Bars Right)))
+        ≡ Some (with_grid state (record (blank made.position.grid.width made.position.grid.height) { right = made.position.grid.right })) }
+    ensures below { (state made : State) → IsGrid made.position.grid → BarsAreOnEdges made.position.grid
+        → replayed (with_grid state (record (blank made.position.grid.width made.position.grid.height) { right = made.position.grid.right })) (section_commands made (sections.Cells (parts.Bars Below)))
+        ≡ Some (with_grid state (record (blank made.position.grid.width made.position.grid.height) { right = made.position.grid.right; below = made.position.grid.below })) }
+{}
+
+/// What a record has for the blocks, in an empty grid under no symmetry, makes these blocks and no other.
+pub fn blocks_are_made_again()
+    ensures { (state made : State) → IsGrid made.position.grid
+        → replayed (with_grid state (record made.position.grid { squares = replicate (made.position.grid.width * made.position.grid.height) (Open None); symmetry = kinds.None }))
+        (section_commands made (sections.Cells parts.Blocks))
+        ≡ Some (with_grid state (record made.position.grid { squares = map bared made.position.grid.squares; symmetry = kinds.None })) }
+{}
+
+/// What a record has for the letters, where blocks stand and no letter, makes the grid as it was.
+pub fn letters_are_made_again()
+    ensures { (state made : State) → IsGrid made.position.grid
+        → replayed (with_grid state (record made.position.grid { squares = map bared made.position.grid.squares })) (section_commands made (sections.Cells parts.Letters))
+        ≡ Some (with_grid state made.position.grid) }
 {}

@@ -1,5 +1,5 @@
-use Rattle.xw_session.proofs.Replaying.{text_field_again}
+use Rattle.xw_session.proofs.Replaying.{text_again}
 use Rattle.xw_session.proofs.law.texts_are_made_again.Goals as goal
 
 pub returns : goal.returns
-returns c = text_field_again
+returns c = text_again
