@@ -73,17 +73,39 @@ const ELSEWHERE: &[u8] =
     b"size 4 3\nsym leftright\nset 1 1 Q\nblock 2 4\nbar 3 1 right\ncircle 1 1\n\
     text clue 1 2 down gone\ntitle old\nauthor old\ncopyright old\nnotes old\nwatch on\n";
 
+/// What a session that has done lines answers to the questions.
+fn told(rt: &(impl Abort + AllocGlobal), lines: &[u8]) -> Result<Vec<u8>, Fail> {
+    let mut session = begun(rt.alloc(), 5)?;
+    answers(rt, &mut session, lines)?;
+    answers(rt, &mut session, QUESTIONS)
+}
+
+/// The record of a session that has done lines.
+fn recorded(rt: &(impl Abort + AllocGlobal), lines: &[u8]) -> Result<Vec<u8>, Fail> {
+    let mut session = begun(rt.alloc(), 5)?;
+    answers(rt, &mut session, lines)?;
+    record_of(rt, &session)
+}
+
+fn record_of(rt: &(impl Abort + AllocGlobal), session: &Session<Plain>) -> Result<Vec<u8>, Fail> {
+    let mut record = Vec::new(rt.alloc());
+    assert!(rt; session.write_record(&mut ToWrite::new(&mut record)).is_ok());
+    Ok(record)
+}
+
+/// What a session with a past of its own answers once it has done a record.
+fn told_elsewhere(rt: &(impl Abort + AllocGlobal), record: &[u8]) -> Result<Vec<u8>, Fail> {
+    let mut session = begun(rt.alloc(), 2)?;
+    answers(rt, &mut session, ELSEWHERE)?;
+    answers(rt, &mut session, record)?;
+    answers(rt, &mut session, QUESTIONS)
+}
+
 /// The lines that a session's record has make another one the same.
 fn is_made_again(rt: &(impl Abort + AllocGlobal), lines: &[u8]) -> Result<(), Fail> {
-    let mut first = begun(rt.alloc(), 5)?;
-    answers(rt, &mut first, lines)?;
-    let mut record = Vec::new(rt.alloc());
-    assert!(rt; first.write_record(&mut ToWrite::new(&mut record)).is_ok());
-    let mut second = begun(rt.alloc(), 2)?;
-    answers(rt, &mut second, ELSEWHERE)?;
-    answers(rt, &mut second, record.as_slice())?;
-    let wanted = answers(rt, &mut first, QUESTIONS)?;
-    let found = answers(rt, &mut second, QUESTIONS)?;
+    let record = recorded(rt, lines)?;
+    let wanted = told(rt, lines)?;
+    let found = told_elsewhere(rt, record.as_slice())?;
     assert_eq!(rt; found.as_slice(), wanted.as_slice());
     Ok(())
 }
@@ -107,19 +129,24 @@ fn sessions_made_again(rt: HostRuntime) -> Result<(), Fail> {
     Ok(())
 }
 
+/// Puts a line at the end that puts so many backslashes behind what a field has.
+fn push_more(lines: &mut Vec<u8>, field: &[u8], count: u32) -> Result<(), Fail> {
+    lines.extend_from_slice(field)?;
+    for _ in 0..count {
+        lines.extend_from_slice(b"\\\\")?;
+    }
+    lines.push(b'\n')?;
+    Ok(())
+}
+
 /// Texts of more bytes than a line has, of which each takes two in its spelling.
 #[test]
 fn long_texts_made_again(rt: HostRuntime) -> Result<(), Fail> {
     let mut lines = Vec::new(rt.alloc());
     lines.extend_from_slice(b"size 2 2\n")?;
     for count in [1999, 2, 1998] {
-        for field in [b"more notes \\s".as_slice(), b"more clue 2 2 across \\n"] {
-            lines.extend_from_slice(field)?;
-            for _ in 0..count {
-                lines.extend_from_slice(b"\\\\")?;
-            }
-            lines.push(b'\n')?;
-        }
+        push_more(&mut lines, b"more notes \\s", count)?;
+        push_more(&mut lines, b"more clue 2 2 across \\n", count)?;
     }
     is_made_again(&rt, lines.as_slice())
 }
