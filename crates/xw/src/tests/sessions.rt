@@ -206,3 +206,39 @@ fn record_kept_apart(rt: HostRuntime) -> Result<(), Fail> {
     fs::remove_file(&rt, "here.txt")?;
     Ok(())
 }
+
+/// What is asked of a session that goes on, and its answers: a barred and unfinished grid, a word, a text, a clue, a circle;
+/// blocks and their images.
+const ASKED: &[u8] = b"show\nmatch ...\ntexts\ncircles\nblock 1 3\nshow\nblock 3 1\n";
+
+const TOLD: &[u8] =
+    b"-|- -\n- A -\n- -|-\nok\nCAT\nok\ntitle Mine\nclue 1 down Told\nok\n1 2\nok\nok\n-|- #\n- A -\n# -|-\nok\nok\n";
+
+/// A session is resumed as it was saved, over and over; the words that were added are kept.
+#[test]
+fn session_goes_on(rt: HostRuntime) -> Result<(), Fail> {
+    runs(
+        &rt,
+        &["xw", "edit", "--save", "goes.xw"],
+        b"size 3 3\nsym half\nbar 1 1 right\nset 2 2 A\nadd CAT\ntitle Mine\ncircle 1 2\nclue 1 down Told\n",
+        Run {
+            output: b"ok\nok\nok\nok\nok\nok\nok\nok\n",
+            ..QUIET
+        },
+    );
+    let saved = fs::read(&rt, "goes.xw")?;
+    for _ in 0..2 {
+        runs(
+            &rt,
+            &["xw", "edit", "--resume", "goes.xw", "--save", "goes.xw"],
+            ASKED,
+            Run {
+                output: TOLD,
+                ..QUIET
+            },
+        );
+        holds(&rt, "goes.xw", saved.as_slice())?;
+    }
+    fs::remove_file(&rt, "goes.xw")?;
+    Ok(())
+}
