@@ -92,14 +92,14 @@ fn run<R: Files + AllocGlobal, I: Source, O: Sink, E: Sink>(
     errors: &mut E,
 ) -> Result<Status, Failure> {
     match call {
-        Call::Edit { files } => edit(rt, files, input, output, errors),
+        Call::Edit { files } => edit::<Engine, R, I, O, E>(rt, files, input, output, errors),
         Call::Convert { from_file, to_file } => convert(rt, from_file, to_file),
         Call::Check { file } => check(rt, file, output),
     }
 }
 
-/// Does a session: starts it with what its files give, answers the input, writes its files.
-fn edit<R: Files + AllocGlobal, I: Source, O: Sink, E: Sink>(
+/// Does a session over an engine: starts it with what its files give, answers the input, writes its files.
+fn edit<F: Feasible, R: Files + AllocGlobal, I: Source, O: Sink, E: Sink>(
     rt: &R,
     named: SessionFiles<'_>,
     input: &mut I,
@@ -107,18 +107,18 @@ fn edit<R: Files + AllocGlobal, I: Source, O: Sink, E: Sink>(
     errors: &mut E,
 ) -> Result<Status, Failure> {
     files::keep_apart(rt, named)?;
-    let mut session = open(rt, named, errors)?;
+    let mut session: Session<F> = open(rt, named, errors)?;
     let refused = resume(rt, &mut session, named.resume_file, errors)?;
     let answered = run_status(session.run_lines(input, output), refused);
     close(rt, &session, named, answered)
 }
 
 /// A session over a word list and a puzzle, each where it is named; the word list is read first.
-fn open<R: Files + AllocGlobal, E: Sink>(
+fn open<F: Feasible, R: Files + AllocGlobal, E: Sink>(
     rt: &R,
     named: SessionFiles<'_>,
     errors: &mut E,
-) -> Result<Session<Engine>, Failure> {
+) -> Result<Session<F>, Failure> {
     let alloc = rt.alloc();
     let bank = match named.dict {
         Some(file) => files::read_dictionary(rt, file, errors)?,
@@ -127,21 +127,21 @@ fn open<R: Files + AllocGlobal, E: Sink>(
     match named.from_file {
         Some(file) => {
             let (_, puzzle) = files::read_puzzle(rt, file)?;
-            let engine = Engine::open(alloc, puzzle.grid, bank).map_err(|_| Failure::Memory)?;
+            let engine = F::open(alloc, puzzle.grid, bank).map_err(|_| Failure::Memory)?;
             Ok(Session::open(engine, puzzle.texts, puzzle.clues, puzzle.circles))
         }
         None => {
             let grid = Grid::new(alloc, START, START).map_err(|_| Failure::Memory)?;
-            let engine = Engine::open(alloc, grid, bank).map_err(|_| Failure::Memory)?;
+            let engine = F::open(alloc, grid, bank).map_err(|_| Failure::Memory)?;
             Ok(Session::new(alloc, engine))
         }
     }
 }
 
 /// Does the lines of a file where it is named, and returns how many are refused.
-fn resume<R: Files + AllocGlobal, E: Sink>(
+fn resume<F: Feasible, R: Files + AllocGlobal, E: Sink>(
     rt: &R,
-    session: &mut Session<Engine>,
+    session: &mut Session<F>,
     named: Option<&str>,
     errors: &mut E,
 ) -> Result<usize, Failure> {
@@ -156,9 +156,9 @@ fn resume<R: Files + AllocGlobal, E: Sink>(
 
 /// Writes the files of a session that has ended, each where it is named: first its record, whatever
 /// ended it, and then its puzzle, unless a device failed or memory was wanting.
-fn close<R: Files + AllocGlobal>(
+fn close<F: Feasible, R: Files + AllocGlobal>(
     rt: &R,
-    session: &Session<Engine>,
+    session: &Session<F>,
     named: SessionFiles<'_>,
     answered: Result<Status, Failure>,
 ) -> Result<Status, Failure> {
@@ -172,9 +172,9 @@ fn close<R: Files + AllocGlobal>(
 }
 
 /// Writes the record of a session into a file, where one is named.
-fn save<R: Files + AllocGlobal>(
+fn save<F: Feasible, R: Files + AllocGlobal>(
     rt: &R,
-    session: &Session<Engine>,
+    session: &Session<F>,
     named: Option<&str>,
 ) -> Result<(), Failure> {
     match named {
@@ -197,10 +197,10 @@ fn run_status(end: RunEnd, before: usize) -> Result<Status, Failure>
 }
 
 /// Writes the puzzle of a session into a file.
-fn keep<R: Files + AllocGlobal>(
+fn keep<F: Feasible, R: Files + AllocGlobal>(
     rt: &R,
     file: &str,
-    session: &Session<Engine>,
+    session: &Session<F>,
 ) -> Result<(), Failure> {
     match session.puzzle() {
         Ok(puzzle) => files::write_puzzle(rt, file, &puzzle),
