@@ -1,13 +1,10 @@
 -- Lines done without their answers.
-use Rattle.std.specs.Prelude.{◌≡◌, ◌==◌, ℕ, Bool, List, Option, Some, None}
+use Rattle.std.specs.Prelude.{◌≡◌, ℕ, List, Option, Some, None}
 use Rattle.xw_session.specs.Answer.{Answers}
 use Rattle.xw_session.specs.Spoken.{refusals}
 use Rattle.xw_session.specs.State.{State}
 use Rattle.xw_session.specs.declared.outcome.Step.{Step}
 use Rattle.xw_session.specs.declared.outcome.Step.TheVariants.{Refused}
-
-abbrev pub is_line_feed : ℕ → Bool
-is_line_feed byte = byte == 10
 
 -- in a state a line may be done, leave this state, and be refused so many times
 abbrev pub Does : State → List ℕ → ℕ → State → Type 0

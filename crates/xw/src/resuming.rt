@@ -1,11 +1,12 @@
 //! A session that starts with the lines of a file.
 ghost use Rattle.std.specs.Prelude.{◌≡◌, ℕ, ◌≤◌, ◌<◌, List, ◌∷◌, length, IfOk, position, option_map};
+ghost use Rattle.xw_words.specs.WordList.{is_line_feed};
 ghost use Rattle.xw_session.specs.Cut.{lines_of};
 ghost use Rattle.xw_session.specs.Spoken.{Spoken};
 ghost use Rattle.xw_session.specs.Answer.{Answers};
 ghost use Rattle.xw_session.specs.Text.{refused, word_line, name_of};
 ghost use Rattle.xw_session.specs.declared.refusal.Refusal.{Refusal};
-ghost use Rattle.xw.specs.Resuming.{Does, IsDone, is_line_feed};
+ghost use Rattle.xw.specs.Resuming.{Does, IsDone};
 
 use crate::failure::Failure;
 use crate::gathered::Gathered;

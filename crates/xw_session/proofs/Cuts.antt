@@ -3,9 +3,10 @@ use Rattle.std.proofs.Common.{rules, ◌≢◌, ◌≡◌, ◌≤◌, ◌<◌, �
 use Rattle.std.proofs.lemmas.Bool.{true≢false, eqb-true}
 use Rattle.std.proofs.lemmas.List.{take_all, take-append-drop, drop_more, get_or-drop}
 use Rattle.std.proofs.lemmas.List.Quantifiers.{position-Some}
+use Rattle.xw_words.specs.WordList.{is_line_feed}
 use Rattle.xw_words.proofs.Position.{position-None}
 use Rattle.std.specs.Prelude.{◌==◌, nat_le, position}
-use Rattle.xw_session.specs.Cut.{Cut, cut, with_first, ended_lines, last_piece, last_line, lines_of, held, is_lf, HasNoLf, EndsLine, AllHaveNoLf, with_lfs}
+use Rattle.xw_session.specs.Cut.{Cut, cut, with_first, ended_lines, last_piece, last_line, lines_of, held, HasNoLf, EndsLine, AllHaveNoLf, with_lfs}
 
 -- the cut after one more byte at the front
 abbrev cut_onto : Bool → ℕ → Cut → Cut
@@ -62,14 +63,14 @@ no_lf-before (b ∷ bytes) (suc end) le h =
     let other : b ≢ 10 = λ z. (let bad : (b == 10) ≡ true = rw z refl in true≢false (sym bad ∙ h zero (omega arith))) in
     (other, no_lf-before bytes end (omega arith) (λ k lt. h (suc k) (omega arith)))
 
-pub no_lf : (bytes : List ℕ) → position is_lf bytes ≡ None → HasNoLf bytes
+pub no_lf : (bytes : List ℕ) → position is_line_feed bytes ≡ None → HasNoLf bytes
 no_lf bytes none =
-    subst HasNoLf (take_all (length bytes) bytes (omega arith)) (no_lf-before bytes (length bytes) (omega arith) (λ k lt. position-None is_lf bytes none k 0 lt))
+    subst HasNoLf (take_all (length bytes) bytes (omega arith)) (no_lf-before bytes (length bytes) (omega arith) (λ k lt. position-None is_line_feed bytes none k 0 lt))
 
 -- the first LF of what stands from a place on ends a line
-pub first_lf-ends : (bytes : List ℕ) (from more : ℕ) → position is_lf (drop from bytes) ≡ Some more → EndsLine bytes from (from + more)
+pub first_lf-ends : (bytes : List ℕ) (from more : ℕ) → position is_line_feed (drop from bytes) ≡ Some more → EndsLine bytes from (from + more)
 first_lf-ends bytes from more some =
-    let found = position-Some is_lf (drop from bytes) more 0 some in
+    let found = position-Some is_line_feed (drop from bytes) more 0 some in
     let count : more ≡ from + more - from = omega arith in
     let long = length-drop from bytes in
     let lf : get_or bytes (from + more) 0 ≡ 10 = sym (get_or-drop from bytes more 0) ∙ eqb-true _ _ found.1 in

@@ -269,7 +269,7 @@ pub fn write_text<W: Sink>(sink: &mut W, field: Field, text: &[u8]) -> Result<()
 
 // ---- the grid
 
-/// Writes a command without its name's cell: its width and height.
+/// Writes the width and height of a grid.
 pub fn write_size<W: Sink>(sink: &mut W, grid: &Grid) -> Result<(), WriteFailed>
     ensures { Sends W.told W.failures sink.old sink.new result (command_lines (commands.Size grid.now.width grid.now.height ∷ [])) }
 {

@@ -1,7 +1,8 @@
 //! Answering the lines of a reader on a writer.
 ghost use Rattle.std.specs.Prelude.{true, ◌≡◌, ℕ, ◌+◌, ◌-◌, ◌^◌, ◌<◌, ◌≤◌, List, [], ◌∷◌, ◌++◌, length, take, drop, position, Option, Some, None, IfOk, IfSome, IfNone, OnOk, OnErr, IsTrue};
 ghost use Rattle.std.specs.Option.{option_map};
-ghost use Rattle.xw_session.specs.Cut.{lines_of, ended_lines, held, HasNoLf, EndsLine, is_lf};
+ghost use Rattle.xw_session.specs.Cut.{lines_of, ended_lines, held, HasNoLf, EndsLine};
+ghost use Rattle.xw_words.specs.WordList.{is_line_feed};
 ghost use Rattle.xw_session.specs.Device.{flushed, saturated, HasFailed};
 ghost use Rattle.xw_session.specs.Spoken.{Answered, BrokeOff, refusals, flush_after};
 ghost use Rattle.xw_session.specs.Run.{Speaks, StopsIn, Progress, IfDone, OnReadFailed, OnWriteFailed, OnEndless, OnMemory, UnlessWriteFailed};
@@ -93,7 +94,7 @@ fn answer_piece<S: Speaker, W: Sink>(
 }
 
 fn first_lf(bytes: &[u8]) -> Option<usize>
-    ensures { result ≡ position is_lf bytes.now }
+    ensures { result ≡ position is_line_feed bytes.now }
 {
     bytes.iter().position(|byte| *byte == b'\n')
 }

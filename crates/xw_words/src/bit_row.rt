@@ -6,8 +6,8 @@ ghost use Rattle.xw_words.specs.Places.{set_places};
 
 use crate::fault::WordFault;
 use crate::kernels::{
-    and_not_words, and_words, count_words, low_bits, make_room_for_bit, next_common, next_word,
-    put_bit, with_bit,
+    and_not_words, and_words, count_words, low_bits, make_room_for_bit, next_common, put_bit,
+    with_bit,
 };
 use crate::ones::{Ones, next_one};
 use std::alloc::Global;
@@ -196,17 +196,6 @@ impl BitRow {
         ensures none { IfNone result ((i : ℕ) → from ≤ i → slice_index_or self.now.bits i false ≡ false) }
     {
         next_one(self, from)
-    }
-
-    /// The first chunk from one on that has a bit.
-    pub fn next_chunk(&self, from: usize) -> Option<usize>
-        ensures within { IfSome result (λ chunk. (from ≤ chunk) × (64 * chunk < length self.now.bits)) }
-        ensures small { IfSome result (λ chunk. chunk < 2 ^ 51) }
-        ensures set { IfSome result (λ chunk. (k : ℕ) × (k < 64) × (slice_index_or self.now.bits (64 * chunk + k) false ≡ true)) }
-        ensures first { IfSome result (λ chunk. (i : ℕ) → 64 * from ≤ i → i < 64 * chunk → slice_index_or self.now.bits i false ≡ false) }
-        ensures none { IfNone result ((i : ℕ) → 64 * from ≤ i → slice_index_or self.now.bits i false ≡ false) }
-    {
-        next_word(&self.words, from)
     }
 
     pub fn has(&self, i: usize) -> bool

@@ -1,4 +1,4 @@
-use Rattle.std.proofs.Common.{ℕ, ◌+◌, bit_or, bit_and, get_or, arith}
+use Rattle.std.proofs.Common.{ℕ, ◌+◌, bit_or, bit_and, get_or}
 use Rattle.std.proofs.lemmas.Bool.{eqb-true}
 use Rattle.xw_words.proofs.Apart.{none_of_four}
 use Rattle.xw_words.proofs.kernels.is_apart_at.Goals as goal

@@ -1,4 +1,4 @@
-use Rattle.std.proofs.Common.{◌+◌, ◌*◌, ◌/◌, false, not, ◌&&◌, get_or, refl, ap, ◌∙◌, arith}
+use Rattle.std.proofs.Common.{false, not, ◌&&◌, get_or, refl, ap, ◌∙◌, arith}
 use Rattle.std.proofs.lemmas.List.{with_items_is}
 use Rattle.xw_words.specs.Bits.{bits_of, words_have}
 use Rattle.xw_words.proofs.BitLemmas.{length-bits_of}

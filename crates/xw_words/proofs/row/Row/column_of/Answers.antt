@@ -1,4 +1,3 @@
-use Rattle.std.proofs.Common.{ap, sym, ◌∙◌, arith}
 use Rattle.xw_words.specs.Row.{entries_of}
 use Rattle.xw_words.proofs.ColumnLemmas.{no_position}
 use Rattle.xw_words.proofs.KeptRowLemmas.{entries_long}
