@@ -1,10 +1,9 @@
 -- What a record has for cells, done for one cell after another.
-use Rattle.std.proofs.Common.{◌≡◌, ℕ, ◌+◌, ◌*◌, ◌<◌, ◌≤◌, zero, suc, Bool, true, false, not, ◌&&◌, ◌||◌, cond, eqb, leb, le-leb, ◌-◌, List, [], ◌∷◌, ◌++◌, length, map, take, drop, get_or, set, replicate, flat_map, Some, None, refl, sym, ◌∙◌, ap, append_assoc, append-nil, zero-add, add-one, drop-cons, length-set, arith}
-use Rattle.std.specs.Prelude.{Option, Ok, Err, slice_get, slice_set, is_some, if◌then◌else◌, All}
+use Rattle.std.proofs.Common.{◌≡◌, ℕ, ◌+◌, ◌*◌, ◌<◌, ◌≤◌, zero, suc, Bool, true, false, not, ◌&&◌, ◌||◌, eqb, leb, le-leb, ◌-◌, List, [], ◌∷◌, ◌++◌, length, map, take, drop, get_or, set, replicate, flat_map, Some, None, refl, sym, ◌∙◌, ap, append_assoc, append-nil, zero-add, add-one, drop-cons, length-set, arith}
+use Rattle.std.specs.Prelude.{Ok, Err, slice_get, is_some, if◌then◌else◌}
 use Rattle.std.specs.Option.{option_and_then}
 use Rattle.std.specs.List.{range_with_len}
 use Rattle.std.proofs.Math.Seq.{set-append_seam, get_or-append_seam}
-use Rattle.std.proofs.lemmas.Bool.{eq-eqb}
 use Rattle.std.proofs.lemmas.Bool.Decides.{nat_tests}
 use Rattle.std.proofs.lemmas.List.{take_more, take_all, length-take-le, length-drop, length-append, length-map, length-replicate, set-get_or, get_or-map, get_or-replicate, get_or_default, same_lists, drop_all}
 use Rattle.std.proofs.lemmas.List.Elements.{All-get_or}
@@ -25,7 +24,7 @@ use Rattle.xw_session.specs.declared.command.Command.{Command}
 use Rattle.xw_session.specs.declared.command.Command.TheVariants as commands
 use Rattle.xw_session.specs.declared.record.Part.TheVariants.{Letters, Blocks}
 use Rattle.xw_session.specs.State.{State}
-use Rattle.xw_session.specs.Reply.{reply_to, moved, with_letter}
+use Rattle.xw_session.specs.Reply.{moved, with_letter}
 use Rattle.xw_session.specs.Record.{spot_of, letter_commands, block_commands, cell_commands, part_commands}
 use Rattle.xw_session.specs.Replay.{state_left, replayed, bared, with_grid}
 use Rattle.xw_session.proofs.Replaying.{replayed_both, next_done}

@@ -1,9 +1,7 @@
 -- Circles of a record, set in reading order.
-use Rattle.std.proofs.Common.{◌≡◌, ℕ, ◌+◌, ◌*◌, ◌/◌, ◌%◌, ◌<◌, ◌≤◌, Bool, true, false, not, ◌&&◌, ◌||◌, cond, List, [], ◌∷◌, ◌++◌, length, map, take, get_or, replicate, filter, Some, None, refl, sym, ◌∙◌, ap, inl, inr, append-nil, arith}
-use Rattle.std.specs.Prelude.{Ok, Err, if◌then◌else◌, All}
-use Rattle.std.specs.List.{list_any}
-use Rattle.std.specs.declared.cmp.Ordering.{Ordering}
-use Rattle.std.specs.declared.cmp.Ordering.TheVariants.{Less, Equal, Greater}
+use Rattle.std.proofs.Common.{◌≡◌, ℕ, ◌+◌, ◌*◌, ◌/◌, ◌%◌, ◌<◌, ◌≤◌, Bool, true, false, not, ◌||◌, List, [], ◌∷◌, ◌++◌, length, take, get_or, filter, Some, None, refl, sym, ◌∙◌, ap, inl, inr, append-nil, arith}
+use Rattle.std.specs.Prelude.{Err, if◌then◌else◌, All}
+use Rattle.std.specs.declared.cmp.Ordering.TheVariants.{Equal, Greater}
 use Rattle.std.specs.Ordering.{nat_cmp, is_eq, ordering_then, match_ordering}
 use Rattle.std.specs.Cmp.{nat_cmp_is}
 use Rattle.std.specs.BTreeSet.{insert_key}
@@ -16,17 +14,17 @@ use Rattle.std.proofs.lemmas.List.Elements.{All-tail, All-from_get_or, All-filte
 use Rattle.xw_grid.specs.declared.cell.Cell.{Cell}
 use Rattle.xw_grid.specs.declared.cell.Square.TheVariants.{Block, Open}
 use Rattle.xw_grid.specs.declared.fault.GridFault.TheVariants.{OutOfGrid, OnBlock}
-use Rattle.xw_grid.specs.Grid.{Grid, IsGrid, is_inside, is_open, is_open_square, cell_at, cells, same_cell, cell_cmp}
+use Rattle.xw_grid.specs.Grid.{Grid, IsGrid, is_inside, is_open, is_open_square, cell_at, cells, cell_cmp}
 use Rattle.xw_grid.specs.Edit.{blank}
 use Rattle.xw_grid.specs.Clue.{ClueMap, is_circled, with_circle}
 use Rattle.xw_grid.proofs.ClueLemmas.{same_at}
-use Rattle.xw_grid.proofs.GridLemmas.{cell_at-inside, length-cells, take-cells, all-cells}
+use Rattle.xw_grid.proofs.GridLemmas.{cell_at-inside, take-cells, all-cells}
 use Rattle.xw_session.specs.declared.command.Command.TheVariants as commands
 use Rattle.xw_session.specs.declared.record.Part.TheVariants.{Circles}
 use Rattle.xw_session.specs.declared.refusal.Refusal.TheVariants as refusals
 use Rattle.xw_session.specs.State.{State}
 use Rattle.xw_session.specs.Reply.{edited}
-use Rattle.xw_session.specs.Record.{spot_of, circle_commands, cell_commands, part_commands}
+use Rattle.xw_session.specs.Record.{spot_of, cell_commands, part_commands}
 use Rattle.xw_session.specs.Replay.{state_left, replayed, with_grid}
 use Rattle.xw_session.proofs.Replaying.{next_done}
 use Rattle.xw_session.proofs.CellsAgain.{each_cell_again, square_is}

@@ -1,5 +1,5 @@
 -- The commands that make a session again from any one that begins with the same words.
-use Rattle.std.specs.Prelude.{ℕ, ◌+◌, ◌-◌, ◌*◌, ◌/◌, Bool, true, false, List, [], ◌∷◌, ◌++◌, map, take, drop, length, flat_map, codes, decimal, Option, Some, None, slice_index_or, if◌then◌else◌}
+use Rattle.std.specs.Prelude.{ℕ, ◌+◌, ◌-◌, ◌*◌, ◌/◌, List, [], ◌∷◌, ◌++◌, map, take, drop, length, flat_map, Option, Some, None, slice_index_or, if◌then◌else◌}
 use Rattle.std.specs.List.{range_with_len}
 use Rattle.xw_words.specs.Dictionary.{Dictionary, Entry, row}
 use Rattle.xw_grid.specs.declared.cell.Cell.{Cell}
@@ -7,15 +7,12 @@ use Rattle.xw_grid.specs.declared.cell.Direction.{Direction}
 use Rattle.xw_grid.specs.declared.cell.Direction.TheVariants.{Across, Down}
 use Rattle.xw_grid.specs.declared.cell.Side.{Side}
 use Rattle.xw_grid.specs.declared.cell.Side.TheVariants.{Right, Below}
-use Rattle.xw_grid.specs.declared.cell.Symmetry.{Symmetry}
-use Rattle.xw_grid.specs.declared.cell.Symmetry.TheVariants as kinds
 use Rattle.xw_grid.specs.Grid.{Grid, cells, is_block, is_barred, entry}
 use Rattle.xw_grid.specs.Clue.{ClueMap, clue_at, is_circled}
 use Rattle.xw_session.specs.declared.command.Command.{Command}
 use Rattle.xw_session.specs.declared.command.Command.TheVariants.{Size, Symmetry as Turn, Add, Strike, Set, Block, Bar, Circle, Watch, Put}
 use Rattle.xw_session.specs.declared.command.Field.{Field}
 use Rattle.xw_session.specs.declared.command.Field.TheVariants as fields
-use Rattle.xw_session.specs.declared.command.Putting.{Putting}
 use Rattle.xw_session.specs.declared.command.Putting.TheVariants.{Instead, Behind}
 use Rattle.xw_session.specs.declared.command.Spot.{Spot}
 use Rattle.xw_session.specs.declared.command.TextField.TheVariants.{Title, Author, Copyright, Notes}

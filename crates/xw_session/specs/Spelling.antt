@@ -1,5 +1,5 @@
 -- The line of a command.
-use Rattle.std.specs.Prelude.{ℕ, Bool, true, false, List, [], ◌∷◌, ◌++◌, codes, decimal, Option, Some, None}
+use Rattle.std.specs.Prelude.{ℕ, Bool, true, false, List, [], ◌∷◌, codes, decimal, Option, Some, None}
 use Rattle.xw_grid.specs.declared.cell.Side.{Side}
 use Rattle.xw_grid.specs.declared.cell.Side.TheVariants.{Right, Below}
 use Rattle.xw_grid.specs.declared.cell.Symmetry.{Symmetry}
@@ -8,10 +8,8 @@ use Rattle.xw_session.specs.declared.command.Command.{Command}
 use Rattle.xw_session.specs.declared.command.Command.TheVariants as commands
 use Rattle.xw_session.specs.declared.command.Field.{Field}
 use Rattle.xw_session.specs.declared.command.Field.TheVariants as fields
-use Rattle.xw_session.specs.declared.command.Name.{Name}
 use Rattle.xw_session.specs.declared.command.Name.TheVariants as names
 use Rattle.xw_session.specs.declared.command.Named.{Named}
-use Rattle.xw_session.specs.declared.command.Putting.{Putting}
 use Rattle.xw_session.specs.declared.command.Spot.{Spot}
 use Rattle.xw_session.specs.declared.command.TextField.{TextField}
 use Rattle.xw_session.specs.declared.command.TextField.TheVariants.{Title, Author, Copyright, Notes}

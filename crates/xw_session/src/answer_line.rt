@@ -1,5 +1,5 @@
 //! A line of an answer, put together to be written at once.
-ghost use Rattle.std.specs.Prelude.{◌≡◌, ◌+◌, ◌≤◌, true, [], ◌++◌, length, map};
+ghost use Rattle.std.specs.Prelude.{◌≡◌, ◌+◌, ◌<◌, ◌≤◌, true, [], ◌∷◌, ◌++◌, length, map};
 ghost use Rattle.xw_session.specs.Text.{line_of};
 
 use std::marker::Model;
@@ -32,6 +32,34 @@ impl AnswerLine {
             bytes: [0; MOST],
             len: 0,
         }
+    }
+
+    /// Begins the line anew.
+    pub fn clear(&mut self)
+        ensures { self.new ≡ [] }
+    {
+        self.len = 0;
+    }
+
+    /// Puts a byte at the end, where there is room.
+    pub fn push_byte(&mut self, byte: u8) -> bool
+        ensures fits { result ≡ true → self.new ≡ self.old ++ byte ∷ [] }
+        ensures room { length self.old < 512 → result ≡ true }
+    {
+        if self.len >= MOST {
+            return false;
+        }
+        self.bytes[self.len] = byte;
+        self.len += 1;
+        true
+    }
+
+    /// Puts two bytes at the end, where there is room.
+    pub fn push_pair(&mut self, pair: [u8; 2]) -> bool
+        ensures fits { result ≡ true → self.new ≡ self.old ++ pair }
+        ensures room { length self.old + 2 ≤ 512 → result ≡ true }
+    {
+        self.push_byte(pair[0]) && self.push_byte(pair[1])
     }
 
     /// Puts bytes at the end, where there is room; else the line is not to be used.

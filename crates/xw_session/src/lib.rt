@@ -8,6 +8,7 @@ mod escape;
 mod fields;
 mod history;
 pub mod law;
+mod light_line;
 mod line;
 mod lists;
 mod lookup;

@@ -1,18 +1,19 @@
 //! Lists that are answered, one line after another.
-ghost use Rattle.std.specs.Prelude.{◌≡◌, ◌<◌, flat_map, length, slice_index_or, take};
+ghost use Rattle.std.specs.Prelude.{◌≡◌, ◌<◌, ◌≤◌, flat_map, length, slice_index_or, take};
 ghost use Rattle.xw_grid.specs.Light.{lights_of, no_light};
 ghost use Rattle.xw_feas.specs.Changed.{changes_left};
 ghost use Rattle.xw_feas.specs.Changes.{spelled_out};
 ghost use Rattle.xw_session.specs.Sends.{Sends};
 ghost use Rattle.xw_session.specs.Text.{word_line, light_line, light_lines, circle_line, circle_lines, change_line, duplicate_line, spelled_line};
 
-use crate::device::{Sink, WriteFailed};
-use crate::text;
+use crate::answer_line::AnswerLine;
+use crate::device::{self, Sink, WriteFailed};
+use crate::{light_line, text};
 use xw_feas::changed::Changed;
 use xw_feas::feasible::Feasible;
 use xw_feas::words::WordIter;
 use xw_fill::listing::Duplicate;
-use xw_grid::{Cell, Circles, Grid, LightName, Lights};
+use xw_grid::{Cell, Circles, Grid, Light, LightName, Lights};
 use xw_words::Matching;
 
 /// Writes words, each on a line.
@@ -30,8 +31,9 @@ pub fn write_lights<W: Sink>(sink: &mut W, grid: &Grid, lights: &Lights) -> Resu
     requires { lights.now ≡ lights_of grid.now }
     ensures { Sends W.told W.failures sink.old sink.new result (light_lines grid.now) }
 {
+    let mut line = AnswerLine::new();
     for place in 0..lights.len() {
-        write_light_at(sink, grid, lights, place)?;
+        write_light_at(sink, &mut line, grid, lights, place)?;
     }
     Ok(())
 }
@@ -39,6 +41,7 @@ pub fn write_lights<W: Sink>(sink: &mut W, grid: &Grid, lights: &Lights) -> Resu
 /// Writes the light at a place.
 fn write_light_at<W: Sink>(
     sink: &mut W,
+    line: &mut AnswerLine,
     grid: &Grid,
     lights: &Lights,
     place: usize,
@@ -49,9 +52,24 @@ fn write_light_at<W: Sink>(
 {
     grid.well_formed();
     match lights.get(place) {
-        Some(light) => text::write_light(sink, grid, &light),
+        Some(light) => write_light(sink, line, grid, &light),
         None => Ok(()),
     }
+}
+
+/// Writes a light with its start cell and its letters.
+fn write_light<W: Sink>(
+    sink: &mut W,
+    line: &mut AnswerLine,
+    grid: &Grid,
+    light: &Light,
+) -> Result<(), WriteFailed>
+    requires short { light.now.size ≤ 255 }
+    requires inside { (light.now.start.row ≤ 255) × (light.now.start.col ≤ 255) }
+    ensures { Sends W.told W.failures sink.old sink.new result (light_line grid.now light.now) }
+{
+    light_line::put_light(line, grid, light);
+    device::write_all(sink, line.bytes())
 }
 
 /// Writes a cell on a line where it is open and circled.

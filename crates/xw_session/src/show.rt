@@ -79,51 +79,64 @@ fn has_bar_below(grid: &Grid, row: u32) -> bool
     false
 }
 
-/// A row of cells, put together.
-fn cells_of_row(grid: &Grid, row: u32) -> AnswerLine
-    ensures { result ≡ row_line grid.now row }
+/// Puts a row of cells together.
+fn put_cells(line: &mut AnswerLine, grid: &Grid, row: u32)
+    ensures { line.new ≡ row_line grid.now row }
 {
     grid.well_formed();
-    let mut line = AnswerLine::new();
+    line.clear();
     for before in 0..grid.width() {
-        let _ = line.push(&cell_pair(grid, cell_in(row, before)));
+        let _ = line.push_pair(cell_pair(grid, cell_in(row, before)));
     }
-    line
 }
 
-/// The bars below a row, put together.
-fn bars_of_row(grid: &Grid, row: u32) -> AnswerLine
-    ensures { result ≡ bar_line grid.now row }
+/// Puts the bars below a row together.
+fn put_bars(line: &mut AnswerLine, grid: &Grid, row: u32)
+    ensures { line.new ≡ bar_line grid.now row }
 {
     grid.well_formed();
-    let mut line = AnswerLine::new();
+    line.clear();
     for before in 0..grid.width() {
-        let _ = line.push(&bar_pair(grid, cell_in(row, before)));
+        let _ = line.push_pair(bar_pair(grid, cell_in(row, before)));
     }
-    line
 }
 
-fn write_row<W: Sink>(sink: &mut W, grid: &Grid, row: u32) -> Result<(), WriteFailed>
+fn write_row<W: Sink>(
+    sink: &mut W,
+    line: &mut AnswerLine,
+    grid: &Grid,
+    row: u32,
+) -> Result<(), WriteFailed>
     ensures { Sends W.told W.failures sink.old sink.new result (row_line grid.now row) }
 {
-    let line = cells_of_row(grid, row);
+    put_cells(line, grid, row);
     device::write_all(sink, line.bytes())
 }
 
-fn write_bars<W: Sink>(sink: &mut W, grid: &Grid, row: u32) -> Result<(), WriteFailed>
+fn write_bars<W: Sink>(
+    sink: &mut W,
+    line: &mut AnswerLine,
+    grid: &Grid,
+    row: u32,
+) -> Result<(), WriteFailed>
     ensures { Sends W.told W.failures sink.old sink.new result (bar_line grid.now row) }
 {
-    let line = bars_of_row(grid, row);
+    put_bars(line, grid, row);
     device::write_all(sink, line.bytes())
 }
 
 /// Writes a row, and a line of bars where one is barred below.
-fn write_row_lines<W: Sink>(sink: &mut W, grid: &Grid, row: u32) -> Result<(), WriteFailed>
+fn write_row_lines<W: Sink>(
+    sink: &mut W,
+    line: &mut AnswerLine,
+    grid: &Grid,
+    row: u32,
+) -> Result<(), WriteFailed>
     ensures { Sends W.told W.failures sink.old sink.new result (row_lines grid.now row) }
 {
-    write_row(sink, grid, row)?;
+    write_row(sink, line, grid, row)?;
     if has_bar_below(grid, row) {
-        write_bars(sink, grid, row)
+        write_bars(sink, line, grid, row)
     } else {
         Ok(())
     }
@@ -133,8 +146,9 @@ fn write_row_lines<W: Sink>(sink: &mut W, grid: &Grid, row: u32) -> Result<(), W
 pub fn write_grid<W: Sink>(sink: &mut W, grid: &Grid) -> Result<(), WriteFailed>
     ensures { Sends W.told W.failures sink.old sink.new result (show_lines grid.now) }
 {
+    let mut line = AnswerLine::new();
     for above in 0..grid.height() {
-        write_row_lines(sink, grid, above + 1)?;
+        write_row_lines(sink, &mut line, grid, above + 1)?;
     }
     Ok(())
 }

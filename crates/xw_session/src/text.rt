@@ -6,7 +6,7 @@ ghost use Rattle.xw_grid.specs.Light.{lights_of};
 ghost use Rattle.xw_feas.specs.Spelled.{spelling};
 ghost use Rattle.xw_session.specs.Sends.{Sends};
 ghost use Rattle.xw_session.specs.Told.{numbered_line};
-ghost use Rattle.xw_session.specs.Text.{line_of, accepted, refused, direction_name as name_of_direction, letter_or_dot as byte_of_entry, pattern as pattern_in, pattern_of, light_of, light_line, cell_line, letters_or_dash, letters_line, change_line, duplicate_line, spelled_line};
+ghost use Rattle.xw_session.specs.Text.{line_of, accepted, refused, direction_name as name_of_direction, letter_or_dot as byte_of_entry, pattern as pattern_in, pattern_of, light_of, cell_line, letters_or_dash, letters_line, change_line, duplicate_line, spelled_line};
 
 use crate::answer_line::AnswerLine;
 use crate::device::{self, Sink, WriteFailed};
@@ -181,7 +181,7 @@ pub fn write_word<W: Sink>(sink: &mut W, word: &[Letter]) -> Result<(), WriteFai
 pub fn write_accepted<W: Sink>(sink: &mut W) -> Result<(), WriteFailed>
     ensures { Sends W.told W.failures sink.old sink.new result accepted }
 {
-    write_line(sink, &[b"ok"])
+    device::write_all(sink, b"ok\n")
 }
 
 /// Answers that a command was refused.
@@ -201,7 +201,7 @@ pub fn direction_name(direction: Direction) -> &'static str
 }
 
 /// The letter in a cell, or a dot.
-fn letter_or_dot(grid: &Grid, cell: Cell) -> u8
+pub fn letter_or_dot(grid: &Grid, cell: Cell) -> u8
     ensures { result ≡ byte_of_entry (entry_of grid.now cell) }
 {
     match grid.entry(cell) {
@@ -263,28 +263,6 @@ impl Pattern {
     {
         &self.bytes[..self.count]
     }
-}
-
-/// Writes a light with its start cell and its letters.
-pub fn write_light<W: Sink>(sink: &mut W, grid: &Grid, light: &Light) -> Result<(), WriteFailed>
-    requires short { light.now.size ≤ 255 }
-    requires inside { (light.now.start.row ≤ 255) × (light.now.start.col ≤ 255) }
-    ensures { Sends W.told W.failures sink.old sink.new result (light_line grid.now light.now) }
-{
-    let number = Decimal::new(u64::from(light.name.number));
-    let row = Decimal::new(u64::from(light.start.row));
-    let col = Decimal::new(u64::from(light.start.col));
-    let pattern = Pattern::new(grid, light);
-    write_line(
-        sink,
-        &[
-            number.digits(),
-            direction_name(light.name.direction).as_bytes(),
-            row.digits(),
-            col.digits(),
-            pattern.bytes(),
-        ],
-    )
 }
 
 /// Writes a cell by its row and column.

@@ -1,7 +1,6 @@
-use Rattle.std.proofs.Common.{sym}
 use Rattle.std.proofs.lemmas.Result.{err_from_is_err_and}
 use Rattle.xw_session.proofs.SendsLemmas.{sends-then, stops-within}
-use Rattle.xw_session.proofs.Recording.{put_line_parts, sends_as, stops_as}
+use Rattle.xw_session.proofs.Recording.{put_line_parts}
 use Rattle.xw_session.proofs.record.write_put.Goals as goal
 
 pub returns-in_err-write_spaced : goal.returns-in_err-write_spaced

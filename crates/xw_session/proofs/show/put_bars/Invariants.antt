@@ -1,6 +1,6 @@
 use Rattle.std.proofs.Common.{◌≡◌, ◌*◌, flat_map, length, take}
 use Rattle.xw_session.specs.Show.{bar_pair, cell_in, columns}
-use Rattle.xw_session.proofs.show.bars_of_row.Given as goal
+use Rattle.xw_session.proofs.show.put_bars.Given as goal
 
 abbrev pub invariant-loop-before : goal.invariant-loop-before
 invariant-loop-before l = record {

@@ -1,0 +1,63 @@
+//! The line of a light, put together.
+ghost use Rattle.std.specs.Prelude.{◌≡◌, ◌+◌, ◌<◌, ◌≤◌, ◌^◌, ◌++◌, codes, decimal, length};
+ghost use Rattle.xw_session.specs.Text.{direction_name as name_of_direction, pattern as pattern_in, light_line};
+
+use crate::answer_line::AnswerLine;
+use crate::text::{Decimal, direction_name, letter_or_dot};
+use xw_grid::{Direction, Grid, Light};
+
+/// Puts a word and a space at the end of a line.
+fn put_spaced(line: &mut AnswerLine, word: &[u8])
+    requires { length line.old + length word.now + 1 ≤ 512 }
+    ensures { line.new ≡ line.old ++ word.now ++ codes " " }
+{
+    let _ = line.push(word);
+    let _ = line.push_byte(b' ');
+}
+
+/// Puts a number and a space at the end of a line.
+fn put_number(line: &mut AnswerLine, number: u64)
+    requires { length line.old + 21 ≤ 512 }
+    ensures is { line.new ≡ line.old ++ decimal number ++ codes " " }
+    ensures long { length line.new ≤ length line.old + 21 }
+{
+    let number = Decimal::new(number);
+    put_spaced(line, number.digits());
+}
+
+/// Puts the way of a light and a space at the end of a line.
+fn put_direction(line: &mut AnswerLine, direction: Direction)
+    requires { length line.old + 7 ≤ 512 }
+    ensures is { line.new ≡ line.old ++ name_of_direction direction ++ codes " " }
+    ensures long { length line.new ≤ length line.old + 7 }
+{
+    put_spaced(line, direction_name(direction).as_bytes());
+}
+
+/// Puts the letters of a light at the end of a line, with a dot for each empty cell.
+fn put_letters(line: &mut AnswerLine, grid: &Grid, light: &Light)
+    requires room { length line.old + 255 ≤ 512 }
+    requires short { light.now.size ≤ 255 }
+    requires inside { (light.now.start.row ≤ 255) × (light.now.start.col ≤ 255) }
+    ensures is { line.new ≡ line.old ++ pattern_in grid.now light.now }
+    ensures long { length line.new ≤ length line.old + 255 }
+{
+    for k in 0..light.size {
+        let _ = line.push_byte(letter_or_dot(grid, light.cell(k)));
+    }
+}
+
+/// Puts a light with its start cell and its letters together.
+pub fn put_light(line: &mut AnswerLine, grid: &Grid, light: &Light)
+    requires short { light.now.size ≤ 255 }
+    requires inside { (light.now.start.row ≤ 255) × (light.now.start.col ≤ 255) }
+    ensures { line.new ≡ light_line grid.now light.now }
+{
+    line.clear();
+    put_number(line, u64::from(light.name.number));
+    put_direction(line, light.name.direction);
+    put_number(line, u64::from(light.start.row));
+    put_number(line, u64::from(light.start.col));
+    put_letters(line, grid, light);
+    let _ = line.push_byte(b'\n');
+}
