@@ -10,6 +10,7 @@ ghost use Rattle.xw_feas.specs.State.{add_word, strike_word};
 use xw_words::bank::Bank;
 use xw_words::fault::WordFault;
 use xw_words::letter::Letter;
+use xw_words::word::{LONGEST, spell};
 
 /// What is true of every dictionary; it does nothing.
 pub fn known_distinct(bank: &Bank)
@@ -60,24 +61,7 @@ pub fn add_in(bank: &mut Bank, word: &[u8])
     ensures counts { GrowsAt bank.old.words bank.new.words (length word.now) }
 {
     let _ = bank.known(word.len());
-    let letters = capitals(word);
-    let _ = bank.add_reserved(&letters[..word.len()]);
-}
-
-/// The longest word.
-const LONGEST: usize = 255;
-
-/// The letters that a word has, at the front.
-fn capitals(word: &[u8]) -> [Letter; LONGEST]
-    requires letters { position is_bad_letter word.now ≡ None }
-    requires short { length word.now ≤ 255 }
-    ensures { take (length word.now) result ≡ map folded word.now }
-{
     let mut letters = [Letter::first(); LONGEST];
-    for (place, byte) in word.iter().enumerate() {
-        if let Some(letter) = Letter::of(*byte) {
-            letters[place] = letter;
-        }
-    }
-    letters
+    spell(&mut letters, word);
+    let _ = bank.add_reserved(&letters[..word.len()]);
 }

@@ -14,7 +14,7 @@ use std::marker::Model;
 use xw_words::letter::Letter;
 
 /// The longest side of a grid.
-const LONGEST: u32 = 255;
+pub const LONGEST_SIDE: u32 = 255;
 
 /// Cells with letters, blocks and bars, and a symmetry under which they are edited.
 #[derive(Drop)]
@@ -44,7 +44,7 @@ impl Grid {
         ensures refused { IfErr result (λ fault. fault ≢ GridFault.Memory → new_grid width height ≡ Err fault) }
         ensures memory { result ≡ Err GridFault.Memory → IsOk (new_grid width height) }
     {
-        if !(1..=LONGEST).contains(&width) || !(1..=LONGEST).contains(&height) {
+        if !(1..=LONGEST_SIDE).contains(&width) || !(1..=LONGEST_SIDE).contains(&height) {
             return Err(GridFault::Size);
         }
         let size = width as usize * height as usize;

@@ -6,6 +6,7 @@ pub mod circles;
 pub mod clues;
 pub mod fault;
 pub mod grid;
+pub mod laws;
 pub mod lights;
 pub mod orbit;
 mod places;

@@ -3,7 +3,6 @@ ghost use Rattle.std.specs.Prelude.{◌≡◌, ℕ, ◌+◌, ◌++◌, ◌<◌, 
 ghost use Rattle.xw_grid.specs.Grid.{is_inside, same_cell};
 ghost use Rattle.xw_grid.specs.Light.{is_joined as is_joined_to_next, begins as begins_light, previous as cell_before, begins_some as begins_some_light, step as cell_after, run_from, light_from, lights_at, lights_of, number_at, same_name, place_named, place_through, place_with_cells, number_in, same_name, name_before};
 ghost use Rattle.xw_grid.specs.LightLaws.{LightsAreLights, LightsAreAll, LightsBegin, LightsAreOrdered, LightsAreApart, LightsAreFew, LightsMeetOnce};
-ghost use Rattle.xw_grid.specs.EditLaws.{LettersKeepShape, SymmetryKeepsShape};
 ghost use Rattle.xw_grid.specs.Places.{ArePlaces, number_of_start, is_such};
 ghost use Rattle.std.specs.Option.{option_and_then};
 
@@ -400,14 +399,4 @@ pub fn lights_meet_once()
 /// No grid has more lights than 64,770.
 pub fn lights_are_few()
     ensures { LightsAreFew }
-{}
-
-/// A letter that is entered or taken away changes no light and opens no cell.
-pub fn letters_keep_shape()
-    ensures { LettersKeepShape }
-{}
-
-/// A change of symmetry changes no light and opens no cell.
-pub fn symmetry_keeps_shape()
-    ensures { SymmetryKeepsShape }
 {}

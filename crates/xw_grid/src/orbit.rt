@@ -4,7 +4,6 @@ ghost use Rattle.std.specs.Iterator.{YieldsFirst, item_count};
 ghost use Rattle.std.specs.List.{list_any};
 ghost use Rattle.xw_grid.specs.Grid.{cell_in};
 ghost use Rattle.xw_grid.specs.Orbit.{cells_among, AreNeighbours, IsEdgeBetween, OrbitIsLeast, OrbitsAreSmall, EdgeOrbitsAreSmall};
-ghost use Rattle.xw_grid.specs.EditLaws.{BlocksChangeOrbits, BarsChangeOrbits};
 ghost use Rattle.xw_grid.specs.Places.{IsLeastFrom, nearer as nearer_place};
 
 use crate::cell::{Cell, Edge, Side};
@@ -140,14 +139,4 @@ pub fn orbits_are_small()
 /// No orbit has more than four edges.
 pub fn edge_orbits_are_small()
     ensures { EdgeOrbitsAreSmall }
-{}
-
-/// A toggled block makes its orbit blocks, or open, the opposite of what the named cell was, and leaves the rest.
-pub fn blocks_change_orbits()
-    ensures { BlocksChangeOrbits }
-{}
-
-/// A toggled bar makes its orbit the opposite of what the named edge was, and leaves the rest.
-pub fn bars_change_orbits()
-    ensures { BarsChangeOrbits }
 {}

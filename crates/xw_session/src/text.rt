@@ -17,6 +17,7 @@ use std::marker::Model;
 use xw_feas::words::{Entries, Spelled};
 use xw_fill::listing::Duplicate;
 use xw_grid::{Cell, Direction, Grid, Light, LightName, Lights};
+use xw_words::word::LONGEST;
 use xw_words::{Letter, LetterSet};
 
 /// The digits of a number, which take no memory.
@@ -213,7 +214,7 @@ pub fn letter_or_dot(grid: &Grid, cell: Cell) -> u8
 /// The letters of a light, with a dot for each empty cell. They take no memory.
 #[derive(Drop)]
 struct Pattern {
-    bytes: [u8; 255],
+    bytes: [u8; LONGEST],
     count: usize,
 }
 
@@ -233,7 +234,7 @@ impl Pattern {
         requires inside { (light.now.start.row ≤ 255) × (light.now.start.col ≤ 255) }
         ensures { result ≡ pattern_in grid.now light.now }
     {
-        let mut bytes = [0; 255];
+        let mut bytes = [0; LONGEST];
         for k in 0..light.size {
             bytes[k as usize] = letter_or_dot(grid, light.cell(k));
         }
@@ -252,7 +253,7 @@ impl Pattern {
         match light_named(lights, name) {
             Some(light) => Pattern::new(grid, &light),
             None => Pattern {
-                bytes: [0; 255],
+                bytes: [0; LONGEST],
                 count: 0,
             },
         }

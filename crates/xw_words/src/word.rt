@@ -6,10 +6,11 @@ ghost use Rattle.xw_words.specs.Word.{judged, is_bad_letter, is_bad_in_pattern};
 use crate::fault::WordFault;
 use crate::letter::Letter;
 
-/// The shortest and the longest word.
+/// The shortest word.
 const SHORTEST: usize = 2;
 
-pub(crate) const LONGEST: usize = 255;
+/// The longest word.
+pub const LONGEST: usize = 255;
 
 pub(crate) fn is_letter(byte: u8) -> bool
     ensures { result ≡ is_letter_byte byte }
@@ -68,7 +69,7 @@ pub(crate) fn judge_pattern(bytes: &[u8]) -> Result<(), WordFault>
 }
 
 /// Writes the letters that bytes stand for.
-pub(crate) fn spell(letters: &mut [Letter], bytes: &[u8])
+pub fn spell(letters: &mut [Letter], bytes: &[u8])
     requires letters { position is_bad_letter bytes.now ≡ None }
     requires room { length bytes.now ≤ length letters.old }
     ensures { take (length bytes.now) letters.new ≡ map folded bytes.now }

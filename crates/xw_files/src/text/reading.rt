@@ -19,12 +19,9 @@ use std::alloc::{AllocError, Global};
 use xw_grid::cell::{Cell, Direction, Square};
 use xw_grid::circles::Circles;
 use xw_grid::clues::Clues;
-use xw_grid::grid::Grid;
+use xw_grid::grid::{Grid, LONGEST_SIDE};
 use xw_grid::lights::begins;
 use xw_words::letter::Letter;
-
-/// The longest side of a grid.
-const LONGEST: u32 = 255;
 
 #[tactic(auto, unfolding(crate::specs::Text::Shape::header_at))]
 fn header(lines: &mut TextLines<'_>) -> Result<(), ReadFault>
@@ -119,7 +116,7 @@ fn side(digits: &[u8]) -> Option<u32>
         return None;
     }
     let number = number(digits);
-    if (1..=LONGEST).contains(&number) {
+    if (1..=LONGEST_SIDE).contains(&number) {
         Some(number)
     } else {
         None
