@@ -1,5 +1,5 @@
 -- Lists of cells that are written.
-use Rattle.std.proofs.Common.{◌≡◌, ℕ, zero, suc, ◌+◌, ◌<◌, Bool, true, false, cond, not, List, [], ◌∷◌, drop, length, get_or, set, Some, None, refl, sym, ◌∙◌, ap, arith}
+use Rattle.std.proofs.Common.{◌≡◌, ℕ, zero, suc, ◌+◌, ◌<◌, Bool, true, false, cond, not, List, [], ◌∷◌, ◌++◌, drop, length, get_or, set, Some, None, refl, sym, ◌∙◌, ap, arith}
 use Rattle.std.specs.Prelude.{Option, Result, Ok, Err, slice_get}
 use Rattle.std.proofs.lemmas.List.{drop_more}
 use Rattle.xw_grid.specs.declared.cell.Cell.{Cell}
@@ -84,3 +84,16 @@ write_refused (written ∷ list) grid (suc k) fault d below before here =
     let kept = fault_kept grid written.0 written.1 none in
     ap (then_write (write_list list)) (entry_taken grid written.0 written.1 none)
     ∙ write_refused list (with_entry grid written.0 written.1) k fault d (omega (arith, below)) (λ j lt. kept (get_or list j d).0 ∙ before (suc j) (omega (arith, lt))) (kept (get_or list k d).0 ∙ here)
+
+-- one cell after a list
+then_done : (result : Result Grid GridFault) → then_write (λ grid. Ok grid) result ≡ result
+then_done (Ok grid) = refl
+then_done (Err fault) = refl
+
+pub write_list-push : (list : List (Cell × Option ℕ)) (grid : Grid) (written : Cell × Option ℕ) → write_list (list ++ written ∷ []) grid ≡ then_write (λ now. set_entry now written.0 written.1) (write_list list grid)
+write_list-push [] grid written = then_done (set_entry grid written.0 written.1)
+write_list-push (first ∷ list) grid written = by_first (set_entry grid first.0 first.1) (λ now. write_list-push list now written) where
+  by_first : (result : Result Grid GridFault) → ((now : Grid) → write_list (list ++ written ∷ []) now ≡ then_write (λ g. set_entry g written.0 written.1) (write_list list now))
+      → then_write (write_list (list ++ written ∷ [])) result ≡ then_write (λ g. set_entry g written.0 written.1) (then_write (write_list list) result)
+  by_first (Ok now) later = later now
+  by_first (Err fault) later = refl
