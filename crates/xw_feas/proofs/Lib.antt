@@ -17,3 +17,4 @@ pub mod FormedLemmas
 pub mod AdditionLemmas
 pub mod CrossingLemmas
 pub mod PassesLemmas
+pub mod WriteLemmas

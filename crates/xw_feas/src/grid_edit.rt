@@ -7,6 +7,7 @@ ghost use Rattle.xw_feas.specs.State.{grid_after, is_of_letters, action_of};
 
 use crate::edit::{Edit, Refusal};
 use crate::place::place;
+use crate::write::write;
 use xw_grid::cell::{Cell, Side};
 use xw_grid::fault::GridFault;
 use xw_grid::grid::Grid;
@@ -51,6 +52,7 @@ pub fn edit_letters(grid: &mut Grid, lights: &Lights, edit: &Edit<'_>) -> Result
         Edit::Set(cell, letter) => grid.set(cell, letter)?,
         Edit::Clear(cell) => grid.clear(cell)?,
         Edit::Place(name, word) => place(grid, lights, name, word)?,
+        Edit::Write(list) => write(grid, list)?,
         Edit::Symmetry(kind) => grid.set_symmetry(kind)?,
         _ => unreachable!(),
     }

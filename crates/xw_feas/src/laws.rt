@@ -1,10 +1,12 @@
 //! What the definitions come to in a setter's words.
-ghost use Rattle.std.specs.Prelude.{◌≡◌, ℕ, List};
+ghost use Rattle.std.specs.Prelude.{◌≡◌, ℕ, List, map, Option, Ok, Err, ◌↔◌};
 ghost use Rattle.xw_words.specs.Dictionary.{Dictionary};
+ghost use Rattle.xw_grid.specs.declared.cell.Cell.{Cell};
+ghost use Rattle.xw_feas.specs.declared.edit.Refusal.{Refusal};
 ghost use Rattle.xw_feas.specs.Board.{Board};
 ghost use Rattle.xw_feas.specs.Feasible.{Family, IsSupported};
-ghost use Rattle.xw_feas.specs.State.{State, Action, IsAfter};
-ghost use Rattle.xw_feas.specs.Laws.{together, WantNothing};
+ghost use Rattle.xw_feas.specs.State.{State, Action, list_written, after, IsAfter};
+ghost use Rattle.xw_feas.specs.Laws.{together, WantNothing, write_of, IsRefusedInTurn};
 
 /// Supported families together are one.
 pub fn families_join()
@@ -14,4 +16,10 @@ pub fn families_join()
 /// A list of edits without `Block`, `Bar` and new words leads to one state, with one count of the refused.
 pub fn edits_lead_to_one_state()
     ensures { (state one other : State) (actions : List Action) (m n : ℕ) → WantNothing state actions → IsAfter state actions m one → IsAfter state actions n other → (m ≡ n) × (one ≡ other) }
+{}
+
+/// A list of cells is written as they are one after another, where none of them is refused; else it is refused as the first of them that is.
+pub fn cells_are_written_in_turn()
+    ensures accepted { (state next : State) (list : List (Cell × Option ℕ)) → (after state (list_written list) ≡ Ok next) ↔ IsAfter state (map write_of list) 0 next }
+    ensures refused { (state : State) (list : List (Cell × Option ℕ)) (refusal : Refusal) → after state (list_written list) ≡ Err refusal → IsRefusedInTurn state list refusal }
 {}

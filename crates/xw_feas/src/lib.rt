@@ -16,3 +16,4 @@ pub mod standing;
 #[cfg(test)]
 mod tests;
 pub mod words;
+pub mod write;

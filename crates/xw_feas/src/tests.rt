@@ -2,6 +2,7 @@
 mod edits;
 mod queries;
 mod refusals;
+mod writing;
 
 use crate::changed::Changed;
 use crate::edit::{Edit, Found, Refusal};

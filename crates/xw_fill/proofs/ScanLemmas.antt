@@ -1,19 +1,22 @@
 -- Lemmas on what the scans of an engine find.
-use Rattle.std.proofs.Common.{◌≡◌, ℕ, zero, suc, ◌+◌, ◌<◌, ◌≤◌, Bool, true, false, cond, not, ◌||◌, List, [], ◌∷◌, ◌++◌, length, get_or, set, drop, Option, Some, None, refl, sym, ◌∙◌, ap, arith, add-one}
-use Rattle.std.specs.Prelude.{Result, is_some, is_none, unwrap_or, bytes_eq}
+use Rattle.std.proofs.Common.{◌≡◌, ℕ, zero, suc, ◌+◌, ◌<◌, ◌≤◌, Bool, true, false, cond, not, ◌||◌, List, [], ◌∷◌, ◌++◌, length, get_or, set, drop, Option, Some, None, refl, sym, ◌∙◌, ap, subst, arith, add-one}
+use Rattle.std.specs.Prelude.{Result, Ok, is_some, is_none, unwrap_or, bytes_eq}
 use Rattle.std.proofs.lemmas.Bool.{true≢false, false≢true, eq-eqb, ne_eqb, false_from_ne_true, lt-ltb, le-ltb}
 use Rattle.std.proofs.lemmas.List.{get_or-map, length-map}
 use Rattle.std.proofs.lemmas.Slice.Eq.{bytes_eq-Decides}
 use Rattle.xw_grid.specs.declared.cell.Cell.{Cell}
 use Rattle.xw_grid.specs.declared.lights.Light.{Light}
-use Rattle.xw_grid.specs.Grid.{IsGrid}
+use Rattle.xw_grid.specs.Grid.{Grid, IsGrid, is_open}
 use Rattle.xw_grid.specs.Light.{lights_of, step, no_light}
-use Rattle.xw_feas.specs.State.{State, cell_cleared}
-use Rattle.xw_fill.proofs.StateLemmas.{cleared, light_cell_at, light_size, differs_open, differs_index, IsPartly, IsPartly-then}
+use Rattle.xw_grid.specs.Edit.{set_entry, with_entry}
+use Rattle.xw_feas.specs.State.{State, list_written, with_grid, by_fault, then_write, write_list}
+use Rattle.xw_feas.proofs.ShapeLemmas.{open_takes}
+use Rattle.xw_feas.proofs.WriteLemmas.{write_list-push}
+use Rattle.xw_fill.proofs.StateLemmas.{IsGrid-entry, edit_done, clearing, light_cell_at, light_size, differs_open, differs_index, IsPartly, IsPartly-itself, IsPartly-then}
 use Rattle.xw_feas.specs.Board.{Board, board_of, entry, spelled, light_at}
 use Rattle.xw_feas.specs.declared.edit.Refusal.{Refusal}
 use Rattle.xw_feas.specs.Feasible.{Answers}
-use Rattle.xw_fill.specs.Position.{Position}
+use Rattle.xw_fill.specs.Position.{Position, position_of, holding, DiffersInEntries}
 use Rattle.xw_feas.specs.Engine.{IsEdited}
 use Rattle.xw_feas.specs.declared.changed.Changed.{Changed}
 use Rattle.xw_fill.specs.declared.tries.Try.{Try}
@@ -104,30 +107,65 @@ without_letters-end entries [] k blanks all = rw (drop_nil {X = ℕ} k) refl
 without_letters-end entries (cell ∷ cells) zero blanks all = absurd (omega arith)
 without_letters-end entries (cell ∷ cells) (suc k) blanks all = without_letters-end entries cells k blanks (omega arith)
 
+-- a list of cells that are cleared, those of the first places of a light that were empty
+pub record IsTakingBack (before : State) (light : ℕ) (blanks : List Bool) (list : List (Cell × Option ℕ)) (place : ℕ) : Type 0 where
+  pub grid : Grid
+  pub written : write_list list before.grid ≡ Ok grid
+  pub is : IsGrid grid
+  pub entries : without_letters (board_of grid).entries (drop place (light_at (board_of before.grid) light)) (drop place blanks) ≡ without_letters (board_of before.grid).entries (light_at (board_of before.grid) light) blanks
+  pub partly : IsPartly before (record before { grid = grid })
+
+pub take_back-init : (before : State) (light : ℕ) (blanks : List Bool) → IsGrid before.grid → IsTakingBack before light blanks [] 0
+take_back-init before light blanks is = record { grid = before.grid; written = refl; is = is; entries = refl; partly = IsPartly-itself before }
+
 -- the light's cell at a place is cleared
-pub take_back-step : (before now after_it : State) (answers_now answers_after : Answers) (light place : ℕ) (found : Light) (blanks : List Bool) (target : List (Option ℕ)) (cell : Cell) (result : Result Changed Refusal) → IsGrid now.grid
+pub take_back-step : (before : State) (light place : ℕ) (found : Light) (blanks : List Bool) (list : List (Cell × Option ℕ)) (cell : Cell) → IsTakingBack before light blanks list place
     → light < length (lights_of before.grid) → found ≡ get_or (lights_of before.grid) light no_light → place < found.size → cell ≡ step found.name.direction found.start place
-    → without_letters (board_of now.grid).entries (drop place (light_at (board_of before.grid) light)) (drop place blanks) ≡ target → IsPartly before now
-    → get_or blanks place false ≡ true
-    → IsEdited now answers_now (cell_cleared cell) result after_it answers_after
-    → (without_letters (board_of after_it.grid).entries (drop (place + 1) (light_at (board_of before.grid) light)) (drop (place + 1) blanks) ≡ target) × IsPartly before after_it
-take_back-step before now after_it answers_now answers_after light place found blanks target cell result is in_grid found_is within cell_is so_far partly blank edited =
+    → get_or blanks place false ≡ true → IsTakingBack before light blanks (list ++ (cell, None) ∷ []) (place + 1)
+take_back-step before light place found blanks list cell so_far in_grid found_is within cell_is blank =
+    let now : State = record before { grid = so_far.grid } in
     let cells = light_at (board_of before.grid) light in
     let at = light_cell_at before.grid light place found cell in_grid found_is within cell_is in
     let below : place < length cells = omega (arith, light_size before.grid light found in_grid found_is, within) in
-    let done = cleared now after_it answers_now answers_after cell result is (differs_open before now cell partly.1 ∙ at.0) edited in
-    let entries : (board_of after_it.grid).entries ≡ set (board_of now.grid).entries (get_or cells place 0) None = ap (λ p. p.board.entries) done.0 ∙ ap (λ c. set (board_of now.grid).entries c None) (differs_index before now cell partly.1 ∙ at.1) in (
-      ap (λ es. without_letters es (drop (place + 1) cells) (drop (place + 1) blanks)) (entries ∙ sym (ap (λ b. cond b (set (board_of now.grid).entries (get_or cells place 0) None) (board_of now.grid).entries) blank)) ∙ sym (without_letters-more (board_of now.grid).entries cells blanks place below) ∙ so_far,
-      IsPartly-then before now after_it partly done,
-    )
+    let opened : is_open so_far.grid cell ≡ true = differs_open before now cell so_far.partly.1 ∙ at.0 in
+    let done = clearing now cell so_far.is opened in
+    let entries : (board_of (with_entry so_far.grid cell None)).entries ≡ set (board_of so_far.grid).entries (get_or cells place 0) None =
+    ap (λ p. p.board.entries) done.0 ∙ ap (λ c. set (board_of so_far.grid).entries c None) (differs_index before now cell so_far.partly.1 ∙ at.1) in
+    record {
+      grid = with_entry so_far.grid cell None;
+      written = write_list-push list before.grid (cell, None) ∙ ap (then_write (λ g. set_entry g cell None)) so_far.written ∙ open_takes so_far.grid cell None opened;
+      is = IsGrid-entry so_far.grid cell None tt so_far.is;
+      entries =
+          ap (λ es. without_letters es (drop (place + 1) cells) (drop (place + 1) blanks)) (entries ∙ sym (ap (λ b. cond b (set (board_of so_far.grid).entries (get_or cells place 0) None) (board_of so_far.grid).entries) blank))
+          ∙ sym (without_letters-more (board_of so_far.grid).entries cells blanks place below)
+          ∙ so_far.entries;
+      partly = IsPartly-then before now (record before { grid = with_entry so_far.grid cell None }) so_far.partly done;
+    }
 
-pub take_back-pass : (before now : State) (light k : ℕ) (blanks : List Bool) (target : List (Option ℕ)) → without_letters (board_of now.grid).entries (drop k (light_at (board_of before.grid) light)) (drop k blanks) ≡ target
-    → k < length (light_at (board_of before.grid) light) → get_or blanks k false ≡ false
-    → without_letters (board_of now.grid).entries (drop (k + 1) (light_at (board_of before.grid) light)) (drop (k + 1) blanks) ≡ target
-take_back-pass before now light k blanks target so_far below not_blank =
+pub take_back-pass : (before : State) (light place : ℕ) (blanks : List Bool) (list : List (Cell × Option ℕ)) → IsTakingBack before light blanks list place → place < length (light_at (board_of before.grid) light) → get_or blanks place false ≡ false → IsTakingBack before light blanks list (place + 1)
+take_back-pass before light place blanks list so_far below not_blank =
     let cells = light_at (board_of before.grid) light in
-    let entries = (board_of now.grid).entries in
-    ap (λ b. without_letters (cond b (set entries (get_or cells k 0) None) entries) (drop (k + 1) cells) (drop (k + 1) blanks)) (sym not_blank) ∙ sym (without_letters-more entries cells blanks k below) ∙ so_far
+    let entries = (board_of so_far.grid).entries in
+    record {
+      grid = so_far.grid;
+      written = so_far.written;
+      is = so_far.is;
+      entries =
+          ap (λ b. without_letters (cond b (set entries (get_or cells place 0) None) entries) (drop (place + 1) cells) (drop (place + 1) blanks)) (sym not_blank)
+          ∙ sym (without_letters-more entries cells blanks place below)
+          ∙ so_far.entries;
+      partly = so_far.partly;
+    }
+
+-- the list is written
+pub take_back-end : (before now : State) (answers_before answers_now : Answers) (tried : Try) (list : List (Cell × Option ℕ)) (place : ℕ) (result : Result Changed Refusal) → IsTakingBack before tried.light tried.blanks list place
+    → length (light_at (board_of before.grid) tried.light) ≤ place → IsEdited before answers_before (list_written list) result now answers_now
+    → (position_of now ≡ taken_back (position_of before) tried) × DiffersInEntries before now
+take_back-end before now answers_before answers_now tried list place result so_far all edited =
+    let done = edit_done before now (record before { grid = so_far.grid }) answers_before answers_now (list_written list) result (ap (λ r. with_grid before (by_fault r)) so_far.written) refl edited in (
+      ap position_of done ∙ so_far.partly.0 ∙ ap (holding (position_of before)) (sym (without_letters-end _ _ place _ all) ∙ so_far.entries),
+      subst (DiffersInEntries before) (sym done) so_far.partly.1,
+    )
 
 -- the last of several tries is taken back first
 pub all_taken_back-last : (position : Position) (tries : List Try) (tried : Try) → all_taken_back position (tries ++ tried ∷ []) ≡ all_taken_back (taken_back position tried) tries

@@ -13,10 +13,8 @@ use Rattle.xw_grid.specs.declared.cell.Cell.{Cell}
 use Rattle.xw_grid.specs.declared.cell.Square.{Square}
 use Rattle.xw_grid.specs.declared.cell.Square.TheVariants.{Block, Open}
 use Rattle.xw_grid.specs.declared.lights.Light.{Light}
-use Rattle.xw_grid.specs.declared.fault.GridFault.{GridFault}
-use Rattle.xw_grid.specs.declared.fault.GridFault.TheVariants as faults
 use Rattle.std.proofs.lemmas.List.Elements.{All-set}
-use Rattle.xw_grid.specs.Grid.{Grid, IsSquare, IsGrid, is_inside, is_open, is_block, is_open_square, is_block_square, index_of, square_at}
+use Rattle.xw_grid.specs.Grid.{Grid, IsSquare, IsGrid, is_inside, is_open, is_open_square, index_of}
 use Rattle.xw_grid.specs.Light.{lights_of, cells_of, step, no_light}
 use Rattle.xw_grid.specs.Edit.{with_entry}
 use Rattle.xw_grid.proofs.LightLemmas.{inside_from_open, cells_of_are_open, length-line, get_or-line}
@@ -31,7 +29,7 @@ use Rattle.xw_fill.proofs.FeasibleWordsLemmas.{answered_words}
 use Rattle.std.proofs.lemmas.Option.{slice_get-get_or, get_or_from_slice_get}
 use Rattle.xw_grid.specs.declared.cell.LightName.{LightName}
 use Rattle.xw_feas.specs.Engine.{IsEdited}
-use Rattle.xw_feas.specs.State.{State, Action, cell_cleared, word_placed, after, want_of, placed_in, spelled_in, with_letters as grid_with_letters, by_fault, with_grid}
+use Rattle.xw_feas.specs.State.{State, Action, word_placed, after, want_of, placed_in, spelled_in, with_letters as grid_with_letters, with_grid}
 use Rattle.xw_feas.proofs.BoardLemmas.{length-lights, light_at-board}
 use Rattle.xw_feas.proofs.LightsLemmas.{found_by_name}
 use Rattle.xw_feas.proofs.ShapeLemmas.{SameShape-entry}
@@ -112,12 +110,12 @@ opens_set (Block ∷ squares) zero letter h = absurd (false≢true h)
 opens_set (Open entered ∷ squares) zero letter h = refl
 opens_set (square ∷ squares) (suc at) letter h = ap (λ rest. square_is_open square ∷ rest) (opens_set squares at letter h)
 
-IsGrid-entry : (grid : Grid) (cell : Cell) (letter : ℕ) → IsLetter letter → IsGrid grid → IsGrid (with_entry grid cell (Some letter))
+pub IsGrid-entry : (grid : Grid) (cell : Cell) (letter : Option ℕ) → IsSquare (Open letter) → IsGrid grid → IsGrid (with_entry grid cell letter)
 IsGrid-entry grid cell letter good is = record {
   wide = is.wide;
   high = is.high;
-  letters = All-set IsSquare grid.squares (index_of grid cell) (Open (Some letter)) good is.letters;
-  squares = length-set grid.squares (index_of grid cell) (Open (Some letter)) ∙ is.squares;
+  letters = All-set IsSquare grid.squares (index_of grid cell) (Open letter) good is.letters;
+  squares = length-set grid.squares (index_of grid cell) (Open letter) ∙ is.squares;
   right = is.right;
   below = is.below;
   turned = is.turned;
@@ -141,7 +139,7 @@ letters_board grid (cell ∷ cells) [] d letters is open_cells = refl
 letters_board grid (cell ∷ cells) (letter ∷ word) d letters is open_cells =
     let one = entry_board grid cell (Some letter) is (open_cells 0 (omega arith)) in
     let shape = SameShape-entry grid cell (Some letter) is (open_cells 0 (omega arith)) in
-    letters_board (with_entry grid cell (Some letter)) cells word d (λ k e below. letters (suc k) e (omega arith)) (IsGrid-entry grid cell letter (letters 0 0 (omega arith)) is) (λ k below. shape.opens (get_or cells k d) ∙ open_cells (suc k) (omega arith))
+    letters_board (with_entry grid cell (Some letter)) cells word d (λ k e below. letters (suc k) e (omega arith)) (IsGrid-entry grid cell (Some letter) (letters 0 0 (omega arith)) is) (λ k below. shape.opens (get_or cells k d) ∙ open_cells (suc k) (omega arith))
     ∙ ap (λ board. with_entries board (entries_with board.entries (map (index_of grid) cells) word)) one
 
 -- they change squares alone
@@ -260,28 +258,12 @@ placing_known before now answers_before answers_now light place found bytes resu
 
 -- ---- clearing a cell
 
-open_no_block : (square : Option Square) → is_open_square square ≡ true → is_block_square square ≡ false
-open_no_block (Some (Open entered)) h = refl
-open_no_block (Some Block) h = absurd (false≢true h)
-open_no_block None h = absurd (false≢true h)
-
-clear_accepted : (state : State) (cell : Cell) → is_open state.grid cell ≡ true → after state (cell_cleared cell) ≡ Ok (record state { grid = with_entry state.grid cell None })
-clear_accepted state cell open_cell =
-    let inside = inside_from_open state.grid cell open_cell in
-    let no_block = open_no_block (square_at state.grid cell) open_cell in
-    ap (λ r. with_grid state (by_fault r))
-    (ap (λ b. cond {A = Result Grid GridFault} (not b) (Err faults.OutOfGrid) (cond (is_block state.grid cell) (Err faults.OnBlock) (Ok (with_entry state.grid cell None)))) inside
-    ∙ ap (λ b. cond {A = Result Grid GridFault} b (Err faults.OnBlock) (Ok (with_entry state.grid cell None))) no_block)
-
-pub cleared : (before now : State) (answers_before answers_now : Answers) (cell : Cell) (result : Result Changed Refusal) → IsGrid before.grid → is_open before.grid cell ≡ true
-    → IsEdited before answers_before (cell_cleared cell) result now answers_now
-    → (position_of now ≡ holding (position_of before) (set (board_of before.grid).entries (index_of before.grid cell) None)) × DiffersInEntries before now
-cleared before now answers_before answers_now cell result is open_cell edited =
-    let grid = before.grid in
-    let done = edit_done before now (record before { grid = with_entry grid cell None }) answers_before answers_now (cell_cleared cell) result (clear_accepted before cell open_cell) refl edited in
-    let board = entry_board grid cell None is open_cell in (
-      ap position_of done ∙ ap (λ b. record { board = b; words = before.words }) board,
-      subst (DiffersInEntries before) (sym done) (differs_in_squares before (with_entry grid cell None) refl (ap (λ b. b.open_cells) board)),
+pub clearing : (state : State) (cell : Cell) → IsGrid state.grid → is_open state.grid cell ≡ true
+    → (position_of (record state { grid = with_entry state.grid cell None }) ≡ holding (position_of state) (set (board_of state.grid).entries (index_of state.grid cell) None)) × DiffersInEntries state (record state { grid = with_entry state.grid cell None })
+clearing state cell is open_cell =
+    let board = entry_board state.grid cell None is open_cell in (
+      ap (λ b. record { board = b; words = state.words }) board,
+      differs_in_squares state (with_entry state.grid cell None) refl (ap (λ b. b.open_cells) board),
     )
 
 -- a cell of a light by its step from the first one

@@ -10,6 +10,7 @@ use crate::scan::{board, light_at};
 use xw_feas::board::{Board, Cells};
 use xw_feas::edit::Edit;
 use xw_feas::feasible::Feasible;
+use xw_grid::cell::Cell;
 
 /// The length of a light is at most this.
 pub const MAX_LEN: usize = 255;
@@ -67,18 +68,23 @@ pub fn place_word<E: Feasible>(engine: &mut E, light: usize, place: usize)
     let _ = engine.edit(&Edit::Place(named.name, &bytes[..len]));
 }
 
-/// Takes a try back.
+/// Takes a try back, all its cells at once.
 pub fn take_back<E: Feasible>(engine: &mut E, tried: &Try)
     requires { tried.now.light < light_count (position_of (E.state engine.old)) }
     ensures back { position_of (E.state engine.new) ≡ taken_back (position_of (E.state engine.old)) tried.now }
     ensures entries { DiffersInEntries (E.state engine.old) (E.state engine.new) }
 {
     let light = light_at(engine, tried.light);
+    let nowhere = Cell { row: 0, col: 0 };
+    let mut list = [(nowhere, None); MAX_LEN];
+    let mut count = 0;
     for place in 0..light.size {
         if tried.blanks[place as usize] {
-            let _ = engine.edit(&Edit::Clear(light.cell(place)));
+            list[count] = (light.cell(place), None);
+            count += 1;
         }
     }
+    let _ = engine.edit(&Edit::Write(&list[..count]));
 }
 
 /// Takes all tries back, the last one first.

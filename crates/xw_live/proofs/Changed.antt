@@ -15,7 +15,7 @@ use Rattle.xw_words.specs.Letter.{is_capital}
 use Rattle.xw_feas.specs.Feasible.{may_stand}
 use Rattle.xw_feas.specs.Known.{spellings, actives}
 use Rattle.xw_feas.specs.Choices.{is_base_at, IsExact}
-use Rattle.xw_feas.specs.State.{State, Action, letter_set, cell_cleared, word_placed, block_toggled, bar_toggled, symmetry_chosen, word_added, word_struck}
+use Rattle.xw_feas.specs.State.{State, Action, letter_set, cell_cleared, word_placed, list_written, block_toggled, bar_toggled, symmetry_chosen, word_added, word_struck}
 use Rattle.xw_words.specs.declared.fault.WordFault.{WordFault}
 use Rattle.xw_words.specs.declared.bank.Added.{Added}
 use Rattle.xw_words.specs.declared.bank.Added.TheVariants.{New, Returned}
@@ -315,6 +315,7 @@ changed_count words (word_struck word) count place h = struck_count (length word
 changed_count words (letter_set cell letter) count place h = cc
 changed_count words (cell_cleared cell) count place h = cc
 changed_count words (word_placed name word) count place h = cc
+changed_count words (list_written list) count place h = cc
 changed_count words (block_toggled cell) count place h = cc
 changed_count words (bar_toggled cell side) count place h = cc
 changed_count words (symmetry_chosen kind) count place h = cc

@@ -13,14 +13,14 @@ use Rattle.xw_grid.specs.declared.cell.Cell.{Cell}
 use Rattle.xw_grid.specs.Grid.{Grid, IsGrid, index_of}
 use Rattle.xw_grid.specs.Light.{lights_of, cells_of, place_named, no_light}
 use Rattle.xw_grid.specs.Orbit.{orbit_of}
-use Rattle.xw_feas.specs.State.{State, Action, after, grid_after, letter_set, cell_cleared, word_placed, block_toggled, bar_toggled, symmetry_chosen, word_added, word_struck, answered, add_word, strike_word}
+use Rattle.xw_feas.specs.State.{State, Action, after, grid_after, letter_set, cell_cleared, word_placed, list_written, block_toggled, bar_toggled, symmetry_chosen, word_added, word_struck, answered, add_word, strike_word}
 use Rattle.xw_feas.specs.WellFormed.{IsWellFormed}
 use Rattle.xw_feas.proofs.AdditionLemmas.{new_word}
 use Rattle.xw_feas.proofs.BoardLemmas.{length-lights, light_at-board}
 use Rattle.xw_feas.proofs.WordsLemmas.{named_within}
 use Rattle.xw_live.specs.declared.change.Change.{Change}
 use Rattle.xw_live.specs.Change.{IsChange, IsPlaceOf, cells_named, with_entry_of, entries_written, places_listed, place_added, place_struck, word_changed}
-use Rattle.xw_live.specs.Region.{cells_found, edited_cells}
+use Rattle.xw_live.specs.Region.{cells_found, cells_changed, edited_cells}
 use Rattle.xw_live.proofs.Edits.{IsWrittenAt, grid_of_after, written_after, with_grid-Ok, with_words-Ok}
 
 -- ---- the listed cells
@@ -39,6 +39,7 @@ pub written_places : (grid : Grid) (action : Action) → places_listed grid (ent
 written_places grid (letter_set cell letter) = refl
 written_places grid (cell_cleared cell) = refl
 written_places grid (word_placed name word) = named_places grid (place_named (lights_of grid) name) (λ light found. omega (arith, named_within grid name light found, length-lights grid))
+written_places grid (list_written list) = listed_places grid (cells_changed grid (grid_after grid (list_written list)))
 written_places grid (block_toggled cell) = listed_places grid (orbit_of grid cell)
 written_places grid (bar_toggled cell side) = refl
 written_places grid (symmetry_chosen kind) = refl
@@ -144,6 +145,7 @@ words_after : (before now : State) (action : Action) → after before action ≡
 words_after before now (letter_set cell letter) made = same_words before.words now.words None (with_grid-Ok before now (grid_after before.grid (letter_set cell letter)) made).1
 words_after before now (cell_cleared cell) made = same_words before.words now.words None (with_grid-Ok before now (grid_after before.grid (cell_cleared cell)) made).1
 words_after before now (word_placed name bytes) made = same_words before.words now.words None (with_grid-Ok before now (grid_after before.grid (word_placed name bytes)) made).1
+words_after before now (list_written list) made = same_words before.words now.words None (with_grid-Ok before now (grid_after before.grid (list_written list)) made).1
 words_after before now (block_toggled cell) made = same_words before.words now.words None (with_grid-Ok before now (grid_after before.grid (block_toggled cell)) made).1
 words_after before now (bar_toggled cell side) made = same_words before.words now.words None (with_grid-Ok before now (grid_after before.grid (bar_toggled cell side)) made).1
 words_after before now (symmetry_chosen kind) made = same_words before.words now.words None (with_grid-Ok before now (grid_after before.grid (symmetry_chosen kind)) made).1

@@ -15,13 +15,14 @@ use Rattle.xw_grid.specs.Edit.{set_entry, toggle_block, turned, square_of, with_
 use Rattle.xw_grid.proofs.GridLemmas.{index_of-lt}
 use Rattle.xw_grid.proofs.ChangeLemmas.{blocks_change_orbits}
 use Rattle.xw_feas.specs.Board.{board_of, entry, is_open, light_at}
-use Rattle.xw_feas.specs.State.{State, Action, grid_after, letter_set, cell_cleared, word_placed, block_toggled, bar_toggled, symmetry_chosen, word_added, word_struck}
+use Rattle.xw_feas.specs.State.{State, Action, grid_after, write_list, letter_set, cell_cleared, word_placed, list_written, block_toggled, bar_toggled, symmetry_chosen, word_added, word_struck}
 use Rattle.xw_feas.specs.WellFormed.{IsLaidOut}
 use Rattle.xw_feas.proofs.BoardLemmas.{is_open-square, entry-square}
 use Rattle.xw_live.specs.declared.change.Change.{Change}
 use Rattle.xw_live.specs.Change.{IsChange, places_listed}
 use Rattle.xw_live.specs.Begin.{is_fill}
 use Rattle.xw_live.specs.Region.{cells_found, edited_cells}
+use Rattle.xw_live.proofs.Writing.{list_open}
 use Rattle.xw_live.proofs.Edits.{by_fault-Ok, contains_mapped, grid_of_after}
 use Rattle.xw_live.proofs.Changing.{written_places}
 
@@ -86,6 +87,7 @@ module _ (grid new : Grid) (other : Cell) (is : IsGrid grid) (laid_out : IsLaidO
   open_written (letter_set cell letter) ok same inside_new among has = written_one cell (Some letter) (only_one (index_of grid other) (index_of grid cell) among) (by_fault-Ok (set_entry grid cell (Some letter)) new ok)
   open_written (cell_cleared cell) ok same inside_new among has = written_one cell None (only_one (index_of grid other) (index_of grid cell) among) (by_fault-Ok (set_entry grid cell None) new ok)
   open_written (word_placed name word) ok same inside_new among has = open_found (place_named (lights_of grid) name) among
+  open_written (list_written list) ok same inside_new among has = list_open grid new list (index_of grid other) (by_fault-Ok (write_list list grid) new ok) has
   open_written (block_toggled cell) ok same inside_new among has = block_open cell (by_fault-Ok (toggle_block grid cell) new ok) same inside_new has
   open_written (bar_toggled cell side) ok same inside_new among has = absurd (in_none [] (index_of grid other) refl among)
   open_written (symmetry_chosen kind) ok same inside_new among has = absurd (in_none [] (index_of grid other) refl among)

@@ -3,6 +3,7 @@ pub mod Revival
 pub mod Growth
 pub mod Chain
 pub mod Region
+pub mod Writing
 pub mod Edits
 pub mod Kept
 pub mod Same
@@ -60,3 +61,4 @@ pub mod Keeping
 pub mod Idle
 pub mod Made
 pub mod Next
+pub mod Noting

@@ -1,20 +1,22 @@
 -- The cells that an edit writes are cells of the grid.
 use Rattle.std.proofs.Common.{◌≡◌, ℕ, zero, suc, ◌*◌, ◌<◌, Bool, true, false, cond, not, ◌&&◌, filter, List, [], ◌∷◌, map, length, get_or, Some, None, refl, sym, ◌∙◌, ap, subst, arith}
-use Rattle.std.specs.Prelude.{Option, Ok, Err, Contains, nat_le}
+use Rattle.std.specs.Prelude.{Option, Result, Ok, Err, Contains, nat_le}
 use Rattle.std.proofs.lemmas.List.FromFn.{get_or-map-range_with_len}
 use Rattle.xw_grid.specs.declared.cell.Cell.{Cell}
 use Rattle.xw_grid.specs.declared.fault.GridFault.TheVariants as grids
-use Rattle.xw_grid.specs.Grid.{Grid, IsGrid, is_inside, is_block, cells, cell_at}
+use Rattle.xw_grid.specs.Grid.{Grid, IsGrid, is_inside, is_block, cells, cell_at, entry}
 use Rattle.xw_grid.specs.Light.{lights_of, place_named, no_light}
 use Rattle.xw_grid.specs.Orbit.{orbit_of, is_in_orbit}
 use Rattle.xw_grid.specs.Edit.{set_entry, with_entry}
 use Rattle.xw_grid.proofs.GridLemmas.{cell_at-inside, length-cells}
 use Rattle.xw_grid.proofs.LightLemmas.{length-line, get_or-line}
 use Rattle.xw_grid.proofs.PlaceLemmas.{light_inside}
-use Rattle.xw_feas.specs.State.{State, Action, after, grid_after, letter_set, cell_cleared, word_placed, block_toggled, bar_toggled, symmetry_chosen, word_added, word_struck}
+use Rattle.xw_feas.specs.declared.edit.Refusal.{Refusal}
+use Rattle.xw_feas.specs.State.{State, Action, after, grid_after, letter_set, cell_cleared, word_placed, list_written, block_toggled, bar_toggled, symmetry_chosen, word_added, word_struck}
 use Rattle.xw_feas.proofs.BoardLemmas.{length-lights}
 use Rattle.xw_feas.proofs.WordsLemmas.{named_within}
 use Rattle.xw_live.specs.declared.change.Change.{Change}
+use Rattle.xw_live.specs.Region.{same_entry, cells_changed}
 use Rattle.xw_live.specs.Change.{IsChange, cells_named, cells_written, entries_written, with_entry_of}
 use Rattle.xw_live.proofs.Edits.{by_fault-Ok, grid_of_after}
 use Rattle.xw_live.proofs.Changing.{size_kept}
@@ -66,6 +68,10 @@ module _ (grid new : Grid) (is : IsGrid grid) where
     split true j lt here = all_inside other (among_all (is_in_orbit grid cell) (cells grid) other j lt here)
     split false j lt here = absurd (omega (arith, lt))
 
+  changed_inside : (after_it : Result Grid Refusal) (other : Cell) → Contains (cells_changed grid after_it) other → is_inside grid other ≡ true
+  changed_inside (Ok changed) other (k, below, at) = all_inside other (among_all (λ cell. not (same_entry (entry grid cell) (entry changed cell))) (cells grid) other k below at)
+  changed_inside (Err refusal) other (k, below, at) = absurd (omega (arith, below))
+
   entry_inside : (cell : Cell) (letter : Option ℕ) → set_entry grid cell letter ≡ Ok new → is_inside grid cell ≡ true
   entry_inside cell letter ok = split (is_inside grid cell) (is_block grid cell) ok where
     split : (b block : Bool) → cond (not b) (Err grids.OutOfGrid) (cond block (Err grids.OnBlock) (Ok (with_entry grid cell letter))) ≡ Ok new → b ≡ true
@@ -76,6 +82,7 @@ module _ (grid new : Grid) (is : IsGrid grid) where
   written_inside (letter_set at letter) ok cell among = subst (λ c. is_inside grid c ≡ true) (only_cell at cell among) (entry_inside at (Some letter) (by_fault-Ok (set_entry grid at (Some letter)) new ok))
   written_inside (cell_cleared at) ok cell among = subst (λ c. is_inside grid c ≡ true) (only_cell at cell among) (entry_inside at None (by_fault-Ok (set_entry grid at None) new ok))
   written_inside (word_placed name word) ok cell among = named_inside (place_named (lights_of grid) name) (λ light found. omega (arith, named_within grid name light found, length-lights grid)) cell among
+  written_inside (list_written list) ok cell among = changed_inside (grid_after grid (list_written list)) cell among
   written_inside (block_toggled at) ok cell among = orbit_inside at cell among
   written_inside (bar_toggled at side) ok cell (k, below, here) = absurd (omega (arith, below))
   written_inside (symmetry_chosen kind) ok cell (k, below, here) = absurd (omega (arith, below))

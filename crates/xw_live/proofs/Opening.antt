@@ -11,7 +11,7 @@ use Rattle.xw_grid.specs.Light.{lights_of, no_light, step}
 use Rattle.xw_feas.specs.Board.{Board, board_of, entry, light_at, is_wholly_entered}
 use Rattle.xw_feas.specs.Choices.{is_base_at}
 use Rattle.xw_feas.specs.Flags.{set_has}
-use Rattle.xw_feas.specs.State.{State, Action, after, letter_set, cell_cleared, word_placed, block_toggled, bar_toggled, symmetry_chosen, word_added, word_struck, add_word, strike_word}
+use Rattle.xw_feas.specs.State.{State, Action, after, letter_set, cell_cleared, word_placed, list_written, block_toggled, bar_toggled, symmetry_chosen, word_added, word_struck, add_word, strike_word}
 use Rattle.xw_feas.proofs.ChoicesLemmas.{base_flag_entered}
 use Rattle.xw_feas.proofs.FormedLemmas.{light_in, length-light_at, within_lights, place_is, inside_at}
 use Rattle.xw_live.specs.declared.net.Net.{Net}
@@ -44,6 +44,7 @@ word_keeps_grid before now (word_struck bytes) word made some = (with_words-Ok b
 word_keeps_grid before now (letter_set cell letter) word made some = let never : None ≡ Some word = some in cc
 word_keeps_grid before now (cell_cleared cell) word made some = let never : None ≡ Some word = some in cc
 word_keeps_grid before now (word_placed name bytes) word made some = let never : None ≡ Some word = some in cc
+word_keeps_grid before now (list_written list) word made some = let never : None ≡ Some word = some in cc
 word_keeps_grid before now (block_toggled cell) word made some = let never : None ≡ Some word = some in cc
 word_keeps_grid before now (bar_toggled cell side) word made some = let never : None ≡ Some word = some in cc
 word_keeps_grid before now (symmetry_chosen kind) word made some = let never : None ≡ Some word = some in cc

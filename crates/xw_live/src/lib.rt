@@ -11,6 +11,7 @@ mod forget;
 mod gone;
 pub mod live;
 pub mod net;
+mod noted;
 mod place;
 mod queries;
 mod renumber;

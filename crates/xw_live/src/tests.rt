@@ -4,6 +4,7 @@ mod bounds;
 mod edits;
 mod parts;
 mod recount;
+mod writing;
 
 use crate::live::Live;
 use std::alloc::Global;

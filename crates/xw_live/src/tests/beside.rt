@@ -9,22 +9,26 @@ ghost use Rattle.xw_feas.specs.WellFormed.{IsWellFormed};
 ghost use Rattle.xw_live.specs.Change.{IsChange, IsWordEdit};
 ghost use Rattle.xw_live.specs.Engine.{IsKept, IsKept-prop};
 ghost use Rattle.xw_live.specs.Fit.{HasRoomBetween};
-ghost use Rattle.xw_live.specs.Idle.{is_of_shape};
+ghost use Rattle.xw_live.specs.Idle.{is_of_shape, is_list};
 ghost use Rattle.xw_live.specs.Net.{StoodFor, IsSettledFor, known_counts, sets_of};
 ghost use Rattle.xw_live.specs.Room.{HasRoom};
 
 use crate::change::Change;
 use crate::net::Net;
+use crate::noted::{keep_changed, make_noted, note};
 use crate::settling::make_room;
 use crate::written::Written;
 use std::alloc::Global;
 use xw_feas::dictionary::{add_in, known_distinct, return_in, strike_in};
 use xw_feas::edit::{Edit, Refusal};
 use xw_feas::grid_edit::{edit_letters, with_bar, with_block};
+use xw_feas::write::write;
+use xw_grid::cell::Cell;
 use xw_grid::grid::Grid;
 use xw_grid::lights::Lights;
 use xw_words::bank::{Added, Bank};
 use xw_words::counted::Counted;
+use xw_words::letter::Letter;
 use xw_words::rows::Rows;
 
 /// A grid, a dictionary, and a net with the answers for them.
@@ -104,13 +108,28 @@ impl Beside {
     }
 
     fn edit_letters(&mut self, edit: &Edit<'_>) -> Result<u64, Refusal>
-        requires { is_of_letters (action_of edit.now) ≡ true }
+        requires letters { is_of_letters (action_of edit.now) ≡ true }
+        requires few { is_list (action_of edit.now) ≡ false }
     {
         let written = Written::of(&self.grid, &self.lights, edit);
         edit_letters(&mut self.grid, &self.lights, edit)?;
         self.grid.well_formed();
         let change = Change {
             cells: written.as_slice(),
+            before: &self.lights,
+            word: None,
+        };
+        Ok(settle(&mut self.net, &change, &self.grid, &self.lights, &self.bank))
+    }
+
+    fn write(&mut self, list: &[(Cell, Option<Letter>)]) -> Result<u64, Refusal> {
+        let mut noted = make_noted(self.alloc, &self.grid)?;
+        note(noted.as_mut_slice(), &self.grid);
+        write(&mut self.grid, list)?;
+        self.grid.well_formed();
+        let count = keep_changed(noted.as_mut_slice(), &self.grid);
+        let change = Change {
+            cells: &noted[..count],
             before: &self.lights,
             word: None,
         };
@@ -185,6 +204,7 @@ impl Beside {
             Edit::Bar(_, _) => self.edit_shape(edit),
             Edit::Add(word) => self.add(word),
             Edit::Strike(word) => self.strike(word),
+            Edit::Write(list) => self.write(list),
             _ => self.edit_letters(edit),
         }
     }

@@ -96,6 +96,7 @@ fn sizes_of(engine: &Live) -> Sizes {
         bank: _,
         net,
         before,
+        noted,
         spent: _,
     } = engine;
     let sizes = net_sizes(net);
@@ -106,6 +107,7 @@ fn sizes_of(engine: &Live) -> Sizes {
     lists[0] = cell_count(grid);
     lists[1] = lights.len();
     lists[2] = before.len();
+    lists[3] = noted.len();
     let mut rows = 0usize;
     for k in 0..4usize {
         rows = rows.saturating_add(sizes[k]);

@@ -11,7 +11,7 @@ use std::process::Abort;
 use xw_feas::edit::{Edit, Refusal};
 
 /// Whether an edit of the engine takes as many ticks as settling the net beside it, and so many at the least.
-fn is_recounted(
+pub fn is_recounted(
     engine: &mut Live,
     beside: &mut Beside,
     edit: &Edit<'_>,

@@ -33,4 +33,5 @@ invariant_of-self-2 c =
       light_list = old.light_list;
       kept = kept;
       same_cells = ap length c.keep_letters.ensures ∙ kept_cells (state_of old) old.net old.kept ∙ sym (kept_cells now c.settle_word-self.new.net kept);
+      same_room = old.same_room ∙ old.same_cells ∙ ap length (sym c.keep_letters.ensures);
     }

@@ -23,6 +23,7 @@ invariant_of-self c =
       kept = subst (λ (words : Dictionary). IsKept (record { grid = old.grid; words = words }) c.make_room.new.net) (sym c.make_room.ensures.words)
           (kept_alike (state_of old) old.net c.make_room.new.net c.make_room.ensures.same (ap is_some c.in_err-make_room.ensures.spare ∙ old.kept.none_waits) old.kept);
       same_cells = old.same_cells ∙ ap length (sym c.make_room.ensures.same.sets);
+      same_room = old.same_room;
     }
 
 pub settle_word-self-requires-clause-cells : goal.settle_word-self-requires-clause-cells
@@ -57,6 +58,7 @@ invariant_of-self-2 c =
       light_list = old.light_list;
       kept = kept;
       same_cells = ap length (c.keep_letters.ensures ∙ c.make_room.ensures.same.sets) ∙ kept_cells (state_of old) old.net old.kept ∙ sym (kept_cells now c.settle_word-self.new.net kept);
+      same_room = old.same_room ∙ old.same_cells ∙ ap length (sym (c.keep_letters.ensures ∙ c.make_room.ensures.same.sets));
     }
 
 pub returns-clause-done : goal.returns-clause-done

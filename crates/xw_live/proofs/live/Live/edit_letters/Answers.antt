@@ -23,7 +23,7 @@ settle-self-requires-clause-inside c =
     let action = action_of c.args.edit.now in
     let grid = c.edit_letters.new.grid in
     let now : State = record { grid = grid; words = old.bank.words } in
-    let is = letters_of_grid before action c.requires in
+    let is = letters_of_grid before action c.requires.letters in
     let made : after before action ≡ Ok now = grid_made before action grid is c.in_ok-edit_letters.ensures.ok in
     edit_in_grid before now action _ old.kept.formed.grid made (c.as_slice.ensures ∙ c.of-written.ensures)
 
@@ -44,7 +44,7 @@ invariant_of-self-2 c =
     let action = action_of c.args.edit.now in
     let grid = c.edit_letters.new.grid in
     let now : State = record { grid = grid; words = old.bank.words } in
-    let is = letters_of_grid before action c.requires in
+    let is = letters_of_grid before action c.requires.letters in
     let made : after before action ≡ Ok now = grid_made before action grid is c.in_ok-edit_letters.ensures.ok in
     let formed : IsWellFormed now = state_formed grid old.bank.words c.well_formed-2.ensures old.kept.formed.dictionary in
     let kept : IsKept now c.settle-self.new.net = c.settle-self.ensures.kept before action (change_made before now action _ made old.kept.formed formed (c.as_slice.ensures ∙ c.of-written.ensures) old.light_list is.no_word) old.kept.settled in
@@ -56,6 +56,7 @@ invariant_of-self-2 c =
           ∙ kept_cells before old.net old.kept
           ∙ sym c.edit_letters.ensures.shape.cells
           ∙ sym (kept_cells now c.settle-self.new.net kept);
+      same_room = old.same_room ∙ old.same_cells ∙ ap length (sym c.keep_letters.ensures);
     }
 
 pub returns-clause-done : goal.returns-clause-done
@@ -65,7 +66,7 @@ returns-clause-done c =
     let action = action_of c.args.edit.now in
     let grid = c.edit_letters.new.grid in
     let now : State = record { grid = grid; words = old.bank.words } in
-    let is = letters_of_grid before action c.requires in
+    let is = letters_of_grid before action c.requires.letters in
     let made : after before action ≡ Ok now = grid_made before action grid is c.in_ok-edit_letters.ensures.ok in
     let formed : IsWellFormed now = state_formed grid old.bank.words c.well_formed-2.ensures old.kept.formed.dictionary in
     record {

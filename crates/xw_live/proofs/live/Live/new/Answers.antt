@@ -15,4 +15,5 @@ invariant_of-result c =
       light_list = c.in_ok-lights.ensures.ok;
       kept = kept;
       same_cells = c.in_ok-before.ensures.ok ∙ sym (kept_cells state net kept);
+      same_room = c.in_ok-noted.ensures.ok ∙ sym c.in_ok-before.ensures.ok;
     }

@@ -18,6 +18,7 @@ invariant_of-self c =
       light_list = old.light_list;
       kept = kept_alike (state_of old) old.net c.reserve.new.self c.reserve.ensures.same (ap is_some c.in_err-reserve.ensures.spare ∙ old.kept.none_waits) old.kept;
       same_cells = old.same_cells ∙ ap length (sym c.reserve.ensures.same.sets);
+      same_room = old.same_room;
     }
 
 pub settle-self-requires-clause-cells : goal.settle-self-requires-clause-cells
@@ -69,6 +70,7 @@ invariant_of-self-2 c =
           ∙ kept_cells before old.net old.kept
           ∙ as_many_cells before.grid c.args.grid old.kept.formed.grid c.well_formed-2.ensures size.width size.height
           ∙ sym (kept_cells now c.settle-self.new.net kept);
+      same_room = old.same_room ∙ old.same_cells ∙ ap length (sym (c.keep_letters.ensures ∙ c.reserve.ensures.same.sets));
     }
 
 pub returns-clause-done : goal.returns-clause-done

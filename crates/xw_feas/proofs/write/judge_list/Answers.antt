@@ -1,0 +1,12 @@
+use Rattle.std.proofs.Common.{sym, ◌∙◌, ap}
+use Rattle.std.specs.Prelude.{Some}
+use Rattle.std.proofs.lemmas.Result.{err_from_is_err_and}
+use Rattle.xw_feas.specs.Shape.{fault_at}
+use Rattle.xw_feas.proofs.WriteLemmas.{write_refused}
+use Rattle.xw_feas.proofs.write.judge_list.Goals as goal
+
+pub returns-in_err-judge-clause-refused : goal.returns-in_err-judge-clause-refused
+returns-in_err-judge-clause-refused c =
+    let item = c.index-list-place.result in
+    let e = err_from_is_err_and c.from_residual.result c.from_residual.ensures.1 in
+    rw (e.1, e.2) (write_refused c.args.list.now c.args.grid.now c.loop-place.place _ item c.loop-place-test.true (λ k below. c.loop-place.invariant k item below) c.in_err-judge.ensures.refused)

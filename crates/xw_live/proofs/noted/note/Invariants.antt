@@ -1,0 +1,10 @@
+use Rattle.std.proofs.Common.{◌≡◌, take, map, length}
+use Rattle.xw_grid.specs.Grid.{cells}
+use Rattle.xw_live.specs.Change.{with_entry_of}
+use Rattle.xw_live.proofs.noted.note.Given as goal
+
+abbrev pub invariant-loop-place : goal.invariant-loop-place
+invariant-loop-place l = record {
+  long : length l.noted ≡ length l.grid.squares;
+  front : take l.place l.noted ≡ map (with_entry_of l.grid) (take l.place (cells l.grid));
+}

@@ -1,0 +1,58 @@
+use Rattle.std.proofs.Common.{◌≡◌, length, refl, sym, ◌∙◌, ap}
+use Rattle.std.specs.Prelude.{Ok}
+use Rattle.xw_feas.specs.State.{State, list_written, after, with_grid, by_fault}
+use Rattle.xw_feas.specs.WellFormed.{IsWellFormed}
+use Rattle.xw_live.specs.Engine.{IsKept}
+use Rattle.xw_live.specs.Net.{known_counts}
+use Rattle.xw_live.proofs.Changing.{change_made}
+use Rattle.xw_live.proofs.Keeping.{kept_cells, state_formed, stood_same, room_without, room_of_lights}
+use Rattle.xw_live.proofs.Listed.{edit_in_grid}
+use Rattle.xw_live.proofs.Noting.{kept_listed}
+use Rattle.xw_live.proofs.tests.beside.Beside.write.Goals as goal
+
+pub note-requires : goal.note-requires
+note-requires c = ap length c.as_mut_slice.ensures.value ∙ c.in_ok-noted.ensures.ok
+
+pub settle-requires-clause-cells : goal.settle-requires-clause-cells
+settle-requires-clause-cells c =
+    let old = c.args.self.now in
+    kept_cells (record { grid = old.grid; words = old.bank.words }) old.net old.kept ∙ sym c.write.ensures.shape.cells
+
+pub settle-requires-clause-inside : goal.settle-requires-clause-inside
+settle-requires-clause-inside c =
+    let old = c.args.self.now in
+    let before : State = record { grid = old.grid; words = old.bank.words } in
+    let action = list_written c.args.list.now in
+    let grid = c.write.new.grid in
+    let now : State = record { grid = grid; words = old.bank.words } in
+    let made : after before action ≡ Ok now = ap (λ r. with_grid before (by_fault r)) c.in_ok-write.ensures.ok in
+    let long = c.note.ensures.len ∙ ap length c.as_mut_slice.ensures.value in
+    let listed = kept_listed old.grid grid c.args.list.now c.in_ok-noted.noted c.note.new.noted _ _ _ _ c.in_ok-write.ensures.ok long c.keep_changed-count.ensures.len c.note.ensures.noted c.as_mut_slice-2.ensures.value c.keep_changed-count.ensures.kept c.deref.ensures.value in
+    edit_in_grid before now action _ old.kept.formed.grid made listed
+
+pub settle-requires-clause-stood : goal.settle-requires-clause-stood
+settle-requires-clause-stood c =
+    let old = c.args.self.now in
+    stood_same (record { grid = old.grid; words = old.bank.words }) old.net old.lights old.light_list old.kept.settled old.bank.words (λ count. refl)
+
+pub settle-requires-clause-room : goal.settle-requires-clause-room
+settle-requires-clause-room c =
+    let old = c.args.self.now in
+    room_without old.lights old.lights (known_counts old.bank.words) old.net old.net.spare old.kept.none_waits refl (room_of_lights (record { grid = old.grid; words = old.bank.words }) old.net old.lights old.light_list old.kept.settled)
+
+pub invariant_of-self-2 : goal.invariant_of-self-2
+invariant_of-self-2 c =
+    let old = c.args.self.now in
+    let before : State = record { grid = old.grid; words = old.bank.words } in
+    let action = list_written c.args.list.now in
+    let grid = c.write.new.grid in
+    let now : State = record { grid = grid; words = old.bank.words } in
+    let made : after before action ≡ Ok now = ap (λ r. with_grid before (by_fault r)) c.in_ok-write.ensures.ok in
+    let long = c.note.ensures.len ∙ ap length c.as_mut_slice.ensures.value in
+    let listed = kept_listed old.grid grid c.args.list.now c.in_ok-noted.noted c.note.new.noted _ _ _ _ c.in_ok-write.ensures.ok long c.keep_changed-count.ensures.len c.note.ensures.noted c.as_mut_slice-2.ensures.value c.keep_changed-count.ensures.kept c.deref.ensures.value in
+    let formed : IsWellFormed now = state_formed grid old.bank.words c.well_formed-2.ensures old.kept.formed.dictionary in
+    let kept : IsKept now c.settle.new.net = c.settle.ensures before action (change_made before now action _ made old.kept.formed formed listed old.light_list refl) old.kept.settled in
+    record {
+      light_list = old.light_list ∙ sym c.write.ensures.shape.lights;
+      kept = kept;
+    }

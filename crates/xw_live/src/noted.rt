@@ -1,0 +1,59 @@
+//! The cells of a grid with their entries, noted before a list is written.
+ghost use Rattle.std.specs.Prelude.{◌≡◌, ◌≤◌, length, map, take, filter, IfOk, IsOkUnless};
+ghost use Rattle.xw_grid.specs.Grid.{cells};
+ghost use Rattle.xw_live.specs.Change.{with_entry_of, is_changed};
+
+use std::alloc::Global;
+use xw_grid::cell::Cell;
+use xw_grid::fault::GridFault;
+use xw_grid::grid::Grid;
+use xw_words::letter::Letter;
+
+/// Room for each cell of a grid with an entry.
+pub fn make_noted(alloc: Global, grid: &Grid) -> Result<Vec<(Cell, Option<Letter>)>, GridFault>
+    ensures ok { IfOk result (λ noted. length noted.items ≡ length grid.now.squares) }
+    ensures memory { IsOkUnless result GridFault.Memory }
+{
+    let nowhere = Cell { row: 0, col: 0 };
+    Ok(vec![in alloc; (nowhere, None); grid.squares().len()]?)
+}
+
+/// Notes each cell with its entry.
+pub fn note(noted: &mut [(Cell, Option<Letter>)], grid: &Grid)
+    requires { length noted.old ≡ length grid.now.squares }
+    ensures len { length noted.new ≡ length noted.old }
+    ensures noted { noted.new ≡ map (with_entry_of grid.now) (cells grid.now) }
+{
+    for place in 0..grid.size() {
+        let cell = grid.cell_at(place);
+        noted[place] = (cell, grid.entry(cell));
+    }
+}
+
+/// Whether the entry of a cell is another one than that with which it is noted.
+fn is_changed(grid: &Grid, cell: Cell, noted: Option<Letter>) -> bool
+    ensures { result ≡ is_changed grid.now (cell, noted) }
+{
+    match (noted, grid.entry(cell)) {
+        (None, None) => false,
+        (Some(old), Some(new)) => old.byte() != new.byte(),
+        _ => true,
+    }
+}
+
+/// Moves the cells whose entry is another one now to the front, and says how many they are.
+pub fn keep_changed(noted: &mut [(Cell, Option<Letter>)], grid: &Grid) -> usize
+    ensures len { length noted.new ≡ length noted.old }
+    ensures count { result ≤ length noted.new }
+    ensures kept { take result noted.new ≡ filter (is_changed grid.now) noted.old }
+{
+    let mut count = 0;
+    for place in 0..noted.len() {
+        let listed = noted[place];
+        if is_changed(grid, listed.0, listed.1) {
+            noted[count] = listed;
+            count += 1;
+        }
+    }
+    count
+}
