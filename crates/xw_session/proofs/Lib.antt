@@ -24,3 +24,6 @@ pub mod Replaying
 pub mod CellsAgain
 pub mod CirclesAgain
 pub mod BarsAgain
+pub mod WordsAgain
+pub mod InOrder
+pub mod CluesAgain

@@ -1,16 +1,24 @@
 -- Commands done one after another, where no memory is wanting.
-use Rattle.std.specs.Prelude.{◌≡◌, ℕ, false, List, [], ◌∷◌, slice_index_or, Option, Some, None, Result, Ok, Err}
+use Rattle.std.specs.Prelude.{◌≡◌, ℕ, ◌+◌, ◌<◌, ◌≤◌, true, false, List, [], ◌∷◌, map, take, length, slice_index_or, Option, Some, None, Result, Ok, Err}
 use Rattle.std.specs.Option.{option_and_then}
+use Rattle.xw_words.specs.Dictionary.{Dictionary, Entry, IsDictionary, row}
 use Rattle.xw_grid.specs.declared.cell.Square.{Square}
 use Rattle.xw_grid.specs.declared.cell.Square.TheVariants.{Block, Open}
 use Rattle.xw_grid.specs.declared.cell.Cell.{Cell}
+use Rattle.xw_grid.specs.declared.cell.Direction.{Direction}
+use Rattle.xw_grid.specs.declared.cell.Direction.TheVariants.{Across, Down}
 use Rattle.xw_grid.specs.declared.cell.Side.{Side}
-use Rattle.xw_grid.specs.Grid.{Grid, is_edge, bars, index_of}
+use Rattle.xw_grid.specs.Grid.{Grid, IsGrid, is_inside, is_edge, bars, index_of}
+use Rattle.xw_grid.specs.Clue.{Texts, ClueMap}
 use Rattle.xw_session.specs.declared.command.Command.{Command}
 use Rattle.xw_session.specs.declared.command.SyntaxFault.{SyntaxFault}
+use Rattle.xw_session.specs.declared.command.TextField.{TextField}
 use Rattle.xw_session.specs.declared.refusal.Refusal.{Refusal}
 use Rattle.xw_session.specs.Command.{command_of}
-use Rattle.xw_session.specs.Reply.{Reply, reply_to}
+use Rattle.xw_session.specs.Cut.{ended_lines}
+use Rattle.xw_session.specs.Put.{text_of_field}
+use Rattle.xw_session.specs.Record.{known_counts, record_lines}
+use Rattle.xw_session.specs.Reply.{Reply, reply_to, has_nul}
 use Rattle.xw_session.specs.State.{State}
 
 -- the state that a reply leaves; none where the command is refused
@@ -42,6 +50,57 @@ bared (Open entered) = Open None
 abbrev pub with_grid : State → Grid → State
 with_grid state grid = record state { position = record state.position { grid = grid } }
 
+-- the state with a dictionary in place of the one it has
+abbrev pub with_words : State → Dictionary → State
+with_words state words = record state { position = record state.position { words = words } }
+
+-- ---- what a session has, whatever it was told
+
+-- a known word, not struck
+abbrev pub unstruck : Entry → Entry
+unstruck entry = record entry { active = true }
+
+-- the first ones of the known words are those of the beginning, of which none was struck
+abbrev pub ComeFirst : List Entry → List Entry → Type 0
+ComeFirst begun entries = begun ≡ map unstruck (take (length begun) entries)
+
 -- no bar stands where no cell is beyond
 abbrev pub BarsAreOnEdges : Grid → Type 0
 BarsAreOnEdges grid = (side : Side) (cell : Cell) → is_edge grid cell side ≡ false → slice_index_or (bars grid side) (index_of grid cell) false ≡ false
+
+-- cells of a grid in reading order, from a place on
+abbrev pub AreFrom : Grid → ℕ → List Cell → Type 0
+AreFrom grid place [] = Unit {0}
+AreFrom grid place (cell ∷ cells) = (is_inside grid cell ≡ true) × (place ≤ index_of grid cell) × AreFrom grid (index_of grid cell + 1) cells
+
+-- texts for cells of a grid in reading order, from a place on; none is empty, and none has a NUL
+abbrev pub AreTextsFrom : Grid → ℕ → Texts → Type 0
+AreTextsFrom grid place [] = Unit {0}
+AreTextsFrom grid place (entry ∷ texts) =
+    (is_inside grid entry.0 ≡ true) × (place ≤ index_of grid entry.0) × (0 < length entry.1) × (has_nul entry.1 ≡ false) × AreTextsFrom grid (index_of grid entry.0 + 1) texts
+
+-- the clues of one direction
+abbrev pub clues_of : ClueMap → Direction → Texts
+clues_of clues Across = clues.across
+clues_of clues Down = clues.down
+
+-- the state of a session that began with these words
+pub record BeganWith (words : Dictionary) (state : State) : Type 0 where
+  pub grid : IsGrid state.position.grid
+  pub bars : BarsAreOnEdges state.position.grid
+  pub known : IsDictionary words
+  pub dictionary : IsDictionary state.position.words
+  pub first : (count : ℕ) → ComeFirst (row words count) (row state.position.words count)
+  pub begun : state.begun ≡ known_counts words
+  pub texts : (name : TextField) → has_nul (text_of_field state.texts name) ≡ false
+  pub clues : (direction : Direction) → AreTextsFrom state.position.grid 0 (clues_of state.clues direction)
+  pub circles : AreFrom state.position.grid 0 state.circles
+
+-- ---- the law of a record
+
+-- The lines of a record, in a session with the words that the first one began with, leave the dictionary, the grid with its
+-- symmetry, the texts, the clues, the circles and the watch as they were: all but the counts of the beginning.
+abbrev pub RecordsMakeSessionsAgain : Type 0
+RecordsMakeSessionsAgain =
+    (words : Dictionary) (made state : State) → BeganWith words made → state.position.words ≡ words
+    → replayed_lines state (ended_lines (record_lines made)) ≡ Some (record made { begun = state.begun })
