@@ -27,3 +27,4 @@ pub mod BarsAgain
 pub mod WordsAgain
 pub mod InOrder
 pub mod CluesAgain
+pub mod RecordAgain

@@ -17,7 +17,7 @@ use Rattle.xw_session.specs.declared.refusal.Refusal.{Refusal}
 use Rattle.xw_session.specs.Command.{command_of}
 use Rattle.xw_session.specs.Cut.{ended_lines}
 use Rattle.xw_session.specs.Put.{text_of_field}
-use Rattle.xw_session.specs.Record.{known_counts, record_lines}
+use Rattle.xw_session.specs.Record.{known_counts, record_commands, record_lines}
 use Rattle.xw_session.specs.Reply.{Reply, reply_to, has_nul}
 use Rattle.xw_session.specs.State.{State}
 
@@ -98,9 +98,14 @@ pub record BeganWith (words : Dictionary) (state : State) : Type 0 where
 
 -- ---- the law of a record
 
--- The lines of a record, in a session with the words that the first one began with, leave the dictionary, the grid with its
--- symmetry, the texts, the clues, the circles and the watch as they were: all but the counts of the beginning.
-abbrev pub RecordsMakeSessionsAgain : Type 0
-RecordsMakeSessionsAgain =
+-- The commands of a record, and its lines, in a session with the words that the first one began with, are not refused, and
+-- leave the dictionary, the grid with its symmetry, the texts, the clues, the circles and the watch as they were.
+abbrev pub CommandsMakeSessionsAgain : Type 0
+CommandsMakeSessionsAgain =
+    (words : Dictionary) (made state : State) → BeganWith words made → state.position.words ≡ words
+    → replayed state (record_commands made) ≡ Some (record made { begun = state.begun })
+
+abbrev pub LinesMakeSessionsAgain : Type 0
+LinesMakeSessionsAgain =
     (words : Dictionary) (made state : State) → BeganWith words made → state.position.words ≡ words
     → replayed_lines state (ended_lines (record_lines made)) ≡ Some (record made { begun = state.begun })

@@ -20,7 +20,7 @@ ghost use Rattle.xw_session.specs.State.{State};
 ghost use Rattle.xw_session.specs.Reply.{has_nul};
 ghost use Rattle.xw_session.specs.Put.{place_of, has_place, with_text_at};
 ghost use Rattle.xw_session.specs.Record.{known_counts, text_commands, section_commands};
-ghost use Rattle.xw_session.specs.Replay.{replayed, bared, with_grid, with_words, clues_of, ComeFirst, BarsAreOnEdges, AreFrom, AreTextsFrom};
+ghost use Rattle.xw_session.specs.Replay.{CommandsMakeSessionsAgain, replayed, bared, with_grid, with_words, clues_of, ComeFirst, BarsAreOnEdges, AreFrom, AreTextsFrom};
 ghost use Rattle.xw_session.specs.Cut.{ended_lines, last_piece, with_lfs, AllHaveNoLf, HasNoLf};
 
 /// A text is its ended lines, each with its LF, and then its last piece, and it is nothing else of that form.
@@ -126,4 +126,9 @@ pub fn letters_are_made_again()
     ensures { (state made : State) → IsGrid made.position.grid
         → replayed (with_grid state (record made.position.grid { squares = map bared made.position.grid.squares })) (section_commands made (sections.Cells parts.Letters))
         ≡ Some (with_grid state made.position.grid) }
+{}
+
+/// All commands of a record, one after another, make the session again.
+pub fn commands_make_sessions_again()
+    ensures { CommandsMakeSessionsAgain }
 {}
