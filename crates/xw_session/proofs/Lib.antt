@@ -28,3 +28,6 @@ pub mod WordsAgain
 pub mod InOrder
 pub mod CluesAgain
 pub mod RecordAgain
+pub mod LinesRead
+pub mod CommandsRead
+pub mod RecordRead

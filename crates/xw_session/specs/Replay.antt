@@ -15,7 +15,7 @@ use Rattle.xw_session.specs.declared.command.SyntaxFault.{SyntaxFault}
 use Rattle.xw_session.specs.declared.command.TextField.{TextField}
 use Rattle.xw_session.specs.declared.refusal.Refusal.{Refusal}
 use Rattle.xw_session.specs.Command.{command_of}
-use Rattle.xw_session.specs.Cut.{ended_lines}
+use Rattle.xw_session.specs.Cut.{lines_of}
 use Rattle.xw_session.specs.Put.{text_of_field}
 use Rattle.xw_session.specs.Record.{known_counts, record_commands, record_lines}
 use Rattle.xw_session.specs.Reply.{Reply, reply_to, has_nul}
@@ -98,14 +98,21 @@ pub record BeganWith (words : Dictionary) (state : State) : Type 0 where
 
 -- ---- the law of a record
 
--- The commands of a record, and its lines, in a session with the words that the first one began with, are not refused, and
--- leave the dictionary, the grid with its symmetry, the texts, the clues, the circles and the watch as they were.
+-- the commands of a record, in a session with the words that the first one began with, leave the dictionary, the grid with
+-- its symmetry, the texts, the clues, the circles and the watch as they were; none is refused
 abbrev pub CommandsMakeSessionsAgain : Type 0
 CommandsMakeSessionsAgain =
     (words : Dictionary) (made state : State) → BeganWith words made → state.position.words ≡ words
     → replayed state (record_commands made) ≡ Some (record made { begun = state.begun })
 
+-- each line of a record is read as its command
+abbrev pub LinesAreReadAgain : Type 0
+LinesAreReadAgain =
+    (words : Dictionary) (made : State) → BeganWith words made
+    → map command_of (lines_of (record_lines made)) ≡ map (λ command. Ok (Some command)) (record_commands made)
+
+-- and so the lines do the same
 abbrev pub LinesMakeSessionsAgain : Type 0
 LinesMakeSessionsAgain =
     (words : Dictionary) (made state : State) → BeganWith words made → state.position.words ≡ words
-    → replayed_lines state (ended_lines (record_lines made)) ≡ Some (record made { begun = state.begun })
+    → replayed_lines state (lines_of (record_lines made)) ≡ Some (record made { begun = state.begun })
