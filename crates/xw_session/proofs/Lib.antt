@@ -31,3 +31,4 @@ pub mod RecordAgain
 pub mod LinesRead
 pub mod CommandsRead
 pub mod RecordRead
+pub mod AnsweredAgain

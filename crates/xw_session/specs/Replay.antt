@@ -1,5 +1,5 @@
 -- Commands done one after another, where no memory is wanting.
-use Rattle.std.specs.Prelude.{◌≡◌, ℕ, ◌+◌, ◌<◌, ◌≤◌, true, false, List, [], ◌∷◌, map, take, length, slice_index_or, Option, Some, None, Result, Ok, Err}
+use Rattle.std.specs.Prelude.{◌≡◌, ℕ, ◌+◌, ◌<◌, ◌≤◌, true, false, List, [], ◌∷◌, ◌++◌, map, take, length, slice_index_or, Option, Some, None, Result, Ok, Err}
 use Rattle.std.specs.Option.{option_and_then}
 use Rattle.xw_words.specs.Dictionary.{Dictionary, Entry, IsDictionary, row}
 use Rattle.xw_grid.specs.declared.cell.Square.{Square}
@@ -13,13 +13,17 @@ use Rattle.xw_grid.specs.Clue.{Texts, ClueMap}
 use Rattle.xw_session.specs.declared.command.Command.{Command}
 use Rattle.xw_session.specs.declared.command.SyntaxFault.{SyntaxFault}
 use Rattle.xw_session.specs.declared.command.TextField.{TextField}
+use Rattle.xw_session.specs.declared.outcome.Step.TheVariants.{Refused}
 use Rattle.xw_session.specs.declared.refusal.Refusal.{Refusal}
 use Rattle.xw_session.specs.Command.{command_of}
 use Rattle.xw_session.specs.Cut.{lines_of}
 use Rattle.xw_session.specs.Put.{text_of_field}
 use Rattle.xw_session.specs.Record.{known_counts, record_commands, record_lines}
-use Rattle.xw_session.specs.Reply.{Reply, reply_to, has_nul}
+use Rattle.xw_session.specs.Reply.{Reply, reply_to, want_of, has_nul}
+use Rattle.xw_session.specs.Answer.{Answers}
+use Rattle.xw_session.specs.Spoken.{Spoken}
 use Rattle.xw_session.specs.State.{State}
+use Rattle.xw_session.specs.Text.{refused}
 
 -- the state that a reply leaves; none where the command is refused
 abbrev pub state_left : Result Reply Refusal → Option State
@@ -116,3 +120,24 @@ abbrev pub LinesMakeSessionsAgain : Type 0
 LinesMakeSessionsAgain =
     (words : Dictionary) (made state : State) → BeganWith words made → state.position.words ≡ words
     → replayed_lines state (lines_of (record_lines made)) ≡ Some (record made { begun = state.begun })
+
+-- ---- the same as a session answers them
+
+-- a line is answered by the want of memory that its command may meet
+abbrev pub WantsMemory : State → Result (Option Command) SyntaxFault → List ℕ → Type 0
+WantsMemory state (Ok None) answer = ⊥
+WantsMemory state (Ok (Some command)) answer = (refusal : Refusal) × (want_of state command ≡ Some refusal) × (answer ≡ refused refusal)
+WantsMemory state (Err fault) answer = ⊥
+
+-- a session that begins with the same words and refuses no line of a record is left as the first one was
+abbrev pub AnsweredLinesMakeSessionsAgain : Type 0
+AnsweredLinesMakeSessionsAgain =
+    (words : Dictionary) (made state last : State) (out : List ℕ) → BeganWith words made → state.position.words ≡ words
+    → Spoken Answers state (lines_of (record_lines made)) out 0 last → last ≡ record made { begun = state.begun }
+
+-- and the first line that it refuses, if there is one, is refused for want of memory
+abbrev pub RecordsAreRefusedForMemoryOnly : Type 0
+RecordsAreRefusedForMemoryOnly =
+    (words : Dictionary) (made state mid last : State) (front rest : List (List ℕ)) (line out answer : List ℕ) → BeganWith words made → state.position.words ≡ words
+    → lines_of (record_lines made) ≡ front ++ line ∷ rest → Spoken Answers state front out 0 mid → Answers mid line Refused answer last
+    → WantsMemory mid (command_of line) answer

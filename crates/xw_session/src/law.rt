@@ -20,7 +20,7 @@ ghost use Rattle.xw_session.specs.State.{State};
 ghost use Rattle.xw_session.specs.Reply.{has_nul};
 ghost use Rattle.xw_session.specs.Put.{place_of, has_place, with_text_at};
 ghost use Rattle.xw_session.specs.Record.{known_counts, text_commands, section_commands};
-ghost use Rattle.xw_session.specs.Replay.{CommandsMakeSessionsAgain, LinesAreReadAgain, LinesMakeSessionsAgain, replayed, bared, with_grid, with_words, clues_of, ComeFirst, BarsAreOnEdges, AreFrom, AreTextsFrom};
+ghost use Rattle.xw_session.specs.Replay.{CommandsMakeSessionsAgain, LinesAreReadAgain, LinesMakeSessionsAgain, AnsweredLinesMakeSessionsAgain, RecordsAreRefusedForMemoryOnly, replayed, bared, with_grid, with_words, clues_of, ComeFirst, BarsAreOnEdges, AreFrom, AreTextsFrom};
 ghost use Rattle.xw_session.specs.Cut.{ended_lines, last_piece, with_lfs, AllHaveNoLf, HasNoLf};
 
 /// A text is its ended lines, each with its LF, and then its last piece, and it is nothing else of that form.
@@ -137,4 +137,11 @@ pub fn commands_make_sessions_again()
 pub fn lines_make_sessions_again()
     ensures read { LinesAreReadAgain }
     ensures made { LinesMakeSessionsAgain }
+{}
+
+/// A session over any engine that begins with the same words and refuses no line of a record is then the same; and the first line that
+/// it refuses, if there is one, is refused for want of memory.
+pub fn records_make_sessions_again()
+    ensures made { AnsweredLinesMakeSessionsAgain }
+    ensures memory { RecordsAreRefusedForMemoryOnly }
 {}
