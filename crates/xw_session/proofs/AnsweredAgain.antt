@@ -1,11 +1,11 @@
 -- The lines of a record as a session answers them.
-use Rattle.std.proofs.Common.{◌≡◌, ◌⊎◌, ℕ, ◌+◌, List, [], ◌∷◌, ◌++◌, Some, None, refl, sym, ◌∙◌, ap, inl, inr, arith}
-use Rattle.std.specs.Prelude.{Option, Result, Ok, Err, IsOk}
+use Rattle.std.proofs.Common.{◌≡◌, ℕ, List, [], ◌∷◌, ◌++◌, Some, None, refl, sym, ◌∙◌, ap, inl, inr, arith}
+use Rattle.std.specs.Prelude.{Option, Result, Ok, Err}
 use Rattle.std.specs.Option.{option_and_then}
 use Rattle.xw_session.specs.declared.command.Command.{Command}
 use Rattle.xw_session.specs.declared.command.SyntaxFault.{SyntaxFault}
 use Rattle.xw_session.specs.declared.outcome.Step.{Step}
-use Rattle.xw_session.specs.declared.outcome.Step.TheVariants.{Silent, Accepted, Refused}
+use Rattle.xw_session.specs.declared.outcome.Step.TheVariants.{Silent, Refused}
 use Rattle.xw_session.specs.declared.refusal.Refusal.{Refusal}
 use Rattle.xw_session.specs.State.{State}
 use Rattle.xw_session.specs.Command.{command_of}

@@ -1,6 +1,6 @@
 -- The line of each command that a record has, read again.
-use Rattle.std.proofs.Common.{◌≡◌, ◌≢◌, ℕ, ◌+◌, ◌-◌, ◌*◌, ◌<◌, ◌≤◌, zero, suc, Bool, true, false, not, ◌&&◌, ◌||◌, le-leb, eqb, List, [], ◌∷◌, ◌++◌, length, get_or, take, flat_map, codes, Some, None, refl, sym, ◌∙◌, ap, subst, append-nil, arith}
-use Rattle.std.specs.Prelude.{Option, Result, Ok, Err, decimal, nat_le, nat_lt, nat_eq, slice_index, if◌then◌else◌, All}
+use Rattle.std.proofs.Common.{◌≡◌, ℕ, ◌+◌, ◌-◌, ◌*◌, ◌<◌, ◌≤◌, suc, Bool, true, false, not, ◌&&◌, ◌||◌, le-leb, List, [], ◌∷◌, ◌++◌, length, get_or, take, flat_map, codes, Some, None, refl, sym, ◌∙◌, ap, subst, append-nil, arith}
+use Rattle.std.specs.Prelude.{Option, Ok, Err, decimal, nat_lt, nat_eq, slice_index, if◌then◌else◌, All}
 use Rattle.std.specs.List.{list_all, range_with_len}
 use Rattle.std.proofs.lemmas.Bool.{ne_eqb}
 use Rattle.std.proofs.lemmas.Bool.Decides.{nat_tests}
@@ -17,7 +17,6 @@ use Rattle.xw_session.specs.declared.command.Command.{Command}
 use Rattle.xw_session.specs.declared.command.Command.TheVariants as commands
 use Rattle.xw_session.specs.declared.command.Field.{Field}
 use Rattle.xw_session.specs.declared.command.Field.TheVariants as fields
-use Rattle.xw_session.specs.declared.command.Putting.{Putting}
 use Rattle.xw_session.specs.declared.command.Putting.TheVariants.{Instead, Behind}
 use Rattle.xw_session.specs.declared.command.Spot.{Spot}
 use Rattle.xw_session.specs.declared.command.SyntaxFault.TheVariants as faults
@@ -26,11 +25,11 @@ use Rattle.xw_session.specs.declared.command.TextField.TheVariants.{Title, Autho
 use Rattle.xw_session.specs.Command.{command_named, command_in, command_of, whole}
 use Rattle.xw_session.specs.Cut.{HasNoLf}
 use Rattle.xw_session.specs.Escape.{letter_for, escaped, is_end, spelled_at, spelled}
-use Rattle.xw_session.specs.Line.{is_ink, without_cr, first_word, trimmed_start, trimmed_end, trimmed}
-use Rattle.xw_session.specs.Reading.{Reading, ◌>>=◌, given, number, byte, word, text, side, direction, switch, symmetry, spot, text_name, clue_place, field_named, field}
+use Rattle.xw_session.specs.Line.{without_cr, first_word, trimmed_start, trimmed_end, trimmed}
+use Rattle.xw_session.specs.Reading.{◌>>=◌, given, number, byte, word, text, side, direction, switch, symmetry, spot, text_name, field_named, field}
 use Rattle.xw_session.specs.Spelling.{symmetry_name, side_name, switch_name, field_name, in_field, command_words, command_line}
 use Rattle.xw_session.specs.Text.{line_of, direction_name}
-use Rattle.xw_session.proofs.LinesRead.{spaced, line_parts, IsOneWord, first_read, reads_word, then_read, is_high, each_weaker, IsHigh, high_word, short_number, high_number, reads_number, reads_spot, reads_byte, reads_key, reads_side, reads_direction, reads_switch, reads_symmetry, space_first, both, list_all_both}
+use Rattle.xw_session.proofs.LinesRead.{spaced, line_parts, first_read, reads_word, then_read, is_high, each_weaker, IsHigh, high_word, short_number, high_number, reads_number, reads_spot, reads_byte, reads_key, reads_side, reads_direction, reads_switch, reads_symmetry, space_first, both, list_all_both}
 use Rattle.xw_session.proofs.Passing.{each_passes}
 use Rattle.xw_session.proofs.SpelledLines.{IsInked, inked, starts_inked, spelled_trimmed}
 

@@ -1,5 +1,5 @@
 -- Lines of commands, read word by word.
-use Rattle.std.proofs.Common.{◌≡◌, ℕ, zero, suc, ◌+◌, ◌-◌, ◌^◌, ◌<◌, ◌≤◌, Bool, true, false, not, ◌&&◌, ◌||◌, le-leb, List, [], ◌∷◌, ◌++◌, length, take, drop, get_or, codes, Some, None, refl, sym, ◌∙◌, ap, inl, inr, append-nil, append_assoc, lit<, arith}
+use Rattle.std.proofs.Common.{◌≡◌, ℕ, zero, suc, ◌^◌, ◌<◌, ◌≤◌, Bool, true, false, not, ◌&&◌, ◌||◌, le-leb, List, [], ◌∷◌, ◌++◌, length, take, drop, get_or, codes, Some, None, refl, sym, ◌∙◌, ap, inl, inr, append-nil, append_assoc, lit<, arith}
 use Rattle.std.specs.Prelude.{Option, Result, Ok, Err, decimal, position, unwrap_or, nat_le, nat_eq, if◌then◌else◌}
 use Rattle.std.specs.List.{list_all}
 use Rattle.std.specs.Str.Parse.{AllDigits, digits_value}
@@ -18,7 +18,7 @@ use Rattle.xw_grid.specs.declared.cell.Symmetry.TheVariants as kinds
 use Rattle.xw_words.proofs.Position.{position_is_some, position_is_none}
 use Rattle.xw_session.specs.declared.command.SyntaxFault.{SyntaxFault}
 use Rattle.xw_session.specs.declared.command.SyntaxFault.TheVariants as faults
-use Rattle.xw_session.specs.Line.{is_blank, is_ink, is_digit, is_number, number_in, byte_in, first_place, trimmed_start, trimmed_end, trimmed, parted, first_word}
+use Rattle.xw_session.specs.Line.{is_blank, is_ink, is_digit, number_in, byte_in, first_place, trimmed_start, parted, first_word}
 use Rattle.xw_session.specs.declared.command.Spot.{Spot}
 use Rattle.xw_session.specs.Reading.{Reading, ◌>>=◌, given, wanted, word, number, byte, lookup, key_word, direction, side, symmetry, switch, spot}
 use Rattle.xw_session.specs.Spelling.{symmetry_name, side_name, switch_name}

@@ -1,10 +1,9 @@
 -- The sections of a record, done one after another.
-use Rattle.std.proofs.Common.{◌≡◌, ℕ, ◌*◌, false, List, [], ◌∷◌, ◌++◌, map, drop, flat_map, replicate, Some, None, refl, sym, ◌∙◌, ap}
+use Rattle.std.proofs.Common.{◌≡◌, ℕ, ◌*◌, false, List, [], ◌++◌, map, drop, flat_map, replicate, Some, None, refl, ◌∙◌, ap}
 use Rattle.std.specs.Prelude.{Option}
 use Rattle.std.specs.Option.{option_and_then}
 use Rattle.std.proofs.lemmas.List.{length-replicate}
 use Rattle.xw_words.specs.Dictionary.{Dictionary}
-use Rattle.xw_grid.specs.declared.cell.Cell.{Cell}
 use Rattle.xw_grid.specs.declared.cell.Direction.TheVariants.{Across, Down}
 use Rattle.xw_grid.specs.declared.cell.Side.TheVariants.{Right, Below}
 use Rattle.xw_grid.specs.declared.cell.Square.{Square}
@@ -22,7 +21,7 @@ use Rattle.xw_session.specs.declared.record.Section.TheVariants as sections
 use Rattle.xw_session.specs.State.{State, with_text_in}
 use Rattle.xw_session.specs.Put.{text_of_field}
 use Rattle.xw_session.specs.Record.{word_commands, section_commands, record_sections, record_commands}
-use Rattle.xw_session.specs.Replay.{replayed, bared, with_grid, with_words, clues_of, BeganWith}
+use Rattle.xw_session.specs.Replay.{replayed, bared, with_grid, with_words, BeganWith}
 use Rattle.xw_session.proofs.Replaying.{replayed_both, text_again, size_again, symmetry_again}
 use Rattle.xw_session.proofs.WordsAgain.{words_again}
 use Rattle.xw_session.proofs.CellsAgain.{blocks_again, letters_again}

@@ -1,18 +1,18 @@
 -- The lines of a record, read and done one after another.
-use Rattle.std.proofs.Common.{◌≡◌, ℕ, ◌+◌, ◌*◌, ◌<◌, ◌≤◌, zero, suc, Bool, true, false, List, [], ◌∷◌, ◌++◌, length, map, take, drop, get_or, flat_map, Some, None, refl, sym, ◌∙◌, ap, inl, inr, subst, append-nil, append_assoc, zero-add, arith}
-use Rattle.std.specs.Prelude.{Option, Result, Ok, Err, All, if◌then◌else◌}
+use Rattle.std.proofs.Common.{◌≡◌, ℕ, ◌+◌, ◌*◌, ◌<◌, ◌≤◌, zero, suc, Bool, true, false, List, [], ◌∷◌, ◌++◌, length, map, drop, get_or, flat_map, Some, None, refl, sym, ◌∙◌, ap, inl, inr, subst, append-nil, append_assoc, zero-add, arith}
+use Rattle.std.specs.Prelude.{Option, Result, Ok, if◌then◌else◌}
 use Rattle.std.specs.Option.{option_and_then}
 use Rattle.std.specs.List.{range_with_len}
 use Rattle.std.proofs.lemmas.Bool.{cases_lt}
 use Rattle.std.proofs.lemmas.List.{length-drop, length-take, get_or-drop}
 use Rattle.std.proofs.lemmas.List.Elements.{All-get_or}
 use Rattle.std.proofs.lemmas.List.FromFn.{get_or-range_with_len, length-range_with_len}
-use Rattle.xw_words.specs.Dictionary.{Dictionary, Entry, AreWords, IsDictionary, row, no_entry}
+use Rattle.xw_words.specs.Dictionary.{Dictionary, Entry, IsDictionary, row, no_entry}
 use Rattle.xw_grid.specs.declared.cell.Cell.{Cell}
 use Rattle.xw_grid.specs.declared.cell.Direction.{Direction}
 use Rattle.xw_grid.specs.declared.cell.Square.{Square}
 use Rattle.xw_grid.specs.declared.cell.Square.TheVariants as squares
-use Rattle.xw_grid.specs.Grid.{Grid, IsGrid, IsSquare, is_inside, cell_at, cells, entry, letter_in, is_block, is_barred}
+use Rattle.xw_grid.specs.Grid.{Grid, IsGrid, IsSquare, cell_at, cells, entry, letter_in, is_block, is_barred}
 use Rattle.xw_grid.specs.Clue.{ClueMap, clue_at, is_circled}
 use Rattle.xw_grid.proofs.GridLemmas.{cell_at-inside, inside_small, length-cells}
 use Rattle.xw_session.specs.declared.command.Command.{Command}
@@ -29,8 +29,7 @@ use Rattle.xw_session.specs.Command.{command_of}
 use Rattle.xw_session.specs.Cut.{Cut, cut, lines_of, last_line, with_lfs, AllHaveNoLf}
 use Rattle.xw_session.specs.Put.{text_of_field}
 use Rattle.xw_session.specs.Reply.{reply_to}
-use Rattle.xw_session.specs.Spelling.{command_line}
-use Rattle.xw_session.specs.Record.{spot_of, piece_at, further_pieces, more_command, text_commands, add_command, strike_commands, row_commands, length_commands, word_commands, circle_commands, bar_commands, block_commands, letter_commands, clue_commands, cell_commands, part_commands, section_commands, record_sections, record_commands, command_lines, record_lines}
+use Rattle.xw_session.specs.Record.{spot_of, piece_at, further_pieces, more_command, text_commands, add_command, strike_commands, row_commands, length_commands, letter_commands, clue_commands, cell_commands, part_commands, section_commands, record_sections, record_commands, command_lines, record_lines}
 use Rattle.xw_session.specs.Replay.{state_left, replayed, left_by_line, replayed_lines, BeganWith}
 use Rattle.xw_session.proofs.Cuts.{cut-with_lfs}
 use Rattle.xw_session.proofs.LightTexts.{cell_in_order}

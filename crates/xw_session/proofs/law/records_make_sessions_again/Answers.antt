@@ -1,6 +1,5 @@
 use Rattle.std.proofs.Common.{◌≡◌, ◌∙◌, Some, refl, sym, ap}
 use Rattle.std.specs.Option.{unwrap_or}
-use Rattle.xw_session.specs.State.{State}
 use Rattle.xw_session.specs.Replay.{replayed_lines}
 use Rattle.xw_session.proofs.RecordAgain.{commands_again}
 use Rattle.xw_session.proofs.RecordRead.{lines_done}
