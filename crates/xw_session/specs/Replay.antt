@@ -68,9 +68,9 @@ unstruck entry = record entry { active = true }
 abbrev pub ComeFirst : List Entry → List Entry → Type 0
 ComeFirst begun entries = begun ≡ map unstruck (take (length begun) entries)
 
--- no bar stands where no cell is beyond
+-- no bar stands at a cell of the grid where no cell is beyond
 abbrev pub BarsAreOnEdges : Grid → Type 0
-BarsAreOnEdges grid = (side : Side) (cell : Cell) → is_edge grid cell side ≡ false → slice_index_or (bars grid side) (index_of grid cell) false ≡ false
+BarsAreOnEdges grid = (side : Side) (cell : Cell) → is_inside grid cell ≡ true → is_edge grid cell side ≡ false → slice_index_or (bars grid side) (index_of grid cell) false ≡ false
 
 -- cells of a grid in reading order, from a place on
 abbrev pub AreFrom : Grid → ℕ → List Cell → Type 0
