@@ -32,3 +32,7 @@ pub mod LinesRead
 pub mod CommandsRead
 pub mod RecordRead
 pub mod AnsweredAgain
+pub mod KeptInOrder
+pub mod KeptEdges
+pub mod KeptWords
+pub mod SessionKept

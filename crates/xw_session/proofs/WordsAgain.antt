@@ -245,7 +245,7 @@ module _ (state : State) (count : ℕ) (entries : List Entry) (are : AreWords co
 -- ---- the whole dictionary
 
 -- the entries of the beginning are no more than those now
-no_more : (begun entries : List Entry) → ComeFirst begun entries → length begun ≤ length entries
+pub no_more : (begun entries : List Entry) → ComeFirst begun entries → length begun ≤ length entries
 no_more begun entries first =
     let size : length begun ≡ length (take (length begun) entries) = ap length first ∙ length-map (take (length begun) entries) unstruck in
     omega (arith, size, length-take (length begun) entries)

@@ -9,10 +9,13 @@ use Rattle.xw_grid.specs.declared.cell.Direction.{Direction}
 use Rattle.xw_grid.specs.declared.cell.Direction.TheVariants.{Across, Down}
 use Rattle.xw_grid.specs.declared.cell.Side.{Side}
 use Rattle.xw_grid.specs.Grid.{Grid, IsGrid, is_inside, is_edge, bars, index_of}
-use Rattle.xw_grid.specs.Clue.{Texts, ClueMap}
+use Rattle.xw_grid.specs.Clue.{Texts, ClueMap, no_clues}
+use Rattle.xw_feas.specs.State.{State as Position}
+use Rattle.xw_feas.specs.WellFormed.{IsWellFormed}
 use Rattle.xw_session.specs.declared.command.Command.{Command}
 use Rattle.xw_session.specs.declared.command.SyntaxFault.{SyntaxFault}
 use Rattle.xw_session.specs.declared.command.TextField.{TextField}
+use Rattle.xw_session.specs.declared.outcome.Step.{Step}
 use Rattle.xw_session.specs.declared.outcome.Step.TheVariants.{Refused}
 use Rattle.xw_session.specs.declared.refusal.Refusal.{Refusal}
 use Rattle.xw_session.specs.Command.{command_of}
@@ -99,6 +102,25 @@ pub record BeganWith (words : Dictionary) (state : State) : Type 0 where
   pub texts : (name : TextField) → has_nul (text_of_field state.texts name) ≡ false
   pub clues : (direction : Direction) → AreTextsFrom state.position.grid 0 (clues_of state.clues direction)
   pub circles : AreFrom state.position.grid 0 state.circles
+
+-- a session that is begun with a dictionary of which no word is struck, without texts, clues and circles
+abbrev pub SessionsBegin : Type 0
+SessionsBegin =
+    (position : Position) → IsWellFormed position → BarsAreOnEdges position.grid → ((count : ℕ) → ComeFirst (row position.words count) (row position.words count))
+    → BeganWith position.words (record {
+      position = position;
+      texts = record { title = []; author = []; copyright = []; notes = [] };
+      clues = no_clues;
+      circles = [];
+      is_watched = false;
+      begun = known_counts position.words;
+    })
+
+-- What a session has it keeps, whatever it answers to a line. That its grid and its dictionary are well formed each engine promises.
+abbrev pub SessionsStay : Type 0
+SessionsStay =
+    (words : Dictionary) (state next : State) (line : List ℕ) (outcome : Step) (answer : List ℕ) → BeganWith words state → Answers state line outcome answer next
+    → IsWellFormed next.position → BeganWith words next
 
 -- ---- the law of a record
 

@@ -20,7 +20,7 @@ ghost use Rattle.xw_session.specs.State.{State};
 ghost use Rattle.xw_session.specs.Reply.{has_nul};
 ghost use Rattle.xw_session.specs.Put.{place_of, has_place, with_text_at};
 ghost use Rattle.xw_session.specs.Record.{known_counts, text_commands, section_commands};
-ghost use Rattle.xw_session.specs.Replay.{CommandsMakeSessionsAgain, LinesAreReadAgain, LinesMakeSessionsAgain, AnsweredLinesMakeSessionsAgain, RecordsAreRefusedForMemoryOnly, replayed, bared, with_grid, with_words, clues_of, ComeFirst, BarsAreOnEdges, AreFrom, AreTextsFrom};
+ghost use Rattle.xw_session.specs.Replay.{SessionsBegin, SessionsStay, CommandsMakeSessionsAgain, LinesAreReadAgain, LinesMakeSessionsAgain, AnsweredLinesMakeSessionsAgain, RecordsAreRefusedForMemoryOnly, replayed, bared, with_grid, with_words, clues_of, ComeFirst, BarsAreOnEdges, AreFrom, AreTextsFrom};
 ghost use Rattle.xw_session.specs.Cut.{ended_lines, last_piece, with_lfs, AllHaveNoLf, HasNoLf};
 
 /// A text is its ended lines, each with its LF, and then its last piece, and it is nothing else of that form.
@@ -144,4 +144,10 @@ pub fn lines_make_sessions_again()
 pub fn records_make_sessions_again()
     ensures made { AnsweredLinesMakeSessionsAgain }
     ensures memory { RecordsAreRefusedForMemoryOnly }
+{}
+
+/// A session that is begun with an engine alone has what these laws take of it, and it keeps that whatever lines it answers.
+pub fn sessions_keep_what_they_have()
+    ensures begun { SessionsBegin }
+    ensures kept { SessionsStay }
 {}
