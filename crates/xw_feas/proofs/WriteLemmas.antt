@@ -11,7 +11,7 @@ use Rattle.xw_grid.specs.Grid.{Grid, IsGrid, is_inside, is_open, is_block, is_bl
 use Rattle.xw_grid.specs.Edit.{set_entry, with_entry}
 use Rattle.xw_feas.specs.Shape.{fault_at}
 use Rattle.xw_feas.specs.State.{then_write, write_list}
-use Rattle.xw_feas.proofs.ShapeLemmas.{open_from_no_block}
+use Rattle.xw_grid.proofs.ChangeLemmas.{open_from_no_block}
 
 -- ---- one cell
 

@@ -2,7 +2,8 @@
 ghost use Rattle.std.specs.Prelude.{◌≡◌, length, true, IfOk, IfErr, OnOk, OnErr, Ok, Err};
 ghost use Rattle.xw_grid.specs.Edit.{toggle_block as block_toggled, toggle_bar as bar_toggled};
 ghost use Rattle.xw_grid.specs.Light.{lights_of};
-ghost use Rattle.xw_feas.specs.Shape.{SameShape, IsGridRefused};
+ghost use Rattle.xw_grid.specs.EditLaws.{SameShape};
+ghost use Rattle.xw_feas.specs.Shape.{IsGridRefused};
 ghost use Rattle.xw_feas.specs.State.{grid_after, is_of_letters, action_of};
 
 use crate::edit::{Edit, Refusal};

@@ -3,6 +3,7 @@ ghost use Rattle.std.specs.Prelude.{◌≡◌, ◌+◌, ◌<◌, length, [], Non
 ghost use Rattle.xw_words.specs.Letter.{folded};
 ghost use Rattle.xw_words.specs.Dictionary.{add_answer, IsNew, IsDictionary};
 ghost use Rattle.xw_grid.specs.Edit.{toggle_block as block_toggled, toggle_bar as bar_toggled};
+ghost use Rattle.xw_grid.specs.EditLaws.{SameShape};
 ghost use Rattle.xw_grid.specs.Light.{lights_of};
 ghost use Rattle.xw_feas.specs.AnswersOf.{answers_of};
 ghost use Rattle.xw_feas.specs.Board.{board_of};
@@ -13,7 +14,7 @@ ghost use Rattle.xw_feas.specs.Feasible.{AreAnswers};
 ghost use Rattle.xw_feas.specs.Flags.{flag_at, set_has};
 ghost use Rattle.xw_feas.specs.Queries.{next_found, words_of};
 ghost use Rattle.xw_feas.specs.Rows.{HasWordRows, row_len};
-ghost use Rattle.xw_feas.specs.Shape.{SameShape, SameCounts, GrowsAt, IsReturned, IsAddRefused, IsGridRefused};
+ghost use Rattle.xw_feas.specs.Shape.{SameCounts, GrowsAt, IsReturned, IsAddRefused, IsGridRefused};
 ghost use Rattle.xw_feas.specs.Single.{IsExact-prop, AreAnswers-prop, IsWellFormed-prop};
 ghost use Rattle.xw_feas.specs.Standing.{HasRows};
 ghost use Rattle.xw_feas.specs.WellFormed.{IsWellFormed};

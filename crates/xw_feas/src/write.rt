@@ -2,7 +2,8 @@
 ghost use Rattle.std.specs.Prelude.{◌≡◌, ℕ, true, All, Option, IfErr, OnOk, OnErr, Ok, Err, Some, None};
 ghost use Rattle.xw_grid.specs.declared.cell.Cell.{Cell as CellOfGrid};
 ghost use Rattle.xw_grid.specs.Edit.{with_entry};
-ghost use Rattle.xw_feas.specs.Shape.{SameShape, fault_at};
+ghost use Rattle.xw_grid.specs.EditLaws.{SameShape};
+ghost use Rattle.xw_feas.specs.Shape.{fault_at};
 ghost use Rattle.xw_feas.specs.State.{write_list};
 
 use xw_grid::cell::Cell;

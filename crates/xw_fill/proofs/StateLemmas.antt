@@ -32,7 +32,7 @@ use Rattle.xw_feas.specs.Engine.{IsEdited}
 use Rattle.xw_feas.specs.State.{State, Action, word_placed, after, want_of, placed_in, spelled_in, with_letters as grid_with_letters, with_grid}
 use Rattle.xw_feas.proofs.BoardLemmas.{length-lights, light_at-board}
 use Rattle.xw_feas.proofs.LightsLemmas.{found_by_name}
-use Rattle.xw_feas.proofs.ShapeLemmas.{SameShape-entry}
+use Rattle.xw_grid.proofs.ChangeLemmas.{SameShape-entry}
 use Rattle.xw_fill.proofs.BelowLemmas.{position-none}
 use Rattle.xw_fill.specs.Position.{position_of, holding, placed, with_entries, entries_with, squares_with, square_with, filled_in, DiffersInEntries, name_at}
 

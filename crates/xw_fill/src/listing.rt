@@ -6,7 +6,6 @@ ghost use Rattle.xw_fill.specs.Search.{light_count, is_entered, spelling};
 ghost use Rattle.xw_fill.specs.Listing.{duplicates_of, is_listed, is_unlisted, unlisted_of};
 
 use crate::scan::{board, first_same, is_entered, light_count, name_at};
-use crate::tries::MAX_LEN;
 use std::alloc::Global;
 use xw_feas::board::{Board, Cells};
 use xw_feas::edit::Refusal;
@@ -14,6 +13,7 @@ use xw_feas::feasible::Feasible;
 use xw_grid::cell::LightName;
 use xw_grid::fault::GridFault;
 use xw_words::letter::Letter;
+use xw_words::word::LONGEST;
 
 /// A light that spells what an earlier one does, and the first such.
 #[derive(Clone, Copy, Debug, PartialEq, Eq)]
@@ -42,11 +42,11 @@ pub fn duplicates<E: Feasible>(alloc: Global, engine: &E) -> Result<Vec<Duplicat
 }
 
 /// The letters of a light, at the front.
-fn spell(board: &Board<'_>, cells: &Cells) -> [Letter; MAX_LEN]
+fn spell(board: &Board<'_>, cells: &Cells) -> [Letter; LONGEST]
     requires { length cells.now ≤ 255 }
     ensures { take (length cells.now) result ≡ spelled board.now cells.now }
 {
-    let mut letters = [Letter::first(); MAX_LEN];
+    let mut letters = [Letter::first(); LONGEST];
     for place in 0..cells.len() {
         letters[place] = board.letter(cells.at(place));
     }

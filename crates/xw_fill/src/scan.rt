@@ -13,6 +13,7 @@ ghost use Rattle.xw_fill.specs.Noted.{is_spelled_again, AreEntered, SpellApart};
 use xw_feas::board::{Board, Cells};
 use xw_feas::edit::Found;
 use xw_feas::feasible::Feasible;
+use xw_feas::standing::has_all_entries;
 use xw_grid::cell::LightName;
 use xw_grid::lights::Light;
 
@@ -61,19 +62,6 @@ fn word_count<E: Feasible>(engine: &E, light: usize) -> usize
     }
 }
 
-/// Whether each of the cells has a letter.
-#[tactic(auto, using(xw_feas::proofs::BoardLemmas::entered_steps))]
-fn are_entered(board: &Board<'_>, cells: &Cells) -> bool
-    ensures { result ≡ is_wholly_entered board.now cells.now }
-{
-    for place in 0..cells.len() {
-        if board.entry(cells.at(place)).is_none() {
-            return false;
-        }
-    }
-    true
-}
-
 /// Whether two lists of cells have the same letters.
 fn have_same_letters(board: &Board<'_>, cells: &Cells, others: &Cells) -> bool
     ensures { result ≡ bytes_eq (spelled board.now cells.now) (spelled board.now others.now) }
@@ -95,7 +83,7 @@ pub fn is_entered<E: Feasible>(engine: &E, light: usize) -> bool
     ensures { result ≡ is_entered (position_of (E.state engine.now)) light }
 {
     let board = board(engine);
-    are_entered(&board, &board.light(light))
+    has_all_entries(&board, &board.light(light))
 }
 
 /// Whether two lights are wholly entered and spell the same.

@@ -11,24 +11,22 @@ use xw_feas::board::{Board, Cells};
 use xw_feas::edit::Edit;
 use xw_feas::feasible::Feasible;
 use xw_grid::cell::Cell;
-
-/// The length of a light is at most this.
-pub const MAX_LEN: usize = 255;
+use xw_words::word::LONGEST;
 
 /// A try under way: a light, the place of the word that was placed, and which of the light's cells were empty before.
 #[derive(Clone, Copy)]
 pub struct Try {
     pub light: usize,
     pub place: usize,
-    pub blanks: [bool; MAX_LEN],
+    pub blanks: [bool; LONGEST],
 }
 
 /// Which of the cells are empty.
-fn blanks_of(board: &Board<'_>, cells: &Cells) -> [bool; MAX_LEN]
+fn blanks_of(board: &Board<'_>, cells: &Cells) -> [bool; LONGEST]
     requires { length cells.now ≤ 255 }
     ensures { AreBlanks board.now cells.now result }
 {
-    let mut blanks = [false; MAX_LEN];
+    let mut blanks = [false; LONGEST];
     for place in 0..cells.len() {
         blanks[place] = board.entry(cells.at(place)).is_none();
     }
@@ -60,7 +58,7 @@ pub fn place_word<E: Feasible>(engine: &mut E, light: usize, place: usize)
 {
     let named = light_at(engine, light);
     let len = named.size as usize;
-    let mut bytes = [0; MAX_LEN];
+    let mut bytes = [0; LONGEST];
     let word = engine.bank().word(len, place);
     for (index, letter) in word.iter().enumerate() {
         bytes[index] = letter.byte();
@@ -76,7 +74,7 @@ pub fn take_back<E: Feasible>(engine: &mut E, tried: &Try)
 {
     let light = light_at(engine, tried.light);
     let nowhere = Cell { row: 0, col: 0 };
-    let mut list = [(nowhere, None); MAX_LEN];
+    let mut list = [(nowhere, None); LONGEST];
     let mut count = 0;
     for place in 0..light.size {
         if tried.blanks[place as usize] {

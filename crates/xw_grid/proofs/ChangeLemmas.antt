@@ -92,10 +92,11 @@ SameShape-entry grid cell letter is open_cell =
     record {
       lights = same_opens grid (is_open (with_entry grid cell letter)) opens;
       opens = opens;
+      cells = length-set grid.squares (index_of grid cell) (Open letter);
     }
 
 -- a cell inside that is no block is open
-open_from_no_block : (grid : Grid) (cell : Cell) → IsGrid grid → is_inside grid cell ≡ true → is_block grid cell ≡ false → is_open grid cell ≡ true
+pub open_from_no_block : (grid : Grid) (cell : Cell) → IsGrid grid → is_inside grid cell ≡ true → is_block grid cell ≡ false → is_open grid cell ≡ true
 open_from_no_block grid cell is inside no_block =
     let below : index_of grid cell < length grid.squares = omega (arith, index_of-lt grid cell inside, is.squares) in
     let square : square_at grid cell ≡ Some (get_or grid.squares (index_of grid cell) Block) = ap (λ b. cond b (slice_get grid.squares (index_of grid cell)) None) inside ∙ slice_get-get_or grid.squares (index_of grid cell) Block below in
@@ -125,7 +126,7 @@ symmetry_keeps_shape grid new kind ok = by_test _ ok where
   by_test true h = cc
   by_test false h =
       let is : record grid { symmetry = kind } ≡ new = cc in
-      subst (SameShape grid) is (record { lights = refl; opens = λ cell. refl })
+      subst (SameShape grid) is (record { lights = refl; opens = λ cell. refl; cells = refl })
 
 -- ---- orbits
 

@@ -1,5 +1,5 @@
 -- What edits of a grid change, and what they leave.
-use Rattle.std.specs.Prelude.{◌≡◌, ℕ, Bool, true, not, ◌&&◌, List, Option, Some, Ok, if◌then◌else◌}
+use Rattle.std.specs.Prelude.{◌≡◌, ℕ, Bool, true, not, ◌&&◌, List, length, Option, Some, Ok, if◌then◌else◌}
 use Rattle.xw_grid.specs.declared.cell.Cell.{Cell}
 use Rattle.xw_grid.specs.declared.cell.Side.{Side}
 use Rattle.xw_grid.specs.declared.cell.Direction.{Direction}
@@ -14,6 +14,7 @@ use Rattle.xw_grid.specs.Clue.{ClueMap, clue_at, with_clue, is_circled, with_cir
 pub record SameShape (old new : Grid) : Type 0 where
   pub lights : lights_of new ≡ lights_of old
   pub opens : (cell : Cell) → is_open new cell ≡ is_open old cell
+  pub cells : length new.squares ≡ length old.squares
 
 abbrev pub LettersKeepShape : Type 0
 LettersKeepShape = (old new : Grid) (cell : Cell) (letter : Option ℕ) → IsGrid old → set_entry old cell letter ≡ Ok new → SameShape old new

@@ -82,12 +82,12 @@ module _ (state : State) (made : Grid) (is : IsGrid made) (only : BarsAreOnEdges
   none_long : length none ≡ made.width * made.height
   none_long = length-replicate (made.width * made.height) false
 
-  bit_of : (side : Side) (cell : Cell) (edge : Bool) → is_edge made cell side ≡ edge → (edge && slice_index_or (bars made side) (index_of made cell) false) ≡ slice_index_or (bars made side) (index_of made cell) false
-  bit_of side cell true e = refl
-  bit_of side cell false e = sym (only side cell e)
+  bit_of : (side : Side) (cell : Cell) (edge : Bool) → is_inside made cell ≡ true → is_edge made cell side ≡ edge → (edge && slice_index_or (bars made side) (index_of made cell) false) ≡ slice_index_or (bars made side) (index_of made cell) false
+  bit_of side cell true inside e = refl
+  bit_of side cell false inside e = sym (only side cell inside e)
 
-  bit_at : (side : Side) (k : ℕ) → is_barred made (cell_at made k) side ≡ get_or (bars made side) k false
-  bit_at side k = bit_of side (cell_at made k) (is_edge made (cell_at made k) side) refl ∙ ap (λ n. get_or (bars made side) n false) (index_of-cell_at made k)
+  bit_at : (side : Side) (k : ℕ) → k < made.width * made.height → is_barred made (cell_at made k) side ≡ get_or (bars made side) k false
+  bit_at side k here = bit_of side (cell_at made k) (is_edge made (cell_at made k) side) (cell_at-inside made k is here) refl ∙ ap (λ n. get_or (bars made side) n false) (index_of-cell_at made k)
 
   edge_of : (edge bit : Bool) → (edge && bit) ≡ true → edge ≡ true
   edge_of true bit e = refl
@@ -121,14 +121,14 @@ module _ (state : State) (made : Grid) (is : IsGrid made) (only : BarsAreOnEdges
       right_step : (b : Bool) → is_barred made (cell_at made k) Right ≡ b → replayed (with_grid state (righted k)) (if b then commands.Bar (spot_of (cell_at made k)) Right ∷ [] else []) ≡ Some (with_grid state (righted (k + 1)))
       right_step false e =
           ap (λ bits. Some (with_grid state (record made { squares = squares; right = bits; below = rest; symmetry = kinds.None })))
-          (sym (mixed_same made.right none right_long k false (omega (arith, here, is.right)) (none_at ∙ sym (sym (bit_at Right k) ∙ e))))
+          (sym (mixed_same made.right none right_long k false (omega (arith, here, is.right)) (none_at ∙ sym (sym (bit_at Right k here) ∙ e))))
       right_step true e =
           let now = righted k in
           let cell = cell_at made k in
           let within : k < length made.right = omega (arith, here, is.right) in
           let long : length now.right ≡ made.width * made.height = length-mixed made.right none right_long k false within ∙ is.right in
           let edge : is_edge made cell Right ≡ true = edge_of (is_edge made cell Right) _ e in
-          let more : set now.right k true ≡ mixed made.right none (k + 1) = ap (set now.right k) (sym (sym (bit_at Right k) ∙ e)) ∙ sym (mixed_more made.right none right_long k false within) in
+          let more : set now.right k true ≡ mixed made.right none (k + 1) = ap (set now.right k) (sym (sym (bit_at Right k here) ∙ e)) ∙ sym (mixed_more made.right none right_long k false within) in
           next_done (with_grid state now) (with_grid state (righted (k + 1))) (commands.Bar (spot_of cell) Right) []
           (barred_edge (with_grid state now) (is_inside made cell) (is_edge made cell Right) (is_barred now cell Right) (with_edges now cell Right) in_grid edge (free_at now.right k (is_edge made cell Right) edge (mixed_next made.right none right_long k false within ∙ none_at))
           ∙ ap (λ bits. Some (with_grid state (record now { right = bits; below = bars_with now cell Right true Below }))) (bar_set now k Right Right refl in_grid long refl ∙ more)
@@ -137,14 +137,14 @@ module _ (state : State) (made : Grid) (is : IsGrid made) (only : BarsAreOnEdges
       below_step : (b : Bool) → is_barred made (cell_at made k) Below ≡ b → replayed (with_grid state (lowered k)) (if b then commands.Bar (spot_of (cell_at made k)) Below ∷ [] else []) ≡ Some (with_grid state (lowered (k + 1)))
       below_step false e =
           ap (λ bits. Some (with_grid state (record made { squares = squares; right = rest; below = bits; symmetry = kinds.None })))
-          (sym (mixed_same made.below none below_long k false (omega (arith, here, is.below)) (none_at ∙ sym (sym (bit_at Below k) ∙ e))))
+          (sym (mixed_same made.below none below_long k false (omega (arith, here, is.below)) (none_at ∙ sym (sym (bit_at Below k here) ∙ e))))
       below_step true e =
           let now = lowered k in
           let cell = cell_at made k in
           let within : k < length made.below = omega (arith, here, is.below) in
           let long : length now.below ≡ made.width * made.height = length-mixed made.below none below_long k false within ∙ is.below in
           let edge : is_edge made cell Below ≡ true = edge_of (is_edge made cell Below) _ e in
-          let more : set now.below k true ≡ mixed made.below none (k + 1) = ap (set now.below k) (sym (sym (bit_at Below k) ∙ e)) ∙ sym (mixed_more made.below none below_long k false within) in
+          let more : set now.below k true ≡ mixed made.below none (k + 1) = ap (set now.below k) (sym (sym (bit_at Below k here) ∙ e)) ∙ sym (mixed_more made.below none below_long k false within) in
           next_done (with_grid state now) (with_grid state (lowered (k + 1))) (commands.Bar (spot_of cell) Below) []
           (barred_edge (with_grid state now) (is_inside made cell) (is_edge made cell Below) (is_barred now cell Below) (with_edges now cell Below) in_grid edge (free_at now.below k (is_edge made cell Below) edge (mixed_next made.below none below_long k false within ∙ none_at))
           ∙ ap (λ bits. Some (with_grid state (record now { right = bars_with now cell Below true Right; below = bits }))) (bar_set now k Below Below refl in_grid long refl ∙ more)

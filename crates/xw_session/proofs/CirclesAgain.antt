@@ -39,7 +39,7 @@ after_col row other col way same less =
     ap (λ o. ordering_then o (nat_cmp col way)) (sym (nat_cmp_is row other Equal same)) ∙ sym (nat_cmp_is col way Greater less)
 
 -- a cell comes after those of lower places
-in_order : (grid : Grid) (k i : ℕ) → 0 < grid.width → i < k → cell_cmp (cell_at grid k) (cell_at grid i) ≡ Greater
+pub in_order : (grid : Grid) (k i : ℕ) → 0 < grid.width → i < k → cell_cmp (cell_at grid k) (cell_at grid i) ≡ Greater
 in_order grid k i wide less =
     let w = grid.width in
     let here = div-add-mod k w in

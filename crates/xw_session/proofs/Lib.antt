@@ -24,3 +24,15 @@ pub mod Replaying
 pub mod CellsAgain
 pub mod CirclesAgain
 pub mod BarsAgain
+pub mod WordsAgain
+pub mod InOrder
+pub mod CluesAgain
+pub mod RecordAgain
+pub mod LinesRead
+pub mod CommandsRead
+pub mod RecordRead
+pub mod AnsweredAgain
+pub mod KeptInOrder
+pub mod KeptEdges
+pub mod KeptWords
+pub mod SessionKept

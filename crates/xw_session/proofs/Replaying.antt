@@ -133,7 +133,7 @@ is_equal Less e = cc
 is_equal Equal e = refl
 is_equal Greater e = cc
 
-same_order : (cell : Cell) → cell_cmp cell cell ≡ Equal
+pub same_order : (cell : Cell) → cell_cmp cell cell ≡ Equal
 same_order cell = is_equal (cell_cmp cell cell) (same_at cell cell ∙ same_cell_itself cell)
 
 kept_at : (clues : ClueMap) (cell : Cell) (direction : Direction) (text : List ℕ) → clue_at (with_clue clues cell direction text) cell direction ≡ text

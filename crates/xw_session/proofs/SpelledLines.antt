@@ -40,7 +40,7 @@ no_lf_spelled text = no_lf_each text (range_with_len 0 (length text))
 -- ---- no space or tab at an end
 
 -- an escape's letter is ink, and so is a byte at an end that has no escape
-abbrev IsInked : ℕ → Option ℕ → Type 0
+abbrev pub IsInked : ℕ → Option ℕ → Type 0
 IsInked byte None = is_ink byte ≡ true
 IsInked byte (Some letter) = is_ink letter ≡ true
 
@@ -48,7 +48,7 @@ inked_chosen : (test : Bool) (byte letter : ℕ) (other : Option ℕ) → is_ink
 inked_chosen true byte letter other ink rest = ink
 inked_chosen false byte letter other ink rest = rest refl
 
-inked : (byte : ℕ) → IsInked byte (letter_for true byte)
+pub inked : (byte : ℕ) → IsInked byte (letter_for true byte)
 inked byte =
     inked_chosen (eqb byte 10) byte 110 _ refl
     (λ _. inked_chosen (eqb byte 13) byte 114 _ refl
@@ -81,7 +81,7 @@ back_kept front byte (Some letter) ink =
     let last : (front ++ 92 ∷ []) ++ letter ∷ [] ≡ front ++ 92 ∷ letter ∷ [] = append_assoc front (92 ∷ []) (letter ∷ []) in
     subst (λ xs. trimmed_end xs ≡ xs) last (end_kept (front ++ 92 ∷ []) letter ink)
 
-starts_inked : (byte : ℕ) (bytes : List ℕ) → trimmed_start (escaped_text (byte ∷ bytes)) ≡ escaped_text (byte ∷ bytes)
+pub starts_inked : (byte : ℕ) (bytes : List ℕ) → trimmed_start (escaped_text (byte ∷ bytes)) ≡ escaped_text (byte ∷ bytes)
 starts_inked byte bytes = front_kept byte (letter_for true byte) (flat_map (spelled_at (byte ∷ bytes)) (range_with_len 1 (length bytes))) (inked byte)
 
 -- the spelling of the last byte comes last

@@ -1,17 +1,32 @@
 -- Commands done one after another, where no memory is wanting.
-use Rattle.std.specs.Prelude.{◌≡◌, ℕ, false, List, [], ◌∷◌, slice_index_or, Option, Some, None, Result, Ok, Err}
+use Rattle.std.specs.Prelude.{◌≡◌, ℕ, ◌+◌, ◌<◌, ◌≤◌, true, false, List, [], ◌∷◌, ◌++◌, map, take, length, slice_index_or, Option, Some, None, Result, Ok, Err}
 use Rattle.std.specs.Option.{option_and_then}
+use Rattle.xw_words.specs.Dictionary.{Dictionary, Entry, IsDictionary, row}
 use Rattle.xw_grid.specs.declared.cell.Square.{Square}
 use Rattle.xw_grid.specs.declared.cell.Square.TheVariants.{Block, Open}
 use Rattle.xw_grid.specs.declared.cell.Cell.{Cell}
+use Rattle.xw_grid.specs.declared.cell.Direction.{Direction}
+use Rattle.xw_grid.specs.declared.cell.Direction.TheVariants.{Across, Down}
 use Rattle.xw_grid.specs.declared.cell.Side.{Side}
-use Rattle.xw_grid.specs.Grid.{Grid, is_edge, bars, index_of}
+use Rattle.xw_grid.specs.Grid.{Grid, IsGrid, is_inside, is_edge, bars, index_of}
+use Rattle.xw_grid.specs.Clue.{Texts, ClueMap, no_clues}
+use Rattle.xw_feas.specs.State.{State as Position}
+use Rattle.xw_feas.specs.WellFormed.{IsWellFormed}
 use Rattle.xw_session.specs.declared.command.Command.{Command}
 use Rattle.xw_session.specs.declared.command.SyntaxFault.{SyntaxFault}
+use Rattle.xw_session.specs.declared.command.TextField.{TextField}
+use Rattle.xw_session.specs.declared.outcome.Step.{Step}
+use Rattle.xw_session.specs.declared.outcome.Step.TheVariants.{Refused}
 use Rattle.xw_session.specs.declared.refusal.Refusal.{Refusal}
 use Rattle.xw_session.specs.Command.{command_of}
-use Rattle.xw_session.specs.Reply.{Reply, reply_to}
+use Rattle.xw_session.specs.Cut.{lines_of}
+use Rattle.xw_session.specs.Put.{text_of_field}
+use Rattle.xw_session.specs.Record.{known_counts, record_commands, record_lines}
+use Rattle.xw_session.specs.Reply.{Reply, reply_to, want_of, has_nul}
+use Rattle.xw_session.specs.Answer.{Answers}
+use Rattle.xw_session.specs.Spoken.{Spoken}
 use Rattle.xw_session.specs.State.{State}
+use Rattle.xw_session.specs.Text.{refused}
 
 -- the state that a reply leaves; none where the command is refused
 abbrev pub state_left : Result Reply Refusal → Option State
@@ -42,6 +57,109 @@ bared (Open entered) = Open None
 abbrev pub with_grid : State → Grid → State
 with_grid state grid = record state { position = record state.position { grid = grid } }
 
--- no bar stands where no cell is beyond
+-- the state with a dictionary in place of the one it has
+abbrev pub with_words : State → Dictionary → State
+with_words state words = record state { position = record state.position { words = words } }
+
+-- ---- what a session has, whatever it was told
+
+-- a known word, not struck
+abbrev pub unstruck : Entry → Entry
+unstruck entry = record entry { active = true }
+
+-- the first ones of the known words are those of the beginning, of which none was struck
+abbrev pub ComeFirst : List Entry → List Entry → Type 0
+ComeFirst begun entries = begun ≡ map unstruck (take (length begun) entries)
+
+-- no bar stands at a cell of the grid where no cell is beyond
 abbrev pub BarsAreOnEdges : Grid → Type 0
-BarsAreOnEdges grid = (side : Side) (cell : Cell) → is_edge grid cell side ≡ false → slice_index_or (bars grid side) (index_of grid cell) false ≡ false
+BarsAreOnEdges grid = (side : Side) (cell : Cell) → is_inside grid cell ≡ true → is_edge grid cell side ≡ false → slice_index_or (bars grid side) (index_of grid cell) false ≡ false
+
+-- cells of a grid in reading order, from a place on
+abbrev pub AreFrom : Grid → ℕ → List Cell → Type 0
+AreFrom grid place [] = Unit {0}
+AreFrom grid place (cell ∷ cells) = (is_inside grid cell ≡ true) × (place ≤ index_of grid cell) × AreFrom grid (index_of grid cell + 1) cells
+
+-- texts for cells of a grid in reading order, from a place on; none is empty, and none has a NUL
+abbrev pub AreTextsFrom : Grid → ℕ → Texts → Type 0
+AreTextsFrom grid place [] = Unit {0}
+AreTextsFrom grid place (entry ∷ texts) =
+    (is_inside grid entry.0 ≡ true) × (place ≤ index_of grid entry.0) × (0 < length entry.1) × (has_nul entry.1 ≡ false) × AreTextsFrom grid (index_of grid entry.0 + 1) texts
+
+-- the clues of one direction
+abbrev pub clues_of : ClueMap → Direction → Texts
+clues_of clues Across = clues.across
+clues_of clues Down = clues.down
+
+-- the state of a session that began with these words
+pub record BeganWith (words : Dictionary) (state : State) : Type 0 where
+  pub grid : IsGrid state.position.grid
+  pub bars : BarsAreOnEdges state.position.grid
+  pub known : IsDictionary words
+  pub dictionary : IsDictionary state.position.words
+  pub first : (count : ℕ) → ComeFirst (row words count) (row state.position.words count)
+  pub begun : state.begun ≡ known_counts words
+  pub texts : (name : TextField) → has_nul (text_of_field state.texts name) ≡ false
+  pub clues : (direction : Direction) → AreTextsFrom state.position.grid 0 (clues_of state.clues direction)
+  pub circles : AreFrom state.position.grid 0 state.circles
+
+-- a session that is begun with a dictionary of which no word is struck, without texts, clues and circles
+abbrev pub SessionsBegin : Type 0
+SessionsBegin =
+    (position : Position) → IsWellFormed position → BarsAreOnEdges position.grid → ((count : ℕ) → ComeFirst (row position.words count) (row position.words count))
+    → BeganWith position.words (record {
+      position = position;
+      texts = record { title = []; author = []; copyright = []; notes = [] };
+      clues = no_clues;
+      circles = [];
+      is_watched = false;
+      begun = known_counts position.words;
+    })
+
+-- What a session has it keeps, whatever it answers to a line. That its grid and its dictionary are well formed each engine promises.
+abbrev pub SessionsStay : Type 0
+SessionsStay =
+    (words : Dictionary) (state next : State) (line : List ℕ) (outcome : Step) (answer : List ℕ) → BeganWith words state → Answers state line outcome answer next
+    → IsWellFormed next.position → BeganWith words next
+
+-- ---- the law of a record
+
+-- the commands of a record, in a session with the words that the first one began with, leave the dictionary, the grid with
+-- its symmetry, the texts, the clues, the circles and the watch as they were; none is refused
+abbrev pub CommandsMakeSessionsAgain : Type 0
+CommandsMakeSessionsAgain =
+    (words : Dictionary) (made state : State) → BeganWith words made → state.position.words ≡ words
+    → replayed state (record_commands made) ≡ Some (record made { begun = state.begun })
+
+-- each line of a record is read as its command
+abbrev pub LinesAreReadAgain : Type 0
+LinesAreReadAgain =
+    (words : Dictionary) (made : State) → BeganWith words made
+    → map command_of (lines_of (record_lines made)) ≡ map (λ command. Ok (Some command)) (record_commands made)
+
+-- and so the lines do the same
+abbrev pub LinesMakeSessionsAgain : Type 0
+LinesMakeSessionsAgain =
+    (words : Dictionary) (made state : State) → BeganWith words made → state.position.words ≡ words
+    → replayed_lines state (lines_of (record_lines made)) ≡ Some (record made { begun = state.begun })
+
+-- ---- the same as a session answers them
+
+-- a line is answered by the want of memory that its command may meet
+abbrev pub WantsMemory : State → Result (Option Command) SyntaxFault → List ℕ → Type 0
+WantsMemory state (Ok None) answer = ⊥
+WantsMemory state (Ok (Some command)) answer = (refusal : Refusal) × (want_of state command ≡ Some refusal) × (answer ≡ refused refusal)
+WantsMemory state (Err fault) answer = ⊥
+
+-- a session that begins with the same words and refuses no line of a record is left as the first one was
+abbrev pub AnsweredLinesMakeSessionsAgain : Type 0
+AnsweredLinesMakeSessionsAgain =
+    (words : Dictionary) (made state last : State) (out : List ℕ) → BeganWith words made → state.position.words ≡ words
+    → Spoken Answers state (lines_of (record_lines made)) out 0 last → last ≡ record made { begun = state.begun }
+
+-- and the first line that it refuses, if there is one, is refused for want of memory
+abbrev pub RecordsAreRefusedForMemoryOnly : Type 0
+RecordsAreRefusedForMemoryOnly =
+    (words : Dictionary) (made state mid last : State) (front rest : List (List ℕ)) (line out answer : List ℕ) → BeganWith words made → state.position.words ≡ words
+    → lines_of (record_lines made) ≡ front ++ line ∷ rest → Spoken Answers state front out 0 mid → Answers mid line Refused answer last
+    → WantsMemory mid (command_of line) answer

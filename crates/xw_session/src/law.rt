@@ -1,6 +1,9 @@
 //! What the definitions mean.
 ghost use Rattle.std.specs.Prelude.{◌≡◌, ℕ, ◌++◌, ◌*◌, List, [], map, replicate, filter, None, Some, true, false};
 ghost use Rattle.std.specs.Option.{option_and_then};
+ghost use Rattle.xw_words.specs.Dictionary.{IsDictionary, row};
+ghost use Rattle.xw_grid.specs.declared.cell.Direction.{Direction};
+ghost use Rattle.xw_grid.specs.declared.cell.Direction.TheVariants.{Across, Down};
 ghost use Rattle.xw_grid.specs.declared.cell.Side.TheVariants.{Right, Below};
 ghost use Rattle.xw_grid.specs.declared.cell.Square.TheVariants.{Open};
 ghost use Rattle.xw_grid.specs.declared.cell.Symmetry.TheVariants as kinds;
@@ -16,8 +19,8 @@ ghost use Rattle.xw_session.specs.declared.record.Part.TheVariants as parts;
 ghost use Rattle.xw_session.specs.State.{State};
 ghost use Rattle.xw_session.specs.Reply.{has_nul};
 ghost use Rattle.xw_session.specs.Put.{place_of, has_place, with_text_at};
-ghost use Rattle.xw_session.specs.Record.{text_commands, section_commands};
-ghost use Rattle.xw_session.specs.Replay.{replayed, bared, with_grid, BarsAreOnEdges};
+ghost use Rattle.xw_session.specs.Record.{known_counts, text_commands, section_commands};
+ghost use Rattle.xw_session.specs.Replay.{SessionsBegin, SessionsStay, CommandsMakeSessionsAgain, LinesAreReadAgain, LinesMakeSessionsAgain, AnsweredLinesMakeSessionsAgain, RecordsAreRefusedForMemoryOnly, replayed, bared, with_grid, with_words, clues_of, ComeFirst, BarsAreOnEdges, AreFrom, AreTextsFrom};
 ghost use Rattle.xw_session.specs.Cut.{ended_lines, last_piece, with_lfs, AllHaveNoLf, HasNoLf};
 
 /// A text is its ended lines, each with its LF, and then its last piece, and it is nothing else of that form.
@@ -42,6 +45,15 @@ pub fn what_is_spelled_reads_back()
 pub fn commands_follow_one_another()
     ensures { (state : State) (front rest : List Command)
         → replayed state (front ++ rest) ≡ option_and_then (λ mid. replayed mid rest) (replayed state front) }
+{}
+
+/// What a record has for the words, in a session that knows those of the beginning, none of them struck, leaves the dictionary: the
+/// words in their order, each active or struck as it was.
+pub fn words_are_made_again()
+    ensures { (state made : State) → IsDictionary state.position.words → IsDictionary made.position.words
+        → made.begun ≡ known_counts state.position.words
+        → ((count : ℕ) → ComeFirst (row state.position.words count) (row made.position.words count))
+        → replayed state (section_commands made sections.Words) ≡ Some (with_words state made.position.words) }
 {}
 
 /// The commands that a record has for a text, however long it is, put it into its place.
@@ -75,6 +87,21 @@ pub fn circles_are_made_again()
         ≡ Some (record (with_grid state (blank made.position.grid.width made.position.grid.height)) { circles = filter (is_circled made.circles) (cells made.position.grid) }) }
 {}
 
+/// Circles that are kept in reading order, all in the grid, are those that were circled.
+pub fn circles_are_kept_in_order()
+    ensures { (state : State) → AreFrom state.position.grid 0 state.circles
+        → filter (is_circled state.circles) (cells state.position.grid) ≡ state.circles }
+{}
+
+/// What a record has for the clues, across and then down, in its grid without clues, puts all of them, hidden or not.
+pub fn clues_are_made_again()
+    ensures { (state made : State) → IsGrid made.position.grid
+        → ((direction : Direction) → AreTextsFrom made.position.grid 0 (clues_of made.clues direction))
+        → replayed (record (with_grid state made.position.grid) { clues = no_clues })
+        (section_commands made (sections.Cells (parts.Clues Across)) ++ section_commands made (sections.Cells (parts.Clues Down)))
+        ≡ Some (record (with_grid state made.position.grid) { clues = made.clues }) }
+{}
+
 /// What a record has for the bars, in a blank grid, makes those to the right of cells, and then those below. It takes that no bar
 /// stands where no cell is beyond.
 pub fn bars_are_made_again()
@@ -99,4 +126,28 @@ pub fn letters_are_made_again()
     ensures { (state made : State) → IsGrid made.position.grid
         → replayed (with_grid state (record made.position.grid { squares = map bared made.position.grid.squares })) (section_commands made (sections.Cells parts.Letters))
         ≡ Some (with_grid state made.position.grid) }
+{}
+
+/// All commands of a record, one after another, make the session again.
+pub fn commands_make_sessions_again()
+    ensures { CommandsMakeSessionsAgain }
+{}
+
+/// Each line of a record is read as its command, and all lines, one after another, make the session again.
+pub fn lines_make_sessions_again()
+    ensures read { LinesAreReadAgain }
+    ensures made { LinesMakeSessionsAgain }
+{}
+
+/// A session over any engine that begins with the same words and refuses no line of a record is then the same; and the first line that
+/// it refuses, if there is one, is refused for want of memory.
+pub fn records_make_sessions_again()
+    ensures made { AnsweredLinesMakeSessionsAgain }
+    ensures memory { RecordsAreRefusedForMemoryOnly }
+{}
+
+/// A session that is begun with an engine alone has what these laws take of it, and it keeps that whatever lines it answers.
+pub fn sessions_keep_what_they_have()
+    ensures begun { SessionsBegin }
+    ensures kept { SessionsStay }
 {}

@@ -1,6 +1,7 @@
 -- The one text of a puzzle, or why it has none.
 use Rattle.std.specs.Prelude.{◌≡◌, ◌≢◌, ℕ, zero, suc, ◌+◌, ◌-◌, Bool, false, not, ◌&&◌, ◌||◌, ◌==◌, List, [], ◌∷◌, ◌++◌, length, map, take, drop, Option, Some, None, Result, Ok, Err, if◌then◌else◌, position, slice_get, flat_map, find, decimal}
 use Rattle.std.specs.List.{list_all, list_any, slice_split}
+use Rattle.xw_words.specs.WordList.{is_line_feed}
 use Rattle.xw_grid.specs.declared.cell.Cell.{Cell}
 use Rattle.xw_grid.specs.declared.cell.Square.{Square}
 use Rattle.xw_grid.specs.declared.cell.Direction.{Direction}
@@ -37,9 +38,6 @@ is_spelled text = not (list_any is_line_end text) && not (is_blank_at (slice_get
 
 unfoldable pub is_clue : List ℕ → Bool
 is_clue text = not (length text == 0) && is_spelled text
-
-abbrev pub is_line_feed : ℕ → Bool
-is_line_feed byte = byte == 10
 
 abbrev pub pieces : List ℕ → List (List ℕ)
 pieces notes = slice_split is_line_feed notes

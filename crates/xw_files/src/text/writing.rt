@@ -2,7 +2,8 @@
 ghost use Rattle.std.specs.Prelude.{◌≡◌, ◌++◌, ◌<◌, ◌*◌, length, OnOk, IfOk, IfSome, IsOk, Err, position, map, flat_map, decimal};
 ghost use Rattle.xw_files.specs.Puzzle.{puzzle_view, texts_view};
 ghost use Rattle.xw_files.specs.Finished.{square_byte};
-ghost use Rattle.xw_files.specs.Text.Written.{is_line_feed, pieces, line, tag_line, tag, texts_text, size_text, row_texts, grid_text, clue_texts, direction_text, clues_text, notes_text, texted, written, Writes};
+ghost use Rattle.xw_words.specs.WordList.{is_line_feed};
+ghost use Rattle.xw_files.specs.Text.Written.{pieces, line, tag_line, tag, texts_text, size_text, row_texts, grid_text, clue_texts, direction_text, clues_text, notes_text, texted, written, Writes};
 ghost use Rattle.xw_files.specs.Text.Relation.{IsText};
 
 use crate::fault::{Tag, WriteFault};

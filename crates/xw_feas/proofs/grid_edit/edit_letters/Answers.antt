@@ -1,12 +1,12 @@
 use Rattle.std.proofs.Common.{Some, None}
-use Rattle.xw_feas.proofs.ShapeLemmas.{SameShape-set, SameShape-symmetry}
+use Rattle.xw_grid.proofs.ChangeLemmas.{letters_keep_shape, symmetry_keeps_shape}
 use Rattle.xw_feas.proofs.grid_edit.edit_letters.Goals as goal
 
 pub returns-in_ok-set-in-Set-clause-shape : goal.returns-in_ok-set-in-Set-clause-shape
-returns-in_ok-set-in-Set-clause-shape c = SameShape-set c.args.grid.now c.set.new.self c.in-Set.cell (Some c.in-Set.letter) c.well_formed-2.ensures c.in_ok-set-in-Set.ensures.ok
+returns-in_ok-set-in-Set-clause-shape c = letters_keep_shape c.args.grid.now c.set.new.self c.in-Set.cell (Some c.in-Set.letter) c.well_formed-2.ensures c.in_ok-set-in-Set.ensures.ok
 
 pub returns-in_ok-clear-in-Clear-clause-shape : goal.returns-in_ok-clear-in-Clear-clause-shape
-returns-in_ok-clear-in-Clear-clause-shape c = SameShape-set c.args.grid.now c.clear.new.self c.in-Clear.cell None c.well_formed-2.ensures c.in_ok-clear-in-Clear.ensures.ok
+returns-in_ok-clear-in-Clear-clause-shape c = letters_keep_shape c.args.grid.now c.clear.new.self c.in-Clear.cell None c.well_formed-2.ensures c.in_ok-clear-in-Clear.ensures.ok
 
 pub returns-in_ok-set_symmetry-in-Symmetry-clause-shape : goal.returns-in_ok-set_symmetry-in-Symmetry-clause-shape
-returns-in_ok-set_symmetry-in-Symmetry-clause-shape c = SameShape-symmetry c.args.grid.now c.set_symmetry.new.self c.in-Symmetry.kind c.in_ok-set_symmetry-in-Symmetry.ensures.ok
+returns-in_ok-set_symmetry-in-Symmetry-clause-shape c = symmetry_keeps_shape c.args.grid.now c.set_symmetry.new.self c.in-Symmetry.kind c.in_ok-set_symmetry-in-Symmetry.ensures.ok

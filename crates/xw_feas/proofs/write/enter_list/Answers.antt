@@ -1,7 +1,8 @@
 use Rattle.std.proofs.Common.{◌≡◌, None, sym, ◌∙◌, ap}
 use Rattle.xw_grid.specs.Edit.{with_entry}
 use Rattle.xw_feas.specs.Shape.{fault_at}
-use Rattle.xw_feas.proofs.ShapeLemmas.{SameShape-entry, SameShape-then}
+use Rattle.xw_grid.proofs.ChangeLemmas.{SameShape-entry}
+use Rattle.xw_feas.proofs.ShapeLemmas.{SameShape-then}
 use Rattle.xw_feas.proofs.WriteLemmas.{taking_is_open, fault_kept, write_more}
 use Rattle.xw_feas.proofs.write.enter_list.Goals as goal
 

@@ -1,6 +1,0 @@
-use Rattle.std.proofs.Common.{◌≡◌, drop}
-use Rattle.xw_feas.specs.Board.{is_wholly_entered}
-use Rattle.xw_fill.proofs.scan.are_entered.Given as goal
-
-abbrev pub invariant-loop-place : goal.invariant-loop-place
-invariant-loop-place l = is_wholly_entered l.board l.cells ≡ is_wholly_entered l.board (drop l.place l.cells)
