@@ -13,6 +13,7 @@ ghost use Rattle.xw_live.specs.Brought.{HasBase, base_cost};
 use xw_feas::board::{Board, Cells};
 use xw_feas::standing::has_all_entries;
 use xw_words::bit_row::BitRow;
+use xw_words::letter_set::LetterSet;
 use xw_words::rows::Rows;
 
 /// The words of a chunk that have the letter that is entered at a place of the light.
@@ -76,17 +77,6 @@ fn base_chunk<R: Rows>(
     }
 }
 
-/// Clears all bits of a row.
-pub(crate) fn clear_row(row: &mut BitRow)
-    ensures len { length row.new.bits ≡ length row.old.bits }
-    ensures clear { (i : ℕ) → slice_index_or row.new.bits i false ≡ false }
-    ensures room { row.new.room ≡ row.old.room }
-{
-    for chunk in 0..row.len().div_ceil(64) {
-        row.set_chunk(chunk, 0);
-    }
-}
-
 /// Writes which known words of a length are active.
 fn read_active<R: Rows>(rows: &mut R, count: usize, row: &mut BitRow)
     requires { length row.old.bits ≡ length (R.entries rows.old count) }
@@ -121,7 +111,7 @@ fn keep_agreeing<R: Rows>(
     ensures cost { R.ticks rows.new ≤ R.ticks rows.old + chunks_of (length row.old.bits) }
 {
     if let Some(letter) = board.entry(cells.at(place)) {
-        rows.keep_column(cells.len(), place, letter, row);
+        rows.keep_columns(cells.len(), place, LetterSet::only(letter), row);
     }
 }
 
@@ -156,20 +146,9 @@ pub fn read_base<R: Rows>(rows: &mut R, board: &Board<'_>, light: usize, row: &m
 {
     let cells = board.light(light);
     if has_all_entries(board, &cells) {
-        clear_row(row);
+        row.clear();
     } else {
         read_open(rows, board, &cells, row);
-    }
-}
-
-/// Copies the bits of a row to one of the same length.
-pub(crate) fn copy_row(from: &BitRow, to: &mut BitRow)
-    requires { length to.old.bits ≡ length from.now.bits }
-    ensures bits { to.new.bits ≡ from.now.bits }
-    ensures room { to.new.room ≡ to.old.room }
-{
-    for chunk in 0..to.len().div_ceil(64) {
-        to.set_chunk(chunk, from.chunk(chunk));
     }
 }
 

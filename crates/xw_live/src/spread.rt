@@ -9,7 +9,6 @@ ghost use Rattle.xw_feas.specs.Flags.{set_has};
 ghost use Rattle.xw_live.specs.Marks.{IsPlace, cell_at, slot_at};
 ghost use Rattle.xw_live.specs.Spread.{is_marked, is_waiting, Grows, places_from, no_places, bits_in, HasAll, IsSpread, IsReachClosed, Lit, IsLit, IsListed, none_waits, HasSeeds};
 
-use crate::base::copy_row;
 use crate::net::Net;
 use crate::place::place_of;
 use crate::seeds::clear_marks;
@@ -173,7 +172,7 @@ fn bring_row(base: &[BitRow], light: usize, rows: &mut [BitRow])
     ensures others { (other : ℕ) → (other ≡ light → ⊥) → bits_in rows.new other ≡ bits_in rows.old other }
     ensures row_room { (other : ℕ) → (row_at rows.old other).room ≤ (row_at rows.new other).room }
 {
-    copy_row(&base[light], &mut rows[light]);
+    rows[light].copy_from(&base[light]);
 }
 
 /// Lets every base word of a light stand, and lets the light wait in the queue of those that are

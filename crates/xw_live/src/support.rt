@@ -7,7 +7,6 @@ ghost use Rattle.xw_feas.specs.Flags.{set_has};
 ghost use Rattle.xw_live.specs.Region.{chunks_of};
 ghost use Rattle.xw_live.specs.Support.{supports, letter_count, Strikes, AreApart, Held, Finds, is_read_in, search_from, place_for};
 
-use crate::base::clear_row;
 use crate::place::Place;
 use xw_words::bit_row::BitRow;
 use xw_words::letter::Letter;
@@ -33,52 +32,8 @@ fn first_support<R: Rows>(
     rows.next_with(count, position, letter, row, from)
 }
 
-/// Whether a set has no letter.
-fn is_empty(letters: LetterSet) -> bool
-    ensures { result ≡ true → (letter : ℕ) → has letters letter ≡ false }
-{
-    letters.is_same(LetterSet::new())
-}
-
-/// The letter of a set that has no other one.
-fn only_letter(letters: LetterSet) -> Option<Letter>
-    ensures is { IfSome result (λ letter. has letters letter ≡ true) }
-    ensures only { IfSome result (λ letter. (other : ℕ) → has letters other ≡ true → other ≡ letter) }
-{
-    let place = letters.next_place(0)?;
-    match letters.next_place(place + 1) {
-        Some(_) => None,
-        None => Some(Letter::at(place)),
-    }
-}
-
-/// Takes the words with a letter of a set at the position out of the row, a letter after another.
-fn strike_letters<R: Rows>(
-    rows: &mut R,
-    row: &mut BitRow,
-    count: usize,
-    position: usize,
-    letters: LetterSet,
-)
-    requires { length row.old.bits ≡ length (R.entries rows.old count) }
-    ensures entries { R.entries rows.new ≡ R.entries rows.old }
-    ensures risen { R.ticks rows.old ≤ R.ticks rows.new }
-    ensures len { length row.new.bits ≡ length row.old.bits }
-    ensures fewer { (word : ℕ) → slice_index_or row.new.bits word false ≡ true → slice_index_or row.old.bits word false ≡ true }
-    ensures struck { (word letter : ℕ) → has letters letter ≡ true → has_letter (R.entries rows.old count) position letter word ≡ true → slice_index_or row.new.bits word false ≡ false }
-    ensures kept { (word : ℕ) → slice_index_or row.old.bits word false ≡ true → ((letter : ℕ) → has letters letter ≡ true → has_letter (R.entries rows.old count) position letter word ≡ false) → slice_index_or row.new.bits word false ≡ true }
-    ensures room { row.new.room ≡ row.old.room }
-    ensures cost { R.ticks rows.new ≤ R.ticks rows.old + chunks_of (length row.old.bits) * letter_count letters }
-{
-    let mut from = 0;
-    while let Some(place) = letters.next_place(from) {
-        rows.strike_column(count, position, Letter::at(place), row);
-        from = place + 1;
-    }
-}
-
-/// Takes the words with a pending letter at the position out of the row. Where no letter is left, all
-/// words go; where one alone is left, its words stay.
+/// Takes the words with a pending letter at the position out of the row. Where fewer letters are left,
+/// the words with one of these stay.
 pub(crate) fn strike_row<R: Rows>(
     rows: &mut R,
     row: &mut BitRow,
@@ -87,8 +42,7 @@ pub(crate) fn strike_row<R: Rows>(
     pending: LetterSet,
     alive: LetterSet,
 )
-    requires position { position < count }
-    requires row { length row.old.bits ≡ length (R.entries rows.old count) }
+    requires { length row.old.bits ≡ length (R.entries rows.old count) }
     ensures entries { R.entries rows.new ≡ R.entries rows.old }
     ensures risen { R.ticks rows.old ≤ R.ticks rows.new }
     ensures len { length row.new.bits ≡ length row.old.bits }
@@ -96,13 +50,10 @@ pub(crate) fn strike_row<R: Rows>(
     ensures room { row.new.room ≡ row.old.room }
     ensures cost { R.ticks rows.new ≤ R.ticks rows.old + chunks_of (length row.old.bits) * letter_count pending }
 {
-    if is_empty(alive) {
-        clear_row(row);
-        return;
-    }
-    match only_letter(alive) {
-        Some(letter) if pending.len() > 1 => rows.keep_column(count, position, letter, row),
-        _ => strike_letters(rows, row, count, position, pending),
+    if alive.len() < pending.len() {
+        rows.keep_columns(count, position, alive, row);
+    } else {
+        rows.strike_columns(count, position, pending, row);
     }
 }
 

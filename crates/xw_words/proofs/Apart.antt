@@ -21,3 +21,26 @@ none_of_four f at none k low high =
         ]
       ]
     ]
+
+-- neighbouring spans of four, each of which has no number where what is joined of it has no bit
+abbrev pub IsClearFrom : (ℕ → ℕ) → ℕ → ℕ → Type 0
+IsClearFrom f at span = (k : ℕ) → at ≤ k → k < at + span → f k ≡ 0
+
+clear_both : (f : ℕ → ℕ) (at middle span : ℕ) → IsClearFrom f at middle → IsClearFrom f (at + middle) span → IsClearFrom f at (middle + span)
+clear_both f at middle span first second k low high = elim (cases_lt k (at + middle)) [
+  | inl lt ↦ first k low lt
+  | inr from ↦ second k from (omega (arith, high))
+]
+
+pub none_of_two_spans : (f : ℕ → ℕ) (at a b : ℕ) → (a ≡ 0 → IsClearFrom f at 4) → (b ≡ 0 → IsClearFrom f (at + 4) 4) → bit_or a b ≡ 0 → IsClearFrom f at 8
+none_of_two_spans f at a b first second none =
+    let both = none_of_two a b none in
+    clear_both f at 4 4 (first both.0) (second both.1)
+
+pub none_of_four_spans : (f : ℕ → ℕ) (at a b c d : ℕ) → (a ≡ 0 → IsClearFrom f at 4) → (b ≡ 0 → IsClearFrom f (at + 4) 4) → (c ≡ 0 → IsClearFrom f (at + 8) 4) → (d ≡ 0 → IsClearFrom f (at + 12) 4)
+    → bit_or (bit_or a b) (bit_or c d) ≡ 0 → IsClearFrom f at 16
+none_of_four_spans f at a b c d first second third fourth none =
+    let halves = none_of_two (bit_or a b) (bit_or c d) none in
+    let lower = none_of_two_spans f at a b first second halves.0 in
+    let last = none_of_two c d halves.1 in
+    clear_both f at 12 4 (clear_both f at 8 4 lower (third last.0)) (fourth last.1)

@@ -13,6 +13,7 @@ use Rattle.std.proofs.lemmas.List.{drop_more, drop_all}
 use Rattle.std.proofs.lemmas.List.FromFn.{get_or-map-range_with_len}
 use Rattle.std.proofs.lemmas.List.Elements.{filter_more}
 use Rattle.std.proofs.lemmas.List.Folds.{list_any_at}
+use Rattle.std.proofs.lemmas.List.Sums.{length-filter, count_by-le-length}
 use Rattle.std.proofs.lemmas.Nat.Bits.{bit_at_set_same, bit_at_set_other, bit_at_clear_same, bit_at_clear_other, bit_at_ones, bit_at_and, bit_at-lt, bit_at-zero, same_from_bits_below}
 use Rattle.xw_words.specs.Letter.{IsLetter, alphabet, is_capital}
 use Rattle.xw_words.specs.LetterSet.{has, letters_in, letters_from}
@@ -259,3 +260,8 @@ letters_from-end set place past = ap (filter (has set)) (drop_all place alphabet
 pub ruleset walking_steps = (letters_from-next, letters_from-other, letters_from-end)
 
 pub ruleset set_steps = (letter_is_capital, has-all, has-common, has-none, is_same-letters)
+
+-- there are no more letters than the alphabet has
+pub few_letters : (set : ℕ) → length (letters_in set) ≤ 26
+unfolding alphabet
+few_letters set = omega (arith, length-filter (has set) alphabet, count_by-le-length (has set) alphabet)

@@ -5,7 +5,7 @@ ghost use Rattle.xw_words.specs.Dictionary.{row as words_of, entry_at, place_of,
 ghost use Rattle.xw_words.specs.Bank.{has_room, KeepsRoom, KeepsOtherRoom};
 ghost use Rattle.xw_words.specs.Word.{is_bad_letter};
 ghost use Rattle.xw_words.specs.Bits.{has_bit};
-ghost use Rattle.xw_words.specs.Columns.{has_letter, is_active as word_is_active, IsColumn};
+ghost use Rattle.xw_words.specs.Columns.{has_letter, has_one_of, is_active as word_is_active, IsColumn, AreColumns};
 
 use crate::bit_row::BitRow;
 use crate::fault::WordFault;
@@ -100,6 +100,14 @@ impl Bank {
         ensures within { position < count → IfNone result (length (words_of self.now.words count) ≡ 0) }
     {
         self.rows.get(count)?.column_of(position, letter)
+    }
+
+    /// The columns of all letters at a position of the words of a length, where there are some.
+    pub(crate) fn columns_of(&self, count: usize, position: usize) -> Option<&[BitRow]>
+        ensures some { IfSome result (λ columns. AreColumns (words_of self.now.words count) position columns.now) }
+        ensures none { IfNone result ((place letters : ℕ) → has_one_of (words_of self.now.words count) position letters place ≡ false) }
+    {
+        self.rows.get(count)?.columns_of(position)
     }
 
     /// Which of 64 known words of a length have the letter at the position, the first of them lowest.

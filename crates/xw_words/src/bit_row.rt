@@ -1,17 +1,18 @@
 //! A row of bits.
-ghost use Rattle.std.specs.Prelude.{◌≡◌, ℕ, ◌+◌, ◌-◌, ◌*◌, ◌/◌, ◌%◌, ◌^◌, ◌<◌, ◌≤◌, Bool, false, not, ◌&&◌, [], ◌∷◌, ◌++◌, length, min, slice_index_or, slice_set, count_by, OnOk, OnErr, IfErr, IfSome, IfNone, true, if◌then◌else◌, nat_eq};
+ghost use Rattle.std.specs.Prelude.{◌≡◌, ℕ, ◌+◌, ◌-◌, ◌*◌, ◌/◌, ◌%◌, ◌^◌, ◌<◌, ◌≤◌, Bool, false, not, ◌&&◌, [], ◌∷◌, ◌++◌, length, min, slice_index, slice_index_or, slice_set, count_by, OnOk, OnErr, IfErr, IfSome, IfNone, true, if◌then◌else◌, nat_eq};
 ghost use Rattle.std.specs.Simd.Lanes.{zip2};
 ghost use Rattle.xw_words.specs.Bits.{RowOfBits, has_bit};
 ghost use Rattle.xw_words.specs.Places.{set_places};
 
 use crate::fault::WordFault;
 use crate::kernels::{
-    and_not_words, and_words, count_words, low_bits, make_room_for_bit, next_common, put_bit,
-    with_bit,
+    and_not_words, and_words, block_at, count_words, is_clear_block, keep_at, low_bits,
+    make_room_for_bit, next_common, put_bit, with_bit,
 };
 use crate::ones::{Ones, next_one};
 use std::alloc::Global;
 use std::marker::Model;
+use std::simd::prelude::*;
 
 /// The most bits that a row may be given room for.
 pub const MAX_BITS: usize = 0x1FF_FFFF_FFFF_FFFF;
@@ -70,24 +71,62 @@ impl BitRow {
         and_not_words(&mut self.words, &other.words);
     }
 
-    /// Keeps the bits that a column of as many chunks has as well.
-    pub(crate) fn keep(&mut self, column: &BitRow)
-        requires { length column.now.bits ≡ 64 * ((length self.old.bits + 63) / 64) }
-        ensures len { length self.new.bits ≡ length self.old.bits }
-        ensures bits { (i : ℕ) → slice_index_or self.new.bits i false ≡ (slice_index_or self.old.bits i false && slice_index_or column.now.bits i false) }
+    /// Takes the bits of a row of the same length.
+    pub fn copy_from(&mut self, other: &BitRow)
+        requires { length self.old.bits ≡ length other.now.bits }
+        ensures bits { self.new.bits ≡ other.now.bits }
         ensures room { self.new.room ≡ self.old.room }
     {
-        and_words(&mut self.words, &column.words);
+        self.words.as_mut_slice().copy_from_slice(&other.words);
     }
 
-    /// Keeps the bits that a column of as many chunks lacks.
-    pub(crate) fn strike(&mut self, column: &BitRow)
-        requires { length column.now.bits ≡ 64 * ((length self.old.bits + 63) / 64) }
+    /// Clears all bits.
+    pub fn clear(&mut self)
         ensures len { length self.new.bits ≡ length self.old.bits }
-        ensures bits { (i : ℕ) → slice_index_or self.new.bits i false ≡ (slice_index_or self.old.bits i false && not (slice_index_or column.now.bits i false)) }
+        ensures bits { (i : ℕ) → slice_index_or self.new.bits i false ≡ false }
         ensures room { self.new.room ≡ self.old.room }
     {
-        and_not_words(&mut self.words, &column.words);
+        self.words.as_mut_slice().fill(0);
+    }
+
+    /// The bits of the eight chunks from one on.
+    pub(crate) fn block(&self, at: usize) -> u64x8
+        requires { 64 * at + 448 < length self.now.bits }
+        ensures { (chunk k : ℕ) → chunk < 8 → k < 64 → has_bit (slice_index result chunk) k ≡ slice_index_or self.now.bits (64 * (at + chunk) + k) false }
+    {
+        block_at(&self.words, at)
+    }
+
+    /// Whether the eight chunks from one on have no bit.
+    pub(crate) fn is_clear(&self, at: usize) -> bool
+        requires { 64 * at + 448 < length self.now.bits }
+        ensures { result ≡ true → (i : ℕ) → 64 * at ≤ i → i < 64 * at + 512 → slice_index_or self.now.bits i false ≡ false }
+    {
+        is_clear_block(&self.words, at)
+    }
+
+    /// Keeps in the eight chunks from one on the bits that a block has.
+    pub(crate) fn keep_block(&mut self, at: usize, block: u64x8)
+        requires { 64 * at + 448 < length self.old.bits }
+        ensures len { length self.new.bits ≡ length self.old.bits }
+        ensures below { (i : ℕ) → i < 64 * at → slice_index_or self.new.bits i false ≡ slice_index_or self.old.bits i false }
+        ensures inside { (chunk k : ℕ) → chunk < 8 → k < 64 → slice_index_or self.new.bits (64 * (at + chunk) + k) false ≡ (slice_index_or self.old.bits (64 * (at + chunk) + k) false && has_bit (slice_index block chunk) k) }
+        ensures above { (i : ℕ) → 64 * at + 512 ≤ i → slice_index_or self.new.bits i false ≡ slice_index_or self.old.bits i false }
+        ensures room { self.new.room ≡ self.old.room }
+    {
+        keep_at(&mut self.words, at, block);
+    }
+
+    /// Clears in the eight chunks from one on the bits that a block has.
+    pub(crate) fn strike_block(&mut self, at: usize, block: u64x8)
+        requires { 64 * at + 448 < length self.old.bits }
+        ensures len { length self.new.bits ≡ length self.old.bits }
+        ensures below { (i : ℕ) → i < 64 * at → slice_index_or self.new.bits i false ≡ slice_index_or self.old.bits i false }
+        ensures inside { (chunk k : ℕ) → chunk < 8 → k < 64 → slice_index_or self.new.bits (64 * (at + chunk) + k) false ≡ (slice_index_or self.old.bits (64 * (at + chunk) + k) false && not (has_bit (slice_index block chunk) k)) }
+        ensures above { (i : ℕ) → 64 * at + 512 ≤ i → slice_index_or self.new.bits i false ≡ slice_index_or self.old.bits i false }
+        ensures room { self.new.room ≡ self.old.room }
+    {
+        self.keep_block(at, !block);
     }
 
     /// The first place from a chunk on that both rows have set.

@@ -16,6 +16,7 @@ pub mod matching;
 pub mod ones;
 mod row;
 pub mod rows;
+mod sieve;
 #[cfg(test)]
 mod tests;
 pub mod word;

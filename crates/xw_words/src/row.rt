@@ -1,6 +1,6 @@
 //! The known words of one length.
 ghost use Rattle.xw_words.specs.Bits.{has_bit};
-ghost use Rattle.xw_words.specs.Columns.{has_letter, is_active, AreFits, IsColumn};
+ghost use Rattle.xw_words.specs.Columns.{has_letter, has_one_of, is_active, AreFits, IsColumn, AreColumns};
 ghost use Rattle.std.specs.Prelude.{◌≡◌, ℕ, ◌+◌, ◌*◌, ◌<◌, ◌≤◌, ◌||◌, ◌==◌, Bool, true, false, None, [], ◌∷◌, ◌++◌, length, take, map, position, OnOk, OnErr, IfOk, IfErr, IfSome, IfNone, ◌≢◌, vec_len, vec_capacity};
 ghost use Rattle.xw_words.specs.Dictionary.{entry_at, marked, place_in, add_to, added_at, with_added, strike_from, IsNew, most_words};
 ghost use Rattle.xw_words.specs.Letter.{folded};
@@ -144,6 +144,20 @@ impl Row {
         }
         self.columns
             .get(position * LETTERS + (letter.byte() - b'A') as usize)
+    }
+
+    /// The columns of all letters at a position, where there are some.
+    pub fn columns_of(&self, position: usize) -> Option<&[BitRow]>
+        ensures some { IfSome result (λ columns. AreColumns self.now.entries position columns.now) }
+        ensures none { IfNone result ((place letters : ℕ) → has_one_of self.now.entries position letters place ≡ false) }
+    {
+        if position >= self.count {
+            return None;
+        }
+        if self.columns.len() < LETTERS * self.count {
+            return None;
+        }
+        Some(&self.columns[LETTERS * position..LETTERS * (position + 1)])
     }
 
     /// Which of 64 words have the letter at the position, the first of them lowest.

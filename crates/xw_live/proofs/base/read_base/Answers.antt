@@ -1,4 +1,4 @@
-use Rattle.std.proofs.Common.{◌≡◌, not, ◌&&◌, length, ap, sym, ◌∙◌}
+use Rattle.std.proofs.Common.{not, ◌&&◌, length, ap, sym, ◌∙◌}
 use Rattle.xw_words.specs.Dictionary.{entry_at}
 use Rattle.xw_feas.specs.Board.{agrees, is_wholly_entered, light_at}
 use Rattle.xw_live.proofs.BaseLemmas.{all_read}
@@ -10,8 +10,8 @@ returns-then-has_all_entries-clause-bits g c =
     let cells = light_at c.args.board.now c.args.light in
     let entries = g.R.Rows.entries c.args.rows.now (length cells) in
     let entered = ap (is_wholly_entered board) (sym c.light-cells.ensures.cells) ∙ sym c.has_all_entries.ensures ∙ c.if-has_all_entries.true in
-    all_read board cells entries c.clear_row.new.row.bits (c.clear_row.ensures.len ∙ c.requires.bits)
-    (λ k. c.clear_row.ensures.clear k ∙ sym (ap (λ b. let word = entry_at entries k in not b && (word.active && agrees board cells word.word)) entered))
+    all_read board cells entries c.clear.new.self.bits (c.clear.ensures.len ∙ c.requires.bits)
+    (λ k. c.clear.ensures.bits k ∙ sym (ap (λ b. let word = entry_at entries k in not b && (word.active && agrees board cells word.word)) entered))
 
 pub returns-else-has_all_entries-clause-bits : goal.returns-else-has_all_entries-clause-bits
 returns-else-has_all_entries-clause-bits g c =

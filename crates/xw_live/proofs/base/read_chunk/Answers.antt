@@ -1,4 +1,4 @@
-use Rattle.std.proofs.Common.{◌+◌, ◌*◌, ◌/◌, length, ap, subst, sym, ◌∙◌, arith}
+use Rattle.std.proofs.Common.{◌+◌, ◌*◌, ◌/◌, length, ap, ◌∙◌, arith}
 use Rattle.xw_words.specs.Dictionary.{entry_at}
 use Rattle.xw_feas.specs.Board.{light_at}
 use Rattle.xw_live.specs.Base.{is_base_word}

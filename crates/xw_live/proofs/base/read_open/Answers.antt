@@ -1,4 +1,4 @@
-use Rattle.std.proofs.Common.{◌≡◌, ◌+◌, ◌*◌, ◌&&◌, false, length, get_or, ap, ◌∙◌, arith}
+use Rattle.std.proofs.Common.{◌≡◌, ◌+◌, ◌*◌, ◌&&◌, length, get_or, ap, ◌∙◌, arith}
 use Rattle.xw_words.specs.Dictionary.{entry_at}
 use Rattle.xw_words.specs.Columns.{is_active}
 use Rattle.xw_feas.specs.Board.{entry}

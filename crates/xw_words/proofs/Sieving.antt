@@ -1,0 +1,125 @@
+-- Words that have one of several letters at a position.
+use Rattle.std.proofs.Common.{◌≡◌, ℕ, ◌+◌, ◌-◌, ◌*◌, ◌<◌, ◌≤◌, Bool, true, false, not, ◌&&◌, ◌||◌, eqb, ltb, max, map, List, length, get_or, refl, sym, ap, ◌∙◌, subst, inl, inr, arith, zero, suc, bit_or, ◌/◌, ◌%◌, Fits, w64}
+use Rattle.std.specs.Prelude.{Option, Some, None}
+use Rattle.std.specs.Int.{bit_at, bit_not}
+use Rattle.std.specs.Simd.Lanes.{Each1}
+use Rattle.std.proofs.lemmas.Simd.{Each1-get_or}
+use Rattle.std.proofs.lemmas.List.{get_or_default, length-map}
+use Rattle.std.proofs.Math.ListN.{get_or-map}
+use Rattle.xw_words.proofs.BitLemmas.{has_bit-not}
+use Rattle.std.proofs.lemmas.Nat.Bits.{bit_at_or, bit_at-lt}
+use Rattle.std.proofs.lemmas.Bool.{cases_lt, cases_eq, cases_Bool, and_parts, and_right, eq-eqb, ne_eqb, lt-ltb, le-ltb}
+use Rattle.xw_words.specs.Bits.{has_bit}
+use Rattle.xw_words.specs.Letter.{is_capital}
+use Rattle.xw_words.specs.LetterSet.{has}
+use Rattle.xw_words.specs.Columns.{is_among, letter_is}
+use Rattle.xw_words.proofs.LetterSetLemmas.{capital_is_letter}
+
+-- whether there is a letter, before a place of the alphabet, and a set has it
+abbrev pub is_among_first : ℕ → ℕ → Option ℕ → Bool
+is_among_first letters place None = false
+is_among_first letters place (Some letter) = has letters letter && ltb letter (65 + place)
+
+and_true : (a : Bool) → (a && true) ≡ a
+and_true true = refl
+and_true false = refl
+
+or_false : (a : Bool) → (a || false) ≡ a
+or_false true = refl
+or_false false = refl
+
+or_true : (a : Bool) → (a || true) ≡ true
+or_true true = refl
+or_true false = refl
+
+pub among_none : (letters : ℕ) (o : Option ℕ) → false ≡ is_among_first letters 0 o
+among_none letters None = refl
+among_none letters (Some letter) = elim (cases_Bool (has letters letter)) [
+  | inl h ↦
+      let capital = capital_is_letter letter (and_parts (is_capital letter) (eqb (bit_at letters (letter - 65)) 1) h).0 in
+      sym (and_right (has letters letter) (ltb letter 65) (le-ltb letter 65 capital.0))
+  | inr h ↦ sym (ap (λ b. b && ltb letter 65) h)
+]
+
+pub among_next : (letters from place : ℕ) → from ≤ place → has letters (65 + place) ≡ true → ((other : ℕ) → from ≤ other → other < place → has letters (65 + other) ≡ false)
+    → (o : Option ℕ) → (is_among_first letters from o || letter_is o (65 + place)) ≡ is_among_first letters (place + 1) o
+among_next letters from place le stands first None = refl
+among_next letters from place le stands first (Some letter) = elim (cases_lt letter (65 + from)) [
+  | inl early ↦
+      ap (λ b. (has letters letter && ltb letter (65 + from)) || b) (ne_eqb letter (65 + place) (λ e. omega arith))
+      ∙ or_false (has letters letter && ltb letter (65 + from))
+      ∙ ap (λ b. has letters letter && b) (lt-ltb letter (65 + from) early ∙ sym (lt-ltb letter (65 + (place + 1)) (omega arith)))
+  | inr from_on ↦ elim (cases_lt letter (65 + place)) [
+    | inl between ↦
+        let is : 65 + (letter - 65) ≡ letter = omega arith in
+        let lacks : has letters letter ≡ false = ap (has letters) (sym is) ∙ first (letter - 65) (omega arith) (omega arith) in
+        ap (λ b. (has letters letter && ltb letter (65 + from)) || b) (ne_eqb letter (65 + place) (λ e. omega arith))
+        ∙ or_false (has letters letter && ltb letter (65 + from))
+        ∙ ap (λ b. b && ltb letter (65 + from)) lacks
+        ∙ sym (ap (λ b. b && ltb letter (65 + (place + 1))) lacks)
+    | inr on ↦ elim (cases_eq letter (65 + place)) [
+      | inl here ↦
+          ap (λ b. (has letters letter && ltb letter (65 + from)) || b) (eq-eqb letter (65 + place) here)
+          ∙ or_true (has letters letter && ltb letter (65 + from))
+          ∙ sym (ap (λ l. has letters l && ltb letter (65 + (place + 1))) here ∙ ap (λ b. b && ltb letter (65 + (place + 1))) stands ∙ lt-ltb letter (65 + (place + 1)) (omega arith))
+      | inr past ↦
+          ap (λ b. (has letters letter && ltb letter (65 + from)) || b) (ne_eqb letter (65 + place) past)
+          ∙ or_false (has letters letter && ltb letter (65 + from))
+          ∙ ap (λ b. has letters letter && b) (le-ltb letter (65 + from) from_on ∙ sym (le-ltb letter (65 + (place + 1)) (omega (arith, past))))
+    ]
+  ]
+]
+
+pub among_all : (letters from : ℕ) → ((other : ℕ) → from ≤ other → has letters (65 + other) ≡ false) → (o : Option ℕ) → is_among_first letters from o ≡ is_among letters o
+among_all letters from none None = refl
+among_all letters from none (Some letter) = elim (cases_lt letter (65 + from)) [
+  | inl early ↦ ap (λ b. has letters letter && b) (lt-ltb letter (65 + from) early) ∙ and_true (has letters letter)
+  | inr past ↦
+      let is : 65 + (letter - 65) ≡ letter = omega arith in
+      let lacks : has letters letter ≡ false = ap (has letters) (sym is) ∙ none (letter - 65) (omega arith) in
+      ap (λ b. b && ltb letter (65 + from)) lacks ∙ sym lacks
+]
+
+-- ---- bits of two words
+
+most_is_one : (x y : ℕ) → x < 2 → y < 2 → eqb (max x y) 1 ≡ (eqb x 1 || eqb y 1)
+most_is_one zero zero p q = refl
+most_is_one zero (suc zero) p q = refl
+most_is_one (suc zero) zero p q = refl
+most_is_one (suc zero) (suc zero) p q = refl
+most_is_one (suc (suc x)) y p q = absurd (omega arith)
+most_is_one zero (suc (suc y)) p q = absurd (omega arith)
+most_is_one (suc zero) (suc (suc y)) p q = absurd (omega arith)
+
+pub has_bit-or : (a b k : ℕ) → has_bit (bit_or a b) k ≡ (has_bit a k || has_bit b k)
+unfolding has_bit
+has_bit-or a b k = ap (λ x. eqb x 1) (bit_at_or a b k) ∙ most_is_one (bit_at a k) (bit_at b k) (bit_at-lt a k) (bit_at-lt b k)
+
+-- ---- the places of a block
+
+pub in_block : (P : ℕ → Type 0) (at : ℕ) → ((chunk k : ℕ) → chunk < 8 → k < 64 → P (64 * (at + chunk) + k)) → (i : ℕ) → 64 * at ≤ i → i < 64 * at + 512 → P i
+in_block P at each i low high =
+    let is : 64 * (at + (i / 64 - at)) + i % 64 ≡ i = omega (arith, low) in
+    subst P is (each (i / 64 - at) (i % 64) (omega (arith, high, low)) (omega arith))
+
+pub in_chunk : (P : ℕ → Type 0) (at : ℕ) → ((k : ℕ) → k < 64 → P (64 * at + k)) → (i : ℕ) → 64 * at ≤ i → i < 64 * at + 64 → P i
+in_chunk P at each i low high =
+    let is : 64 * at + (i - 64 * at) ≡ i = omega (arith, low) in
+    subst P is (each (i - 64 * at) (omega (arith, high, low)))
+
+pub block_not : (words : List ℕ) (chunk k : ℕ) → length words ≡ 8 → Each1 (Fits w64) words → chunk < 8 → k < 64 → has_bit (get_or (map (bit_not w64) words) chunk 0) k ≡ not (has_bit (get_or words chunk 0) k)
+block_not words chunk k eight fit in_words lt =
+    let within : chunk < length words = omega (arith, eight) in
+    ap (λ w. has_bit w k) (get_or_default (map (bit_not w64) words) chunk 0 (bit_not w64 0) (omega (arith, eight, length-map words (bit_not w64))) ∙ get_or-map (bit_not w64) words chunk 0)
+    ∙ has_bit-not (get_or words chunk 0) k (Each1-get_or (Fits w64) words chunk 0 within fit).fits lt
+
+-- what lacks a bit lacks it after sifting
+pub none_stays : (new old other : Bool) → new ≡ old → old ≡ false → new ≡ (old && other)
+none_stays new old other same none = same ∙ none ∙ sym (ap (λ b. b && other) none)
+
+-- what is said of places up to one, and of those from it on
+pub in_parts : (P : ℕ → Type 0) (middle end : ℕ) → ((i : ℕ) → i < middle → P i) → ((i : ℕ) → middle ≤ i → i < end → P i) → (i : ℕ) → i < end → P i
+in_parts P middle end first second i lt = elim (cases_lt i middle) [
+  | inl early ↦ first i early
+  | inr from ↦ second i from lt
+]

@@ -1,0 +1,16 @@
+use Rattle.std.proofs.Common.{◌≡◌, ◌≤◌, ◌<◌, ◌+◌, ◌-◌, ◌*◌, ℕ, List, get_or}
+use Rattle.std.specs.Prelude.{slice_get}
+use Rattle.xw_words.specs.Bits.{has_bit}
+use Rattle.xw_words.specs.Columns.{AreColumns}
+use Rattle.xw_words.specs.Dictionary.{Entry, entry_at}
+use Rattle.xw_words.proofs.Sieving.{is_among_first}
+use Rattle.xw_words.proofs.sieve.block_with.Given as goal
+
+abbrev pub invariant-loop-place : goal.invariant-loop-place
+invariant-loop-place l = record {
+  within : l.from ≤ 26;
+  found : (entries : List Entry) (position : ℕ) → AreColumns entries position l.columns → (chunk k : ℕ) → chunk < 8 → k < 64 → has_bit (get_or l.found chunk 0) k ≡ is_among_first l.letters l.from (slice_get (entry_at entries (64 * (l.at + chunk) + k)).word position);
+}
+
+abbrev pub decreases-loop-place : goal.decreases-loop-place
+decreases-loop-place l = 26 - l.from

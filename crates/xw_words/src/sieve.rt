@@ -1,0 +1,130 @@
+//! The words of a row that have one of several letters at a position, a block of chunks after another.
+ghost use Rattle.std.specs.Prelude.{◌≡◌, ℕ, ◌+◌, ◌*◌, ◌/◌, ◌<◌, ◌≤◌, Bool, true, false, List, ◌&&◌, length, slice_index, slice_index_or};
+ghost use Rattle.xw_words.specs.Bits.{has_bit};
+ghost use Rattle.xw_words.specs.Columns.{column_at, AreColumns, has_one_of, stays};
+ghost use Rattle.xw_words.specs.Dictionary.{Entry};
+ghost use Rattle.xw_words.specs.Rows.{chunks_in};
+
+use crate::bit_row::BitRow;
+use crate::kernels::either_block;
+use crate::letter_set::LetterSet;
+use std::simd::prelude::*;
+
+/// How many chunks are read at once.
+const BLOCK: usize = 8;
+
+/// Which words of a block have one of the letters.
+fn block_with(columns: &[BitRow], letters: LetterSet, at: usize) -> u64x8
+    requires many { length columns.now ≡ 26 }
+    requires within { (k : ℕ) → k < 26 → 64 * at + 448 < length (column_at columns.now k).bits }
+    ensures { (entries : List Entry) (position : ℕ) → AreColumns entries position columns.now → (chunk k : ℕ) → chunk < 8 → k < 64 → has_bit (slice_index result chunk) k ≡ has_one_of entries position letters (64 * (at + chunk) + k) }
+{
+    let mut found = u64x8::splat(0);
+    let mut from = 0;
+    while let Some(place) = letters.next_place(from) {
+        found = either_block(found, columns[place as usize].block(at));
+        from = place + 1;
+    }
+    found
+}
+
+/// Which words of a chunk have one of the letters.
+fn chunk_with(columns: &[BitRow], letters: LetterSet, at: usize) -> u64
+    requires many { length columns.now ≡ 26 }
+    requires within { (k : ℕ) → k < 26 → 64 * at < length (column_at columns.now k).bits }
+    ensures { (entries : List Entry) (position : ℕ) → AreColumns entries position columns.now → (k : ℕ) → k < 64 → has_bit result k ≡ has_one_of entries position letters (64 * at + k) }
+{
+    let mut found = 0;
+    let mut from = 0;
+    while let Some(place) = letters.next_place(from) {
+        found |= columns[place as usize].chunk(at);
+        from = place + 1;
+    }
+    found
+}
+
+/// Leaves of the words of a block those that have one of the letters, or those that have none. Where the
+/// block has no word, no column is read.
+fn sift_block(row: &mut BitRow, columns: &[BitRow], letters: LetterSet, keep: bool, at: usize)
+    requires many { length columns.now ≡ 26 }
+    requires within { (k : ℕ) → k < 26 → 64 * at + 448 < length (column_at columns.now k).bits }
+    requires row { 64 * at + 448 < length row.old.bits }
+    ensures len { length row.new.bits ≡ length row.old.bits }
+    ensures below { (i : ℕ) → i < 64 * at → slice_index_or row.new.bits i false ≡ slice_index_or row.old.bits i false }
+    ensures inside { (entries : List Entry) (position : ℕ) → AreColumns entries position columns.now → (i : ℕ) → 64 * at ≤ i → i < 64 * at + 512 → slice_index_or row.new.bits i false ≡ (slice_index_or row.old.bits i false && stays keep (has_one_of entries position letters i)) }
+    ensures above { (i : ℕ) → 64 * at + 512 ≤ i → slice_index_or row.new.bits i false ≡ slice_index_or row.old.bits i false }
+    ensures room { row.new.room ≡ row.old.room }
+{
+    if row.is_clear(at) {
+        return;
+    }
+    let found = block_with(columns, letters, at);
+    if keep {
+        row.keep_block(at, found);
+    } else {
+        row.strike_block(at, found);
+    }
+}
+
+/// The same for a chunk.
+fn sift_chunk(row: &mut BitRow, columns: &[BitRow], letters: LetterSet, keep: bool, at: usize)
+    requires many { length columns.now ≡ 26 }
+    requires within { (k : ℕ) → k < 26 → 64 * at < length (column_at columns.now k).bits }
+    requires row { 64 * at < length row.old.bits }
+    ensures len { length row.new.bits ≡ length row.old.bits }
+    ensures below { (i : ℕ) → i < 64 * at → slice_index_or row.new.bits i false ≡ slice_index_or row.old.bits i false }
+    ensures inside { (entries : List Entry) (position : ℕ) → AreColumns entries position columns.now → (i : ℕ) → 64 * at ≤ i → i < 64 * at + 64 → slice_index_or row.new.bits i false ≡ (slice_index_or row.old.bits i false && stays keep (has_one_of entries position letters i)) }
+    ensures above { (i : ℕ) → 64 * at + 64 ≤ i → slice_index_or row.new.bits i false ≡ slice_index_or row.old.bits i false }
+    ensures room { row.new.room ≡ row.old.room }
+{
+    let own = row.chunk(at);
+    if own == 0 {
+        return;
+    }
+    let found = chunk_with(columns, letters, at);
+    if keep {
+        row.set_chunk(at, own & found);
+    } else {
+        row.set_chunk(at, own & !found);
+    }
+}
+
+/// The same for the whole blocks of a row.
+fn sift_blocks(row: &mut BitRow, columns: &[BitRow], letters: LetterSet, keep: bool)
+    requires many { length columns.now ≡ 26 }
+    requires long { (k : ℕ) → k < 26 → length (column_at columns.now k).bits ≡ 64 * chunks_in (length row.old.bits) }
+    ensures len { length row.new.bits ≡ length row.old.bits }
+    ensures inside { (entries : List Entry) (position : ℕ) → AreColumns entries position columns.now → (i : ℕ) → i < 512 * (length row.old.bits / 512) → slice_index_or row.new.bits i false ≡ (slice_index_or row.old.bits i false && stays keep (has_one_of entries position letters i)) }
+    ensures above { (i : ℕ) → 512 * (length row.old.bits / 512) ≤ i → slice_index_or row.new.bits i false ≡ slice_index_or row.old.bits i false }
+    ensures room { row.new.room ≡ row.old.room }
+{
+    for block in 0..row.len() / 512 {
+        sift_block(row, columns, letters, keep, BLOCK * block);
+    }
+}
+
+/// The same for the chunks behind them.
+fn sift_rest(row: &mut BitRow, columns: &[BitRow], letters: LetterSet, keep: bool)
+    requires many { length columns.now ≡ 26 }
+    requires long { (k : ℕ) → k < 26 → length (column_at columns.now k).bits ≡ 64 * chunks_in (length row.old.bits) }
+    ensures len { length row.new.bits ≡ length row.old.bits }
+    ensures below { (i : ℕ) → i < 512 * (length row.old.bits / 512) → slice_index_or row.new.bits i false ≡ slice_index_or row.old.bits i false }
+    ensures inside { (entries : List Entry) (position : ℕ) → AreColumns entries position columns.now → (i : ℕ) → 512 * (length row.old.bits / 512) ≤ i → slice_index_or row.new.bits i false ≡ (slice_index_or row.old.bits i false && stays keep (has_one_of entries position letters i)) }
+    ensures room { row.new.room ≡ row.old.room }
+{
+    for chunk in row.len() / 512 * BLOCK..row.len().div_ceil(64) {
+        sift_chunk(row, columns, letters, keep, chunk);
+    }
+}
+
+/// Leaves of a row of words those that have one of the letters, or those that have none.
+pub(crate) fn sift(row: &mut BitRow, columns: &[BitRow], letters: LetterSet, keep: bool)
+    requires many { length columns.now ≡ 26 }
+    requires long { (k : ℕ) → k < 26 → length (column_at columns.now k).bits ≡ 64 * chunks_in (length row.old.bits) }
+    ensures len { length row.new.bits ≡ length row.old.bits }
+    ensures bits { (entries : List Entry) (position : ℕ) → AreColumns entries position columns.now → (i : ℕ) → slice_index_or row.new.bits i false ≡ (slice_index_or row.old.bits i false && stays keep (has_one_of entries position letters i)) }
+    ensures room { row.new.room ≡ row.old.room }
+{
+    sift_blocks(row, columns, letters, keep);
+    sift_rest(row, columns, letters, keep);
+}
