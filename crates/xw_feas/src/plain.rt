@@ -59,6 +59,28 @@ fn settle_grid(
     settle(&Board::new(grid, lights), bank, words, letters);
 }
 
+/// Notes the letters that stand, and lets exactly the feasible ones and the feasible words stand.
+fn settle_anew(
+    grid: &Grid,
+    lights: &Lights,
+    bank: &Bank,
+    words: &mut [Flags],
+    letters: &mut [LetterSet],
+    before: &mut [LetterSet],
+)
+    requires lights { lights.now ≡ lights_of grid.now }
+    requires rows { HasRows (board_of grid.now) bank.now.words words.old letters.old }
+    requires before { length before.old ≡ length letters.old }
+    ensures rows { HasRows (board_of grid.now) bank.now.words words.new letters.new }
+    ensures exact { IsExact (board_of grid.now) bank.now.words (flag_at words.new) (set_has letters.new) }
+    ensures answers { AreAnswers (board_of grid.now) bank.now.words (answers_of (board_of grid.now) bank.now.words words.new letters.new) }
+    ensures formed { IsWellFormed (record { grid = grid.now; words = bank.now.words }) }
+    ensures before { before.new ≡ letters.old }
+{
+    before.copy_from_slice(letters);
+    settle_grid(grid, lights, bank, words, letters);
+}
+
 /// An engine that works out all answers anew at each edit.
 #[derive(Drop)]
 pub struct Plain {
@@ -78,6 +100,8 @@ pub struct Plain {
 }
 
 impl Plain {
+    ghost use Rattle.xw_feas.specs.Plain.{SameAnswers};
+
     pub fn new(alloc: Global, grid: Grid, bank: Bank) -> Result<Plain, Refusal>
         ensures grid { IfOk result (λ engine. engine.grid ≡ grid) }
         ensures words { IfOk result (λ engine. engine.bank.words ≡ bank.words) }
@@ -133,15 +157,13 @@ impl Plain {
         ensures unchanged { OnErr result (self.new ≡ self.old) }
     {
         edit_letters(&mut self.grid, &self.lights, edit)?;
-        self.before
-            .as_mut_slice()
-            .copy_from_slice(self.letters.as_slice());
-        settle_grid(
+        settle_anew(
             &self.grid,
             &self.lights,
             &self.bank,
             self.words.as_mut_slice(),
             self.letters.as_mut_slice(),
+            self.before.as_mut_slice(),
         );
         Ok(())
     }
@@ -169,18 +191,16 @@ impl Plain {
         ensures words { self.new.bank.words ≡ self.old.bank.words }
         ensures before { self.new.before.items ≡ self.old.letters.items }
     {
-        self.before
-            .as_mut_slice()
-            .copy_from_slice(self.letters.as_slice());
         self.grid = grid;
         self.lights = lights;
         self.words = words;
-        settle_grid(
+        settle_anew(
             &self.grid,
             &self.lights,
             &self.bank,
             self.words.as_mut_slice(),
             self.letters.as_mut_slice(),
+            self.before.as_mut_slice(),
         );
     }
 
@@ -211,20 +231,16 @@ impl Plain {
         ensures refused { IfErr result (λ fault. strike_word self.old.bank.words word.now ≡ Err fault) }
         ensures grid { self.new.grid ≡ self.old.grid }
         ensures before { OnOk result (self.new.before.items ≡ self.old.letters.items) }
-        ensures words_same { OnErr result (self.new.bank.words ≡ self.old.bank.words) }
-        ensures rows_same { OnErr result (self.new.words ≡ self.old.words) }
-        ensures letters_same { OnErr result (self.new.letters ≡ self.old.letters) }
+        ensures same { OnErr result (SameAnswers self.old self.new) }
     {
         strike_in(&mut self.bank, word)?;
-        self.before
-            .as_mut_slice()
-            .copy_from_slice(self.letters.as_slice());
-        settle_grid(
+        settle_anew(
             &self.grid,
             &self.lights,
             &self.bank,
             self.words.as_mut_slice(),
             self.letters.as_mut_slice(),
+            self.before.as_mut_slice(),
         );
         Ok(())
     }
@@ -234,9 +250,7 @@ impl Plain {
         ensures refused { IfErr result (λ fault. IsAddRefused self.old.bank.words word.now fault) }
         ensures grid { self.new.grid ≡ self.old.grid }
         ensures before { OnOk result (self.new.before.items ≡ self.old.letters.items) }
-        ensures words_same { OnErr result (self.new.bank.words ≡ self.old.bank.words) }
-        ensures rows_same { OnErr result (self.new.words ≡ self.old.words) }
-        ensures letters_same { OnErr result (self.new.letters ≡ self.old.letters) }
+        ensures same { OnErr result (SameAnswers self.old self.new) }
     {
         match self.bank.judge_add(word)? {
             Added::New(_) => self.add_new(word),
@@ -250,20 +264,16 @@ impl Plain {
         ensures refused { IfErr result (λ fault. IsAddRefused self.old.bank.words word.now fault) }
         ensures grid { self.new.grid ≡ self.old.grid }
         ensures before { OnOk result (self.new.before.items ≡ self.old.letters.items) }
-        ensures words_same { OnErr result (self.new.bank.words ≡ self.old.bank.words) }
-        ensures rows_same { OnErr result (self.new.words ≡ self.old.words) }
-        ensures letters_same { OnErr result (self.new.letters ≡ self.old.letters) }
+        ensures same { OnErr result (SameAnswers self.old self.new) }
     {
         return_in(&mut self.bank, word)?;
-        self.before
-            .as_mut_slice()
-            .copy_from_slice(self.letters.as_slice());
-        settle_grid(
+        settle_anew(
             &self.grid,
             &self.lights,
             &self.bank,
             self.words.as_mut_slice(),
             self.letters.as_mut_slice(),
+            self.before.as_mut_slice(),
         );
         Ok(())
     }
@@ -275,9 +285,7 @@ impl Plain {
         ensures refused { IfErr result (λ fault. IsAddRefused self.old.bank.words word.now fault) }
         ensures grid { self.new.grid ≡ self.old.grid }
         ensures before { OnOk result (self.new.before.items ≡ self.old.letters.items) }
-        ensures words_same { OnErr result (self.new.bank.words ≡ self.old.bank.words) }
-        ensures rows_same { OnErr result (self.new.words ≡ self.old.words) }
-        ensures letters_same { OnErr result (self.new.letters ≡ self.old.letters) }
+        ensures same { OnErr result (SameAnswers self.old self.new) }
     {
         let words = make_grown_rows(
             self.alloc,
@@ -288,15 +296,13 @@ impl Plain {
         reserve_in(&mut self.bank, word)?;
         add_in(&mut self.bank, word);
         self.words = words;
-        self.before
-            .as_mut_slice()
-            .copy_from_slice(self.letters.as_slice());
-        settle_grid(
+        settle_anew(
             &self.grid,
             &self.lights,
             &self.bank,
             self.words.as_mut_slice(),
             self.letters.as_mut_slice(),
+            self.before.as_mut_slice(),
         );
         Ok(())
     }
@@ -306,9 +312,7 @@ impl Plain {
         ensures refused { IfErr result (λ refusal. IsRefused (record { grid = self.old.grid; words = self.old.bank.words }) (action_of edit.now) refusal) }
         ensures before { OnOk result (self.new.before.items ≡ self.old.letters.items) }
         ensures grid_same { OnErr result (self.new.grid ≡ self.old.grid) }
-        ensures words_same { OnErr result (self.new.bank.words ≡ self.old.bank.words) }
-        ensures rows_same { OnErr result (self.new.words ≡ self.old.words) }
-        ensures letters_same { OnErr result (self.new.letters ≡ self.old.letters) }
+        ensures same { OnErr result (SameAnswers self.old self.new) }
     {
         match *edit {
             Edit::Block(cell) => self.toggle_block(cell)?,

@@ -1,7 +1,4 @@
-use Rattle.std.proofs.Common.{sym, ◌∙◌, ap}
-use Rattle.std.specs.Prelude.{Some}
 use Rattle.std.proofs.lemmas.Result.{err_from_is_err_and}
-use Rattle.xw_feas.specs.Shape.{fault_at}
 use Rattle.xw_feas.proofs.WriteLemmas.{write_refused}
 use Rattle.xw_feas.proofs.write.judge_list.Goals as goal
 

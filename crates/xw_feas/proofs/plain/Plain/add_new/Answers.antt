@@ -5,8 +5,8 @@ use Rattle.xw_feas.specs.Rows.{HasWordRows}
 use Rattle.xw_feas.specs.Board.{board_of}
 use Rattle.xw_feas.proofs.plain.Plain.add_new.Goals as goal
 
-pub settle_grid-requires-clause-rows : goal.settle_grid-requires-clause-rows
-settle_grid-requires-clause-rows c =
+pub settle_anew-requires-clause-rows : goal.settle_anew-requires-clause-rows
+settle_anew-requires-clause-rows c =
     let engine = c.args.self.now in
     let made : HasWordRows (board_of engine.grid) engine.bank.words (Some (length c.args.word.now)) c.in_ok-words.words.items = rw (← c.new.ensures) c.in_ok-words.ensures.ok in
-    rw (c.as_mut_slice-2.ensures.value, c.as_mut_slice-3.ensures.value) (HasRows-grown (board_of engine.grid) engine.bank.words c.add_in.new.bank.words (length c.args.word.now) c.in_ok-words.words.items engine.letters.items made (subst (λ words. GrowsAt words c.add_in.new.bank.words (length c.args.word.now)) c.reserve_in.ensures.words c.add_in.ensures.counts) engine.rows.cells)
+    rw (c.as_mut_slice.ensures.value, c.as_mut_slice-2.ensures.value) (HasRows-grown (board_of engine.grid) engine.bank.words c.add_in.new.bank.words (length c.args.word.now) c.in_ok-words.words.items engine.letters.items made (subst (λ words. GrowsAt words c.add_in.new.bank.words (length c.args.word.now)) c.reserve_in.ensures.words c.add_in.ensures.counts) engine.rows.cells)
