@@ -27,7 +27,7 @@ use xw_words::letter::Letter;
 const LONGEST: u32 = 255;
 
 #[tactic(auto, unfolding(crate::specs::Text::Shape::header_at))]
-fn header(lines: &mut TextLines<'_>) -> Result<(), ReadFault>
+pub(super) fn header(lines: &mut TextLines<'_>) -> Result<(), ReadFault>
     ensures { GivesOrLacksMemory (λ _. lines.new) result (header_at lines.old) }
 {
     match lines.next() {
@@ -69,7 +69,7 @@ fn text(alloc: Global, lines: &mut TextLines<'_>) -> Result<Vec<u8>, ReadFault>
 
 /// The three texts above the grid; the notes come last in a file.
 #[tactic(auto, unfolding(crate::specs::Text::Shape::texts_at))]
-fn texts(alloc: Global, lines: &mut TextLines<'_>) -> Result<Texts, ReadFault>
+pub(super) fn texts(alloc: Global, lines: &mut TextLines<'_>) -> Result<Texts, ReadFault>
     ensures { GivesOrLacksMemory (λ texts. (texts_view texts, lines.new)) result (texts_at lines.old) }
 {
     tag(lines, Tag::Title)?;
@@ -214,7 +214,7 @@ fn rows(
 }
 
 #[tactic(auto, unfolding(crate::specs::Text::Shape::grid_at))]
-fn grid(alloc: Global, lines: &mut TextLines<'_>) -> Result<Grid, ReadFault>
+pub(super) fn grid(alloc: Global, lines: &mut TextLines<'_>) -> Result<Grid, ReadFault>
     ensures { GivesOrLacksMemory (λ grid. (grid, lines.new)) result (grid_at lines.old) }
 {
     tag(lines, Tag::Size)?;
