@@ -1,5 +1,5 @@
 -- The places of faults of files, and how they are told.
-use Rattle.std.specs.Prelude.{ℕ, ◌-◌, ◌++◌, List, Option, Some, None, codes, decimal, slice_get}
+use Rattle.std.specs.Prelude.{ℕ, ◌-◌, ◌++◌, List, Option, Some, None, Result, Ok, Err, codes, decimal, slice_get}
 use Rattle.xw_files.specs.declared.fault.Piece.TheVariants.{Header, Boards}
 use Rattle.xw_files.specs.declared.fault.TextName.{TextName}
 use Rattle.xw_files.specs.declared.fault.TextName.TheVariants as texts
@@ -8,6 +8,10 @@ use Rattle.xw_files.specs.declared.fault.ReadFault.{ReadFault}
 use Rattle.xw_files.specs.declared.fault.ReadFault.TheVariants as reads
 use Rattle.xw_files.specs.declared.fault.WriteFault.{WriteFault}
 use Rattle.xw_files.specs.declared.fault.WriteFault.TheVariants as writes
+use Rattle.xw_files.specs.declared.text.place.TextPlace.{TextPlace}
+use Rattle.xw_files.specs.declared.text.place.TextPlace.TheVariants as lines
+use Rattle.xw_files.specs.Puz.Board.{grid_of_puz}
+use Rattle.xw_files.specs.Text.Place.{text_place as text_place_in}
 use Rattle.xw_grid.specs.declared.cell.Direction.{Direction}
 use Rattle.xw_grid.specs.declared.cell.Direction.TheVariants.{Across, Down}
 use Rattle.xw_grid.specs.declared.lights.Light.{Light}
@@ -38,26 +42,24 @@ write_place grid (writes.Field text) = Some (text_place (lights_of grid) text)
 write_place grid writes.Memory = None
 write_place grid (writes.Circled cell) = Some (places.Cell cell)
 
-abbrev pub read_place : ReadFault → Option Place
-read_place (reads.Short piece) = Some (places.Piece piece)
-read_place reads.Magic = None
-read_place reads.Version = None
-read_place reads.Scrambled = None
-read_place reads.Size = None
-read_place (reads.NoNul text) = Some (places.Text text)
-read_place (reads.BadSum sum) = Some (places.Sum sum)
-read_place (reads.BadCell cell) = Some (places.Cell cell)
-read_place reads.ClueCount = None
-read_place reads.Memory = None
-read_place reads.Header = None
-read_place (reads.Tag tag) = None
-read_place reads.SizeLine = None
-read_place (reads.GridLine row) = None
-read_place reads.AcrossCount = None
-read_place reads.DownCount = None
-read_place (reads.NulByte offset) = None
-read_place reads.GextSize = None
-read_place reads.GextSum = None
+-- a text of a file that is cut: with its light where the file has a grid
+abbrev pub cut_text_place : Result Grid ReadFault → TextName → Place
+cut_text_place (Ok grid) text = text_place (lights_of grid) text
+cut_text_place (Err fault) text = places.Text text
+
+-- where a text file leaves its shape, if that is known
+abbrev pub line_place : Result (Option TextPlace) ReadFault → Option Place
+line_place (Ok None) = None
+line_place (Ok (Some (lines.Line number))) = Some (places.Line number)
+line_place (Ok (Some lines.End)) = Some places.End
+line_place (Err fault) = None
+
+abbrev pub read_place : List ℕ → ReadFault → Option Place
+read_place bytes (reads.Short piece) = Some (places.Piece piece)
+read_place bytes (reads.NoNul text) = Some (cut_text_place (grid_of_puz bytes) text)
+read_place bytes (reads.BadSum sum) = Some (places.Sum sum)
+read_place bytes (reads.BadCell cell) = Some (places.Cell cell)
+read_place bytes fault = line_place (text_place_in bytes fault)
 
 -- ---- how it is told
 
@@ -78,3 +80,5 @@ place_text (places.Clue k light) = codes "clue " ++ decimal k ++ codes " (" ++ d
 place_text (places.Sum sums.Cib) = codes "CIB checksum"
 place_text (places.Sum sums.File) = codes "file checksum"
 place_text (places.Sum (sums.Masked k)) = codes "masked byte " ++ decimal k
+place_text (places.Line number) = codes "line " ++ decimal number
+place_text places.End = codes "end of file"

@@ -75,7 +75,11 @@ pub fn read_puzzle<R: Files + AllocGlobal>(
         Ok(puzzle) => Ok((kind, puzzle)),
         Err(ReadFault::Memory) => Err(Failure::Memory),
         Err(fault) => {
-            let place = if explain { place::in_file(fault) } else { None };
+            let place = if explain {
+                place::in_file(alloc, bytes.as_slice(), fault)?
+            } else {
+                None
+            };
             Err(file_fault(alloc, file, read_fault_name(fault), place))
         }
     }

@@ -1,12 +1,15 @@
 //! Where in a file or a puzzle a fault is.
 ghost use Rattle.std.specs.Prelude.{◌≡◌, IfOk};
 ghost use Rattle.xw_grid.specs.Light.{lights_of};
-ghost use Rattle.xw.specs.Places.{read_place, text_place, write_place};
+ghost use Rattle.xw_files.specs.Puz.Board.{grid_of_puz};
+ghost use Rattle.xw_files.specs.Text.Place.{text_place as text_place_in};
+ghost use Rattle.xw.specs.Places.{cut_text_place, direction_text, line_place, read_place, text_place, write_place};
 
 use crate::failure::Failure;
 use std::alloc::Global;
 use std::fmt;
 use xw_files::fault::{Piece, ReadFault, SumName, TextName, WriteFault};
+use xw_files::{TextPlace, grid_of_puz, text_place};
 use xw_grid::cell::{Cell, Direction, LightName};
 use xw_grid::grid::Grid;
 use xw_grid::lights::Lights;
@@ -20,6 +23,10 @@ pub enum Place {
     /// A clue by its place in light order, from 1, and by its light.
     Clue(usize, LightName),
     Sum(SumName),
+    /// A line of a text file by its number, from 1.
+    Line(usize),
+    /// The end of a text file.
+    End,
 }
 
 impl fmt::Display for Place {
@@ -38,24 +45,25 @@ impl fmt::Display for Place {
             Place::Text(TextName::Copyright) => f.write_str("copyright"),
             Place::Text(TextName::Clue(number)) => write!(f, "clue {number}"),
             Place::Text(TextName::Notes) => f.write_str("notes"),
-            Place::Clue(
-                number,
-                LightName {
-                    number: light,
-                    direction: Direction::Across,
-                },
-            ) => { write!(f, "clue {number} ({light} across)") }
-            Place::Clue(
-                number,
-                LightName {
-                    number: light,
-                    direction: Direction::Down,
-                },
-            ) => { write!(f, "clue {number} ({light} down)") }
+            Place::Clue(number, light) => {
+                let (light, direction) = (light.number, direction_name(light.direction));
+                write!(f, "clue {number} ({light} {direction})")
+            }
             Place::Sum(SumName::Cib) => f.write_str("CIB checksum"),
             Place::Sum(SumName::File) => f.write_str("file checksum"),
             Place::Sum(SumName::Masked(byte)) => write!(f, "masked byte {byte}"),
+            Place::Line(number) => write!(f, "line {number}"),
+            Place::End => f.write_str("end of file"),
         }
+    }
+}
+
+fn direction_name(direction: Direction) -> &'static str
+    ensures { result.now ≡ direction_text direction }
+{
+    match direction {
+        Direction::Across => "across",
+        Direction::Down => "down",
     }
 }
 
@@ -85,14 +93,37 @@ fn of_text(alloc: Global, grid: &Grid, text: TextName) -> Result<Place, Failure>
 }
 
 /// The place of a fault of a file that is read.
-pub fn in_file(fault: ReadFault) -> Option<Place>
-    ensures { result ≡ read_place fault }
+pub fn in_file(alloc: Global, bytes: &[u8], fault: ReadFault) -> Result<Option<Place>, Failure>
+    ensures { IfOk result (λ place. place ≡ read_place bytes.now fault) }
 {
     match fault {
-        ReadFault::Short(piece) => Some(Place::Piece(piece)),
-        ReadFault::NoNul(text) => Some(Place::Text(text)),
-        ReadFault::BadSum(sum) => Some(Place::Sum(sum)),
-        ReadFault::BadCell(cell) => Some(Place::Cell(cell)),
-        _ => None,
+        ReadFault::Short(piece) => Ok(Some(Place::Piece(piece))),
+        ReadFault::NoNul(text) => Ok(Some(of_cut_text(alloc, bytes, text)?)),
+        ReadFault::BadSum(sum) => Ok(Some(Place::Sum(sum))),
+        ReadFault::BadCell(cell) => Ok(Some(Place::Cell(cell))),
+        _ => of_line(alloc, bytes, fault),
+    }
+}
+
+/// A text of a file that is cut; a clue with its light, where the file has a grid.
+fn of_cut_text(alloc: Global, bytes: &[u8], text: TextName) -> Result<Place, Failure>
+    ensures { IfOk result (λ place. place ≡ cut_text_place (grid_of_puz bytes.now) text) }
+{
+    match grid_of_puz(alloc, bytes) {
+        Ok(grid) => of_text(alloc, &grid, text),
+        Err(ReadFault::Memory) => Err(Failure::Memory),
+        Err(_) => Ok(Place::Text(text)),
+    }
+}
+
+/// The line of a fault of a text file.
+fn of_line(alloc: Global, bytes: &[u8], fault: ReadFault) -> Result<Option<Place>, Failure>
+    ensures { IfOk result (λ place. place ≡ line_place (text_place_in bytes.now fault)) }
+{
+    match text_place(alloc, bytes, fault) {
+        Ok(Some(TextPlace::Line(number))) => Ok(Some(Place::Line(number))),
+        Ok(Some(TextPlace::End)) => Ok(Some(Place::End)),
+        Err(ReadFault::Memory) => Err(Failure::Memory),
+        Ok(None) | Err(_) => Ok(None),
     }
 }

@@ -1,7 +1,7 @@
 //! Runs that tell the place of a fault too.
 use crate::failure::Status;
 use crate::tests::puzzles::QUIET;
-use crate::tests::samples::{CIRCLED, PLAIN};
+use crate::tests::samples::{CIRCLED, PLAIN, TEXT};
 use crate::tests::{Run, runs};
 use std::fs;
 use std::process::Abort;
@@ -118,12 +118,14 @@ fn circle_told(rt: HostRuntime) -> Result<(), Fail> {
     Ok(())
 }
 
-/// A file plain whose checksum is another one, and one that is cut.
+/// File plain, cut at several places.
 #[test]
 fn puz_faults_told(rt: HostRuntime) -> Result<(), Fail> {
     let name = b"xw: told: NoNul\n";
     let explained = b"xw: told: NoNul\nxw: notes\n";
     tells(&rt, &PLAIN[..71], name, explained)?;
+    let explained = b"xw: told: NoNul\nxw: clue 2 (1 down)\n";
+    tells(&rt, &PLAIN[..66], name, explained)?;
     let name = b"xw: told: Short\n";
     let explained = b"xw: told: Short\nxw: header\n";
     tells(&rt, &PLAIN[..51], name, explained)?;
@@ -141,4 +143,27 @@ fn wrong_sum_told(rt: HostRuntime) -> Result<(), Fail> {
     let name = b"xw: told: BadSum\n";
     let explained = b"xw: told: BadSum\nxw: file checksum\n";
     tells(&rt, &bytes, name, explained)
+}
+
+/// The line at which a text file leaves its shape, and its end.
+#[test]
+fn text_faults_told(rt: HostRuntime) -> Result<(), Fail> {
+    let name = b"xw: told: Tag\n";
+    let explained = b"xw: told: Tag\nxw: line 2\n";
+    tells(&rt, &TEXT[..20], name, explained)?;
+    let name = b"xw: told: Header\n";
+    let explained = b"xw: told: Header\nxw: end of file\n";
+    tells(&rt, b"\n\n", name, explained)?;
+    let name = b"xw: told: NulByte\n";
+    let explained = b"xw: told: NulByte\nxw: line 3\n";
+    tells(&rt, b"<ACROSS PUZZLE>\n\n<\0", name, explained)
+}
+
+/// A cell of a text file is told by its row and column.
+#[test]
+fn bad_cell_told(rt: HostRuntime) -> Result<(), Fail> {
+    let text = b"<ACROSS PUZZLE>\n<TITLE>\n<AUTHOR>\n<COPYRIGHT>\n<SIZE>\n2x2\n<GRID>\nAT\nS?\n";
+    let name = b"xw: told: BadCell\n";
+    let explained = b"xw: told: BadCell\nxw: row 2, column 2\n";
+    tells(&rt, text, name, explained)
 }
