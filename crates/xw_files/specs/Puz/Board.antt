@@ -15,7 +15,7 @@ use Rattle.xw_files.specs.declared.fault.ReadFault.TheVariants.{Short, BadCell, 
 use Rattle.xw_files.specs.declared.fault.SumName.{SumName}
 use Rattle.xw_files.specs.declared.puz.header.Header.{Header}
 use Rattle.xw_files.specs.Steps.{◌>>=◌}
-use Rattle.xw_files.specs.Puz.Reading.{Fields, part_at, cells_of, header_at, fields_at}
+use Rattle.xw_files.specs.Puz.Reading.{Fields, part_at, cell_count, header_at, fields_at}
 use Rattle.xw_files.specs.Puz.Sums.{sums_of, wrong_sum}
 use Rattle.xw_files.specs.Puz.Sections.{gext_in, circles_by}
 
@@ -44,7 +44,7 @@ grid_at fields = board_grid fields.header fields.solution
 -- the grid of a file, whatever comes after its solution board
 abbrev pub grid_of_puz : List ℕ → Result Grid ReadFault
 grid_of_puz bytes = header_at bytes >>= λ header.
-    (if nat_lt (length bytes) (52 + cells_of header) then Err (Short part.Boards) else board_grid header (part_at 52 (cells_of header) bytes))
+    (if nat_lt (length bytes) (52 + cell_count header) then Err (Short part.Boards) else board_grid header (part_at 52 (cell_count header) bytes))
 
 -- ---- the clues
 
