@@ -1,5 +1,5 @@
 -- Which call the words are.
-use Rattle.std.specs.Prelude.{◌≡◌, ◌⊎◌, List, Option, Some, None, codes, option_map}
+use Rattle.std.specs.Prelude.{◌≡◌, ◌⊎◌, Bool, false, bytes_eq, List, Option, Some, None, codes, option_map}
 use Rattle.std.specs.Borrow.{Bor}
 use Rattle.clap.specs.Words.{Row, Text, first_of}
 use Rattle.xw.specs.declared.arguments.SessionFiles.{SessionFiles}
@@ -19,11 +19,22 @@ pub record AreFiles (files : SessionFiles) (rows : List Row) : Type 0 where
   pub save_file : IsNameOf (codes "save") rows files.save_file
   pub starts : (files.from_file ≡ None) ⊎ (files.resume_file ≡ None)
 
+-- whether an option without a value is there, by what the matches have for it
+abbrev pub is_set : Option Text → Bool
+is_set None = false
+is_set (Some text) = bytes_eq text (codes "true")
+
+-- whether the matches ask for the place of a fault
+abbrev pub IsExplained : List Row → Bool → Type 0
+IsExplained rows explain = explain ≡ is_set (first_of (codes "explain") rows)
+
 -- The call is the subcommand of these matches, and each file name is the value that they have for it.
 abbrev pub IsCall : Call → Option (Text × List Row) → Type 0
-IsCall (Edit files) found = (rows : List Row) × (found ≡ Some (codes "edit", rows)) × AreFiles files rows
-IsCall (Convert from_file to_file) found = (rows : List Row) × (found ≡ Some (codes "convert", rows))
+IsCall (Edit files explain) found = (rows : List Row) × (found ≡ Some (codes "edit", rows)) × AreFiles files rows × IsExplained rows explain
+IsCall (Convert from_file to_file explain) found = (rows : List Row) × (found ≡ Some (codes "convert", rows))
     × (Some from_file.now ≡ first_of (codes "from") rows)
     × (Some to_file.now ≡ first_of (codes "to") rows)
-IsCall (Check file) found = (rows : List Row) × (found ≡ Some (codes "check", rows))
+    × IsExplained rows explain
+IsCall (Check file explain) found = (rows : List Row) × (found ≡ Some (codes "check", rows))
     × (Some file.now ≡ first_of (codes "file") rows)
+    × IsExplained rows explain

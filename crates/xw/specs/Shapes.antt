@@ -2,10 +2,15 @@
 use Rattle.std.specs.Prelude.{Some, true, codes}
 use Rattle.clap.specs.Words.{App, Rule, Text, new_app, new_rule, with_rule, with_subcommand}
 use Rattle.clap.specs.Simple.{on_top}
+use Rattle.clap.specs.declared.builder.action.ArgAction.TheVariants.{SetTrue}
 
 -- an option of one file, `--NAME FILE`
 abbrev pub option : Text → Rule
 option name = record (new_rule name) { long = Some name; value_names = 1 }
+
+-- the option `--explain`, without a value
+abbrev pub explain : Rule
+explain = record (new_rule (codes "explain")) { long = Some (codes "explain"); action = Some SetTrue }
 
 -- a file that has to be named, by its place
 abbrev pub operand : Text → Rule
@@ -16,13 +21,13 @@ abbrev pub begun : App
 begun = with_rule (with_rule (with_rule (new_app (codes "edit")) (option (codes "dict"))) (option (codes "from"))) (option (codes "resume"))
 
 abbrev pub edit : App
-edit = with_rule (with_rule begun (option (codes "to"))) (option (codes "save"))
+edit = with_rule (with_rule (with_rule begun (option (codes "to"))) (option (codes "save"))) explain
 
 abbrev pub convert : App
-convert = with_rule (with_rule (new_app (codes "convert")) (operand (codes "from"))) (operand (codes "to"))
+convert = with_rule (with_rule (with_rule (new_app (codes "convert")) (operand (codes "from"))) (operand (codes "to"))) explain
 
 abbrev pub check : App
-check = with_rule (new_app (codes "check")) (operand (codes "file"))
+check = with_rule (with_rule (new_app (codes "check")) (operand (codes "file"))) explain
 
 -- the program, but for its subcommands
 abbrev pub top : App

@@ -22,6 +22,7 @@ status_of failures.Memory = Failed
 status_of (failures.CannotRead file) = Failed
 status_of (failures.CannotWrite file) = Failed
 status_of (failures.File file name) = Format
+status_of (failures.Placed file name place) = Format
 status_of (failures.OneFile file) = Usage
 status_of (failures.TwoTexts file) = Usage
 

@@ -1,14 +1,14 @@
 //! The arguments of the program.
-ghost use Rattle.std.specs.Prelude.{◌≡◌, ◌&&◌, is_some, IfOk, IfErr, OnOk, IfSome, None, map, false, []};
+ghost use Rattle.std.specs.Prelude.{◌≡◌, ◌&&◌, is_some, IfOk, IfErr, OnOk, IfSome, None, map, false, [], codes};
 ghost use Rattle.clap.specs.Values.{kind_of};
-ghost use Rattle.clap.specs.Words.{app_of, fault_of, found_of, rows_of, rule_of, subcommand_of, subcommand_rows_of};
+ghost use Rattle.clap.specs.Words.{app_of, fault_of, first_of, found_of, rows_of, rule_of, subcommand_of, subcommand_rows_of};
 ghost use Rattle.clap.specs.declared.builder.command.Command.TheViews.{out-Command as fields_of};
-ghost use Rattle.xw.specs.Calls.{AreFiles, IsCall};
+ghost use Rattle.xw.specs.Calls.{AreFiles, IsCall, is_set};
 ghost use Rattle.xw.specs.Usage.{IsTold, IsNoCall, IsUsageOf};
 ghost use Rattle.xw.specs.Shapes as shapes;
 
 use clap::error::ErrorKind;
-use clap::{Arg, ArgMatches, Command, Error};
+use clap::{Arg, ArgAction, ArgMatches, Command, Error};
 use std::alloc::{AllocError, Global};
 use std::convert::AsStr;
 
@@ -50,21 +50,24 @@ pub struct SessionFiles<'a> {
 /// What is told of a session that is to start on a puzzle and with commands.
 const TWO_STARTS: &str = "xw: --from and --resume cannot be given together\n";
 
-/// What the program is to do.
+/// What the program is to do, and whether it tells the place of a fault too.
 #[derive(Clone, Copy, Debug, PartialEq, Eq)]
 pub enum Call<'a> {
     /// Answers commands over what files give, and writes what files are named for.
     Edit {
         files: SessionFiles<'a>,
+        explain: bool,
     },
     /// Writes the puzzle of a file into another.
     Convert {
         from_file: &'a str,
         to_file: &'a str,
+        explain: bool,
     },
     /// Tells of the puzzle of a file.
     Check {
         file: &'a str,
+        explain: bool,
     },
 }
 
@@ -85,6 +88,17 @@ fn option<'a>(alloc: Global, name: &'a str, help: &'a str) -> Arg<'a>
         .long(name)
         .value_name("FILE")
         .help(help)
+}
+
+/// The option that asks for the place of a fault.
+fn explain<'a>(alloc: Global) -> Arg<'a>
+    ensures rule { rule_of result ≡ shapes.explain }
+    ensures local { result.global ≡ false }
+{
+    Arg::new(alloc, "explain")
+        .long("explain")
+        .help("Tell where a fault of a file is, in one more line")
+        .action(ArgAction::SetTrue)
 }
 
 /// A file that has to be named.
@@ -133,7 +147,8 @@ fn edit<'a>(alloc: Global) -> Result<Command<'a>, AllocError>
             alloc,
             "save",
             "Where to write the session at the end, as commands for --resume",
-        ))
+        ))?
+        .arg(explain(alloc))
 }
 
 fn convert<'a>(alloc: Global) -> Result<Command<'a>, AllocError>
@@ -148,7 +163,8 @@ fn convert<'a>(alloc: Global) -> Result<Command<'a>, AllocError>
             "to",
             "TO",
             "Where to write it, as .puz if it is called so, else as text",
-        ))
+        ))?
+        .arg(explain(alloc))
 }
 
 fn check<'a>(alloc: Global) -> Result<Command<'a>, AllocError>
@@ -157,7 +173,8 @@ fn check<'a>(alloc: Global) -> Result<Command<'a>, AllocError>
 {
     Command::new(alloc, "check")
         .about("Read a puzzle file and tell its format, size and number of lights")
-        .arg(operand(alloc, "file", "FILE", "The puzzle to read, .puz or text"))
+        .arg(operand(alloc, "file", "FILE", "The puzzle to read, .puz or text"))?
+        .arg(explain(alloc))
 }
 
 /// The program as it is called, but for its subcommands.
@@ -227,6 +244,16 @@ fn session_files<'a>(matches: &ArgMatches<'a>) -> Option<SessionFiles<'a>>
     })
 }
 
+/// Whether the place of a fault is asked for.
+fn is_explained(matches: &ArgMatches<'_>) -> bool
+    ensures { result ≡ is_set (first_of (codes "explain") (rows_of (found_of matches.now))) }
+{
+    match matches.get_str("explain") {
+        Some(text) => text == "true",
+        None => false,
+    }
+}
+
 /// The call of the matches, or `None` where they lack a file or have one too many.
 fn call_of<'a>(matches: &ArgMatches<'a>) -> Option<Call<'a>>
     ensures call { IfSome result (λ call. IsCall call (subcommand_rows_of matches.now)) }
@@ -236,13 +263,16 @@ fn call_of<'a>(matches: &ArgMatches<'a>) -> Option<Call<'a>>
     match name {
         "edit" => Some(Call::Edit {
             files: session_files(files)?,
+            explain: is_explained(files),
         }),
         "convert" => Some(Call::Convert {
             from_file: files.get_str("from")?,
             to_file: files.get_str("to")?,
+            explain: is_explained(files),
         }),
         "check" => Some(Call::Check {
             file: files.get_str("file")?,
+            explain: is_explained(files),
         }),
         _ => None,
     }

@@ -2,6 +2,7 @@
 ghost use Rattle.std.specs.Prelude.{◌≡◌};
 ghost use Rattle.xw.specs.Status.{code_of, status_of};
 
+use crate::place::Place;
 use std::alloc::AllocError;
 use std::process::ExitCode;
 use thiserror::Error;
@@ -49,15 +50,32 @@ pub enum Failure {
     #[error("xw: memory")]
     Memory,
     #[error("xw: {file}: cannot read")]
-    CannotRead { file: String },
+    CannotRead {
+        file: String,
+    },
     #[error("xw: {file}: cannot write")]
-    CannotWrite { file: String },
+    CannotWrite {
+        file: String,
+    },
     #[error("xw: {file}: {name}")]
-    File { file: String, name: &'static str },
+    File {
+        file: String,
+        name: &'static str,
+    },
+    #[error("xw: {file}: {name}\nxw: {place}")]
+    Placed {
+        file: String,
+        name: &'static str,
+        place: Place,
+    },
     #[error("xw: {file}: the word list cannot be the file to write")]
-    OneFile { file: String },
+    OneFile {
+        file: String,
+    },
     #[error("xw: {file}: the puzzle and the session cannot be written into one file")]
-    TwoTexts { file: String },
+    TwoTexts {
+        file: String,
+    },
 }
 
 impl Failure {
@@ -66,6 +84,7 @@ impl Failure {
     {
         match self {
             Failure::File { .. } => Status::Format,
+            Failure::Placed { .. } => Status::Format,
             Failure::OneFile { .. } => Status::Usage,
             Failure::TwoTexts { .. } => Status::Usage,
             _ => Status::Failed,

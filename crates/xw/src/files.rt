@@ -6,6 +6,7 @@ ghost use Rattle.xw.specs.Names.{IsKindNamed, read_fault, write_fault};
 use crate::arguments::SessionFiles;
 use crate::failure::Failure;
 use crate::gathered::Gathered;
+use crate::place::{self, Place};
 use crate::replacing::replace;
 use std::alloc::Global;
 use std::os::unix::fs::MetadataExt;
@@ -57,8 +58,12 @@ pub fn read_dictionary<R: Files + AllocGlobal, E: Sink>(
     }
 }
 
-/// The puzzle of a file, and the format that the file is of.
-pub fn read_puzzle<R: Files + AllocGlobal>(rt: &R, file: &str) -> Result<(Kind, Puzzle), Failure> {
+/// The puzzle of a file, and the format that the file is of; with the place of a fault where that is asked for.
+pub fn read_puzzle<R: Files + AllocGlobal>(
+    rt: &R,
+    file: &str,
+    explain: bool,
+) -> Result<(Kind, Puzzle), Failure> {
     let alloc = rt.alloc();
     let bytes = read_file(rt, file)?;
     let kind = kind_of(bytes.as_slice());
@@ -70,18 +75,32 @@ pub fn read_puzzle<R: Files + AllocGlobal>(rt: &R, file: &str) -> Result<(Kind, 
         Ok(puzzle) => Ok((kind, puzzle)),
         Err(ReadFault::Memory) => Err(Failure::Memory),
         Err(fault) => {
-            let file = String::from_str(alloc, file)?;
-            let name = read_fault_name(fault);
-            Err(Failure::File { file, name })
+            let place = if explain {
+                place::in_file(alloc, bytes.as_slice(), fault)?
+            } else {
+                None
+            };
+            Err(file_fault(alloc, file, read_fault_name(fault), place))
         }
     }
 }
 
-/// Writes a puzzle into a file, which is not opened before all its bytes are made.
+/// A fault of a file, with its place where there is one.
+fn file_fault(alloc: Global, file: &str, name: &'static str, place: Option<Place>) -> Failure {
+    match (String::from_str(alloc, file), place) {
+        (Ok(file), Some(place)) => Failure::Placed { file, name, place },
+        (Ok(file), None) => Failure::File { file, name },
+        (Err(_), _) => Failure::Memory,
+    }
+}
+
+/// Writes a puzzle into a file, which is not opened before all its bytes are made; with the place of a
+/// fault where that is asked for.
 pub fn write_puzzle<R: Files + AllocGlobal>(
     rt: &R,
     file: &str,
     puzzle: &Puzzle,
+    explain: bool,
 ) -> Result<(), Failure> {
     let alloc = rt.alloc();
     let made = match kind_by_name(file) {
@@ -92,9 +111,12 @@ pub fn write_puzzle<R: Files + AllocGlobal>(
         Ok(bytes) => bytes,
         Err(WriteFault::Memory) => return Err(Failure::Memory),
         Err(fault) => {
-            let file = String::from_str(alloc, file)?;
-            let name = write_fault_name(fault);
-            return Err(Failure::File { file, name });
+            let place = if explain {
+                place::in_puzzle(alloc, &puzzle.grid, fault)?
+            } else {
+                None
+            };
+            return Err(file_fault(alloc, file, write_fault_name(fault), place));
         }
     };
     write_file(rt, file, bytes.as_slice())

@@ -6,6 +6,7 @@ mod failure;
 mod files;
 mod gathered;
 mod perform;
+mod place;
 mod replacing;
 mod resuming;
 #[cfg(test)]

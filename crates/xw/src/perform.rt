@@ -92,9 +92,15 @@ fn run<R: Files + AllocGlobal, I: Source, O: Sink, E: Sink>(
     errors: &mut E,
 ) -> Result<Status, Failure> {
     match call {
-        Call::Edit { files } => edit::<Engine, R, I, O, E>(rt, files, input, output, errors),
-        Call::Convert { from_file, to_file } => convert(rt, from_file, to_file),
-        Call::Check { file } => check(rt, file, output),
+        Call::Edit { files, explain } => {
+            edit::<Engine, R, I, O, E>(rt, files, explain, input, output, errors)
+        }
+        Call::Convert {
+            from_file,
+            to_file,
+            explain,
+        } => convert(rt, from_file, to_file, explain),
+        Call::Check { file, explain } => check(rt, file, explain, output),
     }
 }
 
@@ -102,21 +108,23 @@ fn run<R: Files + AllocGlobal, I: Source, O: Sink, E: Sink>(
 fn edit<F: Feasible, R: Files + AllocGlobal, I: Source, O: Sink, E: Sink>(
     rt: &R,
     named: SessionFiles<'_>,
+    explain: bool,
     input: &mut I,
     output: &mut O,
     errors: &mut E,
 ) -> Result<Status, Failure> {
     files::keep_apart(rt, named)?;
-    let mut session: Session<F> = open(rt, named, errors)?;
+    let mut session: Session<F> = open(rt, named, explain, errors)?;
     let refused = resume(rt, &mut session, named.resume_file, errors)?;
     let answered = run_status(session.run_lines(input, output), refused);
-    close(rt, &session, named, answered)
+    close(rt, &session, named, explain, answered)
 }
 
 /// A session over a word list and a puzzle, each where it is named; the word list is read first.
 fn open<F: Feasible, R: Files + AllocGlobal, E: Sink>(
     rt: &R,
     named: SessionFiles<'_>,
+    explain: bool,
     errors: &mut E,
 ) -> Result<Session<F>, Failure> {
     let alloc = rt.alloc();
@@ -126,7 +134,7 @@ fn open<F: Feasible, R: Files + AllocGlobal, E: Sink>(
     };
     match named.from_file {
         Some(file) => {
-            let (_, puzzle) = files::read_puzzle(rt, file)?;
+            let (_, puzzle) = files::read_puzzle(rt, file, explain)?;
             let engine = F::open(alloc, puzzle.grid, bank).map_err(|_| Failure::Memory)?;
             Ok(Session::open(engine, puzzle.texts, puzzle.clues, puzzle.circles))
         }
@@ -160,13 +168,14 @@ fn close<F: Feasible, R: Files + AllocGlobal>(
     rt: &R,
     session: &Session<F>,
     named: SessionFiles<'_>,
+    explain: bool,
     answered: Result<Status, Failure>,
 ) -> Result<Status, Failure> {
     let saved = save(rt, session, named.save_file);
     let status = answered?;
     saved?;
     if let Some(file) = named.to_file {
-        keep(rt, file, session)?;
+        keep(rt, file, session, explain)?;
     }
     Ok(status)
 }
@@ -201,9 +210,10 @@ fn keep<F: Feasible, R: Files + AllocGlobal>(
     rt: &R,
     file: &str,
     session: &Session<F>,
+    explain: bool,
 ) -> Result<(), Failure> {
     match session.puzzle() {
-        Ok(puzzle) => files::write_puzzle(rt, file, &puzzle),
+        Ok(puzzle) => files::write_puzzle(rt, file, &puzzle, explain),
         Err(_) => Err(Failure::Memory),
     }
 }
@@ -213,9 +223,10 @@ fn convert<R: Files + AllocGlobal>(
     rt: &R,
     from_file: &str,
     to_file: &str,
+    explain: bool,
 ) -> Result<Status, Failure> {
-    let (_, puzzle) = files::read_puzzle(rt, from_file)?;
-    files::write_puzzle(rt, to_file, &puzzle)?;
+    let (_, puzzle) = files::read_puzzle(rt, from_file, explain)?;
+    files::write_puzzle(rt, to_file, &puzzle, explain)?;
     Ok(Status::Accepted)
 }
 
@@ -223,9 +234,10 @@ fn convert<R: Files + AllocGlobal>(
 fn check<R: Files + AllocGlobal, O: Sink>(
     rt: &R,
     file: &str,
+    explain: bool,
     output: &mut O,
 ) -> Result<Status, Failure> {
-    let (kind, puzzle) = files::read_puzzle(rt, file)?;
+    let (kind, puzzle) = files::read_puzzle(rt, file, explain)?;
     let line = describe(rt.alloc(), kind, &puzzle.grid)?;
     show(output, line.as_bytes())?;
     Ok(Status::Accepted)

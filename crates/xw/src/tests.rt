@@ -1,5 +1,6 @@
 //! Runs of the program.
 mod devices;
+mod explaining;
 mod large;
 mod puzzles;
 mod replacing;
@@ -220,6 +221,7 @@ fn wrong_words(rt: HostRuntime) -> Result<(), Fail> {
                     to_file: None,
                     save_file: None,
                 },
+                explain: false,
             })
         )
     );

@@ -5,3 +5,4 @@ pub mod Starts
 pub mod Shape
 pub mod Written
 pub mod Relation
+pub mod Place

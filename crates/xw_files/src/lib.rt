@@ -11,6 +11,6 @@ mod tests;
 pub mod text;
 
 pub use kind::{Kind, kind_of};
-pub use puz::{read_puz, write_puz};
+pub use puz::{grid_of_puz, read_puz, write_puz};
 pub use puzzle::{Puzzle, Texts};
-pub use text::{read_text, text_has_one_part, write_text};
+pub use text::{TextPlace, read_text, text_has_one_part, text_place, write_text};

@@ -12,6 +12,7 @@ mod sums;
 mod text;
 mod write;
 
+pub use board::grid_of_puz;
 pub(crate) use header::has_magic;
 pub use read::read_puz;
 pub use write::write_puz;

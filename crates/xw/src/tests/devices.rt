@@ -20,6 +20,7 @@ const TO_FILE: Call<'static> = Call::Edit {
         to_file: Some("unwritten.puz"),
         save_file: None,
     },
+    explain: false,
 };
 
 /// A session that ends by writing its record.
@@ -31,6 +32,7 @@ const SAVED: Call<'static> = Call::Edit {
         to_file: None,
         save_file: Some("saved.xw"),
     },
+    explain: false,
 };
 
 /// A reader that fails: a file that is open for writing alone.
@@ -81,7 +83,10 @@ fn output_fault_of_a_check(rt: HostRuntime) -> Result<(), Fail> {
     fs::write(&rt, "told", PLAIN)?;
     let status = perform(
         &rt,
-        Call::Check { file: "told" },
+        Call::Check {
+            file: "told",
+            explain: false,
+        },
         &mut FromRead::new(b"".as_slice()),
         &mut ToWrite::new(buffer.as_mut_slice()),
         &mut ToWrite::new(&mut faults),
@@ -160,7 +165,10 @@ fn output_fault_of_a_flush(rt: HostRuntime) -> Result<(), Fail> {
     assert!(&rt; !fs::read(&rt, "saved.xw")?.is_empty());
     fs::remove_file(&rt, "saved.xw")?;
     fs::write(&rt, "checked", PLAIN)?;
-    let check = Call::Check { file: "checked" };
+    let check = Call::Check {
+        file: "checked",
+        explain: false,
+    };
     let status = run_unflushed(&rt, check, b"", b"puz 2x2 4 lights\n");
     fs::remove_file(&rt, "checked")?;
     assert_eq!(&rt; status, Status::Failed);

@@ -1,5 +1,5 @@
 -- What a file's parts make of a puzzle, or their first fault.
-use Rattle.std.specs.Prelude.{ℕ, ◌+◌, ◌==◌, List, [], ◌∷◌, length, Option, Some, None, option_map, Result, Ok, Err, if◌then◌else◌}
+use Rattle.std.specs.Prelude.{ℕ, ◌+◌, ◌==◌, nat_lt, List, [], ◌∷◌, length, Option, Some, None, option_map, Result, Ok, Err, if◌then◌else◌}
 use Rattle.xw_words.specs.Letter.{letter_of}
 use Rattle.xw_grid.specs.declared.cell.Square.{Square}
 use Rattle.xw_grid.specs.declared.cell.Square.TheVariants.{Block, Open}
@@ -10,10 +10,12 @@ use Rattle.xw_grid.specs.Light.{lights_of}
 use Rattle.xw_grid.specs.Clue.{ClueMap, no_clues, with_clue}
 use Rattle.xw_files.specs.Puzzle.{PuzzleShown}
 use Rattle.xw_files.specs.declared.fault.ReadFault.{ReadFault}
-use Rattle.xw_files.specs.declared.fault.ReadFault.TheVariants.{BadCell, BadSum, ClueCount}
+use Rattle.xw_files.specs.declared.fault.Piece.TheVariants as part
+use Rattle.xw_files.specs.declared.fault.ReadFault.TheVariants.{Short, BadCell, BadSum, ClueCount}
 use Rattle.xw_files.specs.declared.fault.SumName.{SumName}
+use Rattle.xw_files.specs.declared.puz.header.Header.{Header}
 use Rattle.xw_files.specs.Steps.{◌>>=◌}
-use Rattle.xw_files.specs.Puz.Reading.{Fields, fields_at}
+use Rattle.xw_files.specs.Puz.Reading.{Fields, part_at, cell_count, header_at, fields_at}
 use Rattle.xw_files.specs.Puz.Sums.{sums_of, wrong_sum}
 use Rattle.xw_files.specs.Puz.Sections.{gext_in, circles_by}
 
@@ -32,8 +34,17 @@ abbrev pub squares_at : ℕ → ℕ → List ℕ → Result (List Square) ReadFa
 squares_at width place [] = Ok []
 squares_at width place (byte ∷ bytes) = square_or_fault width place (square_of byte) >>= λ square. (squares_at width (place + 1) bytes >>= λ others. Ok (square ∷ others))
 
+-- the grid of a board
+abbrev pub board_grid : Header → List ℕ → Result Grid ReadFault
+board_grid header solution = squares_at header.width 0 solution >>= λ squares. Ok (grid_of header.width header.height squares)
+
 abbrev pub grid_at : Fields → Result Grid ReadFault
-grid_at fields = squares_at fields.header.width 0 fields.solution >>= λ squares. Ok (grid_of fields.header.width fields.header.height squares)
+grid_at fields = board_grid fields.header fields.solution
+
+-- the grid of a file, whatever comes after its solution board
+abbrev pub grid_of_puz : List ℕ → Result Grid ReadFault
+grid_of_puz bytes = header_at bytes >>= λ header.
+    (if nat_lt (length bytes) (52 + cell_count header) then Err (Short part.Boards) else board_grid header (part_at 52 (cell_count header) bytes))
 
 -- ---- the clues
 

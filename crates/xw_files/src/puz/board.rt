@@ -1,12 +1,11 @@
 //! The solution board.
 ghost use Rattle.std.specs.Prelude.{◌≡◌, ◌≤◌, ◌<◌, ◌*◌, length};
 ghost use Rattle.xw_grid.specs.Grid.{cell_in};
-ghost use Rattle.xw_files.specs.Puz.Board.{square_of, squares_at, grid_at};
+ghost use Rattle.xw_files.specs.Puz.Board.{square_of, squares_at, board_grid, grid_of_puz};
 ghost use Rattle.xw_files.specs.Steps.{GivesOrLacksMemory};
-ghost use Rattle.xw_files.specs.Puz.View.{view};
 
-use crate::fault::ReadFault;
-use crate::puz::fields::Fields;
+use crate::fault::{Piece, ReadFault};
+use crate::puz::header::{self, HEADER_LENGTH, Header};
 use std::alloc::Global;
 use xw_grid::cell::{Cell, Square};
 use xw_grid::grid::Grid;
@@ -53,16 +52,28 @@ fn squares_of(alloc: Global, width: u8, bytes: &[u8]) -> Result<Vec<Square>, Rea
 }
 
 /// The grid that the solution board makes.
-pub fn grid_of(alloc: Global, fields: &Fields<'_>) -> Result<Grid, ReadFault>
-    requires wide { 1 ≤ fields.now.header.width }
-    requires high { 1 ≤ fields.now.header.height }
-    requires solution { length fields.now.solution.now ≡ fields.now.header.width * fields.now.header.height }
-    ensures { GivesOrLacksMemory (λ grid. grid) result (grid_at (view fields.now)) }
+pub fn grid_of(alloc: Global, header: &Header, solution: &[u8]) -> Result<Grid, ReadFault>
+    requires wide { 1 ≤ header.now.width }
+    requires high { 1 ≤ header.now.height }
+    requires solution { length solution.now ≡ header.now.width * header.now.height }
+    ensures { GivesOrLacksMemory (λ grid. grid) result (board_grid header.now solution.now) }
 {
-    let header = &fields.header;
     // No board has more cells than `cell_count` says, so that each has a row and a column.
     let _ = header.cell_count();
-    let squares = squares_of(alloc, header.width, fields.solution)?;
+    let squares = squares_of(alloc, header.width, solution)?;
     let (width, height) = (u32::from(header.width), u32::from(header.height));
     Ok(Grid::of_squares(alloc, width, height, squares)?)
+}
+
+/// The grid of a file, whatever comes after its boards.
+pub fn grid_of_puz(alloc: Global, bytes: &[u8]) -> Result<Grid, ReadFault>
+    ensures { GivesOrLacksMemory (λ grid. grid) result (grid_of_puz bytes.now) }
+{
+    let header = header::header_of(bytes)?;
+    let cells = header.cell_count();
+    if bytes.len() < HEADER_LENGTH + cells {
+        return Err(ReadFault::Short(Piece::Boards));
+    }
+    let (_, boards) = bytes.split_at(HEADER_LENGTH);
+    grid_of(alloc, &header, &boards[..cells])
 }

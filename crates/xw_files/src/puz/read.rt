@@ -50,7 +50,7 @@ fn puzzle_of(alloc: Global, fields: &Fields<'_>) -> Result<Puzzle, ReadFault>
     if let Some(sum) = Sums::of(fields).wrong_in(&fields.header) {
         return Err(ReadFault::BadSum(sum));
     }
-    let grid = board::grid_of(alloc, fields)?;
+    let grid = board::grid_of(alloc, &fields.header, fields.solution)?;
     let clues = clues_of(alloc, &grid, fields)?;
     let circles = sections::circles_of(alloc, &grid, fields.rest)?;
     let texts = texts_of(alloc, fields)?;

@@ -33,7 +33,7 @@ pub(crate) fn trim(line: &[u8]) -> &[u8]
     rest
 }
 
-fn without_mark(bytes: &[u8]) -> &[u8]
+pub(crate) fn without_mark(bytes: &[u8]) -> &[u8]
     ensures { result.now ≡ unmarked bytes.now }
 {
     if bytes.starts_with(&MARK) {

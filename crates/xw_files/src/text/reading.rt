@@ -24,7 +24,7 @@ use xw_grid::lights::begins;
 use xw_words::letter::Letter;
 
 #[tactic(auto, unfolding(crate::specs::Text::Shape::header_at))]
-fn header(lines: &mut TextLines<'_>) -> Result<(), ReadFault>
+pub(super) fn header(lines: &mut TextLines<'_>) -> Result<(), ReadFault>
     ensures { GivesOrLacksMemory (λ _. lines.new) result (header_at lines.old) }
 {
     match lines.next() {
@@ -66,7 +66,7 @@ fn text(alloc: Global, lines: &mut TextLines<'_>) -> Result<Vec<u8>, ReadFault>
 
 /// The three texts above the grid; the notes come last in a file.
 #[tactic(auto, unfolding(crate::specs::Text::Shape::texts_at))]
-fn texts(alloc: Global, lines: &mut TextLines<'_>) -> Result<Texts, ReadFault>
+pub(super) fn texts(alloc: Global, lines: &mut TextLines<'_>) -> Result<Texts, ReadFault>
     ensures { GivesOrLacksMemory (λ texts. (texts_view texts, lines.new)) result (texts_at lines.old) }
 {
     tag(lines, Tag::Title)?;
@@ -211,7 +211,7 @@ fn rows(
 }
 
 #[tactic(auto, unfolding(crate::specs::Text::Shape::grid_at))]
-fn grid(alloc: Global, lines: &mut TextLines<'_>) -> Result<Grid, ReadFault>
+pub(super) fn grid(alloc: Global, lines: &mut TextLines<'_>) -> Result<Grid, ReadFault>
     ensures { GivesOrLacksMemory (λ grid. (grid, lines.new)) result (grid_at lines.old) }
 {
     tag(lines, Tag::Size)?;

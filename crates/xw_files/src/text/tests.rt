@@ -1,5 +1,6 @@
 //! Text files by their bytes: what they are read as, where they are refused, and what is written.
 mod faults;
+mod places;
 mod reading;
 mod writing;
 

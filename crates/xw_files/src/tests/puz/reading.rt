@@ -1,6 +1,7 @@
 //! What is read, and which fault is told first.
 use crate::fault::{Piece, ReadFault, SumName, TextName};
 use crate::kind::{Kind, kind_of};
+use crate::puz::grid_of_puz;
 use crate::tests::puz::files::{
     ALL_TEXTS, BAD_CELL, BAD_CELL_AND_COUNT, CIRCLED, CLUE_COUNT, CORNERS, EMPTY_CELL, LOWER_CASE,
     MORE_CLUES, NO_CLUE, ONE_CELL, PLAIN, STARTED, TITLED, UNUSUAL, WIDE, WITH_NOTES,
@@ -226,4 +227,13 @@ fn tells_kinds(rt: HostRuntime) {
     ] {
         assert_eq!(rt; kind_of(bytes), kind);
     }
+}
+
+/// The grid of a file is had though its texts are cut.
+#[test]
+fn grid_of_a_cut_file(rt: HostRuntime) {
+    let grid = grid_of_puz(rt.alloc(), &PLAIN[..60]).expect(&rt, "the board is there");
+    assert_eq!(&rt; (grid.width(), grid.height()), (2, 2));
+    let cut = grid_of_puz(rt.alloc(), &PLAIN[..55]).err();
+    assert_eq!(&rt; cut, Some(ReadFault::Short(Piece::Boards)));
 }

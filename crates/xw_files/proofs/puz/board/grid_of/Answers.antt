@@ -6,4 +6,4 @@ pub of_squares-requires-clause-squares : goal.of_squares-requires-clause-squares
 of_squares-requires-clause-squares c = rw (c.from-width.ensures, c.from-height.ensures) (squares_at-length _ 0 _ _ c.in_ok-squares.ensures ∙ c.requires.solution)
 
 pub of_squares-requires-clause-letters : goal.of_squares-requires-clause-letters
-of_squares-requires-clause-letters c = squares_at-letters c.args.fields.now.header.width 0 c.args.fields.now.solution.now c.in_ok-squares.squares.items c.in_ok-squares.ensures
+of_squares-requires-clause-letters c = squares_at-letters c.args.header.now.width 0 c.args.solution.now c.in_ok-squares.squares.items c.in_ok-squares.ensures

@@ -1,0 +1,93 @@
+-- The line at which a text file leaves its shape by a fault.
+use Rattle.std.specs.Prelude.{ℕ, ◌+◌, ◌-◌, ◌==◌, ◌||◌, List, [], ◌∷◌, length, take, count_by, Option, Some, None, Result, Ok, if◌then◌else◌}
+use Rattle.xw_grid.specs.declared.cell.Direction.TheVariants.{Across, Down}
+use Rattle.xw_grid.specs.Grid.{Grid}
+use Rattle.xw_files.specs.declared.fault.Tag.TheVariants as tags
+use Rattle.xw_files.specs.declared.fault.ReadFault.{ReadFault}
+use Rattle.xw_files.specs.declared.fault.ReadFault.TheVariants as faults
+use Rattle.xw_files.specs.declared.text.place.TextPlace.{TextPlace}
+use Rattle.xw_files.specs.declared.text.place.TextPlace.TheVariants.{Line, End}
+use Rattle.xw_files.specs.Steps.{◌>>=◌}
+use Rattle.xw_files.specs.Text.Lines.{text_lines, file_lines}
+use Rattle.xw_files.specs.Text.Tag.{header, name_of, names, is_tag_line}
+use Rattle.xw_files.specs.Text.Starts.{starts}
+use Rattle.xw_files.specs.Text.Written.{is_line_feed}
+use Rattle.xw_files.specs.Text.Shape.{header_at, texts_at, grid_at}
+
+-- the lines after the first of a name
+abbrev pub after : List ℕ → List (List ℕ) → List (List ℕ)
+after name [] = []
+after name (line ∷ lines) = if names line name then lines else after name lines
+
+-- the lines from the first on that is neither blank nor one of so many that are no tag lines
+abbrev pub left_after : ℕ → List (List ℕ) → List (List ℕ)
+left_after due [] = []
+left_after due (line ∷ lines) =
+    if length line == 0 then left_after due lines
+    else if (due == 0) || is_tag_line line then line ∷ lines
+    else left_after (due - 1) lines
+
+-- the tag line under which a fault is
+abbrev pub tag_above : ReadFault → Option (List ℕ)
+tag_above (faults.Tag tags.Title) = Some header
+tag_above (faults.Tag tags.Author) = Some (name_of tags.Title)
+tag_above (faults.Tag tags.Copyright) = Some (name_of tags.Author)
+tag_above (faults.Tag tags.Size) = Some (name_of tags.Copyright)
+tag_above faults.SizeLine = Some (name_of tags.Size)
+tag_above (faults.Tag tags.Grid) = Some (name_of tags.Size)
+tag_above (faults.GridLine row) = Some (name_of tags.Grid)
+tag_above (faults.Tag tags.Across) = Some (name_of tags.Grid)
+tag_above faults.AcrossCount = Some (name_of tags.Across)
+tag_above (faults.Tag tags.Down) = Some (name_of tags.Across)
+tag_above faults.DownCount = Some (name_of tags.Down)
+tag_above (faults.Tag tags.Notepad) = Some (name_of tags.Down)
+tag_above fault = None
+
+-- the grid of a text file, whatever comes after it
+unfoldable pub grid_of_text : List ℕ → Result Grid ReadFault
+grid_of_text bytes = do
+  a ← header_at (text_lines bytes)
+  texts ← texts_at a
+  grid ← grid_at texts.1
+  Ok grid.0
+
+-- how many lines are due between that tag line and a fault: a text, a size, rows or clues
+abbrev pub lines_due : List ℕ → ReadFault → Result ℕ ReadFault
+lines_due bytes (faults.Tag tags.Author) = Ok 1
+lines_due bytes (faults.Tag tags.Copyright) = Ok 1
+lines_due bytes (faults.Tag tags.Size) = Ok 1
+lines_due bytes (faults.Tag tags.Grid) = Ok 1
+lines_due bytes (faults.GridLine row) = Ok (row - 1)
+lines_due bytes (faults.Tag tags.Across) = grid_of_text bytes >>= λ grid. Ok grid.height
+lines_due bytes faults.AcrossCount = grid_of_text bytes >>= λ grid. Ok (length (starts grid Across))
+lines_due bytes (faults.Tag tags.Down) = grid_of_text bytes >>= λ grid. Ok (length (starts grid Across))
+lines_due bytes faults.DownCount = grid_of_text bytes >>= λ grid. Ok (length (starts grid Down))
+lines_due bytes (faults.Tag tags.Notepad) = grid_of_text bytes >>= λ grid. Ok (length (starts grid Down))
+lines_due bytes fault = Ok 0
+
+-- the lines under a tag line, or all of them
+abbrev pub under : Option (List ℕ) → List (List ℕ) → List (List ℕ)
+under None lines = lines
+under (Some name) lines = after name lines
+
+-- where the last so many of the lines of a file begin
+abbrev pub place_before : ℕ → ℕ → TextPlace
+place_before count left = if left == 0 then End else Line (count - left + 1)
+
+-- the place after so many lines under a tag line, or after so many at the start
+abbrev pub place_under : Option (List ℕ) → ℕ → List (List ℕ) → TextPlace
+place_under tag due lines = place_before (length lines) (length (left_after due (under tag lines)))
+
+-- where a file leaves its shape by a fault under a tag line, or at the start
+abbrev pub shape_place : List ℕ → ReadFault → Result (Option TextPlace) ReadFault
+shape_place bytes fault = lines_due bytes fault >>= λ due. Ok (Some (place_under (tag_above fault) due (file_lines bytes)))
+
+abbrev tag_place : List ℕ → ReadFault → Option (List ℕ) → Result (Option TextPlace) ReadFault
+tag_place bytes fault None = Ok None
+tag_place bytes fault (Some tag) = shape_place bytes fault
+
+-- where a text file leaves its shape by a fault that a line has
+abbrev pub text_place : List ℕ → ReadFault → Result (Option TextPlace) ReadFault
+text_place bytes (faults.NulByte offset) = Ok (Some (Line (count_by is_line_feed (take offset bytes) + 1)))
+text_place bytes faults.Header = shape_place bytes faults.Header
+text_place bytes fault = tag_place bytes fault (tag_above fault)

@@ -1,0 +1,188 @@
+//! Where a text file leaves its shape.
+ghost use Rattle.std.specs.Prelude.{◌≡◌, ◌+◌, length, map, take, count_by, option_map, IfOk};
+ghost use Rattle.xw_files.specs.Steps.{GivesOrLacksMemory};
+ghost use Rattle.xw_files.specs.Text.Lines.{file_lines};
+ghost use Rattle.xw_files.specs.Text.Starts.{starts};
+ghost use Rattle.xw_files.specs.Text.Written.{is_line_feed};
+ghost use Rattle.xw_files.specs.Text.Place.{after, left_after, under, tag_above, grid_of_text, lines_due, place_before, place_under, text_place};
+
+use crate::fault::{ReadFault, Tag};
+use crate::text::lines::{TextLines, trim, without_mark};
+use crate::text::reading::{grid, header, texts};
+use crate::text::tag::{header as header_line, is_tag_line, names};
+use bstr::ByteSlice;
+use std::alloc::{AllocError, Global};
+use xw_grid::cell::Direction;
+use xw_grid::grid::Grid;
+use xw_grid::lights::begins;
+
+/// A line of a text file by its number, from 1, blank lines counted too; or the place after them all.
+#[derive(Clone, Copy, Debug, PartialEq, Eq)]
+pub enum TextPlace {
+    Line(usize),
+    End,
+}
+
+/// All lines, trimmed, the blank ones too.
+fn file_lines(alloc: Global, bytes: &[u8]) -> Result<Vec<&[u8]>, AllocError>
+    ensures { IfOk result (λ lines. map (λ line. line.now) lines.items ≡ file_lines bytes.now) }
+{
+    let mut lines = Vec::new(alloc);
+    for line in without_mark(bytes).lines() {
+        lines.push(trim(line))?;
+    }
+    Ok(lines)
+}
+
+/// The lines after the first of a name.
+fn after<'a, 'b>(lines: &'a [&'b [u8]], name: &[u8]) -> &'a [&'b [u8]]
+    ensures { map (λ line. line.now) result.now ≡ after name.now (map (λ line. line.now) lines.now) }
+{
+    let mut rest = lines;
+    while let [line, others @ ..] = rest {
+        rest = others;
+        if names(line, name) {
+            return rest;
+        }
+    }
+    rest
+}
+
+/// The lines from the first on that is neither blank nor one of those that are due. No tag line is due.
+fn left_after<'a, 'b>(lines: &'a [&'b [u8]], due: usize) -> &'a [&'b [u8]]
+    ensures { map (λ line. line.now) result.now ≡ left_after due (map (λ line. line.now) lines.now) }
+{
+    let mut rest = lines;
+    let mut due = due;
+    while let [line, others @ ..] = rest {
+        if !line.is_empty() {
+            if due == 0 || is_tag_line(line) {
+                return rest;
+            }
+            due -= 1;
+        }
+        rest = others;
+    }
+    rest
+}
+
+/// The tag line under which a fault is.
+fn tag_above(fault: ReadFault) -> Option<&'static [u8]>
+    ensures { option_map (λ name. name.now) result ≡ tag_above fault }
+{
+    match fault {
+        ReadFault::Tag(Tag::Title) => Some(header_line()),
+        ReadFault::Tag(Tag::Author) => Some(Tag::Title.name()),
+        ReadFault::Tag(Tag::Copyright) => Some(Tag::Author.name()),
+        ReadFault::Tag(Tag::Size) => Some(Tag::Copyright.name()),
+        ReadFault::SizeLine | ReadFault::Tag(Tag::Grid) => Some(Tag::Size.name()),
+        ReadFault::GridLine(_) | ReadFault::Tag(Tag::Across) => Some(Tag::Grid.name()),
+        ReadFault::AcrossCount | ReadFault::Tag(Tag::Down) => Some(Tag::Across.name()),
+        ReadFault::DownCount | ReadFault::Tag(Tag::Notepad) => Some(Tag::Down.name()),
+        _ => None,
+    }
+}
+
+/// How many lights of a direction a grid has.
+fn light_count(grid: &Grid, direction: Direction) -> usize
+    ensures { result ≡ length (starts grid.now direction) }
+{
+    let mut count = 0;
+    for index in 0..grid.size() {
+        if begins(grid, direction, grid.cell_at(index)) {
+            count += 1;
+        }
+    }
+    count
+}
+
+/// The grid of a text file, whatever comes after it.
+#[tactic(auto, unfolding(crate::specs::Text::Place::grid_of_text))]
+fn grid_of_text(alloc: Global, bytes: &[u8]) -> Result<Grid, ReadFault>
+    ensures { GivesOrLacksMemory (λ grid. grid) result (grid_of_text bytes.now) }
+{
+    let mut lines = TextLines::new(bytes);
+    header(&mut lines)?;
+    texts(alloc, &mut lines)?;
+    grid(alloc, &mut lines)
+}
+
+/// How many lines are due between that tag line and a fault.
+fn lines_due(alloc: Global, bytes: &[u8], fault: ReadFault) -> Result<usize, ReadFault>
+    ensures { GivesOrLacksMemory (λ due. due) result (lines_due bytes.now fault) }
+{
+    match fault {
+        ReadFault::Tag(Tag::Author | Tag::Copyright | Tag::Size | Tag::Grid) => Ok(1),
+        ReadFault::GridLine(row) => Ok((row as usize).saturating_sub(1)),
+        ReadFault::Tag(Tag::Across) => Ok(grid_of_text(alloc, bytes)?.height() as usize),
+        ReadFault::AcrossCount | ReadFault::Tag(Tag::Down) => {
+            Ok(light_count(&grid_of_text(alloc, bytes)?, Direction::Across))
+        }
+        ReadFault::DownCount | ReadFault::Tag(Tag::Notepad) => {
+            Ok(light_count(&grid_of_text(alloc, bytes)?, Direction::Down))
+        }
+        _ => Ok(0),
+    }
+}
+
+/// The place before those of the lines that are left.
+fn place_before(count: usize, left: usize) -> TextPlace
+    ensures { result ≡ place_before count left }
+{
+    if left == 0 {
+        TextPlace::End
+    } else {
+        TextPlace::Line(count.saturating_sub(left) + 1)
+    }
+}
+
+/// How many lines are left after those that are due under a tag line, or at the start.
+fn count_left(lines: &[&[u8]], tag: Option<&[u8]>, due: usize) -> usize
+    ensures { result ≡ length (left_after due (under (option_map (λ name. name.now) tag.entry) (map (λ line. line.now) lines.now))) }
+{
+    match tag {
+        Some(name) => left_after(after(lines, name), due).len(),
+        None => left_after(lines, due).len(),
+    }
+}
+
+/// The place after so many lines under a tag line, or after so many at the start.
+fn place_under(
+    alloc: Global,
+    bytes: &[u8],
+    tag: Option<&[u8]>,
+    due: usize,
+) -> Result<TextPlace, AllocError>
+    ensures { IfOk result (λ place. place ≡ place_under (option_map (λ name. name.now) tag.entry) due (file_lines bytes.now)) }
+{
+    let lines = file_lines(alloc, bytes)?;
+    let left = count_left(&lines, tag, due);
+    Ok(place_before(lines.len(), left))
+}
+
+/// The number of the line of an offset.
+fn line_at(bytes: &[u8], offset: usize) -> usize
+    ensures { result ≡ count_by is_line_feed (take offset bytes.now) + 1 }
+{
+    let before = &bytes[..offset.min(bytes.len())];
+    before.iter().filter(|byte| **byte == b'\n').count() + 1
+}
+
+/// Where a text file leaves its shape by a fault that a line has.
+pub fn text_place(
+    alloc: Global,
+    bytes: &[u8],
+    fault: ReadFault,
+) -> Result<Option<TextPlace>, ReadFault>
+    ensures { GivesOrLacksMemory (λ place. place) result (text_place bytes.now fault) }
+{
+    if let ReadFault::NulByte(offset) = fault {
+        return Ok(Some(TextPlace::Line(line_at(bytes, offset))));
+    }
+    let tag = tag_above(fault);
+    if tag.is_none() && fault != ReadFault::Header {
+        return Ok(None);
+    }
+    let due = lines_due(alloc, bytes, fault)?;
+    Ok(Some(place_under(alloc, bytes, tag, due)?))
+}
