@@ -8,7 +8,7 @@ use Rattle.std.proofs.lemmas.Slice.Eq.{bytes_eq-Decides}
 use Rattle.xw_feas.specs.Board.{Board, entry, allows, agrees, light_at, is_open, is_wholly_entered, spelled}
 use Rattle.xw_words.specs.Dictionary.{Entry, Dictionary, row as known_words}
 use Rattle.xw_feas.specs.Feasible.{Family, IsSupported, base_words, base_words_at}
-use Rattle.xw_fill.specs.Position.{Position, with_letters, placed, with_entries, holding}
+use Rattle.xw_fill.specs.Position.{Position, entries_with, placed, with_entries, holding}
 use Rattle.xw_fill.proofs.Shaped.{IsShaped}
 use Rattle.xw_fill.specs.Fill.{IsActive, IsFill}
 use Rattle.xw_fill.specs.FeasibleWords.{feasible_words}
@@ -18,7 +18,7 @@ use Rattle.xw_words.specs.Letter.{IsLetter, is_capital}
 use Rattle.xw_words.proofs.LetterSetLemmas.{letter_is_capital, capital_is_letter}
 use Rattle.xw_fill.proofs.BelowLemmas.{Among, Among-contained, Contains-among, Among-filter, Among-map, list_any-from}
 use Rattle.xw_fill.proofs.FeasibleWordsLemmas.{feasible-gives, feasible-from, is_feasible_word-gives}
-use Rattle.xw_fill.proofs.PlacingLemmas.{entered-at, empty-at, length-spelled, spelled-at, spelled-same, spelled-is, agrees-length, agrees-at, agrees-from, allowed, allows-from, cell_in, with_letters-other, length-with_letters}
+use Rattle.xw_fill.proofs.PlacingLemmas.{entered-at, empty-at, length-spelled, spelled-at, spelled-same, spelled-is, agrees-length, agrees-at, agrees-from, allowed, allows-from, cell_in, entries_with-other, length-entries_with}
 use Rattle.xw_fill.proofs.SearchLemmas.{chosen-Some, chosen-None, chosen-counted, alive-distinct, alive-from, open_base, open_feasible, placed-laid, placed-kept, placed-at, placed-entered, placed-fewer}
 
 -- ---- Every fill is a supported family.
@@ -136,7 +136,7 @@ fill-placed position entries laid fill light in_grid = record {
         let now = placed-at position light word laid (length-spelled (with_entries position.board entries) (light_at position.board light)) found.0 found.1 in
         let then = fill-at position entries fill light found.0 in_grid found.1 in
         ap (entry (with_entries position.board entries)) (sym found.2) ∙ then ∙ sym now ∙ ap (entry (placed position light word).board) found.2 ∙ e
-    | inr none ↦ fill.kept cell letter (sym (with_letters-other position.board.entries (light_at position.board light) word cell none) ∙ e)
+    | inr none ↦ fill.kept cell letter (sym (entries_with-other position.board.entries (light_at position.board light) word cell none) ∙ e)
   ];
   entered = fill.entered;
   words = λ other below not_entered. elim (cases_Bool (is_entered position other)) [
@@ -201,7 +201,7 @@ crossing_spells position light other word laid family supported has long in_grid
     let gap = empty-at position.board across not_entered in
     let filled = entered-at (placed position light word).board across entered gap.0 gap.1 in
     elim (cell_in cells (get_or across gap.0 0)) [
-      | inr none ↦ absurd (let now = sym filled.1 ∙ with_letters-other position.board.entries cells word (get_or across gap.0 0) none ∙ gap.2 in cc)
+      | inr none ↦ absurd (let now = sym filled.1 ∙ entries_with-other position.board.entries cells word (get_or across gap.0 0) none ∙ gap.2 in cc)
       | inl meets ↦
           let letter = supported.words_have_letters light word has meets.0 meets.1 in
           let crossing = supported.letters_have_words (get_or cells meets.0 0) (get_or word meets.0 0) letter other gap.0 in_grid gap.1 (sym meets.2) in
@@ -214,13 +214,13 @@ crossing_spells position light other word laid family supported has long in_grid
                 ap (entry (placed position light word).board) (sym here.2) ∙ placed-at position light word laid long here.0 here.1 ∙ ap (λ j. Some (get_or word j 0)) one ∙ ap Some (sym crossing.2) ∙ ap (λ j. Some (get_or crossing.0 j 0)) (sym place)
             | inr elsewhere ↦
                 let now = entered-at (placed position light word).board across entered k below in
-                let before = with_letters-other position.board.entries cells word (get_or across k 0) elsewhere in
+                let before = entries_with-other position.board.entries cells word (get_or across k 0) elsewhere in
                 now.1 ∙ ap Some (allowed (entry position.board (get_or across k 0)) now.0 (get_or crossing.0 k 0) (sym before ∙ now.1) (agrees-at position.board across crossing.0 base.1 k below))
           ]) in
           subst (IsActive position.words) (sym same) base.0
     ]
 
-pub reached-placed : (start : Position) (entries : List (Option ℕ)) → IsShaped start.board → IsReached start entries → (light : ℕ) (word : List ℕ) → light < light_count start → is_entered (holding start entries) light ≡ false → Among word (feasible_words (holding start entries) light) → IsReached start (with_letters entries (light_at start.board light) word)
+pub reached-placed : (start : Position) (entries : List (Option ℕ)) → IsShaped start.board → IsReached start entries → (light : ℕ) (word : List ℕ) → light < light_count start → is_entered (holding start entries) light ≡ false → Among word (feasible_words (holding start entries) light) → IsReached start (entries_with entries (light_at start.board light) word)
 reached-placed start entries laid reached light word in_grid not_entered among =
     let position = holding start entries in
     let laid_now = reached-laid start entries laid reached in
@@ -228,7 +228,7 @@ reached-placed start entries laid reached light word in_grid not_entered among =
     let long = agrees-length position.board (light_at start.board light) word base.1 in
     let feasible = is_feasible_word-gives position light word (feasible-gives position light word among).1 in
     record {
-      long = length-with_letters entries (light_at start.board light) word ∙ reached.long;
+      long = length-entries_with entries (light_at start.board light) word ∙ reached.long;
       letters = λ cell letter e. elim (cell_in (light_at start.board light) cell) [
         | inl found ↦
             let now = placed-at position light word laid_now long found.0 found.1 in
@@ -237,7 +237,7 @@ reached-placed start entries laid reached light word in_grid not_entered among =
             let both : Some (get_or word found.0 0) ≡ Some letter = sym now ∙ ap (entry (placed position light word).board) found.2 ∙ e in
             let same : get_or word found.0 0 ≡ letter = cc in
             subst IsLetter same small
-        | inr none ↦ reached.letters cell letter (sym (with_letters-other entries (light_at start.board light) word cell none) ∙ e)
+        | inr none ↦ reached.letters cell letter (sym (entries_with-other entries (light_at start.board light) word cell none) ∙ e)
       ];
       kept = λ cell letter e. placed-kept position light word laid_now base.1 cell letter (reached.kept cell letter e);
       active = λ other below not_before entered_now. elim (cases_Bool (is_entered position other)) [
@@ -294,4 +294,4 @@ found_is_fill (suc fuel) start entries laid reached h =
       split further alive (Some light) e g =
           let is = chosen-Some (holding start entries) light e in
           let first = end_of-first (λ word. found_in fuel (placed (holding start entries) light word)) (λ word. end_in fuel (placed (holding start entries) light word)) (holding start entries) (feasible_words (holding start entries) light) g in
-          subst (EndsIn start) (sym first.3) (further (with_letters entries (light_at start.board light) first.0) (reached-placed start entries laid reached light first.0 is.0 is.1 first.1) first.2)
+          subst (EndsIn start) (sym first.3) (further (entries_with entries (light_at start.board light) first.0) (reached-placed start entries laid reached light first.0 is.0 is.1 first.1) first.2)

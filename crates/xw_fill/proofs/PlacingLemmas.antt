@@ -4,7 +4,7 @@ use Rattle.std.specs.Prelude.{◌⊎◌, is_some, unwrap_or}
 use Rattle.std.proofs.lemmas.Bool.{and_parts, and_from, true≢false, false≢true, cases_eq, eqb-true, eq-eqb}
 use Rattle.std.proofs.lemmas.List.{length-map, length-set, get_or-set_same, get_or-set_other, get_or-map}
 use Rattle.xw_feas.specs.Board.{Board, entry, allows, agrees, is_wholly_entered, spelled}
-use Rattle.xw_fill.specs.Position.{with_letters}
+use Rattle.xw_fill.specs.Position.{entries_with}
 
 -- the value of an option that has one
 pub has_value : {A : Type 0} (o : Option A) → is_some o ≡ true → (x : A) × (o ≡ Some x)
@@ -87,37 +87,37 @@ cell_in (c ∷ cells) cell = elim (cases_eq c cell) [
   ]
 ]
 
-pub length-with_letters : (entries : List (Option ℕ)) (cells word : List ℕ) → length (with_letters entries cells word) ≡ length entries
-length-with_letters entries [] word = refl
-length-with_letters entries (cell ∷ cells) [] = refl
-length-with_letters entries (cell ∷ cells) (letter ∷ word) = length-with_letters (set entries cell (Some letter)) cells word ∙ length-set entries cell (Some letter)
+pub length-entries_with : (entries : List (Option ℕ)) (cells word : List ℕ) → length (entries_with entries cells word) ≡ length entries
+length-entries_with entries [] word = refl
+length-entries_with entries (cell ∷ cells) [] = refl
+length-entries_with entries (cell ∷ cells) (letter ∷ word) = length-entries_with (set entries cell (Some letter)) cells word ∙ length-set entries cell (Some letter)
 
-pub with_letters-other : (entries : List (Option ℕ)) (cells word : List ℕ) (cell : ℕ) → ((k : ℕ) → k < length cells → get_or cells k 0 ≢ cell) → get_or (with_letters entries cells word) cell None ≡ get_or entries cell None
-with_letters-other entries [] word cell none = refl
-with_letters-other entries (c ∷ cells) [] cell none = refl
-with_letters-other entries (c ∷ cells) (letter ∷ word) cell none =
-    with_letters-other (set entries c (Some letter)) cells word cell (λ k below. none (suc k) (omega arith))
+pub entries_with-other : (entries : List (Option ℕ)) (cells word : List ℕ) (cell : ℕ) → ((k : ℕ) → k < length cells → get_or cells k 0 ≢ cell) → get_or (entries_with entries cells word) cell None ≡ get_or entries cell None
+entries_with-other entries [] word cell none = refl
+entries_with-other entries (c ∷ cells) [] cell none = refl
+entries_with-other entries (c ∷ cells) (letter ∷ word) cell none =
+    entries_with-other (set entries c (Some letter)) cells word cell (λ k below. none (suc k) (omega arith))
     ∙ get_or-set_other entries c cell (Some letter) None (λ e. none 0 (omega arith) (sym e))
 
 -- no cell stands twice
 abbrev pub AreDistinct : List ℕ → Type 0
 AreDistinct cells = (j k : ℕ) → j < length cells → k < length cells → get_or cells j 0 ≡ get_or cells k 0 → j ≡ k
 
-pub with_letters-at : (entries : List (Option ℕ)) (cells word : List ℕ) → AreDistinct cells → length word ≡ length cells → (k : ℕ) → k < length cells → get_or cells k 0 < length entries → get_or (with_letters entries cells word) (get_or cells k 0) None ≡ Some (get_or word k 0)
-with_letters-at entries [] word distinct long k below within = absurd (omega arith)
-with_letters-at entries (cell ∷ cells) [] distinct long k below within = absurd (omega arith)
-with_letters-at entries (cell ∷ cells) (letter ∷ word) distinct long zero below within =
-    with_letters-other (set entries cell (Some letter)) cells word cell (λ k under at. let same : suc k ≡ 0 = distinct (suc k) 0 (omega arith) (omega arith) at in absurd (omega arith))
+pub entries_with-at : (entries : List (Option ℕ)) (cells word : List ℕ) → AreDistinct cells → length word ≡ length cells → (k : ℕ) → k < length cells → get_or cells k 0 < length entries → get_or (entries_with entries cells word) (get_or cells k 0) None ≡ Some (get_or word k 0)
+entries_with-at entries [] word distinct long k below within = absurd (omega arith)
+entries_with-at entries (cell ∷ cells) [] distinct long k below within = absurd (omega arith)
+entries_with-at entries (cell ∷ cells) (letter ∷ word) distinct long zero below within =
+    entries_with-other (set entries cell (Some letter)) cells word cell (λ k under at. let same : suc k ≡ 0 = distinct (suc k) 0 (omega arith) (omega arith) at in absurd (omega arith))
     ∙ get_or-set_same entries cell (Some letter) None within
-with_letters-at entries (cell ∷ cells) (letter ∷ word) distinct long (suc k) below within =
-    with_letters-at (set entries cell (Some letter)) cells word (λ i j under below_j at. let same : suc i ≡ suc j = distinct (suc i) (suc j) (omega arith) (omega arith) at in omega arith) (omega arith) k (omega arith) (omega (arith, length-set entries cell (Some letter)))
+entries_with-at entries (cell ∷ cells) (letter ∷ word) distinct long (suc k) below within =
+    entries_with-at (set entries cell (Some letter)) cells word (λ i j under below_j at. let same : suc i ≡ suc j = distinct (suc i) (suc j) (omega arith) (omega arith) at in omega arith) (omega arith) k (omega arith) (omega (arith, length-set entries cell (Some letter)))
 
 -- an entry with which the word agrees stays
-pub with_letters-kept : (board : Board) (cells word : List ℕ) → AreDistinct cells → agrees board cells word ≡ true → ((k : ℕ) → k < length cells → get_or cells k 0 < length board.entries) → (cell letter : ℕ) → entry board cell ≡ Some letter → get_or (with_letters board.entries cells word) cell None ≡ Some letter
-with_letters-kept board cells word distinct agree within cell letter e = elim (cell_in cells cell) [
+pub entries_with-kept : (board : Board) (cells word : List ℕ) → AreDistinct cells → agrees board cells word ≡ true → ((k : ℕ) → k < length cells → get_or cells k 0 < length board.entries) → (cell letter : ℕ) → entry board cell ≡ Some letter → get_or (entries_with board.entries cells word) cell None ≡ Some letter
+entries_with-kept board cells word distinct agree within cell letter e = elim (cell_in cells cell) [
   | inl found ↦
-      let at = with_letters-at board.entries cells word distinct (agrees-length board cells word agree) found.0 found.1 (within found.0 found.1) in
+      let at = entries_with-at board.entries cells word distinct (agrees-length board cells word agree) found.0 found.1 (within found.0 found.1) in
       let same : letter ≡ get_or word found.0 0 = allowed (entry board (get_or cells found.0 0)) letter (get_or word found.0 0) (ap (entry board) found.2 ∙ e) (agrees-at board cells word agree found.0 found.1) in
-      ap (λ c. get_or (with_letters board.entries cells word) c None) (sym found.2) ∙ at ∙ ap Some (sym same)
-  | inr none ↦ with_letters-other board.entries cells word cell none ∙ e
+      ap (λ c. get_or (entries_with board.entries cells word) c None) (sym found.2) ∙ at ∙ ap Some (sym same)
+  | inr none ↦ entries_with-other board.entries cells word cell none ∙ e
 ]

@@ -15,7 +15,7 @@ use Rattle.xw_fill.specs.Fill.{IsActive}
 use Rattle.xw_fill.specs.Search.{light_count, is_entered, spelling, spell_same, is_repeat, lacks_words, is_dead, with_fewer, chosen_below, chosen, unentered_count}
 use Rattle.xw_fill.proofs.BelowLemmas.{any_below-gives, any_below-none, Among, Among-filtered, Contains-among}
 use Rattle.xw_fill.proofs.FeasibleWordsLemmas.{feasible-gives}
-use Rattle.xw_fill.proofs.PlacingLemmas.{entered-at, entered-from, agrees-length, with_letters-at, with_letters-kept, AreDistinct, length-with_letters}
+use Rattle.xw_fill.proofs.PlacingLemmas.{entered-at, entered-from, agrees-length, entries_with-at, entries_with-kept, AreDistinct, length-entries_with}
 
 pub count_below-positive : (test : ℕ → Bool) (n k : ℕ) → k < n → test k ≡ true → 0 < count_below test n
 count_below-positive test zero k below passes = absurd (omega arith)
@@ -154,7 +154,7 @@ cells_distinct board laid light j k below_j below_k e = laid.distinct light j k 
 -- the board stays laid out
 pub placed-laid : (position : Position) (light : ℕ) (word : List ℕ) → IsShaped position.board → IsShaped (placed position light word).board
 placed-laid position light word laid = record {
-  entries = length-with_letters position.board.entries (light_at position.board light) word ∙ laid.entries;
+  entries = length-entries_with position.board.entries (light_at position.board light) word ∙ laid.entries;
   cells_open = laid.cells_open;
   short = laid.short;
   distinct = laid.distinct;
@@ -163,11 +163,11 @@ placed-laid position light word laid = record {
 
 -- an entry stays
 pub placed-kept : (position : Position) (light : ℕ) (word : List ℕ) → IsShaped position.board → agrees position.board (light_at position.board light) word ≡ true → (cell letter : ℕ) → entry position.board cell ≡ Some letter → entry (placed position light word).board cell ≡ Some letter
-placed-kept position light word laid agree = with_letters-kept position.board (light_at position.board light) word (cells_distinct position.board laid light) agree (cells_within position.board laid light)
+placed-kept position light word laid agree = entries_with-kept position.board (light_at position.board light) word (cells_distinct position.board laid light) agree (cells_within position.board laid light)
 
 -- the cells of the light have the word's letters
 pub placed-at : (position : Position) (light : ℕ) (word : List ℕ) → IsShaped position.board → length word ≡ length (light_at position.board light) → (k : ℕ) → k < length (light_at position.board light) → entry (placed position light word).board (get_or (light_at position.board light) k 0) ≡ Some (get_or word k 0)
-placed-at position light word laid long k below = with_letters-at position.board.entries (light_at position.board light) word (cells_distinct position.board laid light) long k below (cells_within position.board laid light k below)
+placed-at position light word laid long k below = entries_with-at position.board.entries (light_at position.board light) word (cells_distinct position.board laid light) long k below (cells_within position.board laid light k below)
 
 -- a light that was wholly entered still is
 pub placed-entered : (position : Position) (light : ℕ) (word : List ℕ) → IsShaped position.board → agrees position.board (light_at position.board light) word ≡ true → (other : ℕ) → is_entered position other ≡ true → is_entered (placed position light word) other ≡ true

@@ -36,7 +36,7 @@ use Rattle.xw_feas.proofs.BoardLemmas.{length-lights, light_at-board}
 use Rattle.xw_feas.proofs.LightsLemmas.{found_by_name}
 use Rattle.xw_feas.proofs.ShapeLemmas.{SameShape-entry}
 use Rattle.xw_fill.proofs.BelowLemmas.{position-none}
-use Rattle.xw_fill.specs.Position.{position_of, holding, placed, with_entries, with_letters, squares_with, square_with, filled_in, DiffersInEntries, name_at}
+use Rattle.xw_fill.specs.Position.{position_of, holding, placed, with_entries, entries_with, squares_with, square_with, filled_in, DiffersInEntries, name_at}
 
 -- ---- lights by places and names
 
@@ -135,14 +135,14 @@ entry_board grid cell letter is open_cell =
 
 -- the letters of a word in open cells
 letters_board : (grid : Grid) (cells : List Cell) (word : List ℕ) (d : Cell) → All IsLetter word → IsGrid grid → ((k : ℕ) → k < length cells → is_open grid (get_or cells k d) ≡ true)
-    → board_of (grid_with_letters grid cells word) ≡ with_entries (board_of grid) (with_letters (board_of grid).entries (map (index_of grid) cells) word)
+    → board_of (grid_with_letters grid cells word) ≡ with_entries (board_of grid) (entries_with (board_of grid).entries (map (index_of grid) cells) word)
 letters_board grid [] word d letters is open_cells = refl
 letters_board grid (cell ∷ cells) [] d letters is open_cells = refl
 letters_board grid (cell ∷ cells) (letter ∷ word) d letters is open_cells =
     let one = entry_board grid cell (Some letter) is (open_cells 0 (omega arith)) in
     let shape = SameShape-entry grid cell (Some letter) is (open_cells 0 (omega arith)) in
     letters_board (with_entry grid cell (Some letter)) cells word d (λ k e below. letters (suc k) e (omega arith)) (IsGrid-entry grid cell letter (letters 0 0 (omega arith)) is) (λ k below. shape.opens (get_or cells k d) ∙ open_cells (suc k) (omega arith))
-    ∙ ap (λ board. with_entries board (with_letters board.entries (map (index_of grid) cells) word)) one
+    ∙ ap (λ board. with_entries board (entries_with board.entries (map (index_of grid) cells) word)) one
 
 -- they change squares alone
 letters_squares : (grid : Grid) (cells : List Cell) (word : List ℕ) → grid_with_letters grid cells word ≡ record grid { squares = (grid_with_letters grid cells word).squares }
@@ -228,7 +228,7 @@ placing before now answers_before answers_now light word result is in_grid lette
     let done = edit_done before now (record before { grid = new }) answers_before answers_now (word_placed (name_at before light) word) result (place_accepted before light word in_grid letters long) refl edited in
     let board = letters_board grid (cells_of found) word found.start letters is (light_open grid light found.start in_grid) in
     let cells : map (index_of grid) (cells_of found) ≡ light_at (board_of grid) light = sym (light_at-board grid light no_light in_grid) in (
-      ap position_of done ∙ ap (λ b. record { board = b; words = before.words }) board ∙ ap (λ cs. holding (position_of before) (with_letters (board_of grid).entries cs word)) cells,
+      ap position_of done ∙ ap (λ b. record { board = b; words = before.words }) board ∙ ap (λ cs. holding (position_of before) (entries_with (board_of grid).entries cs word)) cells,
       subst (DiffersInEntries before) (sym done) (differs_in_squares before new (letters_squares grid (cells_of found) word) (ap (λ b. b.open_cells) board)),
     )
 

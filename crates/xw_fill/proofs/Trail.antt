@@ -7,16 +7,16 @@ use Rattle.std.proofs.lemmas.List.{length-set, get_or-set_same, get_or-set_other
 use Rattle.std.proofs.lemmas.List.Folds.{list_any-append}
 use Rattle.xw_feas.specs.Board.{entry, light_at, agrees}
 use Rattle.xw_fill.proofs.Shaped.{IsShaped}
-use Rattle.xw_fill.specs.Words.{spellings_at, words_before, words_from}
+use Rattle.xw_fill.specs.Words.{spellings_at, words_before, words_left}
 use Rattle.xw_fill.proofs.Shaped.{HasDistinctWords}
-use Rattle.xw_fill.specs.Position.{Position, placed, with_letters, holding}
+use Rattle.xw_fill.specs.Position.{Position, placed, entries_with, holding}
 use Rattle.xw_fill.specs.FeasibleWords.{is_feasible_word, feasible_words}
 use Rattle.xw_fill.specs.Search.{light_count, is_entered, is_dead, chosen, found_in, due_of, due_in, end_of, end_in, unentered_count}
 use Rattle.xw_fill.specs.Tries.{without_letters, taken_back, all_taken_back, AreBlanks}
 use Rattle.xw_fill.specs.declared.tries.Try.{Try}
 use Rattle.xw_fill.proofs.BelowLemmas.{Among-contained}
 use Rattle.xw_fill.proofs.FeasibleWordsLemmas.{is_feasible_word-gives}
-use Rattle.xw_fill.proofs.PlacingLemmas.{AreDistinct, cell_in, agrees-length, agrees-at, allowed, with_letters-other, length-with_letters}
+use Rattle.xw_fill.proofs.PlacingLemmas.{AreDistinct, cell_in, agrees-length, agrees-at, allowed, entries_with-other, length-entries_with}
 use Rattle.xw_fill.proofs.SearchLemmas.{chosen-Some, open_base, cells_within, cells_distinct, placed-laid, placed-at, placed-fewer}
 use Rattle.xw_fill.proofs.WordsLemmas.{feasible_known_words, words_before-more, words_parted}
 
@@ -102,7 +102,7 @@ after_try position tried = placed position tried.light (word_of position tried)
 abbrev pub cost_of : ℕ → Position → Try → ℕ
 cost_of fuel position tried = spent_on fuel position tried.light tried.place + 1
 
-tried_parted : (fuel : ℕ) (position : Position) (tried : Try) → IsSound position → IsTried fuel position tried → feasible_words position tried.light ≡ words_before position tried.light tried.place ++ (word_of position tried ∷ words_from position tried.light (tried.place + 1))
+tried_parted : (fuel : ℕ) (position : Position) (tried : Try) → IsSound position → IsTried fuel position tried → feasible_words position tried.light ≡ words_before position tried.light tried.place ++ (word_of position tried ∷ words_left position tried.light (tried.place + 1))
 tried_parted fuel position tried sound t =
     let is = chosen-Some position tried.light t.way.chosen_is in
     words_parted position tried.light tried.place sound.dictionary is.0 is.1 t.within t.feasible
@@ -121,7 +121,7 @@ tried-found fuel position tried sound t h =
     let due = due_after fuel position tried.light in
     let end = end_after fuel position tried.light in
     let before = words_before position tried.light tried.place in
-    let rest = words_from position tried.light (tried.place + 1) in
+    let rest = words_left position tried.light (tried.place + 1) in
     let parted = tried_parted fuel position tried sound t in
     let here : due_of found due (word_of position tried ∷ rest) ≡ 1 + due (word_of position tried) + 0 = ap (λ b. 1 + due (word_of position tried) + cond b 0 (due_of found due rest)) h in
     let split = due_of-append found due before (word_of position tried ∷ rest) t.way.failed in
@@ -137,7 +137,7 @@ tried-due fuel position tried sound t =
     let found = found_after fuel position tried.light in
     let due = due_after fuel position tried.light in
     let before = words_before position tried.light tried.place in
-    let rest = words_from position tried.light (tried.place + 1) in
+    let rest = words_left position tried.light (tried.place + 1) in
     let split = due_of-append found due before (word_of position tried ∷ rest) t.way.failed in
     let all : due_in (suc fuel) position ≡ due_of found due (before ++ (word_of position tried ∷ rest)) = due_chosen fuel position tried.light t.way.alive t.way.chosen_is ∙ ap (due_of found due) (tried_parted fuel position tried sound t) in
     let here : due_of found due (word_of position tried ∷ rest) ≡ 1 + due (word_of position tried) + cond (found (word_of position tried)) 0 (due_of found due rest) = refl in
@@ -212,22 +212,22 @@ taken_back-agreed position tried word laid agree blanks = ap (holding position) 
   cells = light_at position.board tried.light
 
   now : List (Option ℕ)
-  now = with_letters position.board.entries cells word
+  now = entries_with position.board.entries cells word
 
   long : length (without_letters now cells tried.blanks) ≡ length position.board.entries
-  long = length-without_letters now cells tried.blanks ∙ length-with_letters position.board.entries cells word
+  long = length-without_letters now cells tried.blanks ∙ length-entries_with position.board.entries cells word
 
   each : (cell : ℕ) → cell < length (without_letters now cells tried.blanks) → get_or (without_letters now cells tried.blanks) cell None ≡ get_or position.board.entries cell None
   each cell below = elim (cell_in cells cell) [
     | inl found ↦
         let within = cells_within position.board laid tried.light found.0 found.1 in
-        let within_now : get_or cells found.0 0 < length now = omega (arith, length-with_letters position.board.entries cells word) in
+        let within_now : get_or cells found.0 0 < length now = omega (arith, length-entries_with position.board.entries cells word) in
         ap (λ c. get_or (without_letters now cells tried.blanks) c None) (sym found.2)
         ∙ without_letters-at now cells tried.blanks (cells_distinct position.board laid tried.light) found.0 found.1 within_now
         ∙ ap (λ o. cond (get_or tried.blanks found.0 false) None o) (placed-at position tried.light word laid (agrees-length position.board cells word agree) found.0 found.1)
         ∙ was_entered (entry position.board (get_or cells found.0 0)) (get_or word found.0 0) (get_or tried.blanks found.0 false) (blanks found.0 found.1) (λ entered e. allowed (entry position.board (get_or cells found.0 0)) entered (get_or word found.0 0) e (agrees-at position.board cells word agree found.0 found.1))
         ∙ ap (entry position.board) found.2
-    | inr none ↦ without_letters-other now cells tried.blanks cell none ∙ with_letters-other position.board.entries cells word cell none
+    | inr none ↦ without_letters-other now cells tried.blanks cell none ∙ entries_with-other position.board.entries cells word cell none
   ]
 
 -- a feasible word agrees

@@ -12,7 +12,7 @@ use Rattle.xw_words.specs.Dictionary.{Entry, no_entry, row as known_words}
 use Rattle.xw_feas.specs.Known.{spellings}
 use Rattle.xw_feas.specs.Feasible.{Answers, AreAnswers, base_words, base_words_at}
 use Rattle.xw_feas.specs.Queries.{next_found, is_active_answer}
-use Rattle.xw_fill.specs.Words.{spellings_at, words_before, words_from, IsNextWord, HasNoMore}
+use Rattle.xw_fill.specs.Words.{spellings_at, words_before, words_left, IsNextWord, HasNoMore}
 use Rattle.xw_fill.proofs.Shaped.{HasDistinctWords}
 use Rattle.xw_fill.specs.Position.{Position}
 use Rattle.xw_feas.specs.declared.edit.Found.TheVariants.{Listed, Entered}
@@ -195,12 +195,12 @@ words_before-more state light place below passes = filter-pass (is_feasible_word
 
 -- all feasible words, parted at a place
 pub words_parted : (state : Position) (light place : ℕ) → HasDistinctWords state.words → light < light_count state → is_entered state light ≡ false → place < length (spellings_at state light) → is_feasible_word state light (get_or (spellings_at state light) place []) ≡ true
-    → feasible_words state light ≡ words_before state light place ++ (get_or (spellings_at state light) place [] ∷ words_from state light (place + 1))
+    → feasible_words state light ≡ words_before state light place ++ (get_or (spellings_at state light) place [] ∷ words_left state light (place + 1))
 words_parted state light place dictionary in_grid not_entered below passes =
     let test = is_feasible_word state light in
     let sp = spellings_at state light in
     feasible_known_words state light dictionary in_grid not_entered
     ∙ ap (filter test) (sym (take-append-drop (place + 1) sp))
     ∙ filter-append test (take (place + 1) sp) (drop (place + 1) sp)
-    ∙ ap (λ ws. ws ++ words_from state light (place + 1)) (words_before-more state light place below passes)
-    ∙ append_assoc (words_before state light place) (get_or sp place [] ∷ []) (words_from state light (place + 1))
+    ∙ ap (λ ws. ws ++ words_left state light (place + 1)) (words_before-more state light place below passes)
+    ∙ append_assoc (words_before state light place) (get_or sp place [] ∷ []) (words_left state light (place + 1))

@@ -25,14 +25,14 @@ abbrev pub holding : Position → List (Option ℕ) → Position
 holding position entries = record position { board = with_entries position.board entries }
 
 -- the cells hold the letters, each the one at its place
-abbrev pub with_letters : List (Option ℕ) → List ℕ → List ℕ → List (Option ℕ)
-with_letters entries [] letters = entries
-with_letters entries (cell ∷ cells) [] = entries
-with_letters entries (cell ∷ cells) (letter ∷ letters) = with_letters (slice_set entries cell (Some letter)) cells letters
+abbrev pub entries_with : List (Option ℕ) → List ℕ → List ℕ → List (Option ℕ)
+entries_with entries [] letters = entries
+entries_with entries (cell ∷ cells) [] = entries
+entries_with entries (cell ∷ cells) (letter ∷ letters) = entries_with (slice_set entries cell (Some letter)) cells letters
 
 -- the cells of the light hold the word's letters
 abbrev pub placed : Position → ℕ → List ℕ → Position
-placed position light word = holding position (with_letters position.board.entries (light_at position.board light) word)
+placed position light word = holding position (entries_with position.board.entries (light_at position.board light) word)
 
 -- ---- the state of a position
 

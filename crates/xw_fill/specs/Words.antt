@@ -12,8 +12,8 @@ spellings_at position light = spellings position.words (length (light_at positio
 abbrev pub words_before : Position → ℕ → ℕ → List (List ℕ)
 words_before position light n = filter (is_feasible_word position light) (take n (spellings_at position light))
 
-abbrev pub words_from : Position → ℕ → ℕ → List (List ℕ)
-words_from position light n = filter (is_feasible_word position light) (drop n (spellings_at position light))
+abbrev pub words_left : Position → ℕ → ℕ → List (List ℕ)
+words_left position light n = filter (is_feasible_word position light) (drop n (spellings_at position light))
 
 -- the word at a place is feasible, and the first such word from a place on
 pub record IsNextWord (position : Position) (light from place : ℕ) : Type 0 where

@@ -10,7 +10,7 @@ use Rattle.xw_grid.specs.declared.cell.Cell.{Cell}
 use Rattle.xw_grid.specs.declared.cell.Direction.{Direction}
 use Rattle.xw_grid.specs.declared.cell.Direction.TheVariants.{Across, Down}
 use Rattle.xw_grid.specs.Grid.{Grid, IsGrid, is_inside, cell_at}
-use Rattle.xw_grid.specs.Light.{is_joined, next, previous, begins, light_from, light_at, lights_at}
+use Rattle.xw_grid.specs.Light.{is_joined, next, previous, begins, light_from, light_starting, lights_at}
 use Rattle.xw_grid.specs.LightLaws.{LightsAreFew}
 use Rattle.xw_grid.proofs.GridLemmas.{and-true, IsInside-is_inside}
 use Rattle.xw_grid.proofs.LightLemmas.{joined_inside, not_true, previous-next}
@@ -85,7 +85,7 @@ abbrev at : ℕ → ℕ → Cell
 at r c = record { row = r + 1; col = c + 1 }
 
 length-light_from : (grid : Grid) (cell : Cell) (direction : Direction) → length (light_from grid cell direction) ≡ one grid direction cell
-length-light_from grid cell direction = elim (begins grid direction cell) as (λ b. length (cond b (light_at grid direction cell ∷ []) []) ≡ cond b 1 0) [ true ↦ refl | false ↦ refl ]
+length-light_from grid cell direction = elim (begins grid direction cell) as (λ b. length (cond b (light_starting grid direction cell ∷ []) []) ≡ cond b 1 0) [ true ↦ refl | false ↦ refl ]
 
 length-lights_at : (grid : Grid) (cell : Cell) → length (lights_at grid cell) ≡ one grid Across cell + one grid Down cell
 length-lights_at grid cell = length-append (light_from grid cell Across) (light_from grid cell Down) ∙ rw (length-light_from grid cell Across, length-light_from grid cell Down) refl

@@ -13,7 +13,7 @@ use Rattle.xw_grid.specs.declared.cell.Direction.{Direction}
 use Rattle.xw_grid.specs.declared.cell.Direction.TheVariants.{Across, Down}
 use Rattle.xw_grid.specs.Grid.{Grid, is_inside, is_open, is_open_square, index_of, cells, cell_at}
 use Rattle.xw_grid.specs.LightLaws.{LightsBegin, IsLightOf, LightsAreLights, LightsAreAll}
-use Rattle.xw_grid.specs.Light.{no_cell, is_joined, next, previous, step, line, extent, run_from, begins, IsLight, light_from, light_at, lights_at, lights_of}
+use Rattle.xw_grid.specs.Light.{no_cell, is_joined, next, previous, step, line, extent, run_from, begins, IsLight, light_from, light_starting, lights_at, lights_of}
 use Rattle.xw_grid.specs.declared.lights.Light.{Light}
 use Rattle.xw_grid.proofs.GridLemmas.{and-true, IsInside-is_inside, run_is, index_of-lt, length-cells, cell_at-index_of}
 
@@ -116,8 +116,8 @@ all_flat_map P f each (x ∷ xs) = All-append P (f x) (flat_map f xs) (each x) (
 
 light_from_is : (grid : Grid) (cell : Cell) (direction : Direction) → All (IsLightOf grid) (light_from grid cell direction)
 light_from_is grid cell direction =
-    elim (begins grid direction cell) as (λ b. begins grid direction cell ≡ b → All (IsLightOf grid) (cond b (light_at grid direction cell ∷ []) [])) [
-      | true ↦ λ begin. All-cons (IsLightOf grid) (light_at grid direction cell) [] (light_is grid direction cell begin, refl) (All-nil (IsLightOf grid))
+    elim (begins grid direction cell) as (λ b. begins grid direction cell ≡ b → All (IsLightOf grid) (cond b (light_starting grid direction cell ∷ []) [])) [
+      | true ↦ λ begin. All-cons (IsLightOf grid) (light_starting grid direction cell) [] (light_is grid direction cell begin, refl) (All-nil (IsLightOf grid))
       | false ↦ λ _. All-nil (IsLightOf grid)
     ] refl
 
@@ -191,17 +191,17 @@ contains_cell grid cell inside =
     let within = index_of-lt grid cell inside in
     (index, omega (arith, length-cells grid), get_or-map-range_with_len (cell_at grid) 0 (grid.width * grid.height) index index cell within (omega arith) ∙ cell_at-index_of grid cell inside)
 
-contains_light : (grid : Grid) (direction : Direction) (cell : Cell) → begins grid direction cell ≡ true → Contains (lights_at grid cell) (light_at grid direction cell)
+contains_light : (grid : Grid) (direction : Direction) (cell : Cell) → begins grid direction cell ≡ true → Contains (lights_at grid cell) (light_starting grid direction cell)
 contains_light grid Across cell begin =
-    Contains-append_left (light_from grid cell Across) (light_from grid cell Down) (light_at grid Across cell) (rw begin (0, lit< tt, refl))
+    Contains-append_left (light_from grid cell Across) (light_from grid cell Down) (light_starting grid Across cell) (rw begin (0, lit< tt, refl))
 contains_light grid Down cell begin =
-    Contains-append_right (light_from grid cell Across) (light_from grid cell Down) (light_at grid Down cell) (rw begin (0, lit< tt, refl))
+    Contains-append_right (light_from grid cell Across) (light_from grid cell Down) (light_starting grid Down cell) (rw begin (0, lit< tt, refl))
 
 pub lights_are_all : LightsAreAll
 lights_are_all grid direction light is =
     let first = first_of light in
     let from = light_from_first grid direction light is in
-    (light_at grid direction first, contains_flat_map (lights_at grid) (cells grid) first (light_at grid direction first) (contains_cell grid first from.0) (contains_light grid direction first from.1), refl, from.2)
+    (light_starting grid direction first, contains_flat_map (lights_at grid) (cells grid) first (light_starting grid direction first) (contains_cell grid first from.0) (contains_light grid direction first from.1), refl, from.2)
 
 -- each cell of a light is open
 pub light_is_open : (grid : Grid) (direction : Direction) (light : List Cell) → IsLight grid direction light → (k : ℕ) (d : Cell) → k < length light → is_open grid (get_or light k d) ≡ true

@@ -9,7 +9,7 @@ use Rattle.xw_grid.specs.declared.cell.Direction.{Direction}
 use Rattle.xw_grid.specs.declared.cell.Direction.TheVariants.{Across, Down}
 use Rattle.xw_grid.specs.declared.lights.Light.{Light}
 use Rattle.xw_grid.specs.Grid.{Grid, is_inside, index_of, cells, cell_at}
-use Rattle.xw_grid.specs.Light.{is_joined, previous, step, begins, begins_some, number_at, run_from, light_from, light_at, lights_at, lights_of}
+use Rattle.xw_grid.specs.Light.{is_joined, previous, step, begins, begins_some, number_at, run_from, light_from, light_starting, lights_at, lights_of}
 use Rattle.xw_grid.specs.LightLaws.{LightsAreOrdered, LightsAreApart, LightsMeetOnce, IsBefore}
 use Rattle.xw_grid.proofs.GridLemmas.{and-true, index_of-lt, index_of-cell_at, cell_at-index_of, count_by-cells}
 use Rattle.xw_grid.proofs.LightLemmas.{all_flat_map, joined_inside, light_is, step-next, step-zero, previous-next, not_true, length-line, get_or-line}
@@ -41,12 +41,12 @@ module _ {X : Type 0} (key : X → ℕ) where
 -- a light of the list is the one that its first cell begins
 pub record IsMade (grid : Grid) (light : Light) : Type 0 where
   pub begins : begins grid light.name.direction light.start ≡ true
-  pub is : light ≡ light_at grid light.name.direction light.start
+  pub is : light ≡ light_starting grid light.name.direction light.start
 
 light_from_made : (grid : Grid) (cell : Cell) (direction : Direction) → All (IsMade grid) (light_from grid cell direction)
 light_from_made grid cell direction =
-    elim (begins grid direction cell) as (λ b. begins grid direction cell ≡ b → All (IsMade grid) (cond b (light_at grid direction cell ∷ []) [])) [
-      | true ↦ λ begin. All-cons (IsMade grid) (light_at grid direction cell) [] (record { begins = begin; is = refl }) (All-nil (IsMade grid))
+    elim (begins grid direction cell) as (λ b. begins grid direction cell ≡ b → All (IsMade grid) (cond b (light_starting grid direction cell ∷ []) [])) [
+      | true ↦ λ begin. All-cons (IsMade grid) (light_starting grid direction cell) [] (record { begins = begin; is = refl }) (All-nil (IsMade grid))
       | false ↦ λ _. All-nil (IsMade grid)
     ] refl
 
@@ -69,13 +69,13 @@ lights_at_rise grid k rest h =
     let cell = cell_at grid k in
     let at : index_of grid cell ≡ k = index_of-cell_at grid k in
     let lower : (low : ℕ) → low ≤ 2 * k + 2 → Rises (key grid) low rest = λ low le. rises_lower (key grid) low (2 * k + 2) rest le h in
-    elim (begins grid Across cell) as (λ a. Rises (key grid) (2 * k) ((cond a (light_at grid Across cell ∷ []) [] ++ light_from grid cell Down) ++ rest)) [
-      | true ↦ elim (begins grid Down cell) as (λ b. Rises (key grid) (2 * k) ((light_at grid Across cell ∷ [] ++ cond b (light_at grid Down cell ∷ []) []) ++ rest)) [
-        | true ↦ (omega (arith, at), (omega (arith, at), lower (key grid (light_at grid Down cell) + 1) (omega (arith, at))))
-        | false ↦ (omega (arith, at), lower (key grid (light_at grid Across cell) + 1) (omega (arith, at)))
+    elim (begins grid Across cell) as (λ a. Rises (key grid) (2 * k) ((cond a (light_starting grid Across cell ∷ []) [] ++ light_from grid cell Down) ++ rest)) [
+      | true ↦ elim (begins grid Down cell) as (λ b. Rises (key grid) (2 * k) ((light_starting grid Across cell ∷ [] ++ cond b (light_starting grid Down cell ∷ []) []) ++ rest)) [
+        | true ↦ (omega (arith, at), (omega (arith, at), lower (key grid (light_starting grid Down cell) + 1) (omega (arith, at))))
+        | false ↦ (omega (arith, at), lower (key grid (light_starting grid Across cell) + 1) (omega (arith, at)))
       ]
-      | false ↦ elim (begins grid Down cell) as (λ b. Rises (key grid) (2 * k) (([] ++ cond b (light_at grid Down cell ∷ []) []) ++ rest)) [
-        | true ↦ (omega (arith, at), lower (key grid (light_at grid Down cell) + 1) (omega (arith, at)))
+      | false ↦ elim (begins grid Down cell) as (λ b. Rises (key grid) (2 * k) (([] ++ cond b (light_starting grid Down cell ∷ []) []) ++ rest)) [
+        | true ↦ (omega (arith, at), lower (key grid (light_starting grid Down cell) + 1) (omega (arith, at)))
         | false ↦ lower (2 * k) (omega arith)
       ]
     ]
@@ -252,7 +252,7 @@ lights_meet_once grid a b k l m n (i, in_a, at_a) (j, in_b, at_b) in_k in_m in_l
       let made_a : IsMade grid a = subst (IsMade grid) at_a (made i a in_a) in
       let made_b : IsMade grid b = subst (IsMade grid) at_b (made j b in_b) in
       let start = same_start grid a b made_a made_b same k l in_k in_l e in
-      made_a.is ∙ ap (λ d. light_at grid d a.start) same ∙ ap (light_at grid b.name.direction) start ∙ sym made_b.is
+      made_a.is ∙ ap (λ d. light_starting grid d a.start) same ∙ ap (light_starting grid b.name.direction) start ∙ sym made_b.is
 
   by_direction : (d t : Direction) → a.name.direction ≡ d → b.name.direction ≡ t → (a ≡ b) ⊎ (step a.name.direction a.start k ≡ step a.name.direction a.start m)
   by_direction Across Across h g = inl (same_light (h ∙ sym g))

@@ -66,11 +66,11 @@ extent grid Down = grid.height
 abbrev pub run_from : Grid → Direction → Cell → ℕ
 run_from grid direction first = prefix_len (is_joined grid direction) (line direction first (extent grid direction)) + 1
 
-abbrev pub light_at : Grid → Direction → Cell → Light
-light_at grid direction cell = record { name = record { number = number_at grid cell; direction = direction }; start = cell; size = run_from grid direction cell }
+abbrev pub light_starting : Grid → Direction → Cell → Light
+light_starting grid direction cell = record { name = record { number = number_at grid cell; direction = direction }; start = cell; size = run_from grid direction cell }
 
 abbrev pub light_from : Grid → Cell → Direction → List Light
-light_from grid cell direction = if begins grid direction cell then light_at grid direction cell ∷ [] else []
+light_from grid cell direction = if begins grid direction cell then light_starting grid direction cell ∷ [] else []
 
 -- the lights that begin at a cell
 abbrev pub lights_at : Grid → Cell → List Light

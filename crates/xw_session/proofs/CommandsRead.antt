@@ -24,7 +24,7 @@ use Rattle.xw_session.specs.declared.command.TextField.{TextField}
 use Rattle.xw_session.specs.declared.command.TextField.TheVariants.{Title, Author, Copyright, Notes}
 use Rattle.xw_session.specs.Command.{command_named, command_in, command_of, whole}
 use Rattle.xw_session.specs.Cut.{HasNoLf}
-use Rattle.xw_session.specs.Escape.{letter_for, escaped, is_end, spelled_at, spelled}
+use Rattle.xw_session.specs.Escape.{letter_for, escaped, is_end, spelled_at, escaped_text}
 use Rattle.xw_session.specs.Line.{without_cr, first_word, trimmed_start, trimmed_end, trimmed}
 use Rattle.xw_session.specs.Reading.{◌>>=◌, given, number, byte, word, text, side, direction, switch, symmetry, spot, text_name, field_named, field}
 use Rattle.xw_session.specs.Spelling.{symmetry_name, side_name, switch_name, field_name, in_field, command_words, command_line}
@@ -119,14 +119,14 @@ space_kept : (byte : ℕ) (letter : Option ℕ) (rest : List ℕ) → IsInked by
 space_kept b None rest ink = space_first b rest ink
 space_kept b (Some letter) rest ink = space_first 92 (letter ∷ rest) refl
 
-text_left : (piece : List ℕ) → trimmed (32 ∷ spelled piece) ≡ spelled piece
+text_left : (piece : List ℕ) → trimmed (32 ∷ escaped_text piece) ≡ escaped_text piece
 text_left [] = refl
 text_left (b ∷ bs) =
     ap trimmed_end (space_kept b (letter_for true b) (flat_map (spelled_at (b ∷ bs)) (range_with_len 1 (length bs))) (inked b))
     ∙ ap trimmed_end (sym (starts_inked b bs)) ∙ spelled_trimmed (b ∷ bs)
 
-reads_text : (piece : List ℕ) → text (spaced (spelled piece ∷ [])) ≡ Ok (spelled piece, [])
-reads_text piece = ap (λ xs. Ok (trimmed (32 ∷ xs), [])) (append-nil (spelled piece)) ∙ ap (λ xs. Ok (xs, [])) (text_left piece)
+reads_text : (piece : List ℕ) → text (spaced (escaped_text piece ∷ [])) ≡ Ok (escaped_text piece, [])
+reads_text piece = ap (λ xs. Ok (trimmed (32 ∷ xs), [])) (append-nil (escaped_text piece)) ∙ ap (λ xs. Ok (xs, [])) (text_left piece)
 
 stands_escaped : (test : Bool) (byte letter : ℕ) (other : Option ℕ) → stands letter ≡ true → (test ≡ false → list_all stands (escaped byte other) ≡ true)
     → list_all stands (escaped byte (if test then Some letter else other)) ≡ true
@@ -157,9 +157,9 @@ short_each piece (place ∷ places) =
     let one = short_escape (slice_index piece place) (letter_for (is_end piece place) (slice_index piece place)) in
     omega (arith, length-append (spelled_at piece place) (flat_map (spelled_at piece) places), one, short_each piece places)
 
-text_fit : (piece : List ℕ) → length piece ≤ 2000 → Fit (1 + 4000 + 0) (spelled piece ∷ [])
+text_fit : (piece : List ℕ) → length piece ≤ 2000 → Fit (1 + 4000 + 0) (escaped_text piece ∷ [])
 text_fit piece short =
-    more_fit 4000 0 (spelled piece) [] (stands_each piece (range_with_len 0 (length piece)))
+    more_fit 4000 0 (escaped_text piece) [] (stands_each piece (range_with_len 0 (length piece)))
     (omega (arith, short_each piece (range_with_len 0 (length piece)), length-range_with_len 0 (length piece), short)) none_fit
 
 -- ---- names
@@ -252,7 +252,7 @@ IsRecorded commands.Suggest = ⊥
 IsRecorded (commands.Fill limit) = ⊥
 IsRecorded (commands.Watch is_on) = Unit {0}
 IsRecorded (commands.Tell telling) = ⊥
-IsRecorded (commands.Put putting where_put spelling) = IsSmallField where_put × (piece : List ℕ) × (spelling ≡ spelled piece) × (length piece ≤ 2000)
+IsRecorded (commands.Put putting where_put spelling) = IsSmallField where_put × (piece : List ℕ) × (spelling ≡ escaped_text piece) × (length piece ≤ 2000)
 
 -- the words with a space between them
 abbrev words_line : List (List ℕ) → List ℕ
@@ -327,19 +327,19 @@ read_again (commands.Watch is_on) is =
 read_again (commands.Put Instead where_put spelling) is =
     subst (λ spelling. IsRead (commands.Put Instead where_put spelling)) (sym is.2)
     (let piece = is.1 in
-    let ws = in_field where_put (spelled piece ∷ []) in
-    made_of (codes "text") ws (commands.Put Instead where_put (spelled piece)) refl
-    (line_read (codes "text") ws (commands.Put Instead where_put (spelled piece)) 4 4030 (omega arith, refl) (omega arith) (field_fit where_put (spelled piece ∷ []) is.0 (text_fit piece is.3)) (omega arith)
-    (then_read field (λ where_put. text >>= (λ spelling. given (commands.Put Instead where_put spelling))) (spaced ws) (spaced (spelled piece ∷ [])) where_put (reads_field where_put (spelled piece ∷ []) is.0)
-    ∙ then_read text (λ spelling. given (commands.Put Instead where_put spelling)) (spaced (spelled piece ∷ [])) [] (spelled piece) (reads_text piece))))
+    let ws = in_field where_put (escaped_text piece ∷ []) in
+    made_of (codes "text") ws (commands.Put Instead where_put (escaped_text piece)) refl
+    (line_read (codes "text") ws (commands.Put Instead where_put (escaped_text piece)) 4 4030 (omega arith, refl) (omega arith) (field_fit where_put (escaped_text piece ∷ []) is.0 (text_fit piece is.3)) (omega arith)
+    (then_read field (λ where_put. text >>= (λ spelling. given (commands.Put Instead where_put spelling))) (spaced ws) (spaced (escaped_text piece ∷ [])) where_put (reads_field where_put (escaped_text piece ∷ []) is.0)
+    ∙ then_read text (λ spelling. given (commands.Put Instead where_put spelling)) (spaced (escaped_text piece ∷ [])) [] (escaped_text piece) (reads_text piece))))
 read_again (commands.Put Behind where_put spelling) is =
     subst (λ spelling. IsRead (commands.Put Behind where_put spelling)) (sym is.2)
     (let piece = is.1 in
-    let ws = in_field where_put (spelled piece ∷ []) in
-    made_of (codes "more") ws (commands.Put Behind where_put (spelled piece)) refl
-    (line_read (codes "more") ws (commands.Put Behind where_put (spelled piece)) 4 4030 (omega arith, refl) (omega arith) (field_fit where_put (spelled piece ∷ []) is.0 (text_fit piece is.3)) (omega arith)
-    (then_read field (λ where_put. text >>= (λ spelling. given (commands.Put Behind where_put spelling))) (spaced ws) (spaced (spelled piece ∷ [])) where_put (reads_field where_put (spelled piece ∷ []) is.0)
-    ∙ then_read text (λ spelling. given (commands.Put Behind where_put spelling)) (spaced (spelled piece ∷ [])) [] (spelled piece) (reads_text piece))))
+    let ws = in_field where_put (escaped_text piece ∷ []) in
+    made_of (codes "more") ws (commands.Put Behind where_put (escaped_text piece)) refl
+    (line_read (codes "more") ws (commands.Put Behind where_put (escaped_text piece)) 4 4030 (omega arith, refl) (omega arith) (field_fit where_put (escaped_text piece ∷ []) is.0 (text_fit piece is.3)) (omega arith)
+    (then_read field (λ where_put. text >>= (λ spelling. given (commands.Put Behind where_put spelling))) (spaced ws) (spaced (escaped_text piece ∷ [])) where_put (reads_field where_put (escaped_text piece ∷ []) is.0)
+    ∙ then_read text (λ spelling. given (commands.Put Behind where_put spelling)) (spaced (escaped_text piece ∷ [])) [] (escaped_text piece) (reads_text piece))))
 read_again (commands.Match pattern) is = absurd is
 read_again (commands.Clear at) is = absurd is
 read_again (commands.Place named letters) is = absurd is

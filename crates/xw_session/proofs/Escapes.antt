@@ -6,7 +6,7 @@ use Rattle.std.specs.List.{range_with_len}
 use Rattle.std.proofs.lemmas.Bool.{eqb-true, and_parts, cases_Bool}
 use Rattle.std.proofs.lemmas.List.Folds.{list_any-append}
 use Rattle.std.proofs.lemmas.List.FromFn.{fill_by_all}
-use Rattle.xw_session.specs.Escape.{meaning, added, one_byte, begins_escape, joined, text_left, text_spelled, letter_for, escaped, is_end, spelled_at, spelled}
+use Rattle.xw_session.specs.Escape.{meaning, added, one_byte, begins_escape, joined, text_left, text_spelled, letter_for, escaped, is_end, spelled_at, escaped_text}
 use Rattle.xw_session.specs.Reply.{has_nul}
 
 -- ---- what is spelled reads back
@@ -43,7 +43,7 @@ pieces_read text (place ∷ places) =
     piece_read (slice_index text place) (letter_for (is_end text place) (slice_index text place)) (flat_map (spelled_at text) places) (letter_fits (is_end text place) (slice_index text place))
     ∙ ap (joined (Some (slice_index text place ∷ []))) (pieces_read text places)
 
-pub reads_back : (text : List ℕ) → text_spelled (spelled text) ≡ Some text
+pub reads_back : (text : List ℕ) → text_spelled (escaped_text text) ≡ Some text
 reads_back text =
     pieces_read text (range_with_len 0 (length text))
     ∙ ap Some (sym (fill_by_all (λ place. slice_index text place) text (length text) 0 refl (λ k h. refl)))

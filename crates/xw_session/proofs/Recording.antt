@@ -18,7 +18,7 @@ use Rattle.xw_session.specs.declared.command.Putting.{Putting}
 use Rattle.xw_session.specs.declared.command.Spot.{Spot}
 use Rattle.xw_session.specs.declared.command.Name.TheVariants as names
 use Rattle.xw_session.specs.Name.{word_of}
-use Rattle.xw_session.specs.Escape.{spelled}
+use Rattle.xw_session.specs.Escape.{escaped_text}
 use Rattle.xw_session.specs.Text.{line_of}
 use Rattle.xw_session.specs.Spelling.{command_line, in_field}
 use Rattle.xw_session.specs.Record.{command_lines, piece_at, known_counts}
@@ -41,7 +41,7 @@ pub lines_of_both : (front rest : List Command) → command_lines front ++ comma
 lines_of_both front rest = sym (flat_map-append command_line front rest)
 
 -- the line of a piece of a text: its first word, and the others
-pub put_line_parts : (putting : Putting) (field : Field) (text : List ℕ) → command_line (Put putting field (spelled text)) ≡ (word_of (names.Put putting) ++ codes " ") ++ line_of (in_field field (spelled text ∷ []))
+pub put_line_parts : (putting : Putting) (field : Field) (text : List ℕ) → command_line (Put putting field (escaped_text text)) ≡ (word_of (names.Put putting) ++ codes " ") ++ line_of (in_field field (escaped_text text ∷ []))
 put_line_parts putting (fields.Text name) text = refl
 put_line_parts putting (fields.Clue spot direction) text = refl
 

@@ -37,7 +37,7 @@ use Rattle.xw_session.specs.declared.command.TextField.TheVariants.{Title, Autho
 use Rattle.xw_session.specs.declared.session.putting.Place.{Place}
 use Rattle.xw_session.specs.declared.session.putting.Place.TheVariants as places
 use Rattle.xw_session.specs.State.{State}
-use Rattle.xw_session.specs.Escape.{spelled}
+use Rattle.xw_session.specs.Escape.{escaped_text}
 use Rattle.xw_session.specs.Put.{place_of, has_place, with_text_at, with_piece}
 use Rattle.xw_session.specs.Reply.{put, reply_to, resized, moved, has_nul}
 use Rattle.xw_session.specs.Record.{piece_at, further_pieces, more_command, text_commands, section_commands}
@@ -75,7 +75,7 @@ plain_piece : (text : List ℕ) (before : ℕ) → has_nul text ≡ false → ha
 plain_piece text before none = (nul_parts (drop (2000 * before) text) 2000 (nul_parts text (2000 * before) none).1).0
 
 put_again : (state : State) (putting : Putting) (field : Field) (piece : List ℕ) → has_place state.position.grid (place_of field) ≡ true → has_nul piece ≡ false
-    → state_left (reply_to state (Put putting field (spelled piece))) ≡ Some (with_piece state putting (place_of field) piece)
+    → state_left (reply_to state (Put putting field (escaped_text piece))) ≡ Some (with_piece state putting (place_of field) piece)
 put_again state putting field piece placed plain =
     ap (λ found. state_left (put state putting field found)) (reads_back piece)
     ∙ ap state_left (last_of_three (has_place state.position.grid (place_of field)) (has_nul piece) _ _ _ placed plain)
@@ -101,7 +101,7 @@ module _ (state : State) (field : Field) (text : List ℕ) (plain : has_nul text
       let there : 0 < length front = omega (arith, length-take (2000 * (k + 1)) text, some) in
       let grown = behind front (piece_at text (k + 1)) there ∙ ap (with_text_at state (place_of field)) (one_piece_more text k) in
       let last : 2000 * (k + 1 + 1 + n) ≡ 2000 * (k + 1 + suc n) = omega arith in
-      next_done (with_text_at state (place_of field) front) (with_text_at state (place_of field) (take (2000 * (k + 1 + 1)) text)) (Put Behind field (spelled (piece_at text (k + 1)))) (map (more_command field text) (range_with_len (k + 1) n))
+      next_done (with_text_at state (place_of field) front) (with_text_at state (place_of field) (take (2000 * (k + 1 + 1)) text)) (Put Behind field (escaped_text (piece_at text (k + 1)))) (map (more_command field text) (range_with_len (k + 1) n))
       (put_again (with_text_at state (place_of field) front) Behind field (piece_at text (k + 1)) (placed front) (plain_piece text (k + 1) plain) ∙ ap Some grown)
       ∙ further_again (k + 1) n some
       ∙ ap (λ n. Some (with_text_at state (place_of field) (take n text))) last
@@ -167,7 +167,7 @@ pub text_again : (state : State) (field : Field) (text : List ℕ) → has_place
 text_again state field [] placed plain = next_done state (with_text_at state (place_of field) []) (Put Instead field []) [] (put_again state Instead field [] placed refl)
 text_again state field (byte ∷ bytes) placed plain =
     let text = byte ∷ bytes in
-    next_done state (with_text_at state (place_of field) (take 2000 text)) (Put Instead field (spelled (piece_at text 0))) (map (more_command field text) (range_with_len 0 (further_pieces text)))
+    next_done state (with_text_at state (place_of field) (take 2000 text)) (Put Instead field (escaped_text (piece_at text 0))) (map (more_command field text) (range_with_len 0 (further_pieces text)))
     (put_again state Instead field (piece_at text 0) placed (plain_piece text 0 plain))
     ∙ whole_again state field text plain (λ front. still_placed state (place_of field) front placed) (grown state (place_of field)) (omega arith)
 

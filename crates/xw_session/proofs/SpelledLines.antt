@@ -9,7 +9,7 @@ use Rattle.std.proofs.lemmas.Grind.{flat_map-append}
 use Rattle.xw_words.proofs.Position.{position_is_some}
 use Rattle.xw_session.specs.Cut.{HasNoLf}
 use Rattle.xw_session.specs.Line.{is_ink, first_place, trimmed_start, trimmed_end, trimmed}
-use Rattle.xw_session.specs.Escape.{letter_for, escaped, is_end, spelled_at, spelled}
+use Rattle.xw_session.specs.Escape.{letter_for, escaped, is_end, spelled_at, escaped_text}
 
 -- ---- no line feed
 
@@ -34,7 +34,7 @@ no_lf_each : (text places : List ℕ) → HasNoLf (flat_map (spelled_at text) pl
 no_lf_each text [] = tt
 no_lf_each text (place ∷ places) = no_lf_joined (spelled_at text place) (flat_map (spelled_at text) places) (no_lf_in (is_end text place) (slice_index text place)) (no_lf_each text places)
 
-pub no_lf_spelled : (text : List ℕ) → HasNoLf (spelled text)
+pub no_lf_spelled : (text : List ℕ) → HasNoLf (escaped_text text)
 no_lf_spelled text = no_lf_each text (range_with_len 0 (length text))
 
 -- ---- no space or tab at an end
@@ -81,11 +81,11 @@ back_kept front byte (Some letter) ink =
     let last : (front ++ 92 ∷ []) ++ letter ∷ [] ≡ front ++ 92 ∷ letter ∷ [] = append_assoc front (92 ∷ []) (letter ∷ []) in
     subst (λ xs. trimmed_end xs ≡ xs) last (end_kept (front ++ 92 ∷ []) letter ink)
 
-pub starts_inked : (byte : ℕ) (bytes : List ℕ) → trimmed_start (spelled (byte ∷ bytes)) ≡ spelled (byte ∷ bytes)
+pub starts_inked : (byte : ℕ) (bytes : List ℕ) → trimmed_start (escaped_text (byte ∷ bytes)) ≡ escaped_text (byte ∷ bytes)
 starts_inked byte bytes = front_kept byte (letter_for true byte) (flat_map (spelled_at (byte ∷ bytes)) (range_with_len 1 (length bytes))) (inked byte)
 
 -- the spelling of the last byte comes last
-last_apart : (text : List ℕ) (m : ℕ) → m + 1 ≡ length text → spelled text ≡ flat_map (spelled_at text) (take m (range_with_len 0 (length text))) ++ spelled_at text m
+last_apart : (text : List ℕ) (m : ℕ) → m + 1 ≡ length text → escaped_text text ≡ flat_map (spelled_at text) (take m (range_with_len 0 (length text))) ++ spelled_at text m
 last_apart text m is =
     let places = range_with_len 0 (length text) in
     let long : length places ≡ length text = length-range_with_len 0 (length text) in
@@ -94,18 +94,18 @@ last_apart text m is =
     let parts : places ≡ take m places ++ m ∷ [] = sym (take_all (m + 1) places (omega (arith, long, is))) ∙ take_more places m 0 inside ∙ ap (λ k. take m places ++ k ∷ []) at in
     ap (flat_map (spelled_at text)) parts ∙ flat_map-append (spelled_at text) (take m places) (m ∷ []) ∙ ap (λ xs. flat_map (spelled_at text) (take m places) ++ xs) (append-nil (spelled_at text m))
 
-ends_inked : (text : List ℕ) (m : ℕ) → m + 1 ≡ length text → trimmed_end (spelled text) ≡ spelled text
+ends_inked : (text : List ℕ) (m : ℕ) → m + 1 ≡ length text → trimmed_end (escaped_text text) ≡ escaped_text text
 ends_inked text m is =
     let front = flat_map (spelled_at text) (take m (range_with_len 0 (length text))) in
     let byte = slice_index text m in
     let at_end : is_end text m ≡ true = ap (λ b. eqb m 0 || b) (eq-eqb (m + 1) (length text) is) ∙ or_true (eqb m 0) in
     let last : spelled_at text m ≡ escaped byte (letter_for true byte) = ap (λ b. escaped byte (letter_for b byte)) at_end in
-    let whole : spelled text ≡ front ++ escaped byte (letter_for true byte) = last_apart text m is ∙ ap (λ xs. front ++ xs) last in
+    let whole : escaped_text text ≡ front ++ escaped byte (letter_for true byte) = last_apart text m is ∙ ap (λ xs. front ++ xs) last in
     subst (λ xs. trimmed_end xs ≡ xs) (sym whole) (back_kept front byte (letter_for true byte) (inked byte)) where
       or_true : (b : Bool) → (b || true) ≡ true
       or_true true = refl
       or_true false = refl
 
-pub spelled_trimmed : (text : List ℕ) → trimmed (spelled text) ≡ spelled text
+pub spelled_trimmed : (text : List ℕ) → trimmed (escaped_text text) ≡ escaped_text text
 spelled_trimmed [] = refl
 spelled_trimmed (byte ∷ bytes) = ap trimmed_end (starts_inked byte bytes) ∙ ends_inked (byte ∷ bytes) (length bytes) (omega arith)

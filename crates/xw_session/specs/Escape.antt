@@ -66,5 +66,5 @@ abbrev pub spelled_at : List ℕ → ℕ → List ℕ
 spelled_at text place = escaped (slice_index text place) (letter_for (is_end text place) (slice_index text place))
 
 -- a text with an escape for each LF, CR and backslash, and for a space or a tab at an end
-abbrev pub spelled : List ℕ → List ℕ
-spelled text = flat_map (spelled_at text) (range_with_len 0 (length text))
+abbrev pub escaped_text : List ℕ → List ℕ
+escaped_text text = flat_map (spelled_at text) (range_with_len 0 (length text))

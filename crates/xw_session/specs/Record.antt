@@ -23,7 +23,7 @@ use Rattle.xw_session.specs.declared.record.Part.{Part}
 use Rattle.xw_session.specs.declared.record.Part.TheVariants as parts
 use Rattle.xw_session.specs.declared.record.Section.{Section}
 use Rattle.xw_session.specs.declared.record.Section.TheVariants as sections
-use Rattle.xw_session.specs.Escape.{spelled}
+use Rattle.xw_session.specs.Escape.{escaped_text}
 use Rattle.xw_session.specs.Put.{text_of_field}
 use Rattle.xw_session.specs.Spelling.{command_line}
 use Rattle.xw_session.specs.State.{State}
@@ -61,11 +61,11 @@ abbrev pub further_pieces : List ℕ → ℕ
 further_pieces text = (length text - 1) / 2000
 
 abbrev pub more_command : Field → List ℕ → ℕ → Command
-more_command field text before = Put Behind field (spelled (piece_at text (before + 1)))
+more_command field text before = Put Behind field (escaped_text (piece_at text (before + 1)))
 
 -- a text in pieces, the first of them instead of what its field has
 abbrev pub text_commands : Field → List ℕ → List Command
-text_commands field text = Put Instead field (spelled (piece_at text 0)) ∷ map (more_command field text) (range_with_len 0 (further_pieces text))
+text_commands field text = Put Instead field (escaped_text (piece_at text 0)) ∷ map (more_command field text) (range_with_len 0 (further_pieces text))
 
 -- ---- what is kept for cells
 

@@ -14,7 +14,7 @@ use Rattle.xw_fill.specs.FeasibleLetters.{feasible_letters}
 use Rattle.xw_files.specs.Puzzle.{TextsShown, clue_of}
 use Rattle.xw_session.specs.State.{State}
 use Rattle.xw_session.specs.Text.{line_of, change_line, direction_name}
-use Rattle.xw_session.specs.Escape.{spelled}
+use Rattle.xw_session.specs.Escape.{escaped_text}
 
 -- an open cell with its feasible letters, as the watch tells it; nothing for a block
 abbrev pub letters_told : Position → Cell → List ℕ
@@ -39,11 +39,11 @@ count_lines position = flat_map (count_line position) (range_with_len 0 (length 
 -- a text behind its name; nothing where it is empty
 abbrev pub field_line : List ℕ → List ℕ → List ℕ
 field_line name [] = []
-field_line name (byte ∷ bytes) = line_of (name ∷ spelled (byte ∷ bytes) ∷ [])
+field_line name (byte ∷ bytes) = line_of (name ∷ escaped_text (byte ∷ bytes) ∷ [])
 
 abbrev pub clue_line : LightName → List ℕ → List ℕ
 clue_line name [] = []
-clue_line name (byte ∷ bytes) = line_of (codes "clue" ∷ decimal name.number ∷ direction_name name.direction ∷ spelled (byte ∷ bytes) ∷ [])
+clue_line name (byte ∷ bytes) = line_of (codes "clue" ∷ decimal name.number ∷ direction_name name.direction ∷ escaped_text (byte ∷ bytes) ∷ [])
 
 -- the four texts
 abbrev pub title_and_author : TextsShown → List ℕ

@@ -3,7 +3,7 @@ ghost use Rattle.std.specs.Prelude.{◌≡◌, ℕ, ◌<◌, ◌++◌, [], ◌�
 ghost use Rattle.std.specs.Option.{is_some};
 ghost use Rattle.xw_session.specs.Sends.{Sends};
 ghost use Rattle.xw_session.specs.Text.{line_of};
-ghost use Rattle.xw_session.specs.Escape.{meaning as meaning_of, added as added_so, begins_escape as begins_escape_so, text_spelled, letter_for as letter_for_byte, escaped, is_end as is_end_of, spelled_at, spelled};
+ghost use Rattle.xw_session.specs.Escape.{meaning as meaning_of, added as added_so, begins_escape as begins_escape_so, text_spelled, letter_for as letter_for_byte, escaped, is_end as is_end_of, spelled_at, escaped_text};
 
 use crate::device::{self, Sink, WriteFailed};
 use std::alloc::{AllocError, Global};
@@ -121,7 +121,7 @@ fn write_at<W: Sink>(sink: &mut W, text: &[u8], place: usize) -> Result<(), Writ
 }
 
 fn write<W: Sink>(sink: &mut W, text: &[u8]) -> Result<(), WriteFailed>
-    ensures { Sends W.told W.failures sink.old sink.new result (spelled text.now) }
+    ensures { Sends W.told W.failures sink.old sink.new result (escaped_text text.now) }
 {
     for place in 0..text.len() {
         write_at(sink, text, place)?;
@@ -131,7 +131,7 @@ fn write<W: Sink>(sink: &mut W, text: &[u8]) -> Result<(), WriteFailed>
 
 /// Writes a text, and ends the line.
 pub fn write_line<W: Sink>(sink: &mut W, text: &[u8]) -> Result<(), WriteFailed>
-    ensures { Sends W.told W.failures sink.old sink.new result (line_of (spelled text.now ∷ [])) }
+    ensures { Sends W.told W.failures sink.old sink.new result (line_of (escaped_text text.now ∷ [])) }
 {
     write(sink, text)?;
     device::write_all(sink, b"\n")

@@ -4,7 +4,7 @@ ghost use Rattle.xw_grid.specs.Light.{lights_of, no_light};
 ghost use Rattle.xw_files.specs.Puzzle.{texts_view};
 ghost use Rattle.xw_session.specs.Sends.{Sends};
 ghost use Rattle.xw_session.specs.Text.{line_of, direction_name as name_of_direction};
-ghost use Rattle.xw_session.specs.Escape.{spelled};
+ghost use Rattle.xw_session.specs.Escape.{escaped_text};
 ghost use Rattle.xw_session.specs.Told.{field_line, title_and_author, copyright_and_notes, field_lines, clue_line, clue_told, clue_lines};
 
 use crate::device::{Sink, WriteFailed};
@@ -51,7 +51,7 @@ pub fn write_directed_text<W: Sink>(
     direction: Direction,
     text: &[u8],
 ) -> Result<(), WriteFailed>
-    ensures { Sends W.told W.failures sink.old sink.new result (line_of (name_of_direction direction ∷ spelled text.now ∷ [])) }
+    ensures { Sends W.told W.failures sink.old sink.new result (line_of (name_of_direction direction ∷ escaped_text text.now ∷ [])) }
 {
     text::write_direction_spaced(sink, direction)?;
     escape::write_line(sink, text)
@@ -63,7 +63,7 @@ fn write_light_and_text<W: Sink>(
     light: LightName,
     text: &[u8],
 ) -> Result<(), WriteFailed>
-    ensures { Sends W.told W.failures sink.old sink.new result (line_of (decimal light.number ∷ name_of_direction light.direction ∷ spelled text.now ∷ [])) }
+    ensures { Sends W.told W.failures sink.old sink.new result (line_of (decimal light.number ∷ name_of_direction light.direction ∷ escaped_text text.now ∷ [])) }
 {
     text::write_number_spaced(sink, light.number)?;
     write_directed_text(sink, light.direction, text)

@@ -11,7 +11,7 @@ ghost use Rattle.xw_grid.specs.Grid.{IsGrid, cells};
 ghost use Rattle.xw_grid.specs.Edit.{blank};
 ghost use Rattle.xw_grid.specs.Clue.{no_clues, is_circled};
 ghost use Rattle.xw_session.specs.Line.{trimmed};
-ghost use Rattle.xw_session.specs.Escape.{text_spelled, spelled};
+ghost use Rattle.xw_session.specs.Escape.{text_spelled, escaped_text};
 ghost use Rattle.xw_session.specs.declared.command.Command.{Command};
 ghost use Rattle.xw_session.specs.declared.command.Field.{Field};
 ghost use Rattle.xw_session.specs.declared.record.Section.TheVariants as sections;
@@ -36,9 +36,9 @@ pub fn lines_are_cut_at_each_lf()
 
 /// A text as answers spell it is read back as the same text, and stands in a line as it is.
 pub fn what_is_spelled_reads_back()
-    ensures back { (text : List ℕ) → text_spelled (spelled text) ≡ Some text }
-    ensures line { (text : List ℕ) → HasNoLf (spelled text) }
-    ensures ends { (text : List ℕ) → trimmed (spelled text) ≡ spelled text }
+    ensures back { (text : List ℕ) → text_spelled (escaped_text text) ≡ Some text }
+    ensures line { (text : List ℕ) → HasNoLf (escaped_text text) }
+    ensures ends { (text : List ℕ) → trimmed (escaped_text text) ≡ escaped_text text }
 {}
 
 /// Commands do what the first of them do, and then what the others do on the state that those leave.

@@ -7,7 +7,7 @@ ghost use Rattle.xw_grid.specs.Grid.{entry as entry_of};
 ghost use Rattle.xw_session.specs.declared.command.Command.TheVariants as commands;
 ghost use Rattle.xw_session.specs.declared.command.Name.TheVariants as names;
 ghost use Rattle.xw_session.specs.Sends.{Sends};
-ghost use Rattle.xw_session.specs.Escape.{spelled};
+ghost use Rattle.xw_session.specs.Escape.{escaped_text};
 ghost use Rattle.xw_session.specs.Name.{word_of};
 ghost use Rattle.xw_session.specs.Spelling.{symmetry_name as name_of_symmetry, side_name as name_of_side, field_name as name_of_field, at_spot, command_line};
 ghost use Rattle.xw_session.specs.Text.{line_of, direction_name as name_of_direction};
@@ -191,7 +191,7 @@ fn putting_name(putting: Putting) -> &'static str
 
 /// Writes a text behind its name, and ends the line.
 fn write_named_text<W: Sink>(sink: &mut W, name: &[u8], text: &[u8]) -> Result<(), WriteFailed>
-    ensures { Sends W.told W.failures sink.old sink.new result (line_of (name.now ∷ spelled text.now ∷ [])) }
+    ensures { Sends W.told W.failures sink.old sink.new result (line_of (name.now ∷ escaped_text text.now ∷ [])) }
 {
     text::write_spaced(sink, name)?;
     escape::write_line(sink, text)
@@ -214,7 +214,7 @@ fn write_spot_text<W: Sink>(
     direction: Direction,
     text: &[u8],
 ) -> Result<(), WriteFailed>
-    ensures { Sends W.told W.failures sink.old sink.new result (line_of (at_spot spot (name_of_direction direction ∷ spelled text.now ∷ []))) }
+    ensures { Sends W.told W.failures sink.old sink.new result (line_of (at_spot spot (name_of_direction direction ∷ escaped_text text.now ∷ []))) }
 {
     write_spot_spaced(sink, spot)?;
     fields::write_directed_text(sink, direction, text)
@@ -226,7 +226,7 @@ fn write_clue_text<W: Sink>(
     direction: Direction,
     text: &[u8],
 ) -> Result<(), WriteFailed>
-    ensures { Sends W.told W.failures sink.old sink.new result (line_of (codes "clue" ∷ at_spot spot (name_of_direction direction ∷ spelled text.now ∷ []))) }
+    ensures { Sends W.told W.failures sink.old sink.new result (line_of (codes "clue" ∷ at_spot spot (name_of_direction direction ∷ escaped_text text.now ∷ []))) }
 {
     text::write_spaced(sink, b"clue")?;
     write_spot_text(sink, spot, direction, text)
@@ -239,7 +239,7 @@ fn write_put<W: Sink>(
     field: Field,
     text: &[u8],
 ) -> Result<(), WriteFailed>
-    ensures { Sends W.told W.failures sink.old sink.new result (command_line (commands.Put putting field (spelled text.now))) }
+    ensures { Sends W.told W.failures sink.old sink.new result (command_line (commands.Put putting field (escaped_text text.now))) }
 {
     text::write_spaced(sink, putting_name(putting).as_bytes())?;
     match field {

@@ -1,8 +1,8 @@
 -- A file that was written is read again.
 use Rattle.std.proofs.Common.{◌≡◌, ℕ, ◌+◌, ◌*◌, ◌≤◌, List, [], ◌∷◌, ◌++◌, length, take, drop, nat_lt, false, refl, arith, rules, Ok, length-append}
 use Rattle.std.proofs.Math.Seq.{take-append_seam, drop-append_seam}
-use Rattle.xw_files.specs.Puz.Reading.{Fields, cells_of, clues_at, texts_at, boards_at, fields_at}
-use Rattle.xw_files.specs.Puz.Spelling.{FitsFile, AllHaveNoNul, with_nuls, spelled, header_bytes}
+use Rattle.xw_files.specs.Puz.Reading.{Fields, cell_count, clues_at, texts_at, boards_at, fields_at}
+use Rattle.xw_files.specs.Puz.Spelling.{FitsFile, AllHaveNoNul, with_nuls, file_bytes, header_bytes}
 use Rattle.xw_files.specs.declared.puz.header.Header.{Header}
 use Rattle.xw_files.specs.declared.fault.TextName.TheVariants.{Title, Author, Copyright, Clue, Notes}
 use Rattle.xw_files.proofs.PuzLemmas.Texts.{text_at-again}
@@ -41,7 +41,7 @@ texts fields = fields.title ++ 0 ∷ (fields.author ++ 0 ∷ (fields.copyright +
 
 boards_at-again : (fields : Fields) → FitsFile fields → boards_at fields.header (fields.solution ++ (fields.state ++ texts fields)) ≡ Ok fields
 boards_at-again fields fits =
-    let cells = cells_of fields.header in
+    let cells = cell_count fields.header in
     rw (
       behind fields.solution (fields.state ++ texts fields) cells fits.solution,
       behind fields.state (texts fields) cells fits.state,
@@ -50,9 +50,9 @@ boards_at-again fields fits =
     )
     (texts_at-again fields fits)
 
-pub fields_at-again : (fields : Fields) (reserved : List ℕ) → FitsFile fields → length reserved ≡ 16 → fields_at (spelled fields reserved) ≡ Ok fields
+pub fields_at-again : (fields : Fields) (reserved : List ℕ) → FitsFile fields → length reserved ≡ 16 → fields_at (file_bytes fields reserved) ≡ Ok fields
 fields_at-again fields reserved fits r =
-    let cells = cells_of fields.header in
+    let cells = cell_count fields.header in
     let boards : List ℕ = fields.solution ++ (fields.state ++ texts fields) in
     let size = header-length fields.header reserved fits.header.masked r in
     let enough : 52 + 2 * cells ≤ length (header_bytes fields.header reserved ++ boards) =

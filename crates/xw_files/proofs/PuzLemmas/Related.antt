@@ -18,7 +18,7 @@ use Rattle.xw_files.specs.Finished.{has_bar}
 use Rattle.xw_files.specs.Steps.{◌>>=◌}
 use Rattle.xw_files.specs.Puz.Reading.{Fields, fields_at, part_at}
 use Rattle.xw_files.specs.Steps.{GivesOrLacksMemory}
-use Rattle.xw_files.specs.Puz.Spelling.{with_nuls, spelled, header_bytes}
+use Rattle.xw_files.specs.Puz.Spelling.{with_nuls, file_bytes, header_bytes}
 use Rattle.xw_files.specs.Puz.Sums.{sum_from, sums_of, wrong_sum}
 use Rattle.xw_files.specs.Puz.Sections.{Section, AreBytes, AreSections, first_gext, marked_cells, gext_in, with_marks, circles_by}
 use Rattle.xw_files.specs.Puz.Board.{square_of, no_wrong, squares_at, grid_at, clues_in, with_clues, puzzle_of, puzzle_at}
@@ -47,7 +47,7 @@ after-texts [] rest small = small
 after-texts (text ∷ texts) rest small = after-texts texts rest (after-text text (with_nuls texts rest) small)
 
 -- what follows the notes of a file are bytes
-rest-bytes : (fields : Fields) (reserved : List ℕ) → AreBytes (spelled fields reserved) → AreBytes fields.rest
+rest-bytes : (fields : Fields) (reserved : List ℕ) → AreBytes (file_bytes fields reserved) → AreBytes fields.rest
 rest-bytes fields reserved small =
     let texts = bytes-after fields.state _ (bytes-after fields.solution _ (bytes-after (header_bytes fields.header reserved) _ small)) in
     let clues = after-text fields.copyright _ (after-text fields.author _ (after-text fields.title _ texts)) in

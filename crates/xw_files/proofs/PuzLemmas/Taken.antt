@@ -4,8 +4,8 @@ use Rattle.std.specs.Cmp.Lexicographic.{pointwise}
 use Rattle.std.proofs.lemmas.List.{take-append-drop}
 use Rattle.std.proofs.lemmas.Bool.Decides.{nat_tests}
 use Rattle.byteorder.specs.Endian.{little_bytes}
-use Rattle.xw_files.specs.Puz.Reading.{Fields, magic, version, part_at, number_at, header_at, sized_header_at, cells_of, text_at, clues_at, texts_at, boards_at, fields_at}
-use Rattle.xw_files.specs.Puz.Spelling.{header_bytes, FitsHeader, FitsFile, HasNoNul, AllHaveNoNul, with_nuls, spelled}
+use Rattle.xw_files.specs.Puz.Reading.{Fields, magic, version, part_at, number_at, header_at, sized_header_at, cell_count, text_at, clues_at, texts_at, boards_at, fields_at}
+use Rattle.xw_files.specs.Puz.Spelling.{header_bytes, FitsHeader, FitsFile, HasNoNul, AllHaveNoNul, with_nuls, file_bytes}
 use Rattle.xw_files.specs.Puz.Sections.{AreBytes}
 use Rattle.xw_files.specs.declared.puz.header.Header.{Header}
 use Rattle.xw_files.proofs.StepLemmas.{ok_is, bind_ok, passed, avoided}
@@ -180,7 +180,7 @@ texts_at-takes header solution state bytes fields e =
 -- fields that were read are spelled so
 pub record Takes (bytes : List ℕ) (fields : Fields) : Type 0 where
   pub fits : FitsFile fields
-  pub spelled : bytes ≡ spelled fields (part_at 28 16 bytes)
+  pub spelled : bytes ≡ file_bytes fields (part_at 28 16 bytes)
   pub long : 52 ≤ length bytes
 
 split-again : (count : ℕ) (xs : List ℕ) → xs ≡ take count xs ++ drop count xs
@@ -193,7 +193,7 @@ pub fields_at-takes : (bytes : List ℕ) (fields : Fields) → AreBytes bytes �
 fields_at-takes bytes fields small e =
     let head = bind_ok (header_at bytes) _ fields e in
     let header = head.0 in
-    let cells = cells_of header in
+    let cells = cell_count header in
     let enough = avoided (nat_lt (length bytes) (52 + 2 * cells)) _ _ fields head.2 in
     let long : 52 + 2 * cells ≤ length bytes = grind (arith, nat_tests, enough.0) in
     let body = drop 52 bytes in
@@ -206,8 +206,8 @@ fields_at-takes bytes fields small e =
     record {
       fits = record {
         header = subst FitsHeader (sym texts.header) h.0;
-        solution = ap length texts.solution ∙ first ∙ ap cells_of (sym texts.header);
-        state = ap length texts.state ∙ second ∙ ap cells_of (sym texts.header);
+        solution = ap length texts.solution ∙ first ∙ ap cell_count (sym texts.header);
+        state = ap length texts.state ∙ second ∙ ap cell_count (sym texts.header);
         title = texts.title;
         author = texts.author;
         copyright = texts.copyright;

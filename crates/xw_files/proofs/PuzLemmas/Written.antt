@@ -3,7 +3,7 @@ use Rattle.std.proofs.Common.{◌≡◌, ℕ, List, length, map, replicate, refl
 use Rattle.xw_grid.specs.Light.{lights_of}
 use Rattle.xw_files.specs.Puz.Reading.{Fields}
 use Rattle.xw_files.specs.Puzzle.{PuzzleShown, light_clues}
-use Rattle.xw_files.specs.Puz.Spelling.{spelled}
+use Rattle.xw_files.specs.Puz.Spelling.{file_bytes}
 use Rattle.xw_files.specs.Finished.{square_byte}
 use Rattle.xw_files.specs.Puz.Writing.{state_byte, circles_section, unsealed, unsealed_fields, sealed, spelled_puzzle}
 use Rattle.xw_files.specs.declared.puz.header.Header.{Header}
@@ -31,7 +31,7 @@ unsealed-same puzzle header solution state title author copyright notes rest clu
 pub spelled-is : (puzzle : PuzzleShown) (header kept : Header) (solution state title author copyright notes rest bytes : List ℕ) (clues : List (List ℕ))
     → fields_with header solution state title author copyright clues notes rest ≡ unsealed_fields puzzle
     → kept ≡ (sealed (fields_with header solution state title author copyright clues notes rest)).header
-    → bytes ≡ spelled (fields_with kept solution state title author copyright clues notes rest) (replicate 16 0)
+    → bytes ≡ file_bytes (fields_with kept solution state title author copyright clues notes rest) (replicate 16 0)
     → bytes ≡ spelled_puzzle puzzle
 spelled-is puzzle header kept solution state title author copyright notes rest bytes clues same seal is =
-    is ∙ ap (λ h. spelled (fields_with h solution state title author copyright clues notes rest) (replicate 16 0)) seal ∙ ap (λ f. spelled (sealed f) (replicate 16 0)) same
+    is ∙ ap (λ h. file_bytes (fields_with h solution state title author copyright clues notes rest) (replicate 16 0)) seal ∙ ap (λ f. file_bytes (sealed f) (replicate 16 0)) same

@@ -8,7 +8,7 @@ use Rattle.xw_grid.specs.declared.cell.Cell.{Cell}
 use Rattle.xw_grid.specs.declared.cell.Direction.{Direction}
 use Rattle.xw_grid.specs.declared.cell.Direction.TheVariants.{Across, Down}
 use Rattle.xw_grid.specs.Grid.{Grid, cells, cell_at, index_of, same_cell}
-use Rattle.xw_grid.specs.Light.{begins, light_at, lights_at, same_direction}
+use Rattle.xw_grid.specs.Light.{begins, light_starting, lights_at, same_direction}
 use Rattle.xw_grid.specs.Clue.{ClueMap, clue_at, with_clue}
 use Rattle.xw_grid.proofs.KeptLemmas.{clues_are_kept}
 use Rattle.xw_grid.proofs.GridLemmas.{cells_same, same_cell_itself, index_of-cell_at}
@@ -65,13 +65,13 @@ clues_found direction (start ∷ starts) (text ∷ texts) clues distinct same =
 
 -- ---- starts are distinct
 
-across_of_two : (x y : Bool) (grid : Grid) (cell : Cell) → starts_in Across (cond x (light_at grid Across cell ∷ []) [] ++ cond y (light_at grid Down cell ∷ []) []) ≡ cond x (cell ∷ []) []
+across_of_two : (x y : Bool) (grid : Grid) (cell : Cell) → starts_in Across (cond x (light_starting grid Across cell ∷ []) [] ++ cond y (light_starting grid Down cell ∷ []) []) ≡ cond x (cell ∷ []) []
 across_of_two true true grid cell = refl
 across_of_two true false grid cell = refl
 across_of_two false true grid cell = refl
 across_of_two false false grid cell = refl
 
-down_of_two : (x y : Bool) (grid : Grid) (cell : Cell) → starts_in Down (cond x (light_at grid Across cell ∷ []) [] ++ cond y (light_at grid Down cell ∷ []) []) ≡ cond y (cell ∷ []) []
+down_of_two : (x y : Bool) (grid : Grid) (cell : Cell) → starts_in Down (cond x (light_starting grid Across cell ∷ []) [] ++ cond y (light_starting grid Down cell ∷ []) []) ≡ cond y (cell ∷ []) []
 down_of_two true true grid cell = refl
 down_of_two true false grid cell = refl
 down_of_two false true grid cell = refl

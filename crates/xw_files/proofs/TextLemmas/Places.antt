@@ -9,7 +9,7 @@ use Rattle.xw_grid.specs.declared.cell.Direction.{Direction}
 use Rattle.xw_grid.specs.declared.cell.Direction.TheVariants.{Across, Down}
 use Rattle.xw_grid.specs.declared.lights.Light.{Light}
 use Rattle.xw_grid.specs.Grid.{Grid, cells, cell_at}
-use Rattle.xw_grid.specs.Light.{begins, light_at, lights_at, lights_of}
+use Rattle.xw_grid.specs.Light.{begins, light_starting, lights_at, lights_of}
 use Rattle.xw_grid.specs.Clue.{ClueMap, clue_at}
 use Rattle.xw_files.specs.Text.Written.{is_clue, is_bad_clue, bad_clue, place_at}
 use Rattle.xw_files.proofs.CellLemmas.{cells_drop, cells_past}
@@ -65,15 +65,15 @@ is_bad_at grid clues direction cell = begins grid direction cell && not (is_clue
 bad_here : (grid : Grid) (clues : ClueMap) (direction : Direction) (cell : Cell) (rest : List Light) → is_bad_at grid clues direction cell ≡ true → position (is_bad_clue direction clues) (lights_at grid cell ++ rest) ≡ Some (place_at grid direction cell)
 bad_here grid clues Across cell rest bad =
     let both = and_parts (begins grid Across cell) (not (is_clue (clue_at clues cell Across))) bad in
-    rw both.0 (across_bad (is_bad_clue Across clues) (light_at grid Across cell) (light_at grid Down cell) (begins grid Down cell) rest both.1)
+    rw both.0 (across_bad (is_bad_clue Across clues) (light_starting grid Across cell) (light_starting grid Down cell) (begins grid Down cell) rest both.1)
 bad_here grid clues Down cell rest bad =
     let both = and_parts (begins grid Down cell) (not (is_clue (clue_at clues cell Down))) bad in
-    rw both.0 (down_bad (is_bad_clue Down clues) (light_at grid Across cell) (light_at grid Down cell) (begins grid Across cell) rest refl both.1)
+    rw both.0 (down_bad (is_bad_clue Down clues) (light_starting grid Across cell) (light_starting grid Down cell) (begins grid Across cell) rest refl both.1)
 
 none_here : (grid : Grid) (clues : ClueMap) (direction : Direction) (cell : Cell) (rest : List Light) → is_bad_at grid clues direction cell ≡ false
     → position (is_bad_clue direction clues) (lights_at grid cell ++ rest) ≡ shifted (length (lights_at grid cell)) (position (is_bad_clue direction clues) rest)
-none_here grid clues Across cell rest fine = none_bad (is_bad_clue Across clues) (light_at grid Across cell) (light_at grid Down cell) (begins grid Across cell) (begins grid Down cell) rest fine (and-false (begins grid Down cell))
-none_here grid clues Down cell rest fine = none_bad (is_bad_clue Down clues) (light_at grid Across cell) (light_at grid Down cell) (begins grid Across cell) (begins grid Down cell) rest (and-false (begins grid Across cell)) fine
+none_here grid clues Across cell rest fine = none_bad (is_bad_clue Across clues) (light_starting grid Across cell) (light_starting grid Down cell) (begins grid Across cell) (begins grid Down cell) rest fine (and-false (begins grid Down cell))
+none_here grid clues Down cell rest fine = none_bad (is_bad_clue Down clues) (light_starting grid Across cell) (light_starting grid Down cell) (begins grid Across cell) (begins grid Down cell) rest (and-false (begins grid Across cell)) fine
 
 -- ---- the loop
 

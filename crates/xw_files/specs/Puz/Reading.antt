@@ -76,8 +76,8 @@ pub record Fields : Type 0 where
   pub notes : List ℕ
   pub rest : List ℕ
 
-abbrev pub cells_of : Header → ℕ
-cells_of header = header.width * header.height
+abbrev pub cell_count : Header → ℕ
+cell_count header = header.width * header.height
 
 -- the texts after the boards
 abbrev pub texts_at : Header → List ℕ → List ℕ → List ℕ → Result Fields ReadFault
@@ -101,10 +101,10 @@ texts_at header solution state bytes =
 
 -- the two boards and the texts, after the header
 abbrev pub boards_at : Header → List ℕ → Result Fields ReadFault
-boards_at header bytes = let cells = cells_of header in
+boards_at header bytes = let cells = cell_count header in
     texts_at header (take cells bytes) (take cells (drop cells bytes)) (drop cells (drop cells bytes))
 
 -- the fields of a whole file
 abbrev pub fields_at : List ℕ → Result Fields ReadFault
 fields_at bytes = header_at bytes >>= λ header.
-    (if nat_lt (length bytes) (52 + 2 * cells_of header) then Err (Short part.Boards) else boards_at header (drop 52 bytes))
+    (if nat_lt (length bytes) (52 + 2 * cell_count header) then Err (Short part.Boards) else boards_at header (drop 52 bytes))

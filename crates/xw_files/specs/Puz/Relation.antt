@@ -3,7 +3,7 @@ use Rattle.std.specs.Prelude.{◌≡◌, ℕ, ◌*◌, false, List, [], map, len
 use Rattle.xw_files.specs.Puzzle.{TextsShown, PuzzleShown, light_clues, circled_cells}
 use Rattle.xw_files.specs.Finished.{has_bar}
 use Rattle.xw_files.specs.Puz.Reading.{Fields}
-use Rattle.xw_files.specs.Puz.Spelling.{FitsFile, spelled}
+use Rattle.xw_files.specs.Puz.Spelling.{FitsFile, file_bytes}
 use Rattle.xw_files.specs.Puz.Sums.{sum_from, sums_of, HasSums}
 use Rattle.xw_files.specs.Puz.Sections.{Section, AreSections, first_gext, marked_cells}
 use Rattle.xw_files.specs.Puz.Board.{square_of}
@@ -26,7 +26,7 @@ pub record IsPuz (bytes : List ℕ) (puzzle : PuzzleShown) : Type 0 where
   pub tail : List ℕ
   pub reserved_long : length reserved ≡ 16
   pub fits : FitsFile fields
-  pub cut : bytes ≡ spelled fields reserved
+  pub cut : bytes ≡ file_bytes fields reserved
   pub cut_rest : AreSections fields.rest sections tail
   pub sums : HasSums fields.header (sums_of fields)
   pub width : puzzle.grid.width ≡ fields.header.width

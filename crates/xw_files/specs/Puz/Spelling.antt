@@ -1,7 +1,7 @@
 -- The bytes of a file.
 use Rattle.std.specs.Prelude.{◌≡◌, ◌<◌, ◌^◌, length, ◌≢◌, ℕ, List, [], ◌∷◌, ◌++◌}
 use Rattle.byteorder.specs.Endian.{little_bytes}
-use Rattle.xw_files.specs.Puz.Reading.{magic, version, Fields, cells_of}
+use Rattle.xw_files.specs.Puz.Reading.{magic, version, Fields, cell_count}
 use Rattle.xw_files.specs.declared.puz.header.Header.{Header}
 
 -- the bytes that the CIB sum goes over, those of a file that is not scrambled
@@ -46,14 +46,14 @@ abbrev pub texts_bytes : Fields → List ℕ
 texts_bytes fields = fields.title ++ 0 ∷ (fields.author ++ 0 ∷ (fields.copyright ++ 0 ∷ with_nuls fields.clues (fields.notes ++ 0 ∷ fields.rest)))
 
 -- a whole file
-abbrev pub spelled : Fields → List ℕ → List ℕ
-spelled fields reserved = header_bytes fields.header reserved ++ (fields.solution ++ (fields.state ++ texts_bytes fields))
+abbrev pub file_bytes : Fields → List ℕ → List ℕ
+file_bytes fields reserved = header_bytes fields.header reserved ++ (fields.solution ++ (fields.state ++ texts_bytes fields))
 
 -- what has a spelling
 pub record FitsFile (fields : Fields) : Type 0 where
   pub header : FitsHeader fields.header
-  pub solution : length fields.solution ≡ cells_of fields.header
-  pub state : length fields.state ≡ cells_of fields.header
+  pub solution : length fields.solution ≡ cell_count fields.header
+  pub state : length fields.state ≡ cell_count fields.header
   pub title : HasNoNul fields.title
   pub author : HasNoNul fields.author
   pub copyright : HasNoNul fields.copyright

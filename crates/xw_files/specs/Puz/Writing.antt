@@ -16,7 +16,7 @@ use Rattle.xw_files.specs.Puz.Reading.{Fields}
 use Rattle.xw_files.specs.Puzzle.{PuzzleShown, light_clues, is_circled_open}
 use Rattle.xw_files.specs.Finished.{has_bar, empty_cell, square_byte}
 use Rattle.xw_files.specs.Puz.Sums.{sum_from, sums_of, masked_of}
-use Rattle.xw_files.specs.Puz.Spelling.{spelled}
+use Rattle.xw_files.specs.Puz.Spelling.{file_bytes}
 use Rattle.xw_files.specs.Puz.Sections.{Section, section_bytes}
 
 -- ---- the boards
@@ -83,7 +83,7 @@ fields_of puzzle = sealed (unsealed_fields puzzle)
 
 -- the bytes of a puzzle
 abbrev pub spelled_puzzle : PuzzleShown → List ℕ
-spelled_puzzle puzzle = spelled (fields_of puzzle) (replicate 16 0)
+spelled_puzzle puzzle = file_bytes (fields_of puzzle) (replicate 16 0)
 
 -- ---- faults
 

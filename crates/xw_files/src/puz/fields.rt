@@ -1,6 +1,6 @@
 //! The fields of a whole file.
 ghost use Rattle.std.specs.Prelude.{◌≡◌, ◌*◌, ◌≤◌, length, map};
-ghost use Rattle.xw_files.specs.Puz.Reading.{cells_of, clues_at, texts_at, boards_at, fields_at};
+ghost use Rattle.xw_files.specs.Puz.Reading.{cell_count, clues_at, texts_at, boards_at, fields_at};
 ghost use Rattle.xw_files.specs.Steps.{GivesOrLacksMemory};
 ghost use Rattle.xw_files.specs.Puz.View.{view};
 
@@ -89,7 +89,7 @@ fn boards_of(
     cells: usize,
     bytes: &[u8],
 ) -> Result<Fields<'_>, ReadFault>
-    requires cells { cells ≡ cells_of header }
+    requires cells { cells ≡ cell_count header }
     requires long { 2 * cells ≤ length bytes.now }
     ensures { GivesOrLacksMemory view result (boards_at header bytes.entry.now) }
 {

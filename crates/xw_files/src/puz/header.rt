@@ -1,6 +1,6 @@
 //! The header of a file.
 ghost use Rattle.std.specs.Prelude.{◌≡◌, ◌≤◌, ◌/◌, ◌%◌, length};
-ghost use Rattle.xw_files.specs.Puz.Reading.{cells_of, has_magic, header_at, sized_header_at};
+ghost use Rattle.xw_files.specs.Puz.Reading.{cell_count, has_magic, header_at, sized_header_at};
 ghost use Rattle.xw_files.specs.Puz.Spelling.{cib_bytes};
 
 use crate::fault::{Piece, ReadFault};
@@ -24,7 +24,7 @@ pub struct Header {
 impl Header {
     /// How many cells there are.
     pub fn cell_count(&self) -> usize
-        ensures count { result ≡ cells_of self.now }
+        ensures count { result ≡ cell_count self.now }
         ensures small { result ≤ 65025 }
     {
         usize::from(self.width) * usize::from(self.height)

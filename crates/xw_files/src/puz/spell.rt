@@ -1,7 +1,7 @@
 //! The bytes of fields.
 ghost use Rattle.std.specs.Prelude.{◌≡◌, ◌++◌, [], map, replicate, OnOk, IfOk};
 ghost use Rattle.byteorder.specs.Endian.{little_bytes};
-ghost use Rattle.xw_files.specs.Puz.Spelling.{spelled, texts_bytes, header_bytes, ended, with_nuls};
+ghost use Rattle.xw_files.specs.Puz.Spelling.{file_bytes, texts_bytes, header_bytes, ended, with_nuls};
 ghost use Rattle.xw_files.specs.Puz.View.{view};
 
 use crate::puz::fields::Fields;
@@ -11,7 +11,7 @@ use std::alloc::{AllocError, Global};
 
 /// The bytes of fields.
 pub fn spell(alloc: Global, fields: &Fields<'_>) -> Result<Vec<u8>, AllocError>
-    ensures { IfOk result (λ bytes. bytes.items ≡ spelled (view fields.now) (replicate 16 0)) }
+    ensures { IfOk result (λ bytes. bytes.items ≡ file_bytes (view fields.now) (replicate 16 0)) }
 {
     let mut out = Vec::new(alloc);
     push_boards(&mut out, fields)?;
