@@ -16,12 +16,18 @@ explain = record (new_rule (codes "explain")) { long = Some (codes "explain"); a
 abbrev pub operand : Text → Rule
 operand name = record (new_rule name) { value_names = 1; required = true }
 
--- a session, with what it may start with
+-- a session with its word list and its puzzle, then with what else it may start with, then with what it may write
+abbrev pub opened : App
+opened = with_rule (with_rule (new_app (codes "edit")) (option (codes "dict"))) (option (codes "from"))
+
 abbrev pub begun : App
-begun = with_rule (with_rule (with_rule (new_app (codes "edit")) (option (codes "dict"))) (option (codes "from"))) (option (codes "resume"))
+begun = with_rule opened (option (codes "resume"))
+
+abbrev pub kept : App
+kept = with_rule (with_rule begun (option (codes "to"))) (option (codes "save"))
 
 abbrev pub edit : App
-edit = with_rule (with_rule (with_rule begun (option (codes "to"))) (option (codes "save"))) explain
+edit = with_rule kept explain
 
 abbrev pub convert : App
 convert = with_rule (with_rule (with_rule (new_app (codes "convert")) (operand (codes "from"))) (operand (codes "to"))) explain
@@ -33,5 +39,12 @@ check = with_rule (with_rule (new_app (codes "check")) (operand (codes "file")))
 abbrev pub top : App
 top = on_top (λ s. record s { subcommand_required = true; has_version = true }) (new_app (codes "xw"))
 
+-- the program with its first subcommand, with two, and with all
+abbrev pub editing : App
+editing = with_subcommand top edit.top
+
+abbrev pub converting : App
+converting = with_subcommand editing convert.top
+
 abbrev pub xw : App
-xw = with_subcommand (with_subcommand (with_subcommand top edit.top) convert.top) check.top
+xw = with_subcommand converting check.top

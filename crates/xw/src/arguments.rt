@@ -112,9 +112,9 @@ fn operand<'a>(alloc: Global, name: &'a str, shown: &'a str, help: &'a str) -> A
         .required(true)
 }
 
-/// A session, with the files that it starts with.
-fn begun<'a>(alloc: Global) -> Result<Command<'a>, AllocError>
-    ensures shape { IfOk result (λ command. app_of command ≡ shapes.begun) }
+/// A session over a word list and a puzzle.
+fn opened<'a>(alloc: Global) -> Result<Command<'a>, AllocError>
+    ensures shape { IfOk result (λ command. app_of command ≡ shapes.opened) }
     ensures local { IfOk result (λ command. (fields_of command).has_globals ≡ false) }
 {
     Command::new(alloc, "edit")
@@ -125,16 +125,24 @@ fn begun<'a>(alloc: Global) -> Result<Command<'a>, AllocError>
             alloc,
             "from",
             "The puzzle to start with, .puz or text [default: 15 by 15 cells, all empty]",
-        ))?
-        .arg(option(
-            alloc,
-            "resume",
-            "Commands to do first, without answers, as --save wrote them",
         ))
 }
 
-fn edit<'a>(alloc: Global) -> Result<Command<'a>, AllocError>
-    ensures shape { IfOk result (λ command. app_of command ≡ shapes.edit) }
+/// A session with all that it starts with.
+fn begun<'a>(alloc: Global) -> Result<Command<'a>, AllocError>
+    ensures shape { IfOk result (λ command. app_of command ≡ shapes.begun) }
+    ensures local { IfOk result (λ command. (fields_of command).has_globals ≡ false) }
+{
+    opened(alloc)?.arg(option(
+        alloc,
+        "resume",
+        "Commands to do first, without answers, as --save wrote them",
+    ))
+}
+
+/// A session with the files that it writes.
+fn kept<'a>(alloc: Global) -> Result<Command<'a>, AllocError>
+    ensures shape { IfOk result (λ command. app_of command ≡ shapes.kept) }
     ensures local { IfOk result (λ command. (fields_of command).has_globals ≡ false) }
 {
     begun(alloc)?
@@ -147,8 +155,14 @@ fn edit<'a>(alloc: Global) -> Result<Command<'a>, AllocError>
             alloc,
             "save",
             "Where to write the session at the end, as commands for --resume",
-        ))?
-        .arg(explain(alloc))
+        ))
+}
+
+fn edit<'a>(alloc: Global) -> Result<Command<'a>, AllocError>
+    ensures shape { IfOk result (λ command. app_of command ≡ shapes.edit) }
+    ensures local { IfOk result (λ command. (fields_of command).has_globals ≡ false) }
+{
+    kept(alloc)?.arg(explain(alloc))
 }
 
 fn convert<'a>(alloc: Global) -> Result<Command<'a>, AllocError>
@@ -189,13 +203,30 @@ fn top<'a>(alloc: Global) -> Command<'a>
         .subcommand_required(true)
 }
 
+/// The program with its first subcommand.
+fn editing<'a>(alloc: Global) -> Result<Command<'a>, AllocError>
+    ensures shape { IfOk result (λ command. app_of command ≡ shapes.editing) }
+    ensures local { IfOk result (λ command. (fields_of command).has_globals ≡ false) }
+{
+    let edit = edit(alloc)?;
+    top(alloc).subcommand(edit)
+}
+
+/// The program with two of its subcommands.
+fn converting<'a>(alloc: Global) -> Result<Command<'a>, AllocError>
+    ensures shape { IfOk result (λ command. app_of command ≡ shapes.converting) }
+    ensures local { IfOk result (λ command. (fields_of command).has_globals ≡ false) }
+{
+    let editing = editing(alloc)?;
+    editing.subcommand(convert(alloc)?)
+}
+
 fn command<'a>(alloc: Global) -> Result<Command<'a>, AllocError>
     ensures shape { IfOk result (λ command. app_of command ≡ shapes.xw) }
     ensures local { IfOk result (λ command. (fields_of command).has_globals ≡ false) }
 {
-    let top = top(alloc).subcommand(edit(alloc)?)?;
-    let top = top.subcommand(convert(alloc)?)?;
-    top.subcommand(check(alloc)?)
+    let converting = converting(alloc)?;
+    converting.subcommand(check(alloc)?)
 }
 
 /// The call that the words are, of which the first is the program's name.

@@ -18,7 +18,7 @@ use xw_files::puzzle::Puzzle;
 use xw_files::{Kind, kind_of, read_puz, read_text, write_puz, write_text};
 use xw_session::refusal::{self, Refusal};
 use xw_session::{Session, Sink, device};
-use xw_words::{Bank, WordFault};
+use xw_words::{Bank, Loaded, WordFault};
 
 /// The bytes of a file.
 pub fn read_file<R: Files + AllocGlobal>(rt: &R, file: &str) -> Result<Vec<u8>, Failure> {
@@ -44,18 +44,25 @@ pub fn read_dictionary<R: Files + AllocGlobal, E: Sink>(
     let bytes = read_file(rt, file)?;
     match Bank::load_list(alloc, bytes.as_slice()) {
         Ok((bank, loaded)) => {
-            let (added, skipped) = (loaded.added, loaded.skipped);
-            let text = format!(in alloc; "xw: {file}: {added} added, {skipped} skipped\n")?;
-            let _ = device::write_all(errors, text.as_bytes());
+            tell_loaded(alloc, file, loaded, errors)?;
             Ok(bank)
         }
         Err(WordFault::Memory) => Err(Failure::Memory),
-        Err(fault) => {
-            let file = String::from_str(alloc, file)?;
-            let name = refusal::name(Refusal::Word(fault));
-            Err(Failure::File { file, name })
-        }
+        Err(fault) => Err(file_fault(alloc, file, refusal::name(Refusal::Word(fault)), None)),
     }
+}
+
+/// Says how many lines of a word list were added. A fault of the writer is passed over.
+fn tell_loaded<E: Sink>(
+    alloc: Global,
+    file: &str,
+    loaded: Loaded,
+    errors: &mut E,
+) -> Result<(), Failure> {
+    let (added, skipped) = (loaded.added, loaded.skipped);
+    let text = format!(in alloc; "xw: {file}: {added} added, {skipped} skipped\n")?;
+    let _ = device::write_all(errors, text.as_bytes());
+    Ok(())
 }
 
 /// The puzzle of a file, and the format that the file is of; with the place of a fault where that is asked for.

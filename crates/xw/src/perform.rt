@@ -115,9 +115,22 @@ fn edit<F: Feasible, R: Files + AllocGlobal, I: Source, O: Sink, E: Sink>(
 ) -> Result<Status, Failure> {
     files::keep_apart(rt, named)?;
     let mut session: Session<F> = open(rt, named, explain, errors)?;
-    let refused = resume(rt, &mut session, named.resume_file, errors)?;
+    answer(rt, &mut session, named, explain, input, output, errors)
+}
+
+/// Goes on with a session, answers the input, and writes the files that are named.
+fn answer<F: Feasible, R: Files + AllocGlobal, I: Source, O: Sink, E: Sink>(
+    rt: &R,
+    session: &mut Session<F>,
+    named: SessionFiles<'_>,
+    explain: bool,
+    input: &mut I,
+    output: &mut O,
+    errors: &mut E,
+) -> Result<Status, Failure> {
+    let refused = resume(rt, session, named.resume_file, errors)?;
     let answered = run_status(session.run_lines(input, output), refused);
-    close(rt, &session, named, explain, answered)
+    close(rt, session, named, explain, answered)
 }
 
 /// A session over a word list and a puzzle, each where it is named; the word list is read first.
@@ -127,23 +140,42 @@ fn open<F: Feasible, R: Files + AllocGlobal, E: Sink>(
     explain: bool,
     errors: &mut E,
 ) -> Result<Session<F>, Failure> {
-    let alloc = rt.alloc();
-    let bank = match named.dict {
-        Some(file) => files::read_dictionary(rt, file, errors)?,
-        None => Bank::new(alloc).map_err(|_| Failure::Memory)?,
-    };
+    let bank = dictionary(rt, named.dict, errors)?;
     match named.from_file {
-        Some(file) => {
-            let (_, puzzle) = files::read_puzzle(rt, file, explain)?;
-            let engine = F::open(alloc, puzzle.grid, bank).map_err(|_| Failure::Memory)?;
-            Ok(Session::open(engine, puzzle.texts, puzzle.clues, puzzle.circles))
-        }
-        None => {
-            let grid = Grid::new(alloc, START, START).map_err(|_| Failure::Memory)?;
-            let engine = F::open(alloc, grid, bank).map_err(|_| Failure::Memory)?;
-            Ok(Session::new(alloc, engine))
-        }
+        Some(file) => open_puzzle(rt, bank, file, explain),
+        None => open_empty(rt.alloc(), bank),
     }
+}
+
+/// The dictionary of a word list where one is named, else one without words.
+fn dictionary<R: Files + AllocGlobal, E: Sink>(
+    rt: &R,
+    named: Option<&str>,
+    errors: &mut E,
+) -> Result<Bank, Failure> {
+    match named {
+        Some(file) => files::read_dictionary(rt, file, errors),
+        None => Bank::new(rt.alloc()).map_err(|_| Failure::Memory),
+    }
+}
+
+/// A session on the puzzle of a file.
+fn open_puzzle<F: Feasible, R: Files + AllocGlobal>(
+    rt: &R,
+    bank: Bank,
+    file: &str,
+    explain: bool,
+) -> Result<Session<F>, Failure> {
+    let (_, puzzle) = files::read_puzzle(rt, file, explain)?;
+    let engine = F::open(rt.alloc(), puzzle.grid, bank).map_err(|_| Failure::Memory)?;
+    Ok(Session::open(engine, puzzle.texts, puzzle.clues, puzzle.circles))
+}
+
+/// A session on an empty grid.
+fn open_empty<F: Feasible>(alloc: Global, bank: Bank) -> Result<Session<F>, Failure> {
+    let grid = Grid::new(alloc, START, START).map_err(|_| Failure::Memory)?;
+    let engine = F::open(alloc, grid, bank).map_err(|_| Failure::Memory)?;
+    Ok(Session::new(alloc, engine))
 }
 
 /// Does the lines of a file where it is named, and returns how many are refused.

@@ -27,17 +27,25 @@ pub fn replace<R: Files + AllocGlobal>(rt: &R, file: &str, bytes: &[u8]) -> io::
     }
 }
 
+/// Puts what a link leads to in the place of its name, and says whether it was a link.
+fn follow<R: Files + AllocGlobal>(rt: &R, path: &mut PathBuf) -> io::Result<bool> {
+    match fs::symlink_metadata(rt, path) {
+        Ok(found) if found.is_symlink() => {
+            let next = fs::read_link(rt, path)?;
+            path.pop();
+            path.push(&next)?;
+            Ok(true)
+        }
+        _ => Ok(false),
+    }
+}
+
 /// The name to which the links of a name lead.
 fn followed<R: Files + AllocGlobal>(rt: &R, file: &str) -> io::Result<PathBuf> {
     let mut path = PathBuf::from_str(rt.alloc(), file)?;
     for _ in 0..MOST_LINKS {
-        match fs::symlink_metadata(rt, &path) {
-            Ok(found) if found.is_symlink() => {
-                let next = fs::read_link(rt, &path)?;
-                path.pop();
-                path.push(&next)?;
-            }
-            _ => return Ok(path),
+        if !follow(rt, &mut path)? {
+            return Ok(path);
         }
     }
     Err(io::Error::from(ErrorKind::FilesystemLoop))
