@@ -2,6 +2,7 @@
 use Rattle.std.specs.Prelude.{ℕ, ◌+◌, ◌-◌, ◌==◌, ◌||◌, List, [], ◌∷◌, length, take, count_by, Option, Some, None, Result, Ok, if◌then◌else◌}
 use Rattle.xw_grid.specs.declared.cell.Direction.TheVariants.{Across, Down}
 use Rattle.xw_grid.specs.Grid.{Grid}
+use Rattle.xw_words.specs.WordList.{is_line_feed}
 use Rattle.xw_files.specs.declared.fault.Tag.TheVariants as tags
 use Rattle.xw_files.specs.declared.fault.ReadFault.{ReadFault}
 use Rattle.xw_files.specs.declared.fault.ReadFault.TheVariants as faults
@@ -11,7 +12,6 @@ use Rattle.xw_files.specs.Steps.{◌>>=◌}
 use Rattle.xw_files.specs.Text.Lines.{text_lines, file_lines}
 use Rattle.xw_files.specs.Text.Tag.{header, name_of, names, is_tag_line}
 use Rattle.xw_files.specs.Text.Starts.{starts}
-use Rattle.xw_files.specs.Text.Written.{is_line_feed}
 use Rattle.xw_files.specs.Text.Shape.{header_at, texts_at, grid_at}
 
 -- the lines after the first of a name

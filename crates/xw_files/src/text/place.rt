@@ -1,9 +1,9 @@
 //! Where a text file leaves its shape.
 ghost use Rattle.std.specs.Prelude.{◌≡◌, ◌+◌, length, map, take, count_by, option_map, IfOk};
+ghost use Rattle.xw_words.specs.WordList.{is_line_feed};
 ghost use Rattle.xw_files.specs.Steps.{GivesOrLacksMemory};
 ghost use Rattle.xw_files.specs.Text.Lines.{file_lines};
 ghost use Rattle.xw_files.specs.Text.Starts.{starts};
-ghost use Rattle.xw_files.specs.Text.Written.{is_line_feed};
 ghost use Rattle.xw_files.specs.Text.Place.{after, left_after, under, tag_above, grid_of_text, lines_due, place_before, place_under, text_place};
 
 use crate::fault::{ReadFault, Tag};
