@@ -36,3 +36,4 @@ pub mod KeptInOrder
 pub mod KeptEdges
 pub mod KeptWords
 pub mod SessionKept
+pub mod Examples
