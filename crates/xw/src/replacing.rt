@@ -29,9 +29,9 @@ pub fn replace<R: Files + AllocGlobal>(rt: &R, file: &str, bytes: &[u8]) -> io::
 
 /// Puts what a link leads to in the place of its name, and says whether it was a link.
 fn follow<R: Files + AllocGlobal>(rt: &R, path: &mut PathBuf) -> io::Result<bool> {
-    match fs::symlink_metadata(rt, path) {
+    match fs::symlink_metadata(rt, &*path) {
         Ok(found) if found.is_symlink() => {
-            let next = fs::read_link(rt, path)?;
+            let next = fs::read_link(rt, &*path)?;
             path.pop();
             path.push(&next)?;
             Ok(true)

@@ -21,15 +21,15 @@ use xw_words::letter_set::LetterSet;
 
 /// An edit as a table spells it: a letter by its byte, and a cell by row and column.
 #[derive(Clone, Copy)]
-enum Do {
+enum Do<'a> {
     Set(u32, u32, u8),
     Clear(u32, u32),
-    Place(LightName, &'static [u8]),
+    Place(LightName, &'a [u8]),
     Block(u32, u32),
     Bar(u32, u32, Side),
     Choose(Symmetry),
-    Add(&'static [u8]),
-    Strike(&'static [u8]),
+    Add(&'a [u8]),
+    Strike(&'a [u8]),
 }
 
 /// Cells by row and column, each with its feasible letters.
@@ -39,8 +39,8 @@ type Cells = &'static [(u32, u32, &'static [u8])];
 #[derive(Clone, Copy)]
 enum Step {
     /// An edit, and the cells that it tells.
-    Told(Do, Cells),
-    Refused(Do, Refusal),
+    Told(Do<'static>, Cells),
+    Refused(Do<'static>, Refusal),
     /// Another grid of so many columns and rows.
     Regrid(u32, u32),
     /// How many columns and rows the grid has.
@@ -112,7 +112,7 @@ fn at(row: u32, col: u32) -> Cell {
 }
 
 /// An edit as the engine takes it, if its byte is a letter.
-fn edit_of(spelled: Do) -> Option<Edit<'static>> {
+fn edit_of(spelled: Do<'_>) -> Option<Edit<'_>> {
     Some(match spelled {
         Do::Set(row, col, byte) => Edit::Set(at(row, col), Letter::of(byte)?),
         Do::Clear(row, col) => Edit::Clear(at(row, col)),
@@ -129,9 +129,16 @@ fn engine(alloc: Global, width: u32, height: u32) -> Result<Plain, Refusal> {
     Plain::open(alloc, Grid::new(alloc, width, height)?, Bank::new(alloc)?)
 }
 
+fn add(engine: &mut Plain, text: &[u8]) -> Result<(), Refusal> {
+    if let Some(edit) = edit_of(Do::Add(text)) {
+        let _ = engine.edit(&edit)?;
+    }
+    Ok(())
+}
+
 fn add_all(engine: &mut Plain, texts: &[&[u8]]) -> Result<(), Refusal> {
     for text in texts {
-        let _ = engine.edit(&Edit::Add(*text))?;
+        add(engine, *text)?;
     }
     Ok(())
 }
@@ -208,7 +215,7 @@ fn answers(engine: &mut Plain, edit: &Edit<'_>, wanted: Result<Cells, Refusal>) 
     }
 }
 
-fn answers_spelled(engine: &mut Plain, spelled: Do, wanted: Result<Cells, Refusal>) -> bool {
+fn answers_spelled(engine: &mut Plain, spelled: Do<'_>, wanted: Result<Cells, Refusal>) -> bool {
     match edit_of(spelled) {
         Some(edit) => answers(engine, &edit, wanted),
         None => false,

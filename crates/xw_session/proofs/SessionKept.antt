@@ -21,7 +21,7 @@ use Rattle.xw_grid.specs.Clue.{ClueMap, no_clues, with_clue, with_circle, is_cir
 use Rattle.xw_grid.specs.Light.{lights_of, no_light, place_named, cells_of}
 use Rattle.xw_grid.proofs.OrderLemmas.{lights_are_made, made_inside}
 use Rattle.xw_feas.specs.declared.edit.Refusal.{Refusal as EditRefusal}
-use Rattle.xw_feas.specs.State.{State as Position, Action, letter_set, cell_cleared, word_placed, block_toggled, bar_toggled, symmetry_chosen, word_added, word_struck, after, with_grid as with_edited, with_words as with_dictionary, by_fault, with_letters, spelled_in, placed_in}
+use Rattle.xw_feas.specs.State.{State as Position, Action, letter_set, cell_cleared, word_placed, list_written, block_toggled, bar_toggled, symmetry_chosen, word_added, word_struck, after, with_grid as with_edited, with_words as with_dictionary, by_fault, with_letters, spelled_in, placed_in, then_write, write_list}
 use Rattle.xw_feas.specs.WellFormed.{IsWellFormed}
 use Rattle.xw_fill.specs.Position.{position_of, filled_in}
 use Rattle.xw_fill.specs.FeasibleLetters.{feasible_letters}
@@ -91,6 +91,16 @@ letters_framed [] grid letters = (refl, refl, refl, refl)
 letters_framed (cell ∷ cells) grid [] = (refl, refl, refl, refl)
 letters_framed (cell ∷ cells) grid (letter ∷ letters) = letters_framed cells (with_entry grid cell (Some letter)) letters
 
+list_framed : (list : List (Cell × Option ℕ)) (grid next : Grid) → write_list list grid ≡ Ok next → IsFramedAs grid next
+list_framed [] grid next e =
+    let same : grid ≡ next = cc in
+    subst (IsFramedAs grid) same (refl, refl, refl, refl)
+list_framed (written ∷ list) grid next e = by_tests (is_inside grid written.0) (is_block grid written.0) (list_framed list (with_entry grid written.0 written.1) next) e where
+  by_tests : (a b : Bool) → (write_list list (with_entry grid written.0 written.1) ≡ Ok next → IsFramedAs (with_entry grid written.0 written.1) next) → then_write (write_list list) (if not a then Err grids.OutOfGrid else if b then Err grids.OnBlock else Ok (with_entry grid written.0 written.1)) ≡ Ok next → IsFramedAs grid next
+  by_tests true false rest h = rest h
+  by_tests true true rest h = cc
+  by_tests false b rest h = cc
+
 module _ (begun : Dictionary) (position next : Position) (is : IsGrid position.grid) (only : BarsAreOnEdges position.grid) (first : AllComeFirst begun position.words) where
   -- where an edit makes another grid
   to_grid : (grid : Grid) → GridKept position.grid grid → with_edited position (Ok grid) ≡ Ok next → PositionKept begun position next
@@ -131,10 +141,15 @@ module _ (begun : Dictionary) (position next : Position) (is : IsGrid position.g
   by_place None bytes e = cc
   by_place (Some place) bytes e = by_spelling (slice_index_or (lights_of position.grid) place no_light) (bad_at is_bad_letter bytes) bytes e
 
+  by_list : (list : List (Cell × Option ℕ)) (written : Result Grid GridFault) → write_list list position.grid ≡ written → with_edited position (by_fault written) ≡ Ok next → PositionKept begun position next
+  by_list list (Ok grid) made e = to_grid grid (framed position.grid grid (list_framed list position.grid grid made) only) e
+  by_list list (Err fault) made e = cc
+
   pub edit_kept : (action : Action) → after position action ≡ Ok next → PositionKept begun position next
   edit_kept (letter_set cell letter) e = by_two (is_inside position.grid cell) (is_block position.grid cell) grids.OutOfGrid grids.OnBlock (with_entry position.grid cell (Some letter)) (framed position.grid _ (refl, refl, refl, refl) only) e
   edit_kept (cell_cleared cell) e = by_two (is_inside position.grid cell) (is_block position.grid cell) grids.OutOfGrid grids.OnBlock (with_entry position.grid cell None) (framed position.grid _ (refl, refl, refl, refl) only) e
   edit_kept (word_placed name word) e = by_place (place_named (lights_of position.grid) name) word e
+  edit_kept (list_written list) e = by_list list (write_list list position.grid) refl e
   edit_kept (block_toggled cell) e =
       by_two (is_inside position.grid cell) (not (is_block position.grid cell) && is_occupied position.grid cell) grids.OutOfGrid grids.Occupied (with_orbit position.grid cell (not (is_block position.grid cell))) (framed position.grid _ (refl, refl, refl, refl) only) e
   edit_kept (bar_toggled cell side) e =

@@ -5,7 +5,7 @@ use crate::plain::Plain;
 use crate::tests::Do::{Add, Bar, Block, Choose, Clear, Place, Set, Strike};
 use crate::tests::Step::{Count, Letters, Lights, Next, NoLight, Regrid, Told, Words};
 use crate::tests::{
-    ACROSS_1, ACROSS_2, ACROSS_3, ALL, DOWN_1, DOWN_2, SQUARE, Step, WHOLE_SQUARE, at, engine,
+    ACROSS_1, ACROSS_2, ACROSS_3, ALL, DOWN_1, DOWN_2, SQUARE, Step, WHOLE_SQUARE, add, at, engine,
     pass, pass_from,
 };
 use xw_grid::cell::{Side, Symmetry};
@@ -146,7 +146,7 @@ fn add_sixty_four(row: &mut Plain) -> Result<(), Refusal> {
     for second in *b"ABC" {
         for third in b'A'..=b'Z' {
             if second < b'C' || third <= b'L' {
-                let _ = row.edit(&Edit::Add(&[b'A', second, third]))?;
+                add(row, &[b'A', second, third])?;
             }
         }
     }
