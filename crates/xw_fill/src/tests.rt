@@ -14,20 +14,20 @@ use xw_words::letter::Letter;
 
 /// An edit as a table spells it: a letter by its byte, and a cell by row and column.
 #[derive(Clone, Copy)]
-enum Do {
+enum Do<'a> {
     Set(u32, u32, u8),
     Clear(u32, u32),
-    Place(LightName, &'static [u8]),
+    Place(LightName, &'a [u8]),
     Block(u32, u32),
     Choose(Symmetry),
-    Add(&'static [u8]),
-    Strike(&'static [u8]),
+    Add(&'a [u8]),
+    Strike(&'a [u8]),
 }
 
 /// A call and its answer.
 #[derive(Clone, Copy)]
 enum Step {
-    Done(Do),
+    Done(Do<'static>),
     /// The squares in reading order, a dot for an empty cell.
     Squares(&'static [u8]),
     Fill(u64, Filling),
@@ -74,7 +74,7 @@ fn at(row: u32, col: u32) -> Cell {
 }
 
 /// An edit as the engine takes it, if its byte is a letter.
-fn edit_of(spelled: Do) -> Option<Edit<'static>> {
+fn edit_of(spelled: Do<'_>) -> Option<Edit<'_>> {
     Some(match spelled {
         Do::Set(row, col, byte) => Edit::Set(at(row, col), Letter::of(byte)?),
         Do::Clear(row, col) => Edit::Clear(at(row, col)),
@@ -92,7 +92,9 @@ fn engine(alloc: Global, width: u32, height: u32) -> Result<Plain, Refusal> {
 
 fn add_all(engine: &mut Plain, texts: &[&[u8]]) -> Result<(), Refusal> {
     for text in texts {
-        let _ = engine.edit(&Edit::Add(*text))?;
+        if let Some(edit) = edit_of(Do::Add(*text)) {
+            let _ = engine.edit(&edit)?;
+        }
     }
     Ok(())
 }
