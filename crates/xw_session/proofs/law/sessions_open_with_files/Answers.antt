@@ -1,0 +1,9 @@
+use Rattle.xw_session.proofs.PuzOpened.{puz_opened}
+use Rattle.xw_session.proofs.TextOpened.{text_opened}
+use Rattle.xw_session.proofs.law.sessions_open_with_files.Goals as goal
+
+pub returns-clause-puz : goal.returns-clause-puz
+returns-clause-puz c = puz_opened
+
+pub returns-clause-text : goal.returns-clause-text
+returns-clause-text c = text_opened
