@@ -1,8 +1,12 @@
 -- A session that is opened on a puzzle.
-use Rattle.std.proofs.Common.{◌≡◌, ℕ, true, false, List, [], ◌∷◌, refl}
+use Rattle.std.proofs.Common.{◌≡◌, ℕ, true, false, List, [], ◌∷◌, map, filter, refl, sym, ap, subst, inl, inr, arith}
 use Rattle.std.specs.List.{AllByRecursion}
+use Rattle.std.proofs.lemmas.Bool.{cases_lt}
+use Rattle.std.proofs.lemmas.List.{get_or_past}
 use Rattle.std.proofs.lemmas.List.Elements.{recursion_from_All}
+use Rattle.std.proofs.lemmas.List.FromFn.{get_or-map-range_with_len, length-map-range_with_len}
 use Rattle.xw_words.specs.Dictionary.{Dictionary}
+use Rattle.xw_words.specs.WordList.{known, has_length, entries_among, listed}
 use Rattle.xw_grid.specs.declared.cell.Direction.{Direction}
 use Rattle.xw_grid.specs.declared.cell.Direction.TheVariants.{Across, Down}
 use Rattle.xw_grid.specs.declared.cell.Square.{Square}
@@ -17,7 +21,7 @@ use Rattle.xw_files.specs.Puzzle.{PuzzleShown}
 use Rattle.xw_session.specs.declared.command.TextField.{TextField}
 use Rattle.xw_session.specs.Put.{text_of_field}
 use Rattle.xw_session.specs.Reply.{has_nul}
-use Rattle.xw_session.specs.Replay.{BarsAreOnEdges, AreFrom, AreTextsFrom, clues_of, NoneIsStruck, BeganWith, opened_on}
+use Rattle.xw_session.specs.Replay.{BarsAreOnEdges, AreFrom, AreTextsFrom, clues_of, ComeFirst, NoneIsStruck, BeganWith, opened_on}
 use Rattle.xw_session.proofs.KeptEdges.{blank_edges}
 
 -- what a session has of a puzzle
@@ -58,3 +62,18 @@ made_all_inside grid (light ∷ lights) made = (made_inside grid light made.0, m
 
 pub lights_begin_inside : (grid : Grid) → BeginInside grid (lights_of grid)
 lights_begin_inside grid = made_all_inside grid (lights_of grid) (recursion_from_All (IsMade grid) (lights_of grid) (lights_are_made grid))
+
+-- ---- the words of a word list
+
+all_known : (words : List (List ℕ)) → ComeFirst (map known words) (map known words)
+all_known [] = refl
+all_known (word ∷ words) = ap (λ entries. known word ∷ entries) (all_known words)
+
+pub words_listed : (words : List (List ℕ)) → NoneIsStruck (listed words)
+words_listed words count =
+    elim (cases_lt count 256) [
+      | inl few ↦
+          subst (λ entries. ComeFirst entries entries) (sym (get_or-map-range_with_len (entries_among words) 0 256 count count [] few (omega arith))) (all_known (filter (has_length count) words))
+      | inr many ↦
+          subst (λ entries. ComeFirst entries entries) (sym (get_or_past (listed words) count [] (omega (arith, many, length-map-range_with_len (entries_among words) 0 256)))) refl
+    ]

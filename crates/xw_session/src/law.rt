@@ -2,6 +2,7 @@
 ghost use Rattle.std.specs.Prelude.{◌≡◌, ℕ, ◌++◌, ◌*◌, List, [], map, replicate, filter, None, Some, true, false};
 ghost use Rattle.std.specs.Option.{option_and_then};
 ghost use Rattle.xw_words.specs.Dictionary.{IsDictionary, row};
+ghost use Rattle.xw_words.specs.WordList.{listed_in};
 ghost use Rattle.xw_grid.specs.declared.cell.Direction.{Direction};
 ghost use Rattle.xw_grid.specs.declared.cell.Direction.TheVariants.{Across, Down};
 ghost use Rattle.xw_grid.specs.declared.cell.Side.TheVariants.{Right, Below};
@@ -22,7 +23,7 @@ ghost use Rattle.xw_session.specs.State.{State};
 ghost use Rattle.xw_session.specs.Reply.{has_nul};
 ghost use Rattle.xw_session.specs.Put.{place_of, has_place, with_text_at};
 ghost use Rattle.xw_session.specs.Record.{known_counts, text_commands, section_commands};
-ghost use Rattle.xw_session.specs.Replay.{SessionsBegin, SessionsOpen, SessionsStay, CommandsMakeSessionsAgain, LinesAreReadAgain, LinesMakeSessionsAgain, AnsweredLinesMakeSessionsAgain, RecordsAreRefusedForMemoryOnly, replayed, bared, with_grid, with_words, clues_of, ComeFirst, BarsAreOnEdges, AreFrom, AreTextsFrom};
+ghost use Rattle.xw_session.specs.Replay.{NoneIsStruck, SessionsBegin, SessionsOpen, SessionsStay, CommandsMakeSessionsAgain, LinesAreReadAgain, LinesMakeSessionsAgain, AnsweredLinesMakeSessionsAgain, RecordsAreRefusedForMemoryOnly, replayed, bared, with_grid, with_words, clues_of, ComeFirst, BarsAreOnEdges, AreFrom, AreTextsFrom};
 ghost use Rattle.xw_session.specs.Cut.{ended_lines, last_piece, with_lfs, AllHaveNoLf, HasNoLf};
 
 /// A text is its ended lines, each with its LF, and then its last piece, and it is nothing else of that form.
@@ -154,8 +155,10 @@ pub fn sessions_keep_what_they_have()
     ensures kept { SessionsStay }
 {}
 
-/// A session that is opened with the puzzle of a `.puz` file, or with that of a text file, has what these laws take of it.
+/// A session that is opened with the puzzle of a `.puz` file, or with that of a text file, has what these laws take of it. It takes a
+/// dictionary of which no word is struck, as a word list makes it.
 pub fn sessions_open_with_files()
+    ensures listed { (bytes : List ℕ) → NoneIsStruck (listed_in bytes) }
     ensures puz { SessionsOpen puzzle_at }
     ensures text { SessionsOpen all_of }
 {}
