@@ -1,11 +1,11 @@
 -- A session that is opened on a puzzle.
-use Rattle.std.proofs.Common.{◌≡◌, ℕ, true, false, List, [], ◌∷◌, map, filter, refl, sym, ap, subst, inl, inr, arith}
+use Rattle.std.proofs.Common.{◌≡◌, ℕ, zero, suc, true, false, List, [], ◌∷◌, map, filter, get_or, replicate, refl, sym, ap, subst, inl, inr, arith}
 use Rattle.std.specs.List.{AllByRecursion}
 use Rattle.std.proofs.lemmas.Bool.{cases_lt}
 use Rattle.std.proofs.lemmas.List.{get_or_past}
 use Rattle.std.proofs.lemmas.List.Elements.{recursion_from_All}
 use Rattle.std.proofs.lemmas.List.FromFn.{get_or-map-range_with_len, length-map-range_with_len}
-use Rattle.xw_words.specs.Dictionary.{Dictionary}
+use Rattle.xw_words.specs.Dictionary.{Dictionary, Entry}
 use Rattle.xw_words.specs.WordList.{known, has_length, entries_among, listed}
 use Rattle.xw_grid.specs.declared.cell.Direction.{Direction}
 use Rattle.xw_grid.specs.declared.cell.Direction.TheVariants.{Across, Down}
@@ -63,7 +63,15 @@ made_all_inside grid (light ∷ lights) made = (made_inside grid light made.0, m
 pub lights_begin_inside : (grid : Grid) → BeginInside grid (lights_of grid)
 lights_begin_inside grid = made_all_inside grid (lights_of grid) (recursion_from_All (IsMade grid) (lights_of grid) (lights_are_made grid))
 
--- ---- the words of a word list
+-- ---- the words of a new dictionary, and of a word list
+
+no_row : (count place : ℕ) → get_or {A = List Entry} (replicate count []) place [] ≡ []
+no_row zero place = refl
+no_row (suc count) zero = refl
+no_row (suc count) (suc place) = no_row count place
+
+pub no_words : NoneIsStruck (replicate 256 [])
+no_words count = subst (λ entries. ComeFirst entries entries) (sym (no_row 256 count)) refl
 
 all_known : (words : List (List ℕ)) → ComeFirst (map known words) (map known words)
 all_known [] = refl

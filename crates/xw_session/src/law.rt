@@ -156,8 +156,9 @@ pub fn sessions_keep_what_they_have()
 {}
 
 /// A session that is opened with the puzzle of a `.puz` file, or with that of a text file, has what these laws take of it. It takes a
-/// dictionary of which no word is struck, as a word list makes it.
+/// dictionary of which no word is struck, as a new one is, or one that a word list makes.
 pub fn sessions_open_with_files()
+    ensures empty { NoneIsStruck (replicate 256 []) }
     ensures listed { (bytes : List ℕ) → NoneIsStruck (listed_in bytes) }
     ensures puz { SessionsOpen puzzle_at }
     ensures text { SessionsOpen all_of }
