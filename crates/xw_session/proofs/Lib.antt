@@ -36,4 +36,8 @@ pub mod KeptInOrder
 pub mod KeptEdges
 pub mod KeptWords
 pub mod SessionKept
+pub mod SessionOpened
+pub mod PuzOpened
+pub mod PlainLines
+pub mod TextOpened
 pub mod Examples

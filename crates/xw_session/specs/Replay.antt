@@ -12,6 +12,8 @@ use Rattle.xw_grid.specs.Grid.{Grid, IsGrid, is_inside, is_edge, bars, index_of}
 use Rattle.xw_grid.specs.Clue.{Texts, ClueMap, no_clues}
 use Rattle.xw_feas.specs.State.{State as Position}
 use Rattle.xw_feas.specs.WellFormed.{IsWellFormed}
+use Rattle.xw_files.specs.declared.fault.ReadFault.{ReadFault}
+use Rattle.xw_files.specs.Puzzle.{PuzzleShown}
 use Rattle.xw_session.specs.declared.command.Command.{Command}
 use Rattle.xw_session.specs.declared.command.SyntaxFault.{SyntaxFault}
 use Rattle.xw_session.specs.declared.command.TextField.{TextField}
@@ -103,10 +105,14 @@ pub record BeganWith (words : Dictionary) (state : State) : Type 0 where
   pub clues : (direction : Direction) → AreTextsFrom state.position.grid 0 (clues_of state.clues direction)
   pub circles : AreFrom state.position.grid 0 state.circles
 
+-- no word of a dictionary is struck
+abbrev pub NoneIsStruck : Dictionary → Type 0
+NoneIsStruck words = (count : ℕ) → ComeFirst (row words count) (row words count)
+
 -- a session that is begun with a dictionary of which no word is struck, without texts, clues and circles
 abbrev pub SessionsBegin : Type 0
 SessionsBegin =
-    (position : Position) → IsWellFormed position → BarsAreOnEdges position.grid → ((count : ℕ) → ComeFirst (row position.words count) (row position.words count))
+    (position : Position) → IsWellFormed position → BarsAreOnEdges position.grid → NoneIsStruck position.words
     → BeganWith position.words (record {
       position = position;
       texts = record { title = []; author = []; copyright = []; notes = [] };
@@ -115,6 +121,23 @@ SessionsBegin =
       is_watched = false;
       begun = known_counts position.words;
     })
+
+-- the state of a session that is opened with a dictionary and with the grid, the texts, the clues and the circles of a puzzle
+abbrev pub opened_on : Dictionary → PuzzleShown → State
+opened_on words puzzle = record {
+  position = record { grid = puzzle.grid; words = words };
+  texts = puzzle.texts;
+  clues = puzzle.clues;
+  circles = puzzle.circles;
+  is_watched = false;
+  begun = known_counts words;
+}
+
+-- a session that is opened with a dictionary of which no word is struck and with the puzzle that bytes spell
+abbrev pub SessionsOpen : (List ℕ → Result PuzzleShown ReadFault) → Type 0
+SessionsOpen spelled =
+    (words : Dictionary) (bytes : List ℕ) (puzzle : PuzzleShown) → spelled bytes ≡ Ok puzzle → IsWellFormed (opened_on words puzzle).position → NoneIsStruck words
+    → BeganWith words (opened_on words puzzle)
 
 -- What a session has it keeps, whatever it answers to a line. That its grid and its dictionary are well formed each engine promises.
 abbrev pub SessionsStay : Type 0

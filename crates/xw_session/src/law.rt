@@ -2,6 +2,7 @@
 ghost use Rattle.std.specs.Prelude.{◌≡◌, ℕ, ◌++◌, ◌*◌, List, [], map, replicate, filter, None, Some, true, false};
 ghost use Rattle.std.specs.Option.{option_and_then};
 ghost use Rattle.xw_words.specs.Dictionary.{IsDictionary, row};
+ghost use Rattle.xw_words.specs.WordList.{listed_in};
 ghost use Rattle.xw_grid.specs.declared.cell.Direction.{Direction};
 ghost use Rattle.xw_grid.specs.declared.cell.Direction.TheVariants.{Across, Down};
 ghost use Rattle.xw_grid.specs.declared.cell.Side.TheVariants.{Right, Below};
@@ -10,6 +11,8 @@ ghost use Rattle.xw_grid.specs.declared.cell.Symmetry.TheVariants as kinds;
 ghost use Rattle.xw_grid.specs.Grid.{IsGrid, cells};
 ghost use Rattle.xw_grid.specs.Edit.{blank};
 ghost use Rattle.xw_grid.specs.Clue.{no_clues, is_circled};
+ghost use Rattle.xw_files.specs.Puz.Board.{puzzle_at};
+ghost use Rattle.xw_files.specs.Text.Shape.{all_of};
 ghost use Rattle.xw_session.specs.Line.{trimmed};
 ghost use Rattle.xw_session.specs.Escape.{text_spelled, escaped_text};
 ghost use Rattle.xw_session.specs.declared.command.Command.{Command};
@@ -20,7 +23,7 @@ ghost use Rattle.xw_session.specs.State.{State};
 ghost use Rattle.xw_session.specs.Reply.{has_nul};
 ghost use Rattle.xw_session.specs.Put.{place_of, has_place, with_text_at};
 ghost use Rattle.xw_session.specs.Record.{known_counts, text_commands, section_commands};
-ghost use Rattle.xw_session.specs.Replay.{SessionsBegin, SessionsStay, CommandsMakeSessionsAgain, LinesAreReadAgain, LinesMakeSessionsAgain, AnsweredLinesMakeSessionsAgain, RecordsAreRefusedForMemoryOnly, replayed, bared, with_grid, with_words, clues_of, ComeFirst, BarsAreOnEdges, AreFrom, AreTextsFrom};
+ghost use Rattle.xw_session.specs.Replay.{NoneIsStruck, SessionsBegin, SessionsOpen, SessionsStay, CommandsMakeSessionsAgain, LinesAreReadAgain, LinesMakeSessionsAgain, AnsweredLinesMakeSessionsAgain, RecordsAreRefusedForMemoryOnly, replayed, bared, with_grid, with_words, clues_of, ComeFirst, BarsAreOnEdges, AreFrom, AreTextsFrom};
 ghost use Rattle.xw_session.specs.Cut.{ended_lines, last_piece, with_lfs, AllHaveNoLf, HasNoLf};
 
 /// A text is its ended lines, each with its LF, and then its last piece, and it is nothing else of that form.
@@ -150,4 +153,13 @@ pub fn records_make_sessions_again()
 pub fn sessions_keep_what_they_have()
     ensures begun { SessionsBegin }
     ensures kept { SessionsStay }
+{}
+
+/// A session that is opened with the puzzle of a `.puz` file, or with that of a text file, has what these laws take of it. It takes a
+/// dictionary of which no word is struck, as a new one is, or one that a word list makes.
+pub fn sessions_open_with_files()
+    ensures empty { NoneIsStruck (replicate 256 []) }
+    ensures listed { (bytes : List ℕ) → NoneIsStruck (listed_in bytes) }
+    ensures puz { SessionsOpen puzzle_at }
+    ensures text { SessionsOpen all_of }
 {}
