@@ -103,10 +103,10 @@ line_read name ws command n m high short fit room reads =
     let no_note : nat_eq (slice_index name 0) 35 ≡ false = ne_eqb (slice_index name 0) 35 (λ e. absurd (omega (arith, e, first_high name high))) in (
       no_lf line plain,
       ap (λ t. if t then Err faults.LineTooLong else command_in (first_word (without_cr line))) few
-      ∙ ap (λ l. command_in (first_word l)) (no_cr line plain)
-      ∙ ap command_in (first_read name ws (high_word name high))
-      ∙ ap (λ t. if t then Ok None else whole (command_named name (spaced ws))) no_note
-      ∙ ap whole reads,
+          ∙ ap (λ l. command_in (first_word l)) (no_cr line plain)
+          ∙ ap command_in (first_read name ws (high_word name high))
+          ∙ ap (λ t. if t then Ok None else whole (command_named name (spaced ws))) no_note
+          ∙ ap whole reads,
     )
   where
     first_high : (w : List ℕ) → IsHigh w → 48 ≤ slice_index w 0

@@ -68,8 +68,8 @@ word_itself word letters several short =
     let here : k < length word = omega (arith, within, length-map word folded) in
     get_or-map folded word k d d here ∙ (good_letter (get_or word k d) (letters k d here)).1) in (
       ap (λ at. judged at (length word) (map folded word)) good
-      ∙ fine_length (map folded word) (nat_le 2 (length word)) (nat_le (length word) 255) (le-leb 2 (length word) several) (le-leb (length word) 255 short)
-      ∙ ap Ok same,
+          ∙ fine_length (map folded word) (nat_le 2 (length word)) (nat_le (length word) 255) (le-leb 2 (length word) several) (le-leb (length word) 255 short)
+          ∙ ap Ok same,
       same,
     )
 
