@@ -1,6 +1,6 @@
 -- Lemmas on the room of a dictionary.
 use Rattle.std.proofs.Common.{◌≡◌, ◌≢◌, ℕ, ◌<◌, true, false, eqb, List, length, refl, ap, ◌∙◌, arith, map, get_or, set}
-use Rattle.std.specs.Prelude.{Result, Ok, Err, OnErr}
+use Rattle.std.specs.Prelude.{Result, Ok, Err, OnOk, OnErr}
 use Rattle.std.proofs.lemmas.Bool.Decides.{nat_tests}
 use Rattle.std.proofs.lemmas.List.{get_or-set_other, map-set}
 use Rattle.std.proofs.Math.Seq.{map-set_same}
@@ -36,3 +36,12 @@ KeepsRoom-made rows count new within made = λ other there.
 pub KeepsRoom-at_err : (rows : List Row) (count : ℕ) (old new : Row) (T F : Type 0) (answer : Result T F) → old ≡ get_or rows count old → OnErr answer (new.room ≡ old.room) → OnErr answer (KeepsRoom (bank_of rows) (bank_of (set rows count new)))
 KeepsRoom-at_err rows count old new T F (Ok value) was same = tt
 KeepsRoom-at_err rows count old new T F (Err fault) was same = KeepsRoom-same rows count old new was same
+
+-- and of one that makes room where it is not refused
+pub KeepsRoom-reserved : (rows : List Row) (count : ℕ) (old new : Row) (T F : Type 0) (answer : Result T F) → count < length rows → old ≡ get_or rows count old → OnOk answer (new.room ≡ true) → OnErr answer (new.room ≡ old.room) → KeepsRoom (bank_of rows) (bank_of (set rows count new))
+KeepsRoom-reserved rows count old new T F (Ok value) within was made same = KeepsRoom-made rows count new within made
+KeepsRoom-reserved rows count old new T F (Err fault) within was made same = KeepsRoom-same rows count old new was same
+
+pub room_reserved : (rows : List Row) (count : ℕ) (new : Row) (T F : Type 0) (answer : Result T F) → count < length rows → OnOk answer (new.room ≡ true) → OnOk answer (get_or (map (λ row. row.room) (set rows count new)) count false ≡ true)
+room_reserved rows count new T F (Ok value) within made = room_set rows count new within ∙ made
+room_reserved rows count new T F (Err fault) within made = tt

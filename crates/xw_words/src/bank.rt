@@ -1,8 +1,8 @@
 //! The dictionary.
-ghost use Rattle.std.specs.Prelude.{◌≡◌, ◌≢◌, ℕ, ◌+◌, ◌*◌, ◌<◌, ◌≤◌, Bool, true, false, [], map, replicate, length, Ok, Err, None, All, IsOk, IfErr, IfOk, IfSome, IfNone, OnOk, OnErr, IsOkUnless, position};
+ghost use Rattle.std.specs.Prelude.{◌≡◌, ◌≢◌, ℕ, ◌+◌, ◌*◌, ◌<◌, ◌≤◌, Bool, true, false, [], map, replicate, length, Ok, Err, None, All, IsOk, IfErr, IfOk, IfSome, IfNone, OnOk, OnErr, IsOkUnless, position, vec_len};
 ghost use Rattle.xw_words.specs.Letter.{folded, IsLetter};
 ghost use Rattle.xw_words.specs.Dictionary.{row as words_of, entry_at, place_of, add_answer, after_add, strike_answer, after_strike, IsNew, IsDictionary, matching_answer, reserve_answer, most_words};
-ghost use Rattle.xw_words.specs.Bank.{has_room, KeepsRoom, KeepsOtherRoom};
+ghost use Rattle.xw_words.specs.Bank.{has_room, IsKept, KeepsRoom, KeepsOtherRoom};
 ghost use Rattle.xw_words.specs.Word.{is_bad_letter};
 ghost use Rattle.xw_words.specs.Bits.{has_bit};
 ghost use Rattle.xw_words.specs.Columns.{has_letter, has_one_of, is_active as word_is_active, IsColumn, AreColumns};
@@ -13,7 +13,7 @@ use crate::letter::{Letter, are_letters};
 use crate::matching::Matching;
 use crate::row::{MOST_WORDS, Row};
 use crate::word::{judge_length, judge_pattern, judge_word};
-use std::alloc::Global;
+use std::alloc::{AllocError, Global};
 use std::marker::Model;
 
 /// What adding a word did, with its place among the words of its length.
@@ -25,6 +25,18 @@ pub enum Added {
 
 /// How many lengths there are, 0 to 255.
 pub(crate) const LENGTHS: usize = 256;
+
+/// Makes a row of no words for each length.
+fn make_rows(alloc: Global, rows: &mut Vec<Row>) -> Result<(), AllocError>
+    requires { vec_len rows.old ≡ 0 }
+    ensures empty { OnOk result (map (λ row. row.entries) rows.new.items ≡ replicate 256 []) }
+    ensures kept { OnOk result (IsKept rows.new.items) }
+{
+    for count in 0..LENGTHS {
+        rows.push(Row::new(alloc, count))?;
+    }
+    Ok(())
+}
 
 /// The known words of each length, in the order of their first adding, each active or struck.
 #[derive(Drop)]
@@ -50,10 +62,7 @@ impl Bank {
         ensures memory { IsOkUnless result WordFault.Memory }
     {
         let mut rows = Vec::new(alloc);
-        for count in 0..LENGTHS {
-            rows.push(Row::new(alloc, count))
-                .map_err(|_| WordFault::Memory)?;
-        }
+        make_rows(alloc, &mut rows)?;
         Ok(Bank { alloc, rows })
     }
 
@@ -99,7 +108,10 @@ impl Bank {
         ensures none { IfNone result ((place : ℕ) → has_letter (words_of self.now.words count) position letter place ≡ false) }
         ensures within { position < count → IfNone result (length (words_of self.now.words count) ≡ 0) }
     {
-        self.rows.get(count)?.column_of(position, letter)
+        match self.rows.get(count) {
+            Some(row) => row.column_of(position, letter),
+            None => None,
+        }
     }
 
     /// The columns of all letters at a position of the words of a length, where there are some.
@@ -107,7 +119,10 @@ impl Bank {
         ensures some { IfSome result (λ columns. AreColumns (words_of self.now.words count) position columns.now) }
         ensures none { IfNone result ((place letters : ℕ) → has_one_of (words_of self.now.words count) position letters place ≡ false) }
     {
-        self.rows.get(count)?.columns_of(position)
+        match self.rows.get(count) {
+            Some(row) => row.columns_of(position),
+            None => None,
+        }
     }
 
     /// Which of 64 known words of a length have the letter at the position, the first of them lowest.
@@ -198,8 +213,7 @@ impl Bank {
         if row.len() >= MOST_WORDS {
             return Err(WordFault::Full);
         }
-        row.reserve(self.alloc, expected)?;
-        Ok(())
+        row.reserve(self.alloc, expected)
     }
 
     /// Adds a word that is not known, in the room that was made for it, and answers its place.

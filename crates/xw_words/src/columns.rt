@@ -12,11 +12,7 @@ use std::alloc::{AllocError, Global};
 pub(crate) const LETTERS: usize = 26;
 
 /// Makes columns of no words, until there are so many.
-pub(crate) fn make_columns(
-    alloc: Global,
-    columns: &mut Vec<BitRow>,
-    many: usize,
-) -> Result<(), AllocError>
+fn make_columns(alloc: Global, columns: &mut Vec<BitRow>, many: usize) -> Result<(), AllocError>
     requires { vec_len columns.old ≤ many }
     ensures kept { (i : ℕ) → i < vec_len columns.old → column_at columns.new.items i ≡ column_at columns.old.items i }
     ensures made { (i : ℕ) → vec_len columns.old ≤ i → (column_at columns.new.items i).bits ≡ [] }
@@ -31,7 +27,7 @@ pub(crate) fn make_columns(
 }
 
 /// Makes room for so many words in all.
-pub(crate) fn reserve_columns(columns: &mut [BitRow], words: usize) -> Result<(), WordFault>
+fn reserve_columns(columns: &mut [BitRow], words: usize) -> Result<(), WordFault>
     requires { words ≤ MAX_BITS }
     ensures bits { (i : ℕ) → (column_at columns.new i).bits ≡ (column_at columns.old i).bits }
     ensures more { (i : ℕ) → (column_at columns.old i).room ≤ (column_at columns.new i).room }
@@ -43,6 +39,27 @@ pub(crate) fn reserve_columns(columns: &mut [BitRow], words: usize) -> Result<()
         column.reserve(words)?;
     }
     Ok(())
+}
+
+/// Makes columns of no words, until there are so many, and room for so many words in each.
+pub(crate) fn grow_columns(
+    alloc: Global,
+    columns: &mut Vec<BitRow>,
+    many: usize,
+    words: usize,
+) -> Result<(), WordFault>
+    requires many { vec_len columns.old ≤ many }
+    requires words { words ≤ MAX_BITS }
+    ensures bits { (i : ℕ) → (column_at columns.new.items i).bits ≡ (column_at columns.old.items i).bits }
+    ensures room_stays { (i : ℕ) → (column_at columns.old.items i).room ≤ (column_at columns.new.items i).room }
+    ensures more { vec_len columns.old ≤ vec_len columns.new }
+    ensures few { vec_len columns.new ≤ many }
+    ensures all { OnOk result (vec_len columns.new ≡ many) }
+    ensures room { OnOk result ((i : ℕ) → i < vec_len columns.new → words ≤ (column_at columns.new.items i).room) }
+    ensures refused { IfErr result (λ fault. fault ≡ WordFault.Memory) }
+{
+    make_columns(alloc, columns, many)?;
+    reserve_columns(columns, words)
 }
 
 /// Lengthens each column by 64 words that do not have its letter.

@@ -8,7 +8,7 @@ ghost use Rattle.xw_words.specs.Word.{is_bad_letter, is_bad_in_pattern};
 
 use crate::bank::Added;
 use crate::bit_row::BitRow;
-use crate::columns::{LETTERS, make_columns, push_word, reserve_columns};
+use crate::columns::{LETTERS, grow_columns, push_word};
 use crate::fault::WordFault;
 use crate::index::Index;
 use crate::letter::Letter;
@@ -31,6 +31,31 @@ fn grown(known: usize, expected: usize) -> usize
 {
     let more = known + (known / 8).max(LEAST_GROWTH);
     more.max(expected).min(MOST_WORDS)
+}
+
+/// Makes room for so many words of a length in all.
+fn reserve_words(
+    active: &mut BitRow,
+    letters: &mut Vec<Letter>,
+    count: usize,
+    words: usize,
+) -> Result<(), WordFault>
+    requires more { length active.old.bits ≤ words }
+    requires few { words ≤ most_words }
+    requires short { count ≤ 255 }
+    requires letters { length letters.old.items ≡ length active.old.bits * count }
+    ensures bits { active.new.bits ≡ active.old.bits }
+    ensures room_stays { active.old.room ≤ active.new.room }
+    ensures items { letters.new.items ≡ letters.old.items }
+    ensures capacity { vec_capacity letters.old ≤ vec_capacity letters.new }
+    ensures room { OnOk result (words ≤ active.new.room) }
+    ensures letters_room { OnOk result (words * count ≤ vec_capacity letters.new) }
+    ensures refused { IfErr result (λ fault. fault ≡ WordFault.Memory) }
+{
+    let more = words - active.len();
+    active.reserve(words)?;
+    letters.reserve_exact(more * count)?;
+    Ok(())
 }
 
 /// Adds a word's letters at the end, in the room that is there.
@@ -316,10 +341,8 @@ impl Row {
             return Ok(());
         }
         let words = grown(known, expected);
-        make_columns(alloc, &mut self.columns, LETTERS * self.count)?;
-        reserve_columns(&mut self.columns, words)?;
-        self.active.reserve(words)?;
-        self.letters.reserve_exact((words - known) * self.count)?;
+        grow_columns(alloc, &mut self.columns, LETTERS * self.count, words)?;
+        reserve_words(&mut self.active, &mut self.letters, self.count, words)?;
         self.reserved = words;
         Ok(())
     }

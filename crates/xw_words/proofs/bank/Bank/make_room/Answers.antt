@@ -1,17 +1,8 @@
-use Rattle.std.proofs.Common.{sym, ◌∙◌}
+use Rattle.std.proofs.Common.{sym}
 use Rattle.std.specs.Prelude.{None}
-use Rattle.xw_words.proofs.DictionaryLemmas.{judged-Ok, row_kept, IsKept-same, entries_in-same, room_set}
-use Rattle.xw_words.proofs.RoomLemmas.{KeepsRoom-same, KeepsRoom-made}
+use Rattle.xw_words.proofs.DictionaryLemmas.{judged-Ok, row_kept, IsKept-same, entries_in-same}
+use Rattle.xw_words.proofs.RoomLemmas.{KeepsRoom-reserved, room_reserved}
 use Rattle.xw_words.proofs.bank.Bank.make_room.Goals as goal
-
-pub invariant_of-self-in_err-reserve : goal.invariant_of-self-in_err-reserve
-invariant_of-self-in_err-reserve c =
-    let judged = judged-Ok None c.args.count tt _ (sym c.in_ok-judge_length.ensures) in
-    IsKept-same c.self.inside.rows.items c.args.count c.index_mut-row.result.now c.reserve.new.self c.self.invariant judged.1 judged.2 c.index_mut-row.ensures.value c.reserve.ensures.count c.reserve.ensures.entries
-
-pub returns-in_err-reserve-clause-words : goal.returns-in_err-reserve-clause-words
-returns-in_err-reserve-clause-words c =
-    rw (← c.self.view_is) (entries_in-same c.self.inside.rows.items c.args.count c.index_mut-row.result.now c.reserve.new.self c.index_mut-row.ensures.value c.reserve.ensures.entries)
 
 pub invariant_of-self-2 : goal.invariant_of-self-2
 invariant_of-self-2 c =
@@ -26,14 +17,10 @@ pub returns-clause-room : goal.returns-clause-room
 returns-clause-room c =
     let judged = judged-Ok None c.args.count tt _ (sym c.in_ok-judge_length.ensures) in
     let at = row_kept c.self.inside.rows.items c.args.count c.index_mut-row.result.now c.self.invariant judged.2 c.index_mut-row.ensures.value in
-    room_set c.self.inside.rows.items c.args.count c.reserve.new.self at.within ∙ c.in_ok-reserve.ensures.ok
-
-pub returns-in_err-reserve-clause-kept : goal.returns-in_err-reserve-clause-kept
-returns-in_err-reserve-clause-kept c =
-    rw (← c.self.view_is) (KeepsRoom-same c.self.inside.rows.items c.args.count c.index_mut-row.result.now c.reserve.new.self c.index_mut-row.ensures.value c.in_err-reserve.ensures.err)
+    room_reserved c.self.inside.rows.items c.args.count c.reserve.new.self _ _ c.reserve.result at.within c.reserve.ensures.ok
 
 pub returns-clause-kept : goal.returns-clause-kept
 returns-clause-kept c =
     let judged = judged-Ok None c.args.count tt _ (sym c.in_ok-judge_length.ensures) in
     let at = row_kept c.self.inside.rows.items c.args.count c.index_mut-row.result.now c.self.invariant judged.2 c.index_mut-row.ensures.value in
-    rw (← c.self.view_is) (KeepsRoom-made c.self.inside.rows.items c.args.count c.reserve.new.self at.within c.in_ok-reserve.ensures.ok)
+    rw (← c.self.view_is) (KeepsRoom-reserved c.self.inside.rows.items c.args.count c.index_mut-row.result.now c.reserve.new.self _ _ c.reserve.result at.within c.index_mut-row.ensures.value c.reserve.ensures.ok c.reserve.ensures.err)

@@ -1,0 +1,23 @@
+use Rattle.std.proofs.Common.{◌≡◌, ◌≤◌, length, map, [], ap, ◌∙◌, arith}
+use Rattle.std.proofs.lemmas.List.{get_or_past, length-map}
+use Rattle.xw_words.specs.Row.{Row}
+use Rattle.xw_words.specs.Dictionary.{row}
+use Rattle.xw_words.specs.Columns.{has_letter}
+use Rattle.xw_words.proofs.ColumnLemmas.{no_letter}
+use Rattle.xw_words.proofs.bank.Bank.column_of.Goals as goal
+
+pub returns-in-None-clause-none : goal.returns-in-None-clause-none
+returns-in-None-clause-none c = λ place.
+    let rows = c.self.inside.rows.items in
+    let dictionary = map (λ (r : Row). r.entries) rows in
+    let past : length rows ≤ c.args.count = omega (arith, c.in-None.ensures.lookup.3, c.deref.ensures.len) in
+    let none : row dictionary c.args.count ≡ [] = get_or_past dictionary c.args.count [] (omega (arith, length-map rows (λ (r : Row). r.entries))) in
+    rw (← c.self.view_is) (ap (λ es. has_letter es c.args.position c.args.letter place) none ∙ no_letter [] c.args.position c.args.letter place (omega arith))
+
+pub returns-in-None-clause-within : goal.returns-in-None-clause-within
+returns-in-None-clause-within c = λ _.
+    let rows = c.self.inside.rows.items in
+    let dictionary = map (λ (r : Row). r.entries) rows in
+    let past : length rows ≤ c.args.count = omega (arith, c.in-None.ensures.lookup.3, c.deref.ensures.len) in
+    let none : row dictionary c.args.count ≡ [] = get_or_past dictionary c.args.count [] (omega (arith, length-map rows (λ (r : Row). r.entries))) in
+    rw (← c.self.view_is) (ap length none)
