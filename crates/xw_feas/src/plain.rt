@@ -44,14 +44,14 @@ fn settle_grid(
     grid: &Grid,
     lights: &Lights,
     bank: &Bank,
-    words: &mut [Flags],
-    letters: &mut [LetterSet],
+    words: &mut Vec<Flags>,
+    letters: &mut Vec<LetterSet>,
 )
     requires lights { lights.now ≡ lights_of grid.now }
-    requires rows { HasRows (board_of grid.now) bank.now.words words.old letters.old }
-    ensures rows { HasRows (board_of grid.now) bank.now.words words.new letters.new }
-    ensures exact { IsExact (board_of grid.now) bank.now.words (flag_at words.new) (set_has letters.new) }
-    ensures answers { AreAnswers (board_of grid.now) bank.now.words (answers_of (board_of grid.now) bank.now.words words.new letters.new) }
+    requires rows { HasRows (board_of grid.now) bank.now.words words.old.items letters.old.items }
+    ensures rows { HasRows (board_of grid.now) bank.now.words words.new.items letters.new.items }
+    ensures exact { IsExact (board_of grid.now) bank.now.words (flag_at words.new.items) (set_has letters.new.items) }
+    ensures answers { AreAnswers (board_of grid.now) bank.now.words (answers_of (board_of grid.now) bank.now.words words.new.items letters.new.items) }
     ensures formed { IsWellFormed (record { grid = grid.now; words = bank.now.words }) }
 {
     grid.well_formed();
@@ -64,20 +64,21 @@ fn settle_anew(
     grid: &Grid,
     lights: &Lights,
     bank: &Bank,
-    words: &mut [Flags],
-    letters: &mut [LetterSet],
-    before: &mut [LetterSet],
+    words: &mut Vec<Flags>,
+    letters: &mut Vec<LetterSet>,
+    before: &mut Vec<LetterSet>,
 )
     requires lights { lights.now ≡ lights_of grid.now }
-    requires rows { HasRows (board_of grid.now) bank.now.words words.old letters.old }
-    requires before { length before.old ≡ length letters.old }
-    ensures rows { HasRows (board_of grid.now) bank.now.words words.new letters.new }
-    ensures exact { IsExact (board_of grid.now) bank.now.words (flag_at words.new) (set_has letters.new) }
-    ensures answers { AreAnswers (board_of grid.now) bank.now.words (answers_of (board_of grid.now) bank.now.words words.new letters.new) }
+    requires rows { HasRows (board_of grid.now) bank.now.words words.old.items letters.old.items }
+    requires before { length before.old.items ≡ length letters.old.items }
+    ensures rows { HasRows (board_of grid.now) bank.now.words words.new.items letters.new.items }
+    ensures exact { IsExact (board_of grid.now) bank.now.words (flag_at words.new.items) (set_has letters.new.items) }
+    ensures answers { AreAnswers (board_of grid.now) bank.now.words (answers_of (board_of grid.now) bank.now.words words.new.items letters.new.items) }
     ensures formed { IsWellFormed (record { grid = grid.now; words = bank.now.words }) }
-    ensures before { before.new ≡ letters.old }
+    ensures before { before.new.items ≡ letters.old.items }
+    ensures cells { length before.new.items ≡ length letters.new.items }
 {
-    before.copy_from_slice(letters);
+    before.as_mut_slice().copy_from_slice(letters);
     settle_grid(grid, lights, bank, words, letters);
 }
 
@@ -130,13 +131,7 @@ impl Plain {
         ensures grid { result.grid ≡ grid }
         ensures words { result.bank.words ≡ bank.words }
     {
-        settle_grid(
-            &grid,
-            &lights,
-            &bank,
-            words.as_mut_slice(),
-            letters.as_mut_slice(),
-        );
+        settle_grid(&grid, &lights, &bank, &mut words, &mut letters);
         Plain {
             alloc,
             grid,
@@ -161,9 +156,9 @@ impl Plain {
             &self.grid,
             &self.lights,
             &self.bank,
-            self.words.as_mut_slice(),
-            self.letters.as_mut_slice(),
-            self.before.as_mut_slice(),
+            &mut self.words,
+            &mut self.letters,
+            &mut self.before,
         );
         Ok(())
     }
@@ -198,9 +193,9 @@ impl Plain {
             &self.grid,
             &self.lights,
             &self.bank,
-            self.words.as_mut_slice(),
-            self.letters.as_mut_slice(),
-            self.before.as_mut_slice(),
+            &mut self.words,
+            &mut self.letters,
+            &mut self.before,
         );
     }
 
@@ -238,9 +233,9 @@ impl Plain {
             &self.grid,
             &self.lights,
             &self.bank,
-            self.words.as_mut_slice(),
-            self.letters.as_mut_slice(),
-            self.before.as_mut_slice(),
+            &mut self.words,
+            &mut self.letters,
+            &mut self.before,
         );
         Ok(())
     }
@@ -271,9 +266,9 @@ impl Plain {
             &self.grid,
             &self.lights,
             &self.bank,
-            self.words.as_mut_slice(),
-            self.letters.as_mut_slice(),
-            self.before.as_mut_slice(),
+            &mut self.words,
+            &mut self.letters,
+            &mut self.before,
         );
         Ok(())
     }
@@ -300,9 +295,9 @@ impl Plain {
             &self.grid,
             &self.lights,
             &self.bank,
-            self.words.as_mut_slice(),
-            self.letters.as_mut_slice(),
-            self.before.as_mut_slice(),
+            &mut self.words,
+            &mut self.letters,
+            &mut self.before,
         );
         Ok(())
     }
@@ -355,8 +350,8 @@ impl Plain {
             &self.grid,
             &self.lights,
             &self.bank,
-            self.words.as_mut_slice(),
-            self.letters.as_mut_slice(),
+            &mut self.words,
+            &mut self.letters,
         );
     }
 

@@ -9,4 +9,4 @@ pub settle_anew-requires-clause-rows : goal.settle_anew-requires-clause-rows
 settle_anew-requires-clause-rows c =
     let engine = c.args.self.now in
     let made : HasWordRows (board_of engine.grid) engine.bank.words (Some (length c.args.word.now)) c.in_ok-words.words.items = rw (← c.new.ensures) c.in_ok-words.ensures.ok in
-    rw (c.as_mut_slice.ensures.value, c.as_mut_slice-2.ensures.value) (HasRows-grown (board_of engine.grid) engine.bank.words c.add_in.new.bank.words (length c.args.word.now) c.in_ok-words.words.items engine.letters.items made (subst (λ words. GrowsAt words c.add_in.new.bank.words (length c.args.word.now)) c.reserve_in.ensures.words c.add_in.ensures.counts) engine.rows.cells)
+    HasRows-grown (board_of engine.grid) engine.bank.words c.add_in.new.bank.words (length c.args.word.now) c.in_ok-words.words.items engine.letters.items made (subst (λ words. GrowsAt words c.add_in.new.bank.words (length c.args.word.now)) c.reserve_in.ensures.words c.add_in.ensures.counts) engine.rows.cells
