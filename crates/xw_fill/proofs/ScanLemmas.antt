@@ -1,7 +1,7 @@
 -- Lemmas on what the scans of an engine find.
 use Rattle.std.proofs.Common.{◌≡◌, ℕ, zero, suc, ◌+◌, ◌<◌, ◌≤◌, Bool, true, false, cond, not, ◌||◌, List, [], ◌∷◌, ◌++◌, length, get_or, set, drop, Option, Some, None, refl, sym, ◌∙◌, ap, subst, arith, add-one}
 use Rattle.std.specs.Prelude.{Result, Ok, is_some, is_none, unwrap_or, bytes_eq}
-use Rattle.std.proofs.lemmas.Bool.{true≢false, false≢true, eq-eqb, ne_eqb, false_from_ne_true, lt-ltb, le-ltb}
+use Rattle.std.proofs.lemmas.Bool.{true≢false, false≢true, eq-eqb, ne_eqb, or_right, false_from_ne_true, lt-ltb, le-ltb}
 use Rattle.std.proofs.lemmas.List.{get_or-map, length-map}
 use Rattle.std.proofs.lemmas.Slice.Eq.{bytes_eq-Decides}
 use Rattle.xw_grid.specs.declared.cell.Cell.{Cell}
@@ -20,11 +20,16 @@ use Rattle.xw_fill.specs.Position.{Position, position_of, holding, DiffersInEntr
 use Rattle.xw_feas.specs.Engine.{IsEdited}
 use Rattle.xw_feas.specs.declared.changed.Changed.{Changed}
 use Rattle.xw_fill.specs.declared.tries.Try.{Try}
-use Rattle.xw_fill.specs.Below.{any_below, first_below}
+use Rattle.xw_fill.specs.Below.{any_below}
 use Rattle.xw_fill.specs.FeasibleWords.{feasible_words}
-use Rattle.xw_fill.specs.Search.{light_count, is_entered, is_repeat, lacks_words, is_dead, chosen_below}
+use Rattle.xw_fill.specs.Search.{light_count, is_entered, is_repeat, lacks_words, is_dead, chosen_below, chosen}
+use Rattle.xw_fill.specs.Filling.{scanned, outlook, next_of}
+use Rattle.xw_fill.specs.declared.scan.Scan.{Scan}
+use Rattle.xw_fill.specs.declared.scan.Scan.TheVariants.{Blocked, Open}
+use Rattle.xw_fill.specs.declared.search.Next.{Next}
+use Rattle.xw_fill.specs.declared.search.Next.TheVariants.{Spent}
 use Rattle.xw_fill.specs.Tries.{without_letters, taken_back, all_taken_back}
-use Rattle.xw_fill.proofs.BelowLemmas.{any_below-first}
+use Rattle.xw_fill.proofs.BelowLemmas.{any_below-from}
 
 -- a light without feasible words
 pub lacks_words-none : (state : Position) (light count : ℕ) → count ≡ length (feasible_words state light) → count ≡ 0 → lacks_words state light ≡ true
@@ -77,14 +82,35 @@ same_letters board (cell ∷ cells) (other ∷ others) long h = rw (h 0 (omega a
 pub same-all : (board : Board) (cells others : List ℕ) (n : ℕ) → length cells ≡ length others → length cells ≤ n → ((k : ℕ) → k < n → unwrap_or (entry board (get_or cells k 0)) 65 ≡ unwrap_or (entry board (get_or others k 0)) 65) → bytes_eq (spelled board cells) (spelled board others) ≡ true
 same-all board cells others n long all h = (bytes_eq-Decides (spelled board cells) (spelled board others)).1 (same_letters board cells others long (λ k below. h k (omega arith)))
 
--- dead, as the scans find it
-pub dead-blocked : (state : Position) (first : Option ℕ) → first ≡ first_below (lacks_words state) (light_count state) → is_some first ≡ true → is_dead state ≡ true
-unfolding is_dead
-dead-blocked state first e some = ap (λ b. b || any_below (is_repeat state) (light_count state)) (any_below-first (lacks_words state) (light_count state) ∙ ap is_some (sym e) ∙ some)
+-- what a scan finds
+pub scanned-blocked : (state : Position) (light : ℕ) → light < light_count state → lacks_words state light ≡ true → scanned state ≡ Blocked
+scanned-blocked state light in_grid lacks = ap (λ b. cond b Blocked (Open (chosen state))) (any_below-from (lacks_words state) (light_count state) light in_grid lacks)
 
-pub dead-repeat : (state : Position) (first : Option ℕ) (repeats : Bool) → first ≡ first_below (lacks_words state) (light_count state) → is_some first ≡ false → repeats ≡ any_below (is_repeat state) (light_count state) → is_dead state ≡ repeats
+pub scanned-open : (state : Position) (n : ℕ) (best : Option ℕ) → n ≡ light_count state → any_below (lacks_words state) n ≡ false → chosen_below state n ≡ best → scanned state ≡ Open best
+unfolding chosen
+scanned-open state n best all none is = ap (λ b. cond b Blocked (Open (chosen_below state (light_count state)))) (ap (any_below (lacks_words state)) (sym all) ∙ none) ∙ ap Open (ap (chosen_below state) (sym all) ∙ is)
+
+-- what is to be done, as the scans find it
+pub outlook-repeat : (state : Position) → any_below (is_repeat state) (light_count state) ≡ true → outlook state ≡ Spent
 unfolding is_dead
-dead-repeat state first repeats e none e' = ap (λ b. b || any_below (is_repeat state) (light_count state)) (any_below-first (lacks_words state) (light_count state) ∙ ap is_some (sym e) ∙ none) ∙ sym e'
+outlook-repeat state h = ap (λ b. cond b Spent (next_of (chosen state))) (or_right (any_below (lacks_words state) (light_count state)) (any_below (is_repeat state) (light_count state)) h)
+
+abbrev by_scan : Scan → Next
+by_scan Blocked = Spent
+by_scan (Open best) = next_of best
+
+outlook-scan : (state : Position) → any_below (is_repeat state) (light_count state) ≡ false → outlook state ≡ by_scan (scanned state)
+unfolding is_dead
+outlook-scan state h = split (any_below (lacks_words state) (light_count state)) refl where
+  split : (b : Bool) → any_below (lacks_words state) (light_count state) ≡ b → cond (any_below (lacks_words state) (light_count state) || any_below (is_repeat state) (light_count state)) Spent (next_of (chosen state)) ≡ by_scan (cond (any_below (lacks_words state) (light_count state)) Blocked (Open (chosen state)))
+  split true e = rw e refl
+  split false e = rw (e, h) refl
+
+pub outlook-blocked : (state : Position) (found : Scan) → any_below (is_repeat state) (light_count state) ≡ false → found ≡ scanned state → found ≡ Blocked → outlook state ≡ Spent
+outlook-blocked state found h is e = outlook-scan state h ∙ ap by_scan (sym is ∙ e)
+
+pub outlook-open : (state : Position) (found : Scan) (best : Option ℕ) → any_below (is_repeat state) (light_count state) ≡ false → found ≡ scanned state → found ≡ Open best → outlook state ≡ next_of best
+outlook-open state found best h is e = outlook-scan state h ∙ ap by_scan (sym is ∙ e)
 
 -- one more place of a light is cleared
 drop_nil : {X : Type 0} (k : ℕ) → drop {A = X} k [] ≡ []

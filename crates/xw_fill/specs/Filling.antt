@@ -3,7 +3,10 @@ use Rattle.std.specs.Prelude.{◌≡◌, ℕ, ◌<◌, ◌≤◌, true, false, c
 use Rattle.xw_feas.specs.State.{State}
 use Rattle.xw_fill.specs.Position.{Position, position_of, filled_in}
 use Rattle.xw_fill.specs.Fill.{IsFill}
-use Rattle.xw_fill.specs.Search.{is_dead, chosen, found, due, end}
+use Rattle.xw_fill.specs.Below.{any_below}
+use Rattle.xw_fill.specs.Search.{light_count, lacks_words, is_dead, chosen, found, due, end}
+use Rattle.xw_fill.specs.declared.scan.Scan.{Scan}
+use Rattle.xw_fill.specs.declared.scan.Scan.TheVariants.{Blocked, Open}
 use Rattle.xw_fill.specs.declared.search.Filling.{Filling}
 use Rattle.xw_fill.specs.declared.search.Filling.TheVariants.{Filled, NoFill, Limit}
 use Rattle.xw_fill.specs.declared.search.Next.{Next}
@@ -26,6 +29,10 @@ abbrev pub UnlessFilled : Filling → Type 0 → Type 0
 UnlessFilled Filled P = Unit {0}
 UnlessFilled NoFill P = P
 UnlessFilled Limit P = P
+
+-- what a scan of the lights finds: that some light has no feasible word, or which is chosen
+abbrev pub scanned : Position → Scan
+scanned position = cond (any_below (lacks_words position) (light_count position)) Blocked (Open (chosen position))
 
 -- what is to be done at a position that is new
 abbrev pub next_of : Option ℕ → Next

@@ -7,8 +7,9 @@ ghost use Rattle.xw_fill.specs.Position.{position_of, name_at};
 ghost use Rattle.xw_fill.specs.FeasibleWords.{feasible_words};
 ghost use Rattle.xw_fill.specs.Below.{any_below, first_below};
 ghost use Rattle.xw_fill.specs.Words.{IsNextWord, HasNoMore};
-ghost use Rattle.xw_fill.specs.Search.{is_entered, spell_same, is_repeat, first_same, lacks_words, light_count, is_dead, chosen};
+ghost use Rattle.xw_fill.specs.Search.{is_entered, spell_same, is_repeat, first_same, lacks_words, light_count, chosen};
 ghost use Rattle.xw_fill.specs.Noted.{is_spelled_again, AreEntered, SpellApart};
+ghost use Rattle.xw_fill.specs.Filling.{scanned};
 
 use xw_feas::board::{Board, Cells};
 use xw_feas::edit::Found;
@@ -127,7 +128,7 @@ pub fn first_without_words<E: Feasible>(engine: &E) -> Option<usize>
 }
 
 /// Whether two wholly entered lights spell the same.
-fn has_repeat<E: Feasible>(engine: &E) -> bool
+pub fn has_repeat<E: Feasible>(engine: &E) -> bool
     ensures { result ≡ any_below (is_repeat (position_of (E.state engine.now))) (light_count (position_of (E.state engine.now))) }
 {
     for light in 0..light_count(engine) {
@@ -166,7 +167,7 @@ pub fn note_entered<E: Feasible>(engine: &E, entered: &mut [bool])
 }
 
 /// Whether two wholly entered lights spell the same, where none of those that are noted do: so only the others are looked for among all.
-fn has_new_repeat<E: Feasible>(engine: &E, entered: &[bool]) -> bool
+pub fn has_new_repeat<E: Feasible>(engine: &E, entered: &[bool]) -> bool
     requires long { length entered.now ≡ light_count (position_of (E.state engine.now)) }
     requires apart { SpellApart (position_of (E.state engine.now)) entered.now }
     ensures { result ≡ any_below (is_repeat (position_of (E.state engine.now))) (light_count (position_of (E.state engine.now))) }
@@ -177,22 +178,6 @@ fn has_new_repeat<E: Feasible>(engine: &E, entered: &[bool]) -> bool
         }
     }
     false
-}
-
-/// Whether the position is dead, where none of the lights that are noted spell the same.
-pub fn is_dead_now<E: Feasible>(engine: &E, entered: &[bool]) -> bool
-    requires long { length entered.now ≡ light_count (position_of (E.state engine.now)) }
-    requires apart { SpellApart (position_of (E.state engine.now)) entered.now }
-    ensures { result ≡ is_dead (position_of (E.state engine.now)) }
-{
-    first_without_words(engine).is_some() || has_new_repeat(engine, entered)
-}
-
-/// Whether the position is dead.
-pub fn is_dead<E: Feasible>(engine: &E) -> bool
-    ensures { result ≡ is_dead (position_of (E.state engine.now)) }
-{
-    first_without_words(engine).is_some() || has_repeat(engine)
 }
 
 /// Of the lights that are not wholly entered the first with the fewest feasible words.
@@ -211,6 +196,38 @@ pub fn chosen<E: Feasible>(engine: &E) -> Option<usize>
         }
     }
     best
+}
+
+/// What a scan of the lights finds.
+#[derive(Clone, Copy)]
+pub enum Scan {
+    /// Some light has no feasible word.
+    Blocked,
+    /// Each has one; of those that are not wholly entered the first with the fewest.
+    Open(Option<usize>),
+}
+
+/// Asks for the count of each light once; the flags are those of the lights that are wholly entered.
+pub fn scan_lights<E: Feasible>(engine: &E, entered: &[bool]) -> Scan
+    requires long { length entered.now ≡ light_count (position_of (E.state engine.now)) }
+    requires entered { AreEntered (position_of (E.state engine.now)) entered.now }
+    ensures { result ≡ scanned (position_of (E.state engine.now)) }
+{
+    let mut best = None;
+    let mut least = 0;
+    for light in 0..light_count(engine) {
+        let count = word_count(engine, light);
+        if count == 0 {
+            return Scan::Blocked;
+        }
+        if !entered[light] {
+            if best.is_none() || count < least {
+                best = Some(light);
+                least = count;
+            }
+        }
+    }
+    Scan::Open(best)
 }
 
 /// The first feasible word of the light at a place, from a place of the dictionary on.

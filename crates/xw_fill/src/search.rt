@@ -1,12 +1,16 @@
 //! The search for a fill.
 ghost use Rattle.std.specs.Prelude.{◌≡◌, false, [], length, slice_index_or, IfOk, IfErr, OnErr};
 ghost use Rattle.xw_fill.specs.Position.{position_of, placed, DiffersInEntries};
-ghost use Rattle.xw_fill.specs.Search.{is_dead, light_count};
+ghost use Rattle.xw_fill.specs.Below.{any_below};
+ghost use Rattle.xw_fill.specs.Search.{is_dead, is_repeat, light_count};
+ghost use Rattle.xw_fill.specs.Noted.{AreEntered};
 ghost use Rattle.xw_fill.specs.Suggesting.{IsTriedAt};
 ghost use Rattle.xw_fill.specs.Words.{spellings_at};
 ghost use Rattle.xw_fill.specs.Filling.{IsFilling, HasFill, UnlessFilled, outlook};
 
-use crate::scan::{chosen, is_dead, is_dead_now, light_count, next_place, note_entered};
+use crate::scan::{
+    Scan, has_new_repeat, has_repeat, light_count, next_place, note_entered, scan_lights,
+};
 use crate::tries::{Try, make_try, place_word, take_all_back, take_back};
 use std::alloc::Global;
 use xw_feas::edit::Refusal;
@@ -29,18 +33,32 @@ pub enum Next {
     Words(usize, usize),
 }
 
-/// What is to be done at a position that is new, and dead or not.
-fn outlook<E: Feasible>(engine: &E, dead: bool) -> Next
-    requires { dead ≡ is_dead (position_of (E.state engine.now)) }
+/// What is to be done at a position that is new, which repeats a word or not.
+fn outlook<E: Feasible>(engine: &E, entered: &[bool], repeats: bool) -> Next
+    requires long { length entered.now ≡ light_count (position_of (E.state engine.now)) }
+    requires entered { AreEntered (position_of (E.state engine.now)) entered.now }
+    requires repeats { repeats ≡ any_below (is_repeat (position_of (E.state engine.now))) (light_count (position_of (E.state engine.now))) }
     ensures { result ≡ outlook (position_of (E.state engine.now)) }
 {
-    if dead {
+    if repeats {
         return Next::Spent;
     }
-    match chosen(engine) {
-        None => Next::Done,
-        Some(light) => Next::Words(light, 0),
+    match scan_lights(engine, entered) {
+        Scan::Blocked => Next::Spent,
+        Scan::Open(None) => Next::Done,
+        Scan::Open(Some(light)) => Next::Words(light, 0),
     }
+}
+
+/// What is to be done where the search begins; the flags are there to be written over.
+fn begin<E: Feasible>(engine: &E, entered: &mut [bool]) -> Next
+    requires { length entered.old ≡ light_count (position_of (E.state engine.now)) }
+    ensures flags { length entered.new ≡ length entered.old }
+    ensures entered { AreEntered (position_of (E.state engine.now)) entered.new }
+    ensures next { result ≡ outlook (position_of (E.state engine.now)) }
+{
+    note_entered(engine, entered);
+    outlook(engine, entered, has_repeat(engine))
 }
 
 /// Places a feasible word at a position that is not dead, and says what is to be done then; the flags are there to be written over.
@@ -55,7 +73,9 @@ fn try_word<E: Feasible>(engine: &mut E, entered: &mut [bool], light: usize, pla
 {
     note_entered(engine, entered);
     place_word(engine, light, place);
-    outlook(engine, is_dead_now(engine, entered))
+    let repeats = has_new_repeat(engine, entered);
+    note_entered(engine, entered);
+    outlook(engine, entered, repeats)
 }
 
 /// Fills the grid, with no more placements than the limit.
@@ -72,7 +92,7 @@ pub fn fill<E: Feasible>(alloc: Global, engine: &mut E, limit: u64) -> Result<Fi
     ))?;
     let mut entered = vec![in alloc; false; count].map_err(|_| Refusal::Grid(GridFault::Memory))?;
     let mut used = 0;
-    let mut next = outlook(engine, is_dead(engine));
+    let mut next = begin(engine, entered.as_mut_slice());
     'search: loop {
         match next {
             Next::Done => return Ok(Filling::Filled),

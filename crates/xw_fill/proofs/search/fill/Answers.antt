@@ -11,6 +11,7 @@ use Rattle.std.specs.Prelude.{is_ok}
 use Rattle.xw_fill.specs.declared.search.Filling.TheVariants.{Filled, NoFill}
 use Rattle.xw_fill.proofs.FeasibleWordsLemmas.{AreAnswers-along}
 use Rattle.xw_fill.proofs.Searching.{IsSearching, IsSound-formed, searching-start, searching-back, searching-spent, searching-open, searching-place, searching-room, searching-lights, searching-all_back, searching-done, searching-none, filling-fill, made, searching-popped, searching-empty, searching-alive, searching-count, outcome_filling, last-place, last-light, due-more}
+use Rattle.xw_fill.specs.Search.{light_count}
 use Rattle.xw_fill.proofs.search.fill.Goals as goal
 
 pub search-init : goal.search-init
@@ -21,12 +22,13 @@ search-init g c =
     let capacity : vec_capacity c.in_ok-tries.tries ≡ c.light_count-count.result = made c.with_capacity.result c.map_err.result c.in_ok-tries.tries _ (λ v. vec_capacity v ≡ c.light_count-count.result) c.map_err.ensures.cases (c.in_ok-tries.was) c.with_capacity.ensures.exact in
     let many : vec_len c.in_ok-entered.entered ≡ c.light_count-count.result = made c.vec.result c.map_err-2.result c.in_ok-entered.entered _ (λ v. vec_len v ≡ c.light_count-count.result) c.map_err-2.ensures.cases (c.in_ok-entered.was) c.vec.ensures.len in
     let ok = c.in_ok-entered.entered.ok in
+    let long : length c.in_ok-entered.entered.items ≡ light_count start = omega (arith, many, ok, c.light_count-count.ensures) in
     record {
-      searching = rw (items, c.outlook-next.ensures) (searching-start start);
+      searching = rw (items, c.begin-next.ensures.next) (searching-start start);
       entries = DiffersInEntries-itself before;
       room = omega (arith, capacity, c.light_count-count.ensures);
       few = omega arith;
-      flags = omega (arith, many, ok, c.light_count-count.ensures);
+      flags = ap length (with_items_is c.in_ok-entered.entered c.begin-next.new.entered (omega (arith, c.begin-next.ensures.flags, ap length c.as_mut_slice.ensures.value, ok))) ∙ c.begin-next.ensures.flags ∙ ap length c.as_mut_slice.ensures.value ∙ long;
     }
 
 pub returns-in-None-clause-found : goal.returns-in-None-clause-found
@@ -164,7 +166,7 @@ pub try_word-next-requires-clause-flags : goal.try_word-next-requires-clause-fla
 try_word-next-requires-clause-flags g c =
     let start = position_of (g.E.Feasible.state c.args.engine.now) in
     let current = position_of (g.E.Feasible.state c.search.engine) in
-    ap length c.as_mut_slice.ensures.value ∙ c.search.invariant.flags ∙ sym (searching-count start current c.search.tries.items c.search.used c.search.next c.search.invariant.searching)
+    ap length c.as_mut_slice-in-Some-next_place.ensures.value ∙ c.search.invariant.flags ∙ sym (searching-count start current c.search.tries.items c.search.used c.search.next c.search.invariant.searching)
 
 pub returns-then-used-limit-clause-found : goal.returns-then-used-limit-clause-found
 returns-then-used-limit-clause-found g c =
@@ -220,7 +222,7 @@ search-preserved g c =
     let pushed : is_ok c.push.result ≡ true = c.push.ensures.succeeds (omega (arith, ok, room, c.search.invariant.room)) in
     let items : c.push.new.self.items ≡ c.search.tries.items ++ tried ∷ [] = c.push.ensures.items ∙ ap (λ b. cond b (c.search.tries.items ++ tried ∷ []) c.search.tries.items) pushed in
     let flags = c.search.entered.ok in
-    let value = ap length c.as_mut_slice.ensures.value in
+    let value = ap length c.as_mut_slice-in-Some-next_place.ensures.value in
     record {
       searching = rw (items, c.try_word-next.ensures.next, there) placed_now;
       entries = DiffersInEntries-then before now after c.search.invariant.entries c.try_word-next.ensures.entries;

@@ -8,11 +8,8 @@ use Rattle.xw_fill.proofs.RepeatLemmas.{placed-apart}
 use Rattle.xw_fill.proofs.Trail.{feasible_agrees}
 use Rattle.xw_fill.proofs.search.try_word.Goals as goal
 
-pub is_dead_now-requires-clause-long : goal.is_dead_now-requires-clause-long
-is_dead_now-requires-clause-long g c = c.note_entered.ensures.long ∙ c.requires.flags ∙ ap light_count (sym c.place_word.ensures.placed)
-
-pub is_dead_now-requires-clause-apart : goal.is_dead_now-requires-clause-apart
-is_dead_now-requires-clause-apart g c =
+pub has_new_repeat-repeats-requires-clause-apart : goal.has_new_repeat-repeats-requires-clause-apart
+has_new_repeat-repeats-requires-clause-apart g c =
     let start = position_of (g.E.Feasible.state c.args.engine.now) in
     let word = get_or (spellings_at start c.args.light) c.args.place [] in
     let agree = feasible_agrees start c.args.light word c.requires.tried.light_in c.requires.tried.not_entered c.requires.tried.feasible in
