@@ -1,0 +1,7 @@
+//! Worked examples of the engine's crates, each by calls on what the crate gives.
+#![tactic(auto)]
+
+#[cfg(test)]
+mod grid;
+#[cfg(test)]
+mod words;
