@@ -2,6 +2,12 @@
 #![tactic(auto)]
 
 #[cfg(test)]
+mod edits;
+#[cfg(test)]
+mod feas;
+#[cfg(test)]
+mod fill;
+#[cfg(test)]
 mod grid;
 #[cfg(test)]
 mod words;
