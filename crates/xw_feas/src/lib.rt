@@ -13,7 +13,5 @@ pub mod laws;
 mod place;
 pub mod plain;
 pub mod standing;
-#[cfg(test)]
-mod tests;
 pub mod words;
 pub mod write;

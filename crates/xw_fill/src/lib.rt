@@ -6,6 +6,4 @@ pub mod listing;
 mod scan;
 pub mod search;
 pub mod suggesting;
-#[cfg(test)]
-mod tests;
 mod tries;

@@ -10,8 +10,6 @@ pub mod laws;
 pub mod lights;
 pub mod orbit;
 mod places;
-#[cfg(test)]
-mod tests;
 
 pub use cell::{Cell, Direction, Edge, LightName, Side, Square, Symmetry};
 pub use circles::Circles;

@@ -17,8 +17,6 @@ pub mod ones;
 mod row;
 pub mod rows;
 mod sieve;
-#[cfg(test)]
-mod tests;
 pub mod word;
 pub mod word_list;
 

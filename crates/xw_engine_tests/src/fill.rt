@@ -1,28 +1,16 @@
-//! Worked examples, by calls over `Plain`: tables of calls, each with its answer.
-use crate::listing::{Duplicate, duplicates, unlisted};
-use crate::search::{Filling, fill};
-use crate::suggesting::{Suggestion, suggest};
+//! Worked examples of repeats, proposals and fills, by calls over `Plain`: tables of calls, each with its answer.
+use crate::edits::{
+    ACROSS_1, ACROSS_2, ACROSS_3, DOWN_1, DOWN_2, Do, SQUARE, Start, add_all, edit_of, engine,
+};
 use std::alloc::Global;
 use std::process::Abort;
-use xw_feas::edit::{Edit, Refusal};
+use xw_feas::edit::Refusal;
 use xw_feas::feasible::Feasible;
 use xw_feas::plain::Plain;
-use xw_grid::cell::{Cell, Direction, LightName, Square, Symmetry};
-use xw_grid::grid::Grid;
-use xw_words::bank::Bank;
-use xw_words::letter::Letter;
-
-/// An edit as a table spells it: a letter by its byte, and a cell by row and column.
-#[derive(Clone, Copy)]
-enum Do<'a> {
-    Set(u32, u32, u8),
-    Clear(u32, u32),
-    Place(LightName, &'a [u8]),
-    Block(u32, u32),
-    Choose(Symmetry),
-    Add(&'a [u8]),
-    Strike(&'a [u8]),
-}
+use xw_fill::listing::{Duplicate, duplicates, unlisted};
+use xw_fill::search::{Filling, fill};
+use xw_fill::suggesting::{Suggestion, suggest};
+use xw_grid::cell::{LightName, Square, Symmetry};
 
 /// A call and its answer.
 #[derive(Clone, Copy)]
@@ -37,66 +25,6 @@ enum Step {
     Unlisted(&'static [LightName]),
     /// How many feasible words a light has.
     Words(LightName, usize),
-}
-
-const ACROSS_1: LightName = LightName {
-    number: 1,
-    direction: Direction::Across,
-};
-
-const DOWN_1: LightName = LightName {
-    number: 1,
-    direction: Direction::Down,
-};
-
-const ACROSS_2: LightName = LightName {
-    number: 2,
-    direction: Direction::Across,
-};
-
-const DOWN_2: LightName = LightName {
-    number: 2,
-    direction: Direction::Down,
-};
-
-const ACROSS_3: LightName = LightName {
-    number: 3,
-    direction: Direction::Across,
-};
-
-/// A grid of so many columns and rows, and words for it.
-type Start = (u32, u32, &'static [&'static [u8]]);
-
-const SQUARE: Start = (2, 2, &[b"AS", b"AT", b"SO", b"TO", b"IN"]);
-
-fn at(row: u32, col: u32) -> Cell {
-    Cell { row, col }
-}
-
-/// An edit as the engine takes it, if its byte is a letter.
-fn edit_of(spelled: Do<'_>) -> Option<Edit<'_>> {
-    Some(match spelled {
-        Do::Set(row, col, byte) => Edit::Set(at(row, col), Letter::of(byte)?),
-        Do::Clear(row, col) => Edit::Clear(at(row, col)),
-        Do::Place(name, text) => Edit::Place(name, text),
-        Do::Block(row, col) => Edit::Block(at(row, col)),
-        Do::Choose(symmetry) => Edit::Symmetry(symmetry),
-        Do::Add(text) => Edit::Add(text),
-        Do::Strike(text) => Edit::Strike(text),
-    })
-}
-
-fn engine(alloc: Global, width: u32, height: u32) -> Result<Plain, Refusal> {
-    Plain::open(alloc, Grid::new(alloc, width, height)?, Bank::new(alloc)?)
-}
-
-fn add_all(engine: &mut Plain, texts: &[&[u8]]) -> Result<(), Refusal> {
-    for text in texts {
-        if let Some(edit) = edit_of(Do::Add(*text)) {
-            let _ = engine.edit(&edit)?;
-        }
-    }
-    Ok(())
 }
 
 /// How a table spells a square.

@@ -1,10 +1,9 @@
 //! What is asked where nothing, or little, is entered.
-use crate::edit::{Found, Refusal};
-use crate::tests::Do::Block;
-use crate::tests::Step::{Known, Letters, Light, Lights, Next, NoLetters, NoLight, Size, Told};
-use crate::tests::{
-    ACROSS_1, ACROSS_3, ALL, DOWN_1, DOWN_2, SQUARE, Step, WHOLE_SQUARE, pass_from,
-};
+use crate::edits::Do::Block;
+use crate::edits::{ACROSS_1, ACROSS_3, DOWN_1, DOWN_2, SQUARE};
+use crate::feas::Step::{Known, Letters, Light, Lights, Next, NoLetters, NoLight, Size, Told};
+use crate::feas::{ALL, Step, WHOLE_SQUARE, pass_from};
+use xw_feas::edit::{Found, Refusal};
 use xw_grid::fault::GridFault;
 
 const LIGHTS: &[Step] = &[

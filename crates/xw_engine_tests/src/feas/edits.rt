@@ -1,13 +1,11 @@
 //! What edits tell, and what is feasible after them.
-use crate::edit::{Edit, Found, Refusal};
-use crate::feasible::{Feasible, run};
-use crate::plain::Plain;
-use crate::tests::Do::{Add, Bar, Block, Choose, Clear, Place, Set, Strike};
-use crate::tests::Step::{Count, Letters, Lights, Next, NoLight, Regrid, Told, Words};
-use crate::tests::{
-    ACROSS_1, ACROSS_2, ACROSS_3, ALL, DOWN_1, DOWN_2, SQUARE, Step, WHOLE_SQUARE, add, at, engine,
-    pass, pass_from,
-};
+use crate::edits::Do::{Add, Bar, Block, Choose, Clear, Place, Set, Strike};
+use crate::edits::{ACROSS_1, ACROSS_2, ACROSS_3, DOWN_1, DOWN_2, SQUARE, add, at, engine};
+use crate::feas::Step::{Count, Letters, Lights, Next, NoLight, Regrid, Told, Words};
+use crate::feas::{ALL, Step, WHOLE_SQUARE, pass, pass_from};
+use xw_feas::edit::{Edit, Found, Refusal};
+use xw_feas::feasible::{Feasible, run};
+use xw_feas::plain::Plain;
 use xw_grid::cell::{Side, Symmetry};
 use xw_words::letter::Letter;
 

@@ -1,11 +1,11 @@
 //! What the calls that take memory do where there is memory, and examples from end to end.
-use crate::cell::{Cell, Direction, LightName, Side, Square, Symmetry};
-use crate::circles::Circles;
-use crate::clues::Clues;
-use crate::fault::GridFault;
-use crate::grid::Grid;
-use crate::lights::{Light, Lights};
 use std::test::Fail;
+use xw_grid::cell::{Cell, Direction, LightName, Side, Square, Symmetry};
+use xw_grid::circles::Circles;
+use xw_grid::clues::Clues;
+use xw_grid::fault::GridFault;
+use xw_grid::grid::Grid;
+use xw_grid::lights::{Light, Lights};
 use xw_words::letter::Letter;
 
 fn cell(row: u32, col: u32) -> Cell {

@@ -1,10 +1,10 @@
 //! Lists of cells that are written, and the same cells one after another in a second engine.
-use crate::edit::{Edit, Refusal};
-use crate::feasible::Feasible;
-use crate::plain::Plain;
-use crate::tests::{SQUARE, Start, add_all, at, engine};
+use crate::edits::{SQUARE, Start, add_all, at, engine};
 use std::alloc::Global;
 use std::process::Abort;
+use xw_feas::edit::{Edit, Refusal};
+use xw_feas::feasible::Feasible;
+use xw_feas::plain::Plain;
 use xw_grid::cell::Cell;
 use xw_grid::fault::GridFault;
 use xw_words::letter::Letter;

@@ -1,8 +1,9 @@
 //! Edits that are refused.
-use crate::edit::Refusal;
-use crate::tests::Do::{Add, Bar, Block, Choose, Clear, Place, Set, Strike};
-use crate::tests::Step::{Refused, Told, Words};
-use crate::tests::{ACROSS_1, ACROSS_2, SQUARE, Step, pass_from};
+use crate::edits::Do::{Add, Bar, Block, Choose, Clear, Place, Set, Strike};
+use crate::edits::{ACROSS_1, ACROSS_2, SQUARE};
+use crate::feas::Step::{Refused, Told, Words};
+use crate::feas::{Step, pass_from};
+use xw_feas::edit::Refusal;
 use xw_grid::cell::{Side, Symmetry};
 use xw_grid::fault::GridFault;
 use xw_words::fault::WordFault;

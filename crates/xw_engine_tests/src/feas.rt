@@ -1,36 +1,23 @@
-//! Worked examples, by calls on `Plain`: tables of calls, each with its answer.
+//! Worked examples of feasible words and letters, by calls on `Plain`: tables of calls, each with its answer.
 mod edits;
 mod queries;
 mod refusals;
 mod writing;
 
-use crate::changed::Changed;
-use crate::edit::{Edit, Found, Refusal};
-use crate::feasible::Feasible;
-use crate::plain::Plain;
-use crate::words::{Spelled, words};
+use crate::edits::{ACROSS_1, ACROSS_3, DOWN_1, DOWN_2, Do, Start, add_all, at, edit_of, engine};
 use std::alloc::Global;
 use std::process::Abort;
-use xw_grid::cell::{Cell, Direction, LightName, Side, Symmetry};
+use xw_feas::changed::Changed;
+use xw_feas::edit::{Edit, Found, Refusal};
+use xw_feas::feasible::Feasible;
+use xw_feas::plain::Plain;
+use xw_feas::words::{Spelled, words};
+use xw_grid::cell::{Cell, LightName};
 use xw_grid::fault::GridFault;
 use xw_grid::grid::Grid;
 use xw_grid::lights::Light;
-use xw_words::bank::Bank;
 use xw_words::letter::Letter;
 use xw_words::letter_set::LetterSet;
-
-/// An edit as a table spells it: a letter by its byte, and a cell by row and column.
-#[derive(Clone, Copy)]
-enum Do<'a> {
-    Set(u32, u32, u8),
-    Clear(u32, u32),
-    Place(LightName, &'a [u8]),
-    Block(u32, u32),
-    Bar(u32, u32, Side),
-    Choose(Symmetry),
-    Add(&'a [u8]),
-    Strike(&'a [u8]),
-}
 
 /// Cells by row and column, each with its feasible letters.
 type Cells = &'static [(u32, u32, &'static [u8])];
@@ -63,37 +50,7 @@ enum Step {
     NoLetters(u32, u32, GridFault),
 }
 
-const ACROSS_1: LightName = LightName {
-    number: 1,
-    direction: Direction::Across,
-};
-
-const DOWN_1: LightName = LightName {
-    number: 1,
-    direction: Direction::Down,
-};
-
-const ACROSS_2: LightName = LightName {
-    number: 2,
-    direction: Direction::Across,
-};
-
-const DOWN_2: LightName = LightName {
-    number: 2,
-    direction: Direction::Down,
-};
-
-const ACROSS_3: LightName = LightName {
-    number: 3,
-    direction: Direction::Across,
-};
-
 const ALL: &[u8] = b"ABCDEFGHIJKLMNOPQRSTUVWXYZ";
-
-/// A grid of so many columns and rows, and words for it.
-type Start = (u32, u32, &'static [&'static [u8]]);
-
-const SQUARE: Start = (2, 2, &[b"AS", b"AT", b"SO", b"TO", b"IN"]);
 
 /// What is feasible in the square while nothing is entered.
 const WHOLE_SQUARE: &[Step] = &[
@@ -106,42 +63,6 @@ const WHOLE_SQUARE: &[Step] = &[
     Step::Letters(2, 1, b"ST"),
     Step::Letters(2, 2, b"O"),
 ];
-
-fn at(row: u32, col: u32) -> Cell {
-    Cell { row, col }
-}
-
-/// An edit as the engine takes it, if its byte is a letter.
-fn edit_of(spelled: Do<'_>) -> Option<Edit<'_>> {
-    Some(match spelled {
-        Do::Set(row, col, byte) => Edit::Set(at(row, col), Letter::of(byte)?),
-        Do::Clear(row, col) => Edit::Clear(at(row, col)),
-        Do::Place(name, text) => Edit::Place(name, text),
-        Do::Block(row, col) => Edit::Block(at(row, col)),
-        Do::Bar(row, col, side) => Edit::Bar(at(row, col), side),
-        Do::Choose(symmetry) => Edit::Symmetry(symmetry),
-        Do::Add(text) => Edit::Add(text),
-        Do::Strike(text) => Edit::Strike(text),
-    })
-}
-
-fn engine(alloc: Global, width: u32, height: u32) -> Result<Plain, Refusal> {
-    Plain::open(alloc, Grid::new(alloc, width, height)?, Bank::new(alloc)?)
-}
-
-fn add(engine: &mut Plain, text: &[u8]) -> Result<(), Refusal> {
-    if let Some(edit) = edit_of(Do::Add(text)) {
-        let _ = engine.edit(&edit)?;
-    }
-    Ok(())
-}
-
-fn add_all(engine: &mut Plain, texts: &[&[u8]]) -> Result<(), Refusal> {
-    for text in texts {
-        add(engine, *text)?;
-    }
-    Ok(())
-}
 
 /// Whether a word that is lent has these letters.
 fn spells(word: &Spelled<'_>, text: &[u8]) -> bool {
