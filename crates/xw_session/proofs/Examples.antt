@@ -1,5 +1,5 @@
 -- An example of a record, which the definitions compute.
-use Rattle.std.specs.Prelude.{◌≡◌, ℕ, Bool, true, false, List, [], ◌∷◌, ◌++◌, codes, replicate, set, Some, None, refl}
+use Rattle.std.specs.Prelude.{◌≡◌, true, false, List, [], ◌∷◌, codes, replicate, set, Some, None, refl}
 use Rattle.std.specs.Fmt.{digits}
 use Rattle.xw_words.specs.Dictionary.{Dictionary, Entry}
 use Rattle.xw_grid.specs.declared.cell.Square.TheVariants.{Open}

@@ -3,6 +3,7 @@ pub mod Cuts
 pub mod Turns
 pub mod Walks
 pub mod SendsLemmas
+pub mod Gathering
 pub mod Answering
 pub mod Engine
 pub mod Sending

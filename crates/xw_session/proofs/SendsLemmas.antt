@@ -9,7 +9,7 @@ use Rattle.std.proofs.lemmas.Grind.{flat_map-append}
 use Rattle.xw_session.proofs.Texts.{begins-longer, begins-after}
 
 -- one of the items that are due
-take_due : {X : Type 0} (due : ℕ) (left rest : List X) (item : X) → (due ≡ 0 → ⊥) → left ≡ item ∷ rest → take due left ≡ item ∷ take (due - 1) rest
+pub take_due : {X : Type 0} (due : ℕ) (left rest : List X) (item : X) → (due ≡ 0 → ⊥) → left ≡ item ∷ rest → take due left ≡ item ∷ take (due - 1) rest
 take_due zero left rest item some is = absurd (some refl)
 take_due (suc n) left rest item some is = let less : suc n - 1 ≡ n = omega arith in rw less (ap (take (suc n)) is)
 
@@ -39,15 +39,7 @@ module _ {S : Type 0} (told : S → List ℕ) (failures : S → ℕ) where
       let failed : HasFailed (failures old) (failures new) = rw (← sent.1) s.1 in
       (subst (λ xs. Begins (told old) (told new) xs) (sym parts) whole, failed)
 
-  -- the texts of items are sent one after another: some of the whole text is sent, and that of the items left is not
-  pub next_sent : {X : Type 0} (text : X → List ℕ) (old mid new : S) (sent whole : List ℕ) (left rest : List X) (item : X)
-      → told mid ≡ told old ++ sent → whole ≡ sent ++ flat_map text left → left ≡ item ∷ rest → told new ≡ told mid ++ text item
-      → (told new ≡ told old ++ (sent ++ text item)) × (whole ≡ (sent ++ text item) ++ flat_map text rest)
-  next_sent text old mid new sent whole left rest item m w l n = (
-    n ∙ ap (λ xs. xs ++ text item) m ∙ append_assoc (told old) sent (text item),
-    w ∙ ap (λ items. sent ++ flat_map text items) l ∙ sym (append_assoc sent (text item) (flat_map text rest)),
-  )
-
+  -- of the texts of items, sent one after another, some went out, and of the next one a beginning
   pub next_stops : {X : Type 0} (text : X → List ℕ) (old mid new : S) (sent whole : List ℕ) (left rest : List X) (item : X)
       → told mid ≡ told old ++ sent → failures mid ≡ failures old → whole ≡ sent ++ flat_map text left → left ≡ item ∷ rest
       → Begins (told mid) (told new) (text item) × HasFailed (failures mid) (failures new)
@@ -78,17 +70,3 @@ module _ {S : Type 0} (told : S → List ℕ) (failures : S → ℕ) where
       → (told new ≡ told old ++ flat_map text (take at items)) × (failures new ≡ failures old)
       → (told new ≡ told old ++ flat_map text items) × (failures new ≡ failures old)
   each_all text items old new at h m = (m.0 ∙ ap (λ xs. told old ++ flat_map text xs) (take_all at items h), m.1)
-
-  -- the first items of those that are left, while some are due
-  pub next_due_sent : {X : Type 0} (text : X → List ℕ) (old mid new : S) (sent whole : List ℕ) (due : ℕ) (left rest : List X) (item : X)
-      → (due ≡ 0 → ⊥) → told mid ≡ told old ++ sent → whole ≡ sent ++ flat_map text (take due left) → left ≡ item ∷ rest → told new ≡ told mid ++ text item
-      → (told new ≡ told old ++ (sent ++ text item)) × (whole ≡ (sent ++ text item) ++ flat_map text (take (due - 1) rest))
-  next_due_sent text old mid new sent whole due left rest item some m w l n =
-      next_sent text old mid new sent whole (take due left) (take (due - 1) rest) item m w (take_due due left rest item some l) n
-
-  pub next_due_stops : {X : Type 0} (text : X → List ℕ) (old mid new : S) (sent whole : List ℕ) (due : ℕ) (left rest : List X) (item : X)
-      → (due ≡ 0 → ⊥) → told mid ≡ told old ++ sent → failures mid ≡ failures old → whole ≡ sent ++ flat_map text (take due left) → left ≡ item ∷ rest
-      → Begins (told mid) (told new) (text item) × HasFailed (failures mid) (failures new)
-      → Begins (told old) (told new) whole × HasFailed (failures old) (failures new)
-  next_due_stops text old mid new sent whole due left rest item some m f w l s =
-      next_stops text old mid new sent whole (take due left) (take (due - 1) rest) item m f w (take_due due left rest item some l) s

@@ -1,8 +1,9 @@
-//! A line of an answer, put together to be written at once.
-ghost use Rattle.std.specs.Prelude.{◌≡◌, ◌+◌, ◌<◌, ◌≤◌, true, [], ◌∷◌, ◌++◌, length, map};
+//! Lines of an answer, put together to be written at once.
+ghost use Rattle.std.specs.Prelude.{◌≡◌, ◌+◌, ◌<◌, ◌≤◌, true, false, [], ◌∷◌, ◌++◌, length, map};
 ghost use Rattle.xw_session.specs.Text.{line_of};
 
 use std::marker::Model;
+use xw_words::Letter;
 
 /// How many bytes are put together: a row of the largest grid has 510.
 const MOST: usize = 512;
@@ -22,6 +23,16 @@ impl Model for AnswerLine {
     ghost view = { λ line. take line.len line.bytes };
 
     ghost invariant = { λ line. line.len ≤ 512 };
+}
+
+/// Puts letters down as bytes.
+fn put_letters(bytes: &mut [u8], letters: &[Letter])
+    requires { length bytes.old ≡ length letters.now }
+    ensures { bytes.new ≡ letters.now }
+{
+    for place in 0..letters.len() {
+        bytes[place] = letters[place].byte();
+    }
 }
 
 impl AnswerLine {
@@ -74,6 +85,20 @@ impl AnswerLine {
         self.bytes[self.len..end].copy_from_slice(bytes);
         self.len = end;
         true
+    }
+
+    /// Puts a word and an LF at the end, where there is room.
+    pub fn push_word(&mut self, word: &[Letter]) -> bool
+        ensures fits { result ≡ true → self.new ≡ self.old ++ line_of (word.now ∷ []) }
+        ensures full { result ≡ false → self.new ≡ self.old }
+    {
+        if word.len() >= MOST - self.len {
+            return false;
+        }
+        let end = self.len + word.len();
+        put_letters(&mut self.bytes[self.len..end], word);
+        self.len = end;
+        self.push_byte(b'\n')
     }
 
     /// Puts words at the end, with a space between them and an LF behind them, where there is room.

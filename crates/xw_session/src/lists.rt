@@ -8,6 +8,7 @@ ghost use Rattle.xw_session.specs.Text.{word_line, light_line, light_lines, circ
 
 use crate::answer_line::AnswerLine;
 use crate::device::{self, Sink, WriteFailed};
+use crate::spelling::gather_letters_line;
 use crate::{light_line, text};
 use xw_feas::changed::Changed;
 use xw_feas::feasible::Feasible;
@@ -20,10 +21,11 @@ use xw_words::Matching;
 pub fn write_words<W: Sink>(sink: &mut W, words: Matching<'_>) -> Result<(), WriteFailed>
     ensures { Sends W.told W.failures sink.old sink.new result (flat_map word_line words.entry) }
 {
+    let mut lines = AnswerLine::new();
     for word in words {
-        text::write_word(sink, word)?;
+        gather_letters_line(sink, &mut lines, word)?;
     }
-    Ok(())
+    device::write_all(sink, lines.bytes())
 }
 
 /// Writes lights, each on a line.
@@ -120,10 +122,11 @@ pub fn write_feasible<E: Feasible, W: Sink>(
 ) -> Result<(), WriteFailed>
     ensures { Sends W.told W.failures sink.old sink.new result (flat_map word_line words.entry) }
 {
+    let mut lines = AnswerLine::new();
     for word in words {
-        text::write_spelled(sink, &word)?;
+        text::gather_spelled(sink, &mut lines, &word)?;
     }
-    Ok(())
+    device::write_all(sink, lines.bytes())
 }
 
 /// Writes the first feasible words, no more than so many, each on a line.
@@ -134,15 +137,16 @@ pub fn write_first_feasible<E: Feasible, W: Sink>(
 ) -> Result<(), WriteFailed>
     ensures { Sends W.told W.failures sink.old sink.new result (flat_map word_line (take most words.entry)) }
 {
+    let mut lines = AnswerLine::new();
     let mut left = most;
     for word in words {
         if left == 0 {
-            return Ok(());
+            break;
         }
         left -= 1;
-        text::write_spelled(sink, &word)?;
+        text::gather_spelled(sink, &mut lines, &word)?;
     }
-    Ok(())
+    device::write_all(sink, lines.bytes())
 }
 
 /// Writes lights that spell what earlier ones do, each on a line.

@@ -1,8 +1,9 @@
 //! Letters, many of which are written at once.
-ghost use Rattle.std.specs.Prelude.{◌≡◌, ◌<◌, ◌≤◌, [], ◌∷◌, length, min, take};
-ghost use Rattle.xw_session.specs.Sends.{Sends};
+ghost use Rattle.std.specs.Prelude.{◌≡◌, ◌<◌, ◌≤◌, [], ◌∷◌, length, min, take, IfOk};
+ghost use Rattle.xw_session.specs.Sends.{Sends, Gathers};
 ghost use Rattle.xw_session.specs.Text.{line_of};
 
+use crate::answer_line::AnswerLine;
 use crate::device::{self, Sink, WriteFailed};
 use xw_words::Letter;
 
@@ -57,4 +58,32 @@ fn write_letters<W: Sink>(sink: &mut W, letters: &[Letter]) -> Result<(), WriteF
     } else {
         Ok(())
     }
+}
+
+/// Writes the lines that are put together, and begins anew.
+pub fn send_lines<W: Sink>(sink: &mut W, lines: &mut AnswerLine) -> Result<(), WriteFailed>
+    ensures sends { Sends W.told W.failures sink.old sink.new result lines.old }
+    ensures cleared { IfOk result (λ _. lines.new ≡ []) }
+{
+    device::write_all(sink, lines.bytes())?;
+    lines.clear();
+    Ok(())
+}
+
+/// Puts letters on a line of their own behind those that are put together, which go out where there is no room for one more.
+pub fn gather_letters_line<W: Sink>(
+    sink: &mut W,
+    lines: &mut AnswerLine,
+    letters: &[Letter],
+) -> Result<(), WriteFailed>
+    ensures { Gathers W.told W.failures sink.old sink.new lines.old lines.new result (line_of (letters.now ∷ [])) }
+{
+    if lines.push_word(letters) {
+        return Ok(());
+    }
+    send_lines(sink, lines)?;
+    if lines.push_word(letters) {
+        return Ok(());
+    }
+    write_letters_line(sink, letters)
 }

@@ -4,7 +4,7 @@ ghost use Rattle.xw_words.specs.LetterSet.{has, letters_in};
 ghost use Rattle.xw_grid.specs.Grid.{entry as entry_of};
 ghost use Rattle.xw_grid.specs.Light.{lights_of};
 ghost use Rattle.xw_feas.specs.Spelled.{spelling};
-ghost use Rattle.xw_session.specs.Sends.{Sends};
+ghost use Rattle.xw_session.specs.Sends.{Sends, Gathers};
 ghost use Rattle.xw_session.specs.Told.{numbered_line};
 ghost use Rattle.xw_session.specs.Text.{line_of, accepted, refused, direction_name as name_of_direction, letter_or_dot as byte_of_entry, pattern as pattern_in, pattern_of, light_of, cell_line, letters_or_dash, letters_line, change_line, duplicate_line, spelled_line};
 
@@ -12,7 +12,7 @@ use crate::answer_line::AnswerLine;
 use crate::device::{self, Sink, WriteFailed};
 use crate::lookup::light_named;
 use crate::refusal::{self, Refusal};
-use crate::spelling::write_letters_line;
+use crate::spelling::{gather_letters_line, send_lines, write_letters_line};
 use std::marker::Model;
 use xw_feas::words::{Entries, Spelled};
 use xw_fill::listing::Duplicate;
@@ -412,13 +412,29 @@ fn write_entries_line<W: Sink>(sink: &mut W, entries: &Entries<'_>) -> Result<()
     device::write_all(sink, b"\n")
 }
 
-/// Writes a feasible word on a line of its own.
-pub fn write_spelled<W: Sink>(sink: &mut W, word: &Spelled<'_>) -> Result<(), WriteFailed>
-    ensures { Sends W.told W.failures sink.old sink.new result (line_of (spelling word.now ∷ [])) }
+/// Puts what is entered in a light on a line of its own behind the lines that are put together, which go out.
+fn gather_entries_line<W: Sink>(
+    sink: &mut W,
+    lines: &mut AnswerLine,
+    entries: &Entries<'_>,
+) -> Result<(), WriteFailed>
+    ensures { Gathers W.told W.failures sink.old sink.new lines.old lines.new result (line_of (entries.now ∷ [])) }
+{
+    send_lines(sink, lines)?;
+    write_entries_line(sink, entries)
+}
+
+/// Puts a feasible word on a line of its own behind the lines that are put together, which go out where there is no room for one more.
+pub fn gather_spelled<W: Sink>(
+    sink: &mut W,
+    lines: &mut AnswerLine,
+    word: &Spelled<'_>,
+) -> Result<(), WriteFailed>
+    ensures { Gathers W.told W.failures sink.old sink.new lines.old lines.new result (line_of (spelling word.now ∷ [])) }
 {
     match word {
-        Spelled::Listed(letters) => write_letters_line(sink, letters),
-        Spelled::Entered(entries) => write_entries_line(sink, entries),
+        Spelled::Listed(letters) => gather_letters_line(sink, lines, letters),
+        Spelled::Entered(entries) => gather_entries_line(sink, lines, entries),
     }
 }
 

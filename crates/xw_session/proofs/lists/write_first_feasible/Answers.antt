@@ -1,22 +1,36 @@
+use Rattle.std.proofs.Common.{◌≡◌, ◌-◌, ◌++◌, ◌∙◌, [], take, refl}
+use Rattle.std.proofs.Math.Seq.{take-nil}
 use Rattle.std.proofs.lemmas.Result.{err_from_is_err_and}
-use Rattle.std.proofs.Common.{◌++◌, ◌∙◌, ◌≡◌}
 use Rattle.xw_feas.specs.Spelled.{spelling}
 use Rattle.xw_session.specs.Text.{word_line}
-use Rattle.xw_session.proofs.SendsLemmas.{next_due_sent, next_due_stops}
+use Rattle.xw_session.proofs.SendsLemmas.{take_due}
+use Rattle.xw_session.proofs.Gathering.{next_gathered, next_gathered_stops, gathered_all}
+use Rattle.xw_session.proofs.lists.write_first_feasible.Goals.{in-None, in-Some+then-left-eq0}
 use Rattle.xw_session.proofs.lists.write_first_feasible.Goals as goal
 
 pub loop-word-preserved : goal.loop-word-preserved
 loop-word-preserved g c =
     let sent = c.loop-word.invariant.0 in
     let kept = c.loop-word.invariant.1 in
-    let wrote = c.in_ok-write_spelled.ensures in
+    let put = c.in_ok-gather_spelled.ensures in
     let some : c.loop-word.left ≡ 0 → ⊥ = λ e. c.if-left-eq0.false e in
-    let more = next_due_sent g.W.Sink.told g.W.Sink.failures word_line c.args.sink.now c.loop-word.sink c.write_spelled.new.sink sent _ c.loop-word.left c.loop-word.word-iterator c.next.new.self (spelling c.in-Some.word) some kept.told kept.left c.in-Some.ensures.steps wrote.0 in
-    (sent ++ word_line (spelling c.in-Some.word), record { told = more.0; left = more.1; quiet = wrote.1 ∙ kept.quiet })
+    let next = take_due c.loop-word.left c.loop-word.word-iterator c.next.new.self (spelling c.in-Some.word) some c.in-Some.ensures.steps in
+    let more = next_gathered g.W.Sink.told g.W.Sink.failures word_line c.args.sink.now c.loop-word.sink c.gather_spelled.new.sink sent put.0 _ c.loop-word.lines c.gather_spelled.new.lines (take c.loop-word.left c.loop-word.word-iterator) (take (c.loop-word.left - 1) c.next.new.self) (spelling c.in-Some.word) kept.told kept.left next put.1.told put.1.parts in
+    (sent ++ put.0, record { told = more.0; left = more.1; quiet = put.1.quiet ∙ kept.quiet })
 
-pub returns-in_err-write_spelled : goal.returns-in_err-write_spelled
-returns-in_err-write_spelled g c =
+pub returns-in_err-gather_spelled : goal.returns-in_err-gather_spelled
+returns-in_err-gather_spelled g c =
     let e = err_from_is_err_and c.from_residual.result c.from_residual.ensures.1 in
     let kept = c.loop-word.invariant.1 in
     let some : c.loop-word.left ≡ 0 → ⊥ = λ e. c.if-left-eq0.false e in
-    rw e.1 (next_due_stops g.W.Sink.told g.W.Sink.failures word_line c.args.sink.now c.loop-word.sink c.write_spelled.new.sink c.loop-word.invariant.0 _ c.loop-word.left c.loop-word.word-iterator c.next.new.self (spelling c.in-Some.word) some kept.told kept.quiet kept.left c.in-Some.ensures.steps c.in_err-write_spelled.ensures)
+    let next = take_due c.loop-word.left c.loop-word.word-iterator c.next.new.self (spelling c.in-Some.word) some c.in-Some.ensures.steps in
+    rw e.1 (next_gathered_stops g.W.Sink.told g.W.Sink.failures word_line c.args.sink.now c.loop-word.sink c.gather_spelled.new.sink c.loop-word.invariant.0 _ c.loop-word.lines (take c.loop-word.left c.loop-word.word-iterator) (take (c.loop-word.left - 1) c.next.new.self) (spelling c.in-Some.word) kept.told kept.quiet kept.left next c.in_err-gather_spelled.ensures)
+
+pub returns : goal.returns
+returns g c =
+    let kept = c.loop-word.invariant.1 in
+    let none : take c.loop-word.left c.loop-word.word-iterator ≡ [] = elim c.match-next.branch [
+      | in-None w ↦ rw (w.in-None.ensures.steps.0) (take-nil c.loop-word.left)
+      | in-Some+then-left-eq0 w ↦ rw (w.if-left-eq0.true) refl
+    ] in
+    gathered_all g.W.Sink.told g.W.Sink.failures word_line c.args.sink.now c.loop-word.sink c.write_all.new.sink c.write_all.result c.loop-word.invariant.0 _ c.loop-word.lines (take c.loop-word.left c.loop-word.word-iterator) kept.told kept.quiet kept.left none (rw c.bytes.ensures at c.write_all.ensures)
