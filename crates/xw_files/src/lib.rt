@@ -6,8 +6,6 @@ mod finished;
 pub mod kind;
 pub mod puz;
 pub mod puzzle;
-#[cfg(test)]
-mod tests;
 pub mod text;
 
 pub use kind::{Kind, kind_of};

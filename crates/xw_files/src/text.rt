@@ -4,8 +4,6 @@ mod lines;
 pub mod place;
 mod reading;
 mod tag;
-#[cfg(test)]
-mod tests;
 mod writing;
 
 pub use place::{TextPlace, text_place};

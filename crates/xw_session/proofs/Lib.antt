@@ -7,7 +7,6 @@ pub mod Gathering
 pub mod Answering
 pub mod Engine
 pub mod Sending
-pub mod Buffers
 pub mod Bars
 pub mod Passing
 pub mod Digits

@@ -1,4 +1,4 @@
-//! A history that only proofs read.
+//! A history that only proofs read, for a reader or a writer to tell by it what went through.
 ghost use Rattle.std.specs.Prelude.{◌≡◌, ℕ, List, [], ◌∷◌, ◌++◌};
 ghost use Rattle.std.specs.Borrow.{ftrue};
 ghost use Rattle.xw_session.specs.Device.{flushed};

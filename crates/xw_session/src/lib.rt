@@ -6,7 +6,7 @@ pub mod command;
 pub mod device;
 mod escape;
 mod fields;
-mod history;
+pub mod history;
 pub mod law;
 mod light_line;
 mod line;
@@ -22,8 +22,6 @@ mod show;
 mod spelling;
 pub mod standard;
 mod stats;
-#[cfg(test)]
-mod tests;
 mod text;
 mod words;
 

@@ -1,3 +1,0 @@
-//! Worked examples of files.
-mod puz;
-pub mod puzzles;

@@ -1,0 +1,4 @@
+//! Worked examples of files.
+mod puz;
+pub mod puzzles;
+mod text;

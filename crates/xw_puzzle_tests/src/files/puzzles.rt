@@ -1,0 +1,198 @@
+//! Puzzles by their parts: made, asked for what they have, and written.
+use std::alloc::Global;
+use std::process::Abort;
+use std::test::Fail;
+use xw_files::fault::WriteFault;
+use xw_files::kind::Kind;
+use xw_files::puz::write_puz;
+use xw_files::puzzle::{Puzzle, Texts};
+use xw_files::text::write_text;
+use xw_grid::cell::{Cell, Direction, Side, Symmetry};
+use xw_grid::circles::Circles;
+use xw_grid::clues::Clues;
+use xw_grid::grid::Grid;
+use xw_words::letter::Letter;
+
+/// What a puzzle has, as a table spells it: a cell by row and column.
+#[derive(Clone, Copy)]
+pub enum Part {
+    /// A grid of so many columns and rows, which is made empty.
+    Size(u32, u32),
+    /// A letter by its byte; as the files have them a dash is an empty cell, and a dot a block.
+    Square(u32, u32, u8),
+    Bar(u32, u32, Side, bool),
+    Title(&'static [u8]),
+    Author(&'static [u8]),
+    Copyright(&'static [u8]),
+    Notes(&'static [u8]),
+    Clue(u32, u32, Direction, &'static [u8]),
+    Circle(u32, u32, bool),
+}
+
+/// The puzzle of the plain files.
+pub const PLAIN_PUZZLE: &[Part] = &[
+    Part::Size(2, 2),
+    Part::Square(1, 1, b'A'),
+    Part::Square(1, 2, b'T'),
+    Part::Square(2, 1, b'S'),
+    Part::Square(2, 2, b'O'),
+    Part::Clue(1, 1, Direction::Across, b"a"),
+    Part::Clue(1, 1, Direction::Down, b"b"),
+    Part::Clue(1, 2, Direction::Down, b"c"),
+    Part::Clue(2, 1, Direction::Across, b"d"),
+    Part::Clue(2, 1, Direction::Down, b""),
+    Part::Circle(1, 1, false),
+    Part::Circle(1, 2, false),
+    Part::Circle(2, 1, false),
+    Part::Circle(2, 2, false),
+];
+
+pub const NO_TEXTS: &[Part] = &[
+    Part::Title(b""),
+    Part::Author(b""),
+    Part::Copyright(b""),
+    Part::Notes(b""),
+];
+
+pub fn cell(row: u32, col: u32) -> Cell {
+    Cell { row, col }
+}
+
+fn put_square(grid: &mut Grid, cell: Cell, byte: u8) -> Result<(), Fail> {
+    grid.clear(cell)?;
+    match byte {
+        b'-' => {}
+        b'.' => grid.toggle_block(cell)?,
+        _ => grid.set(cell, Letter::of(byte).ok_or("the byte is a letter")?)?,
+    }
+    Ok(())
+}
+
+fn put_bar(grid: &mut Grid, cell: Cell, side: Side, barred: bool) -> Result<(), Fail> {
+    if grid.is_barred(cell, side) != barred {
+        grid.toggle_bar(cell, side)?;
+    }
+    Ok(())
+}
+
+/// Lets a puzzle have a part.
+pub fn put(alloc: Global, puzzle: &mut Puzzle, part: Part) -> Result<(), Fail> {
+    match part {
+        Part::Size(width, height) => puzzle.grid = Grid::new(alloc, width, height)?,
+        Part::Square(row, col, byte) => put_square(&mut puzzle.grid, cell(row, col), byte)?,
+        Part::Bar(row, col, side, barred) => {
+            put_bar(&mut puzzle.grid, cell(row, col), side, barred)?
+        }
+        Part::Title(text) => puzzle.texts.title = Vec::from_slice(alloc, text)?,
+        Part::Author(text) => puzzle.texts.author = Vec::from_slice(alloc, text)?,
+        Part::Copyright(text) => puzzle.texts.copyright = Vec::from_slice(alloc, text)?,
+        Part::Notes(text) => puzzle.texts.notes = Vec::from_slice(alloc, text)?,
+        Part::Clue(row, col, direction, text) => {
+            puzzle.clues.set(cell(row, col), direction, text)?
+        }
+        Part::Circle(row, col, circled) => puzzle.circles.set(cell(row, col), circled)?,
+    }
+    Ok(())
+}
+
+fn put_all(alloc: Global, puzzle: &mut Puzzle, parts: &[Part]) -> Result<(), Fail> {
+    for part in parts {
+        put(alloc, puzzle, *part)?;
+    }
+    Ok(())
+}
+
+/// A puzzle of one empty cell, with these parts.
+pub fn puzzle_with(alloc: Global, parts: &[Part]) -> Result<Puzzle, Fail> {
+    let mut puzzle = Puzzle {
+        grid: Grid::new(alloc, 1, 1)?,
+        texts: Texts {
+            title: Vec::new(alloc),
+            author: Vec::new(alloc),
+            copyright: Vec::new(alloc),
+            notes: Vec::new(alloc),
+        },
+        clues: Clues::new(alloc),
+        circles: Circles::new(alloc),
+    };
+    put_all(alloc, &mut puzzle, parts)?;
+    Ok(puzzle)
+}
+
+/// How a table spells a square.
+fn byte_at(grid: &Grid, cell: Cell) -> Option<u8> {
+    match grid.entry(cell) {
+        Some(letter) => Some(letter.byte()),
+        None if grid.is_open(cell) => Some(b'-'),
+        None if grid.is_block(cell) => Some(b'.'),
+        None => None,
+    }
+}
+
+/// Whether a puzzle has a part.
+fn has(puzzle: &Puzzle, part: Part) -> bool {
+    match part {
+        Part::Size(width, height) => {
+            puzzle.grid.width() == width && puzzle.grid.height() == height
+        }
+        Part::Square(row, col, byte) => byte_at(&puzzle.grid, cell(row, col)) == Some(byte),
+        Part::Bar(row, col, side, barred) => {
+            puzzle.grid.is_barred(cell(row, col), side) == barred
+        }
+        Part::Title(text) => puzzle.texts.title.as_slice() == text,
+        Part::Author(text) => puzzle.texts.author.as_slice() == text,
+        Part::Copyright(text) => puzzle.texts.copyright.as_slice() == text,
+        Part::Notes(text) => puzzle.texts.notes.as_slice() == text,
+        Part::Clue(row, col, direction, text) => {
+            puzzle.clues.get(cell(row, col), direction) == text
+        }
+        Part::Circle(row, col, circled) => puzzle.circles.has(cell(row, col)) == circled,
+    }
+}
+
+fn has_all(rt: &impl Abort, puzzle: &Puzzle, parts: &[Part]) {
+    for (place, part) in parts.iter().enumerate() {
+        assert!(rt; has(puzzle, *part), "part {place}");
+    }
+}
+
+/// Looks for the parts of each table in a puzzle that was read.
+pub fn is_read_as(rt: &impl Abort, puzzle: &Puzzle, tables: &[&[Part]]) {
+    assert_eq!(rt; puzzle.grid.symmetry(), Symmetry::None);
+    for parts in tables {
+        has_all(rt, puzzle, *parts);
+    }
+}
+
+/// A file, or why none is written.
+pub type Wanted = Result<&'static [u8], WriteFault>;
+
+/// Parts to put into a puzzle, and what is written of it then.
+pub type Row = (&'static [Part], Wanted);
+
+fn written(alloc: Global, kind: Kind, puzzle: &Puzzle) -> Result<Vec<u8>, WriteFault> {
+    match kind {
+        Kind::Puz => write_puz(alloc, puzzle),
+        Kind::Text => write_text(alloc, puzzle),
+    }
+}
+
+/// Whether a puzzle is written so, or so refused.
+fn gives(alloc: Global, kind: Kind, puzzle: &Puzzle, wanted: Wanted) -> bool {
+    match (written(alloc, kind, puzzle), wanted) {
+        (Ok(bytes), Ok(file)) => bytes.as_slice() == file,
+        (Err(fault), Err(refusal)) => fault == refusal,
+        _ => false,
+    }
+}
+
+/// Puts parts into the plain puzzle, row by row, and compares what each time is written.
+pub fn writes_each(rt: &(impl Abort + AllocGlobal), kind: Kind, rows: &[Row]) -> Result<(), Fail> {
+    let mut puzzle = puzzle_with(rt.alloc(), PLAIN_PUZZLE)?;
+    for (place, row) in rows.iter().enumerate() {
+        let (parts, wanted) = *row;
+        put_all(rt.alloc(), &mut puzzle, parts)?;
+        assert!(rt; gives(rt.alloc(), kind, &puzzle, wanted), "at row {place}");
+    }
+    Ok(())
+}
