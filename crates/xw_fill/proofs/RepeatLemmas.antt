@@ -54,14 +54,14 @@ repeat_again position light in_grid h =
     repeat_from position light found.0 (λ same. false≢true (sym (ap not (eq-eqb found.0 light (sym same))) ∙ parts.0)) in_grid found.1 parts.1
 
 -- where no light that is not noted is spelled again, and none of the noted ones spell the same
-pub no_new_repeat : (position : Position) (entered : List Bool) → SpellApart position entered → ((light : ℕ) → light < light_count position → get_or entered light false ≡ false → is_spelled_again position light ≡ false) → any_below (is_repeat position) (light_count position) ≡ false
-no_new_repeat position entered apart none = false_from_ne_true _ (λ h.
+pub no_new_repeat : (position : Position) (is_noted : ℕ → Bool) → SpellApart position is_noted → ((light : ℕ) → light < light_count position → is_noted light ≡ false → is_spelled_again position light ≡ false) → any_below (is_repeat position) (light_count position) ≡ false
+no_new_repeat position is_noted apart none = false_from_ne_true _ (λ h.
     let light = any_below-gives (is_repeat position) (light_count position) h in
     let other = any_below-gives (spell_same position light.0) light.0 light.2 in
     let other_in : other.0 < light_count position = omega (arith, light.1, other.1) in
-    elim (cases_Bool (get_or entered light.0 false)) [
+    elim (cases_Bool (is_noted light.0)) [
       | inr new ↦ false≢true (sym (none light.0 light.1 new) ∙ again-from position light.0 other.0 (λ e. omega (arith, other.1)) other_in other.2)
-      | inl old ↦ elim (cases_Bool (get_or entered other.0 false)) [
+      | inl old ↦ elim (cases_Bool (is_noted other.0)) [
         | inr new ↦ false≢true (sym (none other.0 other_in new) ∙ again-from position other.0 light.0 (λ e. omega (arith, other.1)) light.1 (spell_same-turned position light.0 other.0 other.2))
         | inl old_too ↦ false≢true (sym (apart light.0 other.0 other.1 light.1 old old_too) ∙ other.2)
       ]
@@ -75,8 +75,8 @@ placed-spells position light word shape agree other entered =
     placed-kept position light word shape agree (get_or (light_at position.board other) k 0) found.0 found.1 ∙ sym found.1)
 
 -- so a word placed leaves the lights apart that were wholly entered, where no two of them spelled the same
-pub placed-apart : (position : Position) (entered : List Bool) (light : ℕ) (word : List ℕ) → IsShaped position.board → agrees position.board (light_at position.board light) word ≡ true → is_dead position ≡ false → AreEntered position entered → SpellApart (placed position light word) entered
-placed-apart position entered light word shape agree alive noted = λ one other before in_grid first second.
+pub placed-apart : (position : Position) (is_noted : ℕ → Bool) (light : ℕ) (word : List ℕ) → IsShaped position.board → agrees position.board (light_at position.board light) word ≡ true → is_dead position ≡ false → AreEntered position is_noted → SpellApart (placed position light word) is_noted
+placed-apart position is_noted light word shape agree alive noted = λ one other before in_grid first second.
     let other_in : other < light_count position = omega arith in
     let entered_one : is_entered position one ≡ true = sym (noted one in_grid) ∙ first in
     let entered_other : is_entered position other ≡ true = sym (noted other other_in) ∙ second in

@@ -1,7 +1,7 @@
 -- Lemmas on what the scans of an engine find.
 use Rattle.std.proofs.Common.{◌≡◌, ℕ, zero, suc, ◌+◌, ◌<◌, ◌≤◌, Bool, true, false, cond, not, ◌||◌, List, [], ◌∷◌, ◌++◌, length, get_or, set, drop, Option, Some, None, refl, sym, ◌∙◌, ap, subst, arith, add-one}
 use Rattle.std.specs.Prelude.{Result, Ok, is_some, is_none, unwrap_or, bytes_eq}
-use Rattle.std.proofs.lemmas.Bool.{true≢false, false≢true, eq-eqb, ne_eqb, or_right, false_from_ne_true, lt-ltb, le-ltb}
+use Rattle.std.proofs.lemmas.Bool.{true≢false, false≢true, eq-eqb, ne_eqb, false_from_ne_true, lt-ltb, le-ltb}
 use Rattle.std.proofs.lemmas.List.{get_or-map, length-map}
 use Rattle.std.proofs.lemmas.Slice.Eq.{bytes_eq-Decides}
 use Rattle.xw_grid.specs.declared.cell.Cell.{Cell}
@@ -23,10 +23,9 @@ use Rattle.xw_fill.specs.declared.tries.Try.{Try}
 use Rattle.xw_fill.specs.Below.{any_below}
 use Rattle.xw_fill.specs.FeasibleWords.{feasible_words}
 use Rattle.xw_fill.specs.Search.{light_count, is_entered, is_repeat, lacks_words, is_dead, chosen_below, chosen}
-use Rattle.xw_fill.specs.Filling.{scanned, outlook, next_of}
+use Rattle.xw_fill.specs.Filling.{scanned, outlook, next_of, unless_repeated}
 use Rattle.xw_fill.specs.declared.scan.Scan.{Scan}
 use Rattle.xw_fill.specs.declared.scan.Scan.TheVariants.{Blocked, Open}
-use Rattle.xw_fill.specs.declared.search.Next.{Next}
 use Rattle.xw_fill.specs.declared.search.Next.TheVariants.{Spent}
 use Rattle.xw_fill.specs.Tries.{without_letters, taken_back, all_taken_back}
 use Rattle.xw_fill.proofs.BelowLemmas.{any_below-from}
@@ -91,26 +90,32 @@ unfolding chosen
 scanned-open state n best all none is = ap (λ b. cond b Blocked (Open (chosen_below state (light_count state)))) (ap (any_below (lacks_words state)) (sym all) ∙ none) ∙ ap Open (ap (chosen_below state) (sym all) ∙ is)
 
 -- what is to be done, as the scans find it
-pub outlook-repeat : (state : Position) → any_below (is_repeat state) (light_count state) ≡ true → outlook state ≡ Spent
+abbrev chosen_by : Scan → Option ℕ
+chosen_by Blocked = None
+chosen_by (Open found) = found
+
+abbrev is_blocked : Scan → Bool
+is_blocked Blocked = true
+is_blocked (Open found) = false
+
+outlook_parts : (state : Position) → outlook state ≡ cond (any_below (lacks_words state) (light_count state)) Spent (unless_repeated (any_below (is_repeat state) (light_count state)) (chosen state))
 unfolding is_dead
-outlook-repeat state h = ap (λ b. cond b Spent (next_of (chosen state))) (or_right (any_below (lacks_words state) (light_count state)) (any_below (is_repeat state) (light_count state)) h)
+outlook_parts state = split (any_below (lacks_words state) (light_count state)) where
+  split : (b : Bool) → cond (b || any_below (is_repeat state) (light_count state)) Spent (next_of (chosen state)) ≡ cond b Spent (unless_repeated (any_below (is_repeat state) (light_count state)) (chosen state))
+  split true = refl
+  split false = refl
 
-abbrev by_scan : Scan → Next
-by_scan Blocked = Spent
-by_scan (Open best) = next_of best
+pub outlook-blocked : (state : Position) (found : Scan) → found ≡ scanned state → found ≡ Blocked → outlook state ≡ Spent
+outlook-blocked state found is e = outlook_parts state ∙ split (any_below (lacks_words state) (light_count state)) (sym is ∙ e) where
+  split : (b : Bool) → cond b Blocked (Open (chosen state)) ≡ Blocked → cond b Spent (unless_repeated (any_below (is_repeat state) (light_count state)) (chosen state)) ≡ Spent
+  split true h = refl
+  split false h = absurd (false≢true (ap is_blocked h))
 
-outlook-scan : (state : Position) → any_below (is_repeat state) (light_count state) ≡ false → outlook state ≡ by_scan (scanned state)
-unfolding is_dead
-outlook-scan state h = split (any_below (lacks_words state) (light_count state)) refl where
-  split : (b : Bool) → any_below (lacks_words state) (light_count state) ≡ b → cond (any_below (lacks_words state) (light_count state) || any_below (is_repeat state) (light_count state)) Spent (next_of (chosen state)) ≡ by_scan (cond (any_below (lacks_words state) (light_count state)) Blocked (Open (chosen state)))
-  split true e = rw e refl
-  split false e = rw (e, h) refl
-
-pub outlook-blocked : (state : Position) (found : Scan) → any_below (is_repeat state) (light_count state) ≡ false → found ≡ scanned state → found ≡ Blocked → outlook state ≡ Spent
-outlook-blocked state found h is e = outlook-scan state h ∙ ap by_scan (sym is ∙ e)
-
-pub outlook-open : (state : Position) (found : Scan) (best : Option ℕ) → any_below (is_repeat state) (light_count state) ≡ false → found ≡ scanned state → found ≡ Open best → outlook state ≡ next_of best
-outlook-open state found best h is e = outlook-scan state h ∙ ap by_scan (sym is ∙ e)
+pub outlook-open : (state : Position) (found : Scan) (best : Option ℕ) (repeats : Bool) → found ≡ scanned state → found ≡ Open best → repeats ≡ any_below (is_repeat state) (light_count state) → outlook state ≡ unless_repeated repeats best
+outlook-open state found best repeats is e again = outlook_parts state ∙ split (any_below (lacks_words state) (light_count state)) (sym is ∙ e) where
+  split : (b : Bool) → cond b Blocked (Open (chosen state)) ≡ Open best → cond b Spent (unless_repeated (any_below (is_repeat state) (light_count state)) (chosen state)) ≡ unless_repeated repeats best
+  split true h = absurd (true≢false (ap is_blocked h))
+  split false h = rw (again, ap chosen_by h) refl
 
 -- one more place of a light is cleared
 drop_nil : {X : Type 0} (k : ℕ) → drop {A = X} k [] ≡ []

@@ -1,5 +1,5 @@
 -- The tries under way lead from the start of a search to where it is, and what has been placed on the way is a part of what is due.
-use Rattle.std.proofs.Common.{◌≡◌, ◌≢◌, ℕ, zero, suc, ◌+◌, ◌<◌, ◌≤◌, Bool, true, false, cond, ◌||◌, List, [], ◌∷◌, ◌++◌, length, get_or, set, drop, Option, Some, None, refl, sym, ◌∙◌, ap, arith, inl, inr}
+use Rattle.std.proofs.Common.{◌≡◌, ◌≢◌, ℕ, zero, suc, ◌+◌, ◌<◌, ◌≤◌, Bool, true, false, cond, ◌||◌, List, [], ◌∷◌, ◌++◌, length, get_or, set, drop, Option, Some, None, refl, sym, ◌∙◌, ap, subst, arith, inl, inr}
 use Rattle.std.specs.Prelude.{filter, All, is_none}
 use Rattle.std.specs.List.{list_any}
 use Rattle.std.proofs.lemmas.Bool.{true≢false, or_from, or_left}
@@ -11,6 +11,7 @@ use Rattle.xw_fill.specs.Words.{spellings_at, words_before, words_left}
 use Rattle.xw_fill.proofs.Shaped.{HasDistinctWords}
 use Rattle.xw_fill.specs.Position.{Position, placed, entries_with, holding}
 use Rattle.xw_fill.specs.FeasibleWords.{is_feasible_word, feasible_words}
+use Rattle.xw_fill.specs.Noted.{noted, AreEntered, StayNoted}
 use Rattle.xw_fill.specs.Search.{light_count, is_entered, is_dead, chosen, found_in, due_of, due_in, end_of, end_in, unentered_count}
 use Rattle.xw_fill.specs.Tries.{without_letters, taken_back, all_taken_back, AreBlanks}
 use Rattle.xw_fill.specs.declared.tries.Try.{Try}
@@ -338,3 +339,33 @@ trail-enough (tried ∷ tries) zero start cost left current sound enough t = abs
 trail-enough (tried ∷ tries) (suc fuel) start cost left current sound enough t =
     let fewer = tried-fewer fuel start tried sound t.1 in
     trail-enough tries fuel (after_try start tried) t.0 left current (IsSound-placed start tried.light (word_of start tried) sound) (omega arith) t.3
+
+-- ---- Which lights are noted
+
+-- at each position of the way the lights are entered that are noted of its placements or fewer
+abbrev pub AreNotedAlong : Position → List Try → List (Option ℕ) → ℕ → Type 0
+AreNotedAlong start [] since placements = AreEntered start (noted since (suc placements))
+AreNotedAlong start (tried ∷ tries) since placements = AreEntered start (noted since (suc placements)) × AreNotedAlong (after_try start tried) tries since (suc placements)
+
+pub noted-last : (tries : List Try) (fuel : ℕ) (start : Position) (cost left : ℕ) (current : Position) (since : List (Option ℕ)) (placements : ℕ) → Trail fuel start tries cost left current → AreNotedAlong start tries since placements → AreEntered current (noted since (suc (length tries + placements)))
+noted-last [] fuel start cost left current since placements t along = let same : placements ≡ 0 + placements = omega arith in rw t.2 (subst (λ n. AreEntered start (noted since (suc n))) same along)
+noted-last (tried ∷ tries) zero start cost left current since placements t along = absurd t
+noted-last (tried ∷ tries) (suc fuel) start cost left current since placements t along =
+    let last = noted-last tries fuel (after_try start tried) t.0 left current since (suc placements) t.3 along.1 in
+    let same : length tries + suc placements ≡ suc (length tries) + placements = omega arith in
+    subst (λ n. AreEntered current (noted since (suc n))) same last
+
+pub noted-back : (tries : List Try) (start : Position) (tried : Try) (since : List (Option ℕ)) (placements : ℕ) → AreNotedAlong start (tries ++ tried ∷ []) since placements → AreNotedAlong start tries since placements
+noted-back [] start tried since placements along = along.0
+noted-back (first ∷ tries) start tried since placements along = (along.0, noted-back tries (after_try start first) tried since (suc placements) along.1)
+
+pub noted-more : (tries : List Try) (fuel : ℕ) (start : Position) (cost left : ℕ) (current : Position) (tried : Try) (before after : List (Option ℕ)) (placements : ℕ) → Trail fuel start tries cost left current → AreNotedAlong start tries before placements
+    → StayNoted (suc (length tries + placements)) before after → AreEntered (after_try current tried) (noted after (suc (suc (length tries + placements)))) → AreNotedAlong start (tries ++ tried ∷ []) after placements
+noted-more [] fuel start cost left current tried before after placements t along stay last = let same : 0 + placements ≡ placements = omega arith in (λ light below. stay light (suc placements) (omega arith) ∙ along light below, rw (← t.2) (subst (λ n. AreEntered (after_try current tried) (noted after (suc (suc n)))) same last))
+noted-more (first ∷ tries) zero start cost left current tried before after placements t along stay last = absurd t
+noted-more (first ∷ tries) (suc fuel) start cost left current tried before after placements t along stay last =
+    let same : suc (length tries) + placements ≡ length tries + suc placements = omega arith in (
+      λ light below. stay light (suc placements) (omega arith) ∙ along.0 light below,
+      noted-more tries fuel (after_try start first) t.0 left current tried before after (suc placements) t.3 along.1
+          (subst (λ n. StayNoted (suc n) before after) same stay) (subst (λ n. AreEntered (after_try current tried) (noted after (suc (suc n)))) same last),
+    )

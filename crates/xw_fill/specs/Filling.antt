@@ -1,5 +1,5 @@
 -- What the answer of a search for a fill says.
-use Rattle.std.specs.Prelude.{◌≡◌, ℕ, ◌<◌, ◌≤◌, true, false, cond, List, Option, Some, None}
+use Rattle.std.specs.Prelude.{◌≡◌, ℕ, ◌<◌, ◌≤◌, Bool, true, false, cond, List, Option, Some, None}
 use Rattle.xw_feas.specs.State.{State}
 use Rattle.xw_fill.specs.Position.{Position, position_of, filled_in}
 use Rattle.xw_fill.specs.Fill.{IsFill}
@@ -38,6 +38,10 @@ scanned position = cond (any_below (lacks_words position) (light_count position)
 abbrev pub next_of : Option ℕ → Next
 next_of None = Done
 next_of (Some light) = Words light 0
+
+-- where each light has a feasible word
+abbrev pub unless_repeated : Bool → Option ℕ → Next
+unless_repeated repeats chosen = cond repeats Spent (next_of chosen)
 
 abbrev pub outlook : Position → Next
 outlook position = cond (is_dead position) Spent (next_of (chosen position))

@@ -1,5 +1,5 @@
--- The lights that were wholly entered before a word was placed.
-use Rattle.std.specs.Prelude.{◌≡◌, ℕ, ◌<◌, Bool, true, false, not, ◌&&◌, ◌==◌, List, slice_index_or}
+-- Which lights are wholly entered, noted from placement to placement: the note of a light is how many placements had been made when it was first seen so.
+use Rattle.std.specs.Prelude.{◌≡◌, ℕ, ◌<◌, ◌≤◌, Bool, true, false, not, nat_lt, ◌&&◌, ◌==◌, List, slice_index_or, Option, Some, None, is_some}
 use Rattle.xw_fill.specs.Position.{Position}
 use Rattle.xw_fill.specs.Below.{any_below}
 use Rattle.xw_fill.specs.Search.{light_count, is_entered, spell_same}
@@ -8,10 +8,26 @@ use Rattle.xw_fill.specs.Search.{light_count, is_entered, spell_same}
 abbrev pub is_spelled_again : Position → ℕ → Bool
 is_spelled_again position light = any_below (λ other. not (other == light) && spell_same position light other) (light_count position)
 
--- a flag for each light, whether it is wholly entered
-abbrev pub AreEntered : Position → List Bool → Type 0
-AreEntered position entered = (light : ℕ) → light < light_count position → slice_index_or entered light false ≡ is_entered position light
+-- noted of fewer placements than these
+abbrev pub within : Option ℕ → ℕ → Bool
+within None placements = false
+within (Some since) placements = nat_lt since placements
 
--- no two of the lights that are flagged spell the same
-abbrev pub SpellApart : Position → List Bool → Type 0
-SpellApart position entered = (light other : ℕ) → other < light → light < light_count position → slice_index_or entered light false ≡ true → slice_index_or entered other false ≡ true → spell_same position light other ≡ false
+abbrev pub noted : List (Option ℕ) → ℕ → ℕ → Bool
+noted since placements light = within (slice_index_or since light None) placements
+
+-- noted of any
+abbrev pub has_note : List (Option ℕ) → ℕ → Bool
+has_note since light = is_some (slice_index_or since light None)
+
+-- what is noted of fewer placements is noted still
+abbrev pub StayNoted : ℕ → List (Option ℕ) → List (Option ℕ) → Type 0
+StayNoted placements before after = (light fewer : ℕ) → fewer ≤ placements → noted after fewer light ≡ noted before fewer light
+
+-- the lights that are noted are those that are wholly entered
+abbrev pub AreEntered : Position → (ℕ → Bool) → Type 0
+AreEntered position is_noted = (light : ℕ) → light < light_count position → is_noted light ≡ is_entered position light
+
+-- no two of the lights that are noted spell the same
+abbrev pub SpellApart : Position → (ℕ → Bool) → Type 0
+SpellApart position is_noted = (light other : ℕ) → other < light → light < light_count position → is_noted light ≡ true → is_noted other ≡ true → spell_same position light other ≡ false

@@ -7,8 +7,8 @@ ghost use Rattle.xw_fill.specs.Position.{position_of, name_at};
 ghost use Rattle.xw_fill.specs.FeasibleWords.{feasible_words};
 ghost use Rattle.xw_fill.specs.Below.{any_below, first_below};
 ghost use Rattle.xw_fill.specs.Words.{IsNextWord, HasNoMore};
-ghost use Rattle.xw_fill.specs.Search.{is_entered, spell_same, is_repeat, first_same, lacks_words, light_count, chosen};
-ghost use Rattle.xw_fill.specs.Noted.{is_spelled_again, AreEntered, SpellApart};
+ghost use Rattle.xw_fill.specs.Search.{is_entered, spelling, spell_same, is_repeat, first_same, lacks_words, light_count, chosen};
+ghost use Rattle.xw_fill.specs.Noted.{has_note, AreEntered};
 ghost use Rattle.xw_fill.specs.Filling.{scanned};
 
 use xw_feas::board::{Board, Cells};
@@ -87,16 +87,23 @@ pub fn is_entered<E: Feasible>(engine: &E, light: usize) -> bool
     has_all_entries(&board, &board.light(light))
 }
 
+/// Whether two lights have the same letters, wholly entered or not.
+pub fn agree<E: Feasible>(engine: &E, light: usize, other: usize) -> bool
+    requires light { light < light_count (position_of (E.state engine.now)) }
+    requires other { other < light_count (position_of (E.state engine.now)) }
+    ensures { result ≡ bytes_eq (spelling (position_of (E.state engine.now)) light) (spelling (position_of (E.state engine.now)) other) }
+{
+    let board = board(engine);
+    have_same_letters(&board, &board.light(light), &board.light(other))
+}
+
 /// Whether two lights are wholly entered and spell the same.
 fn spell_same<E: Feasible>(engine: &E, light: usize, other: usize) -> bool
     requires light { light < light_count (position_of (E.state engine.now)) }
     requires other { other < light_count (position_of (E.state engine.now)) }
     ensures { result ≡ spell_same (position_of (E.state engine.now)) light other }
 {
-    let board = board(engine);
-    have_same_letters(&board, &board.light(light), &board.light(other))
-        && is_entered(engine, light)
-        && is_entered(engine, other)
+    agree(engine, light, other) && is_entered(engine, light) && is_entered(engine, other)
 }
 
 /// The first light before this one that is wholly entered and spells the same, where this one is wholly entered.
@@ -139,47 +146,6 @@ pub fn has_repeat<E: Feasible>(engine: &E) -> bool
     false
 }
 
-/// Whether another light is wholly entered and spells the same as this one, where this one is wholly entered.
-fn has_same<E: Feasible>(engine: &E, light: usize) -> bool
-    requires { light < light_count (position_of (E.state engine.now)) }
-    ensures { result ≡ is_spelled_again (position_of (E.state engine.now)) light }
-{
-    if !is_entered(engine, light) {
-        return false;
-    }
-    for other in 0..light_count(engine) {
-        if other != light && spell_same(engine, light, other) {
-            return true;
-        }
-    }
-    false
-}
-
-/// Notes for each light whether it is wholly entered.
-pub fn note_entered<E: Feasible>(engine: &E, entered: &mut [bool])
-    requires { length entered.old ≡ light_count (position_of (E.state engine.now)) }
-    ensures long { length entered.new ≡ length entered.old }
-    ensures entered { AreEntered (position_of (E.state engine.now)) entered.new }
-{
-    for light in 0..light_count(engine) {
-        entered[light] = is_entered(engine, light);
-    }
-}
-
-/// Whether two wholly entered lights spell the same, where none of those that are noted do: so only the others are looked for among all.
-pub fn has_new_repeat<E: Feasible>(engine: &E, entered: &[bool]) -> bool
-    requires long { length entered.now ≡ light_count (position_of (E.state engine.now)) }
-    requires apart { SpellApart (position_of (E.state engine.now)) entered.now }
-    ensures { result ≡ any_below (is_repeat (position_of (E.state engine.now))) (light_count (position_of (E.state engine.now))) }
-{
-    for light in 0..light_count(engine) {
-        if !entered[light] && has_same(engine, light) {
-            return true;
-        }
-    }
-    false
-}
-
 /// Of the lights that are not wholly entered the first with the fewest feasible words.
 pub fn chosen<E: Feasible>(engine: &E) -> Option<usize>
     ensures { result ≡ chosen (position_of (E.state engine.now)) }
@@ -207,10 +173,10 @@ pub enum Scan {
     Open(Option<usize>),
 }
 
-/// Asks for the count of each light once; the flags are those of the lights that are wholly entered.
-pub fn scan_lights<E: Feasible>(engine: &E, entered: &[bool]) -> Scan
-    requires long { length entered.now ≡ light_count (position_of (E.state engine.now)) }
-    requires entered { AreEntered (position_of (E.state engine.now)) entered.now }
+/// Asks for the count of each light once; those that are wholly entered have a note.
+pub fn scan_lights<E: Feasible>(engine: &E, since: &[Option<usize>]) -> Scan
+    requires long { length since.now ≡ light_count (position_of (E.state engine.now)) }
+    requires entered { AreEntered (position_of (E.state engine.now)) (has_note since.now) }
     ensures { result ≡ scanned (position_of (E.state engine.now)) }
 {
     let mut best = None;
@@ -220,7 +186,8 @@ pub fn scan_lights<E: Feasible>(engine: &E, entered: &[bool]) -> Scan
         if count == 0 {
             return Scan::Blocked;
         }
-        if !entered[light] {
+        let entered = since[light].is_some();
+        if !entered {
             if best.is_none() || count < least {
                 best = Some(light);
                 least = count;

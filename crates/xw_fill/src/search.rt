@@ -1,16 +1,14 @@
 //! The search for a fill.
-ghost use Rattle.std.specs.Prelude.{◌≡◌, false, [], length, slice_index_or, IfOk, IfErr, OnErr};
+ghost use Rattle.std.specs.Prelude.{◌≡◌, false, suc, [], length, slice_index_or, IfOk, IfErr, OnErr};
 ghost use Rattle.xw_fill.specs.Position.{position_of, placed, DiffersInEntries};
-ghost use Rattle.xw_fill.specs.Below.{any_below};
-ghost use Rattle.xw_fill.specs.Search.{is_dead, is_repeat, light_count};
-ghost use Rattle.xw_fill.specs.Noted.{AreEntered};
+ghost use Rattle.xw_fill.specs.Search.{is_dead, light_count};
+ghost use Rattle.xw_fill.specs.Noted.{noted, AreEntered, StayNoted};
 ghost use Rattle.xw_fill.specs.Suggesting.{IsTriedAt};
 ghost use Rattle.xw_fill.specs.Words.{spellings_at};
-ghost use Rattle.xw_fill.specs.Filling.{IsFilling, HasFill, UnlessFilled, outlook};
+ghost use Rattle.xw_fill.specs.Filling.{IsFilling, HasFill, UnlessFilled, unless_repeated, outlook};
 
-use crate::scan::{
-    Scan, has_new_repeat, has_repeat, light_count, next_place, note_entered, scan_lights,
-};
+use crate::noted::{has_new_repeat, note_entered};
+use crate::scan::{Scan, has_repeat, light_count, next_place, scan_lights};
 use crate::tries::{Try, make_try, place_word, take_all_back, take_back};
 use std::alloc::Global;
 use xw_feas::edit::Refusal;
@@ -33,49 +31,58 @@ pub enum Next {
     Words(usize, usize),
 }
 
-/// What is to be done at a position that is new, which repeats a word or not.
-fn outlook<E: Feasible>(engine: &E, entered: &[bool], repeats: bool) -> Next
-    requires long { length entered.now ≡ light_count (position_of (E.state engine.now)) }
-    requires entered { AreEntered (position_of (E.state engine.now)) entered.now }
-    requires repeats { repeats ≡ any_below (is_repeat (position_of (E.state engine.now))) (light_count (position_of (E.state engine.now))) }
-    ensures { result ≡ outlook (position_of (E.state engine.now)) }
+/// What is to be done at a position where each light has a feasible word and this one is chosen, and which repeats a word or not.
+fn open_outlook(chosen: Option<usize>, repeats: bool) -> Next
+    ensures { result ≡ unless_repeated repeats chosen }
 {
     if repeats {
         return Next::Spent;
     }
-    match scan_lights(engine, entered) {
-        Scan::Blocked => Next::Spent,
-        Scan::Open(None) => Next::Done,
-        Scan::Open(Some(light)) => Next::Words(light, 0),
+    match chosen {
+        None => Next::Done,
+        Some(light) => Next::Words(light, 0),
     }
 }
 
-/// What is to be done where the search begins; the flags are there to be written over.
-fn begin<E: Feasible>(engine: &E, entered: &mut [bool]) -> Next
-    requires { length entered.old ≡ light_count (position_of (E.state engine.now)) }
-    ensures flags { length entered.new ≡ length entered.old }
-    ensures entered { AreEntered (position_of (E.state engine.now)) entered.new }
+/// What is to be done where the search begins; what the notes were is passed over.
+fn begin<E: Feasible>(engine: &E, since: &mut [Option<usize>]) -> Next
+    requires { length since.old ≡ light_count (position_of (E.state engine.now)) }
+    ensures long { length since.new ≡ length since.old }
+    ensures entered { AreEntered (position_of (E.state engine.now)) (noted since.new 1) }
     ensures next { result ≡ outlook (position_of (E.state engine.now)) }
 {
-    note_entered(engine, entered);
-    outlook(engine, entered, has_repeat(engine))
+    note_entered(engine, since, 0);
+    match scan_lights(engine, since) {
+        Scan::Blocked => Next::Spent,
+        Scan::Open(chosen) => open_outlook(chosen, has_repeat(engine)),
+    }
 }
 
-/// Places a feasible word at a position that is not dead, and says what is to be done then; the flags are there to be written over.
-fn try_word<E: Feasible>(engine: &mut E, entered: &mut [bool], light: usize, place: usize) -> Next
+/// Places a feasible word at a position that is not dead, and says what is to be done then. It is the placement of this number, from 1.
+fn try_word<E: Feasible>(
+    engine: &mut E,
+    since: &mut [Option<usize>],
+    placement: usize,
+    light: usize,
+    place: usize,
+) -> Next
     requires tried { IsTriedAt (position_of (E.state engine.old)) light place }
     requires alive { is_dead (position_of (E.state engine.old)) ≡ false }
-    requires flags { length entered.old ≡ light_count (position_of (E.state engine.old)) }
-    ensures flags { length entered.new ≡ length entered.old }
+    requires long { length since.old ≡ light_count (position_of (E.state engine.old)) }
+    requires entered { AreEntered (position_of (E.state engine.old)) (noted since.old placement) }
+    ensures long { length since.new ≡ length since.old }
+    ensures stay { StayNoted placement since.old since.new }
+    ensures entered { AreEntered (position_of (E.state engine.new)) (noted since.new (suc placement)) }
     ensures placed { position_of (E.state engine.new) ≡ placed (position_of (E.state engine.old)) light (slice_index_or (spellings_at (position_of (E.state engine.old)) light) place []) }
     ensures entries { DiffersInEntries (E.state engine.old) (E.state engine.new) }
     ensures next { result ≡ outlook (position_of (E.state engine.new)) }
 {
-    note_entered(engine, entered);
     place_word(engine, light, place);
-    let repeats = has_new_repeat(engine, entered);
-    note_entered(engine, entered);
-    outlook(engine, entered, repeats)
+    note_entered(engine, since, placement);
+    match scan_lights(engine, since) {
+        Scan::Blocked => Next::Spent,
+        Scan::Open(chosen) => open_outlook(chosen, has_new_repeat(engine, since, placement)),
+    }
 }
 
 /// Fills the grid, with no more placements than the limit.
@@ -90,9 +97,9 @@ pub fn fill<E: Feasible>(alloc: Global, engine: &mut E, limit: u64) -> Result<Fi
     let mut tries: Vec<Try> = Vec::with_capacity(alloc, count).map_err(|_| Refusal::Grid(
         GridFault::Memory,
     ))?;
-    let mut entered = vec![in alloc; false; count].map_err(|_| Refusal::Grid(GridFault::Memory))?;
+    let mut since = vec![in alloc; None; count].map_err(|_| Refusal::Grid(GridFault::Memory))?;
     let mut used = 0;
-    let mut next = begin(engine, entered.as_mut_slice());
+    let mut next = begin(engine, since.as_mut_slice());
     'search: loop {
         match next {
             Next::Done => return Ok(Filling::Filled),
@@ -112,7 +119,7 @@ pub fn fill<E: Feasible>(alloc: Global, engine: &mut E, limit: u64) -> Result<Fi
                     }
                     used += 1;
                     let _ = tries.push(make_try(engine, light, place));
-                    next = try_word(engine, entered.as_mut_slice(), light, place);
+                    next = try_word(engine, since.as_mut_slice(), tries.len(), light, place);
                 }
             },
         }

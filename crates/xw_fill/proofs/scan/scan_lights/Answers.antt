@@ -7,7 +7,7 @@ use Rattle.xw_fill.specs.Below.{any_below}
 use Rattle.xw_fill.specs.Search.{light_count, lacks_words, is_entered}
 use Rattle.xw_fill.proofs.ScanLemmas.{lacks_words-none, lacks_words-some, chosen-entered, chosen-better, chosen-as_good, scanned-blocked, scanned-open}
 use Rattle.xw_fill.proofs.scan.scan_lights.Goals as goal
-use Rattle.xw_fill.proofs.scan.scan_lights.Goals.{then-not-entered-light+then-is_none, then-is_none-via-then-is_none, then-is_none-via-else-is_none+then-count-least, then-not-entered-light+else-is_none+else-count-least, else-not-entered-light}
+use Rattle.xw_fill.proofs.scan.scan_lights.Goals.{then-not-entered+then-is_none, then-is_none-via-then-is_none, then-is_none-via-else-is_none+then-count-least, then-not-entered+else-is_none+else-count-least, else-not-entered}
 
 pub returns-then-count-eq0 : goal.returns-then-count-eq0
 returns-then-count-eq0 g c =
@@ -20,30 +20,30 @@ loop-light-preserved g c =
     let position = position_of (g.E.Feasible.state c.args.engine.now) in
     let light = c.loop-light.light in
     let so_far = c.loop-light.invariant in
-    let flag = c.requires.entered light (omega (arith, c.loop-light-test.true, c.light_count-light-end.ensures)) in
+    let flag = c.is_some-entered.ensures ∙ c.requires.entered light (omega (arith, c.loop-light-test.true, c.light_count-light-end.ensures)) in
     let none : any_below (lacks_words position) (light + 1) ≡ false = rw add-one (or_from _ _ so_far.none (lacks_words-some position light c.word_count-count.result c.word_count-count.ensures c.if-count-eq0.false)) in
-    elim c.if-not-entered-light.branch [
-      | then-not-entered-light+then-is_none w ↦
+    elim c.if-not-entered.branch [
+      | then-not-entered+then-is_none w ↦
           let fewer : is_some c.loop-light.best ≡ true → c.word_count-count.result < c.loop-light.least = λ some. elim w.then-is_none.branch [
             | then-is_none-via-then-is_none w' ↦ absurd (false≢true (sym (w.is_none.ensures ∙ ap not w'.if-is_none.true) ∙ some))
             | then-is_none-via-else-is_none+then-count-least w' ↦ w'.if-count-least.true
           ] in
-          let open_now : is_entered position light ≡ false = sym flag ∙ w.if-not-entered-light.true in
+          let open_now : is_entered position light ≡ false = sym flag ∙ w.if-not-entered.true in
           record {
             none = none;
             best = chosen-better position light c.loop-light.best c.loop-light.least c.word_count-count.result open_now so_far.best so_far.least c.word_count-count.ensures fewer ∙ sym w.best-is;
             least = λ other e. let same : light ≡ other = cc in w.least-is ∙ c.word_count-count.ensures ∙ ap (λ l. length (feasible_words position l)) same;
           }
-      | then-not-entered-light+else-is_none+else-count-least w ↦
-          let open_now : is_entered position light ≡ false = sym flag ∙ w.if-not-entered-light.true in
+      | then-not-entered+else-is_none+else-count-least w ↦
+          let open_now : is_entered position light ≡ false = sym flag ∙ w.if-not-entered.true in
           record {
             none = none;
             best = chosen-as_good position light c.loop-light.best c.loop-light.least c.word_count-count.result open_now so_far.best so_far.least c.word_count-count.ensures (w.is_none.ensures ∙ ap not w.if-is_none.false) (omega (arith, w.if-count-least.false)) ∙ sym w.best-is;
             least = λ other e. w.least-is ∙ so_far.least other (sym w.best-is ∙ e);
           }
-      | else-not-entered-light w ↦ record {
+      | else-not-entered w ↦ record {
         none = none;
-        best = chosen-entered position light (sym flag ∙ w.if-not-entered-light.false) ∙ so_far.best ∙ sym w.best-is;
+        best = chosen-entered position light (sym flag ∙ w.if-not-entered.false) ∙ so_far.best ∙ sym w.best-is;
         least = λ other e. w.least-is ∙ so_far.least other (sym w.best-is ∙ e);
       }
     ]

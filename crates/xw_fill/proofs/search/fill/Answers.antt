@@ -1,9 +1,9 @@
-use Rattle.std.proofs.lemmas.List.{with_items_is}
+use Rattle.std.proofs.lemmas.List.{with_items_is, length-append}
 use Rattle.xw_fill.specs.Position.{position_of, placed}
 use Rattle.xw_fill.specs.Words.{spellings_at}
 use Rattle.xw_fill.proofs.StateLemmas.{DiffersInEntries-itself, DiffersInEntries-then, same_state}
-use Rattle.xw_fill.proofs.Trail.{after_try}
-use Rattle.std.proofs.Common.{◌≡◌, vec_len, get_or, sym, length, true, [], ◌∷◌, ◌++◌, ap, ◌∙◌, subst, arith, cond}
+use Rattle.xw_fill.proofs.Trail.{after_try, AreNotedAlong, noted-last, noted-back, noted-more}
+use Rattle.std.proofs.Common.{◌≡◌, suc, ◌+◌, vec_len, get_or, sym, length, true, [], ◌∷◌, ◌++◌, ap, ◌∙◌, subst, arith, cond}
 use Rattle.std.specs.Vec.{vec_capacity}
 use Rattle.xw_feas.specs.Board.{light_at}
 use Rattle.xw_fill.specs.Tries.{AreBlanks}
@@ -11,6 +11,8 @@ use Rattle.std.specs.Prelude.{is_ok}
 use Rattle.xw_fill.specs.declared.search.Filling.TheVariants.{Filled, NoFill}
 use Rattle.xw_fill.proofs.FeasibleWordsLemmas.{AreAnswers-along}
 use Rattle.xw_fill.proofs.Searching.{IsSearching, IsSound-formed, searching-start, searching-back, searching-spent, searching-open, searching-place, searching-room, searching-lights, searching-all_back, searching-done, searching-none, filling-fill, made, searching-popped, searching-empty, searching-alive, searching-count, outcome_filling, last-place, last-light, due-more}
+use Rattle.std.specs.Option.{option_to_list}
+use Rattle.xw_fill.specs.Noted.{noted, AreEntered, StayNoted}
 use Rattle.xw_fill.specs.Search.{light_count}
 use Rattle.xw_fill.proofs.search.fill.Goals as goal
 
@@ -20,15 +22,16 @@ search-init g c =
     let start = position_of before in
     let items : c.in_ok-tries.tries.items ≡ [] = made c.with_capacity.result c.map_err.result c.in_ok-tries.tries _ (λ v. v.items ≡ []) c.map_err.ensures.cases (c.in_ok-tries.was) c.with_capacity.ensures.items in
     let capacity : vec_capacity c.in_ok-tries.tries ≡ c.light_count-count.result = made c.with_capacity.result c.map_err.result c.in_ok-tries.tries _ (λ v. vec_capacity v ≡ c.light_count-count.result) c.map_err.ensures.cases (c.in_ok-tries.was) c.with_capacity.ensures.exact in
-    let many : vec_len c.in_ok-entered.entered ≡ c.light_count-count.result = made c.vec.result c.map_err-2.result c.in_ok-entered.entered _ (λ v. vec_len v ≡ c.light_count-count.result) c.map_err-2.ensures.cases (c.in_ok-entered.was) c.vec.ensures.len in
-    let ok = c.in_ok-entered.entered.ok in
-    let long : length c.in_ok-entered.entered.items ≡ light_count start = omega (arith, many, ok, c.light_count-count.ensures) in
+    let many : vec_len c.in_ok-since.since ≡ c.light_count-count.result = made c.vec.result c.map_err-2.result c.in_ok-since.since _ (λ v. vec_len v ≡ c.light_count-count.result) c.map_err-2.ensures.cases (c.in_ok-since.was) c.vec.ensures.len in
+    let ok = c.in_ok-since.since.ok in
+    let long : length c.in_ok-since.since.items ≡ light_count start = omega (arith, many, ok, c.light_count-count.ensures) in
     record {
       searching = rw (items, c.begin-next.ensures.next) (searching-start start);
       entries = DiffersInEntries-itself before;
       room = omega (arith, capacity, c.light_count-count.ensures);
       few = omega arith;
-      flags = ap length (with_items_is c.in_ok-entered.entered c.begin-next.new.entered (omega (arith, c.begin-next.ensures.flags, ap length c.as_mut_slice.ensures.value, ok))) ∙ c.begin-next.ensures.flags ∙ ap length c.as_mut_slice.ensures.value ∙ long;
+      noted = rw (items, with_items_is c.in_ok-since.since c.begin-next.new.since (omega (arith, c.begin-next.ensures.long, ap length c.as_mut_slice.ensures.value, ok))) c.begin-next.ensures.entered;
+      long = ap length (with_items_is c.in_ok-since.since c.begin-next.new.since (omega (arith, c.begin-next.ensures.long, ap length c.as_mut_slice.ensures.value, ok))) ∙ c.begin-next.ensures.long ∙ ap length c.as_mut_slice.ensures.value ∙ long;
     }
 
 pub returns-in-None-clause-found : goal.returns-in-None-clause-found
@@ -98,7 +101,8 @@ search-preserved-in-Some g c =
     let popped = searching-popped start current c.search.tries.items c.pop.new.self.items c.pop.result c.in-Some.tried c.search.used c.search.next c.search.invariant.searching c.in-Spent.is c.pop.ensures.items c.in-Some.is in
     record {
       entries = DiffersInEntries-then before now (g.E.Feasible.state c.take_back.new.engine) c.search.invariant.entries c.take_back.ensures.entries;
-      flags = c.search.invariant.flags;
+      long = c.search.invariant.long;
+      noted = noted-back c.pop.new.self.items start c.in-Some.tried c.search.since.items 0 (subst (λ tries. AreNotedAlong start tries c.search.since.items 0) (c.pop.ensures.items ∙ ap (λ o. c.pop.new.self.items ++ option_to_list o) c.in-Some.is) c.search.invariant.noted);
       searching = rw c.take_back.ensures.back (searching-back start current c.pop.new.self.items c.in-Some.tried c.search.used sound popped);
       room = rw c.pop.ensures.capacity c.search.invariant.room;
       few = c.search.invariant.few;
@@ -162,11 +166,25 @@ try_word-next-requires-clause-alive g c =
     let is = searching-open start current c.search.tries.items c.search.used c.in-Words.light c.in-Words.from searching in
     searching-alive start current c.search.tries.items c.search.used c.in-Words.light c.in-Words.from searching
 
-pub try_word-next-requires-clause-flags : goal.try_word-next-requires-clause-flags
-try_word-next-requires-clause-flags g c =
+pub try_word-next-requires-clause-long : goal.try_word-next-requires-clause-long
+try_word-next-requires-clause-long g c =
     let start = position_of (g.E.Feasible.state c.args.engine.now) in
     let current = position_of (g.E.Feasible.state c.search.engine) in
-    ap length c.as_mut_slice-in-Some-next_place.ensures.value ∙ c.search.invariant.flags ∙ sym (searching-count start current c.search.tries.items c.search.used c.search.next c.search.invariant.searching)
+    ap length c.as_mut_slice-in-Some-next_place.ensures.value ∙ c.search.invariant.long ∙ sym (searching-count start current c.search.tries.items c.search.used c.search.next c.search.invariant.searching)
+
+pub try_word-next-requires-clause-entered : goal.try_word-next-requires-clause-entered
+try_word-next-requires-clause-entered g c =
+    let start = position_of (g.E.Feasible.state c.args.engine.now) in
+    let current = position_of (g.E.Feasible.state c.search.engine) in
+    let last = noted-last c.search.tries.items _ start _ _ current c.search.since.items 0 c.search.invariant.searching.trail c.search.invariant.noted in
+    let searching = subst (IsSearching start c.search.tries.items c.search.used current) c.in-Words.is c.search.invariant.searching in
+    let room = searching-room start current c.search.tries.items c.search.used c.in-Words.light c.in-Words.from searching in
+    let ok = c.search.tries.ok in
+    let pushed : is_ok c.push.result ≡ true = c.push.ensures.succeeds (omega (arith, ok, room, c.search.invariant.room)) in
+    let longer : length c.push.new.self.items ≡ length c.search.tries.items + 1 = ap length (c.push.ensures.items ∙ ap (λ b. cond b (c.search.tries.items ++ c.make_try.result ∷ []) c.search.tries.items) pushed) ∙ length-append c.search.tries.items (c.make_try.result ∷ []) in
+    let ok_now = c.push.new.self.ok in
+    let count : c.len.result ≡ suc (length c.search.tries.items + 0) = omega (arith, c.len.ensures, ok_now, longer) in
+    subst (λ since. AreEntered current (noted since c.len.result)) (sym c.as_mut_slice-in-Some-next_place.ensures.value) (subst (λ n. AreEntered current (noted c.search.since.items n)) (sym count) last)
 
 pub returns-then-used-limit-clause-found : goal.returns-then-used-limit-clause-found
 returns-then-used-limit-clause-found g c =
@@ -193,7 +211,8 @@ search-preserved-in-None-next_place g c =
     let sound = IsSound-formed before (g.met.E.Feasible.well_formed c.args.engine.now) in
     record {
       entries = c.search.invariant.entries;
-      flags = c.search.invariant.flags;
+      long = c.search.invariant.long;
+      noted = c.search.invariant.noted;
       searching = searching-spent start current c.search.tries.items c.search.used c.in-Words.light c.in-Words.from sound searching c.in-None-next_place.ensures;
       room = c.search.invariant.room;
       few = c.search.invariant.few;
@@ -221,14 +240,20 @@ search-preserved g c =
     let ok = c.search.tries.ok in
     let pushed : is_ok c.push.result ≡ true = c.push.ensures.succeeds (omega (arith, ok, room, c.search.invariant.room)) in
     let items : c.push.new.self.items ≡ c.search.tries.items ++ tried ∷ [] = c.push.ensures.items ∙ ap (λ b. cond b (c.search.tries.items ++ tried ∷ []) c.search.tries.items) pushed in
-    let flags = c.search.entered.ok in
+    let ok_since = c.search.since.ok in
     let value = ap length c.as_mut_slice-in-Some-next_place.ensures.value in
+    let longer : length c.push.new.self.items ≡ length c.search.tries.items + 1 = ap length items ∙ length-append c.search.tries.items (tried ∷ []) in
+    let ok_now = c.push.new.self.ok in
+    let count : c.len.result ≡ suc (length c.search.tries.items + 0) = omega (arith, c.len.ensures, ok_now, longer) in
+    let stay = subst (λ n. StayNoted n c.search.since.items c.try_word-next.new.since) count (subst (λ old. StayNoted c.len.result old c.try_word-next.new.since) c.as_mut_slice-in-Some-next_place.ensures.value c.try_word-next.ensures.stay) in
+    let last = subst (λ n. AreEntered (after_try current tried) (noted c.try_word-next.new.since (suc n))) count (subst (λ position. AreEntered position (noted c.try_word-next.new.since (suc c.len.result))) there c.try_word-next.ensures.entered) in
     record {
       searching = rw (items, c.try_word-next.ensures.next, there) placed_now;
       entries = DiffersInEntries-then before now after c.search.invariant.entries c.try_word-next.ensures.entries;
       room = omega (arith, c.push.ensures.capacity, c.search.invariant.room);
       few = omega (arith, c.if-used-limit.false, c.search.invariant.few);
-      flags = ap length (with_items_is c.search.entered c.try_word-next.new.entered (omega (arith, c.try_word-next.ensures.flags, value, flags))) ∙ c.try_word-next.ensures.flags ∙ value ∙ c.search.invariant.flags;
+      noted = rw (items, with_items_is c.search.since c.try_word-next.new.since (omega (arith, c.try_word-next.ensures.long, value, ok_since))) (noted-more c.search.tries.items _ start _ _ current tried c.search.since.items c.try_word-next.new.since 0 c.search.invariant.searching.trail c.search.invariant.noted stay last);
+      long = ap length (with_items_is c.search.since c.try_word-next.new.since (omega (arith, c.try_word-next.ensures.long, value, ok_since))) ∙ c.try_word-next.ensures.long ∙ value ∙ c.search.invariant.long;
     }
 
 pub returns-in-None-clause-answers : goal.returns-in-None-clause-answers

@@ -4,6 +4,7 @@ use Rattle.xw_fill.specs.Position.{position_of, DiffersInEntries}
 use Rattle.xw_fill.specs.declared.search.Next.{Next}
 use Rattle.xw_fill.specs.declared.search.Next.TheVariants.{Done, Spent, Words}
 use Rattle.xw_fill.specs.Search.{light_count}
+use Rattle.xw_fill.proofs.Trail.{AreNotedAlong}
 use Rattle.xw_fill.proofs.Searching.{IsSearching}
 use Rattle.xw_fill.proofs.search.fill.Given as goal
 
@@ -16,7 +17,8 @@ invariant-search g l =
       entries : DiffersInEntries start now;
       room : light_count (position_of start) ≤ vec_capacity l.tries;
       few : l.used ≤ l.limit;
-      flags : length l.entered.items ≡ light_count (position_of start);
+      long : length l.since.items ≡ light_count (position_of start);
+      noted : AreNotedAlong (position_of start) l.tries.items l.since.items 0;
     }
 
 -- one step for a position that is left to go through

@@ -1,0 +1,14 @@
+use Rattle.std.proofs.Common.{sym, ◌∙◌}
+use Rattle.xw_fill.specs.Position.{position_of}
+use Rattle.xw_fill.proofs.NotedLemmas.{noted-none}
+use Rattle.xw_fill.proofs.ScanLemmas.{outlook-blocked, outlook-open}
+use Rattle.xw_fill.proofs.search.begin.Goals as goal
+
+pub note_entered-requires-clause-before : goal.note_entered-requires-clause-before
+note_entered-requires-clause-before g c = λ light below noted. absurd (noted-none c.args.since.now light noted)
+
+pub returns-in-Blocked-clause-next : goal.returns-in-Blocked-clause-next
+returns-in-Blocked-clause-next g c = sym (outlook-blocked (position_of (g.E.Feasible.state c.args.engine.now)) c.scan_lights.result c.scan_lights.ensures c.in-Blocked.is)
+
+pub returns-in-Open-clause-next : goal.returns-in-Open-clause-next
+returns-in-Open-clause-next g c = c.open_outlook.ensures ∙ sym (outlook-open (position_of (g.E.Feasible.state c.args.engine.now)) c.scan_lights.result c.in-Open.chosen c.has_repeat.result c.scan_lights.ensures c.in-Open.is c.has_repeat.ensures)

@@ -1,0 +1,83 @@
+//! Which lights are wholly entered, noted from placement to placement.
+ghost use Rattle.std.specs.Prelude.{◌≡◌, ◌<◌, length, ℕ, suc, true, is_some, IfSome};
+ghost use Rattle.xw_fill.specs.Position.{position_of};
+ghost use Rattle.xw_fill.specs.Below.{any_below};
+ghost use Rattle.xw_fill.specs.Search.{is_entered, is_repeat, light_count};
+ghost use Rattle.xw_fill.specs.Noted.{within, noted, has_note, is_spelled_again, AreEntered, SpellApart, StayNoted};
+
+use crate::scan::{agree, is_entered, light_count};
+use xw_feas::feasible::Feasible;
+
+/// Whether a light was wholly entered with fewer placements than these.
+pub fn is_within(since: Option<usize>, placements: usize) -> bool
+    ensures { result ≡ within since placements }
+{
+    match since {
+        None => false,
+        Some(since) => since < placements,
+    }
+}
+
+/// Notes which lights are wholly entered after so many placements. Those that fewer had entered stay as they are noted, and are not looked at.
+pub fn note_entered<E: Feasible>(engine: &E, since: &mut [Option<usize>], placements: usize)
+    requires long { length since.old ≡ light_count (position_of (E.state engine.now)) }
+    requires before { (light : ℕ) → light < light_count (position_of (E.state engine.now)) → noted since.old placements light ≡ true → is_entered (position_of (E.state engine.now)) light ≡ true }
+    ensures long { length since.new ≡ length since.old }
+    ensures stay { StayNoted placements since.old since.new }
+    ensures within { AreEntered (position_of (E.state engine.now)) (noted since.new (suc placements)) }
+    ensures entered { AreEntered (position_of (E.state engine.now)) (has_note since.new) }
+{
+    for light in 0..light_count(engine) {
+        if !is_within(since[light], placements) {
+            since[light] = note_of(engine, light, placements);
+        }
+    }
+}
+
+/// The note of a light that fewer placements had not entered.
+fn note_of<E: Feasible>(engine: &E, light: usize, placements: usize) -> Option<usize>
+    requires { light < light_count (position_of (E.state engine.now)) }
+    ensures entered { is_some result ≡ is_entered (position_of (E.state engine.now)) light }
+    ensures placements { IfSome result (λ since. since ≡ placements) }
+{
+    if is_entered(engine, light) {
+        Some(placements)
+    } else {
+        None
+    }
+}
+
+/// Whether another light is wholly entered and spells the same as this one, which is wholly entered.
+fn has_same<E: Feasible>(engine: &E, since: &[Option<usize>], light: usize) -> bool
+    requires long { length since.now ≡ light_count (position_of (E.state engine.now)) }
+    requires noted { AreEntered (position_of (E.state engine.now)) (has_note since.now) }
+    requires light { light < light_count (position_of (E.state engine.now)) }
+    requires entered { is_entered (position_of (E.state engine.now)) light ≡ true }
+    ensures { result ≡ is_spelled_again (position_of (E.state engine.now)) light }
+{
+    for other in 0..light_count(engine) {
+        if other != light && since[other].is_some() {
+            if agree(engine, light, other) {
+                return true;
+            }
+        }
+    }
+    false
+}
+
+/// Whether two wholly entered lights spell the same, where of those that fewer placements had entered none do: only the others are looked for among all.
+pub fn has_new_repeat<E: Feasible>(engine: &E, since: &[Option<usize>], placements: usize) -> bool
+    requires long { length since.now ≡ light_count (position_of (E.state engine.now)) }
+    requires noted { AreEntered (position_of (E.state engine.now)) (has_note since.now) }
+    requires apart { SpellApart (position_of (E.state engine.now)) (noted since.now placements) }
+    ensures { result ≡ any_below (is_repeat (position_of (E.state engine.now))) (light_count (position_of (E.state engine.now))) }
+{
+    for light in 0..light_count(engine) {
+        if since[light].is_some() && !is_within(since[light], placements) {
+            if has_same(engine, since, light) {
+                return true;
+            }
+        }
+    }
+    false
+}
