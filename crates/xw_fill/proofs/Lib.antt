@@ -6,6 +6,7 @@ pub mod FeasibleLettersLemmas
 pub mod PlacingLemmas
 pub mod SearchLemmas
 pub mod RepeatLemmas
+pub mod LinkLemmas
 pub mod FillLemmas
 pub mod ScanLemmas
 pub mod WordsLemmas

@@ -3,6 +3,7 @@
 
 pub mod laws;
 pub mod listing;
+mod repeats;
 mod scan;
 pub mod search;
 pub mod suggesting;

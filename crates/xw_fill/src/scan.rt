@@ -88,7 +88,7 @@ pub fn is_entered<E: Feasible>(engine: &E, light: usize) -> bool
 }
 
 /// Whether two lights are wholly entered and spell the same.
-fn spell_same<E: Feasible>(engine: &E, light: usize, other: usize) -> bool
+pub fn spell_same<E: Feasible>(engine: &E, light: usize, other: usize) -> bool
     requires light { light < light_count (position_of (E.state engine.now)) }
     requires other { other < light_count (position_of (E.state engine.now)) }
     ensures { result ≡ spell_same (position_of (E.state engine.now)) light other }
@@ -125,18 +125,6 @@ pub fn first_without_words<E: Feasible>(engine: &E) -> Option<usize>
         }
     }
     None
-}
-
-/// Whether two wholly entered lights spell the same.
-pub fn has_repeat<E: Feasible>(engine: &E) -> bool
-    ensures { result ≡ any_below (is_repeat (position_of (E.state engine.now))) (light_count (position_of (E.state engine.now))) }
-{
-    for light in 0..light_count(engine) {
-        if first_same(engine, light).is_some() {
-            return true;
-        }
-    }
-    false
 }
 
 /// Whether another light is wholly entered and spells the same as this one, where this one is wholly entered.

@@ -8,11 +8,10 @@ ghost use Rattle.xw_fill.specs.Suggesting.{IsTriedAt};
 ghost use Rattle.xw_fill.specs.Words.{spellings_at};
 ghost use Rattle.xw_fill.specs.Filling.{IsFilling, HasFill, UnlessFilled, outlook};
 
-use crate::scan::{
-    Scan, has_new_repeat, has_repeat, light_count, next_place, note_entered, scan_lights,
-};
+use crate::repeats::has_repeat;
+use crate::scan::{Scan, has_new_repeat, light_count, next_place, note_entered, scan_lights};
 use crate::tries::{Try, make_try, place_word, take_all_back, take_back};
-use std::alloc::Global;
+use std::alloc::{AllocError, Global};
 use xw_feas::edit::Refusal;
 use xw_feas::feasible::Feasible;
 use xw_grid::fault::GridFault;
@@ -51,14 +50,14 @@ fn outlook<E: Feasible>(engine: &E, entered: &[bool], repeats: bool) -> Next
 }
 
 /// What is to be done where the search begins; the flags are there to be written over.
-fn begin<E: Feasible>(engine: &E, entered: &mut [bool]) -> Next
+fn begin<E: Feasible>(alloc: Global, engine: &E, entered: &mut [bool]) -> Result<Next, AllocError>
     requires { length entered.old ≡ light_count (position_of (E.state engine.now)) }
     ensures flags { length entered.new ≡ length entered.old }
     ensures entered { AreEntered (position_of (E.state engine.now)) entered.new }
-    ensures next { result ≡ outlook (position_of (E.state engine.now)) }
+    ensures next { IfOk result (λ next. next ≡ outlook (position_of (E.state engine.now))) }
 {
     note_entered(engine, entered);
-    outlook(engine, entered, has_repeat(engine))
+    Ok(outlook(engine, entered, has_repeat(alloc, engine)?))
 }
 
 /// Places a feasible word at a position that is not dead, and says what is to be done then; the flags are there to be written over.
@@ -92,7 +91,9 @@ pub fn fill<E: Feasible>(alloc: Global, engine: &mut E, limit: u64) -> Result<Fi
     ))?;
     let mut entered = vec![in alloc; false; count].map_err(|_| Refusal::Grid(GridFault::Memory))?;
     let mut used = 0;
-    let mut next = begin(engine, entered.as_mut_slice());
+    let mut next = begin(alloc, engine, entered.as_mut_slice()).map_err(|_| Refusal::Grid(
+        GridFault::Memory,
+    ))?;
     'search: loop {
         match next {
             Next::Done => return Ok(Filling::Filled),
