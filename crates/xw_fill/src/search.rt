@@ -11,7 +11,7 @@ ghost use Rattle.xw_fill.specs.Filling.{IsFilling, HasFill, UnlessFilled, outloo
 use crate::repeats::has_repeat;
 use crate::scan::{Scan, has_new_repeat, light_count, next_place, note_entered, scan_lights};
 use crate::tries::{Try, make_try, place_word, take_all_back, take_back};
-use std::alloc::{AllocError, Global};
+use std::alloc::Global;
 use xw_feas::edit::Refusal;
 use xw_feas::feasible::Feasible;
 use xw_grid::fault::GridFault;
@@ -50,14 +50,16 @@ fn outlook<E: Feasible>(engine: &E, entered: &[bool], repeats: bool) -> Next
 }
 
 /// What is to be done where the search begins; the flags are there to be written over.
-fn begin<E: Feasible>(alloc: Global, engine: &E, entered: &mut [bool]) -> Result<Next, AllocError>
+fn begin<E: Feasible>(alloc: Global, engine: &E, entered: &mut [bool]) -> Result<Next, Refusal>
     requires { length entered.old ≡ light_count (position_of (E.state engine.now)) }
     ensures flags { length entered.new ≡ length entered.old }
     ensures entered { AreEntered (position_of (E.state engine.now)) entered.new }
     ensures next { IfOk result (λ next. next ≡ outlook (position_of (E.state engine.now))) }
+    ensures memory { IfErr result (λ refusal. refusal ≡ Refusal.Grid GridFault.Memory) }
 {
     note_entered(engine, entered);
-    Ok(outlook(engine, entered, has_repeat(alloc, engine)?))
+    let repeats = has_repeat(alloc, engine).map_err(|_| Refusal::Grid(GridFault::Memory))?;
+    Ok(outlook(engine, entered, repeats))
 }
 
 /// Places a feasible word at a position that is not dead, and says what is to be done then; the flags are there to be written over.
@@ -91,9 +93,7 @@ pub fn fill<E: Feasible>(alloc: Global, engine: &mut E, limit: u64) -> Result<Fi
     ))?;
     let mut entered = vec![in alloc; false; count].map_err(|_| Refusal::Grid(GridFault::Memory))?;
     let mut used = 0;
-    let mut next = begin(alloc, engine, entered.as_mut_slice()).map_err(|_| Refusal::Grid(
-        GridFault::Memory,
-    ))?;
+    let mut next = begin(alloc, engine, entered.as_mut_slice())?;
     'search: loop {
         match next {
             Next::Done => return Ok(Filling::Filled),

@@ -8,7 +8,6 @@ use Rattle.std.specs.Vec.{vec_capacity}
 use Rattle.xw_feas.specs.Board.{light_at}
 use Rattle.xw_fill.specs.Tries.{AreBlanks}
 use Rattle.std.specs.Prelude.{is_ok}
-use Rattle.xw_fill.specs.Filling.{outlook}
 use Rattle.xw_fill.specs.declared.search.Filling.TheVariants.{Filled, NoFill}
 use Rattle.xw_fill.proofs.FeasibleWordsLemmas.{AreAnswers-along}
 use Rattle.xw_fill.proofs.Searching.{IsSearching, IsSound-formed, searching-start, searching-back, searching-spent, searching-open, searching-place, searching-room, searching-lights, searching-all_back, searching-done, searching-none, filling-fill, made, searching-popped, searching-empty, searching-alive, searching-count, outcome_filling, last-place, last-light, due-more}
@@ -22,11 +21,10 @@ search-init g c =
     let items : c.in_ok-tries.tries.items ≡ [] = made c.with_capacity.result c.map_err.result c.in_ok-tries.tries _ (λ v. v.items ≡ []) c.map_err.ensures.cases (c.in_ok-tries.was) c.with_capacity.ensures.items in
     let capacity : vec_capacity c.in_ok-tries.tries ≡ c.light_count-count.result = made c.with_capacity.result c.map_err.result c.in_ok-tries.tries _ (λ v. vec_capacity v ≡ c.light_count-count.result) c.map_err.ensures.cases (c.in_ok-tries.was) c.with_capacity.ensures.exact in
     let many : vec_len c.in_ok-entered.entered ≡ c.light_count-count.result = made c.vec.result c.map_err-2.result c.in_ok-entered.entered _ (λ v. vec_len v ≡ c.light_count-count.result) c.map_err-2.ensures.cases (c.in_ok-entered.was) c.vec.ensures.len in
-    let begun : c.in_ok-next.next ≡ outlook start = made c.begin.result c.map_err-3.result c.in_ok-next.next _ (λ next. next ≡ outlook start) c.map_err-3.ensures.cases (c.in_ok-next.was) c.begin.ensures.next in
     let ok = c.in_ok-entered.entered.ok in
     let long : length c.in_ok-entered.entered.items ≡ light_count start = omega (arith, many, ok, c.light_count-count.ensures) in
     record {
-      searching = rw (items, begun) (searching-start start);
+      searching = rw (items, c.in_ok-next.ensures.next) (searching-start start);
       entries = DiffersInEntries-itself before;
       room = omega (arith, capacity, c.light_count-count.ensures);
       few = omega arith;
