@@ -1,4 +1,4 @@
-//! Whether the grid repeats a word, each light compared with the earlier ones of its length alone.
+//! Whether the grid repeats a word: a light is compared with the earlier ones of its size alone.
 ghost use Rattle.std.specs.Prelude.{◌≡◌, ◌<◌, ◌≤◌, length, IfOk};
 ghost use Rattle.xw_fill.specs.Position.{position_of};
 ghost use Rattle.xw_fill.specs.Below.{any_below};
@@ -19,7 +19,7 @@ fn size<E: Feasible>(engine: &E, light: usize) -> usize
     board(engine).light(light).len()
 }
 
-/// Whether a light spells what an earlier one does. The last wholly entered one of its size is handed in, and for each of these the one before it.
+/// Whether a light spells what an earlier one does; `last` is the last one before it of its size that is wholly entered, and `earlier` has that of each of these.
 fn is_repeat<E: Feasible>(
     engine: &E,
     light: usize,
