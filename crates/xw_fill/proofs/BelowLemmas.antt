@@ -6,7 +6,7 @@ use Rattle.std.proofs.lemmas.Bool.{lt-ltb, le-ltb, and_parts, and_from, cases_Bo
 use Rattle.std.specs.Prelude.{position}
 use Rattle.std.specs.List.{position_or_len}
 use Rattle.std.proofs.lemmas.List.Sums.{position_or_len_is}
-use Rattle.xw_fill.specs.Below.{any_below, all_below, any_part, first_below}
+use Rattle.xw_fill.specs.Below.{any_below, all_below, any_part, first_below, last_below}
 
 pub any_below-from : (test : ℕ → Bool) (n k : ℕ) → k < n → test k ≡ true → any_below test n ≡ true
 any_below-from test zero k below passes = absurd (omega arith)
@@ -174,6 +174,23 @@ any_below-first test n = split (first_below test n) refl where
   split : (o : Option ℕ) → first_below test n ≡ o → any_below test n ≡ is_some o
   split None e = false_from_ne_true _ (λ h. let found = any_below-gives test n h in false≢true (sym (first_below-none test n e found.0 found.1) ∙ found.2))
   split (Some k) e = let found = first_below-some test n k e in any_below-from test n k found.0 found.1
+
+-- the last number that passes
+pub last_below-some : (test : ℕ → Bool) (n k : ℕ) → last_below test n ≡ Some k → (k < n) × (test k ≡ true) × ((j : ℕ) → k < j → j < n → test j ≡ false)
+last_below-some test zero k h = cc
+last_below-some test (suc n) k h = split (last_below-some test n k) (test n) refl h where
+  split : (last_below test n ≡ Some k → (k < n) × (test k ≡ true) × ((j : ℕ) → k < j → j < n → test j ≡ false)) → (b : Bool) → test n ≡ b → cond b (Some n) (last_below test n) ≡ Some k → (k < suc n) × (test k ≡ true) × ((j : ℕ) → k < j → j < suc n → test j ≡ false)
+  split before true here g = let same : n ≡ k = cc in (omega arith, ap test (sym same) ∙ here, λ j after below. absurd (omega arith))
+  split before false here g =
+      let found = before g in
+      (omega (arith, found.0), found.1, λ j after below. elim (cases_eq j n) [ inl same ↦ ap test same ∙ here | inr ne ↦ found.2 j after (omega arith) ])
+
+pub last_below-none : (test : ℕ → Bool) (n : ℕ) → last_below test n ≡ None → (k : ℕ) → k < n → test k ≡ false
+last_below-none test zero h k below = absurd (omega arith)
+last_below-none test (suc n) h k below = split (last_below-none test n) (test n) refl h where
+  split : (last_below test n ≡ None → (j : ℕ) → j < n → test j ≡ false) → (b : Bool) → test n ≡ b → cond b (Some n) (last_below test n) ≡ None → test k ≡ false
+  split before true here g = cc
+  split before false here g = elim (cases_eq k n) [ inl same ↦ ap test same ∙ here | inr ne ↦ before g k (omega arith) ]
 
 -- the first place that passes
 pub position-here : {X : Type 0} (p : X → Bool) (xs : List X) (i : ℕ) (d : X) → i < length xs → ((k : ℕ) → k < i → p (get_or xs k d) ≡ false) → p (get_or xs i d) ≡ true → position p xs ≡ Some i

@@ -7,6 +7,7 @@ pub mod PlacingLemmas
 pub mod SearchLemmas
 pub mod RepeatLemmas
 pub mod NotedLemmas
+pub mod LinkLemmas
 pub mod FillLemmas
 pub mod ScanLemmas
 pub mod WordsLemmas

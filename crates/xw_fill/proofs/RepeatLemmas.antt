@@ -1,6 +1,6 @@
 -- Two lights that spell the same, looked for among those that a placement completed.
 use Rattle.std.proofs.Common.{◌≡◌, ◌≢◌, ℕ, ◌<◌, Bool, true, false, not, ◌&&◌, List, get_or, None, sym, ◌∙◌, ap, arith, inl, inr}
-use Rattle.std.specs.Prelude.{◌==◌, bytes_eq}
+use Rattle.std.specs.Prelude.{◌==◌, bytes_eq, is_some}
 use Rattle.std.proofs.lemmas.Bool.{and_parts, and_from, and_left, and_right, cases_Bool, cases_order, false≢true, false_from_ne_true, ne_eqb, eq-eqb}
 use Rattle.std.proofs.lemmas.Slice.Eq.{bytes_eq-Decides}
 use Rattle.xw_feas.specs.Board.{light_at, agrees}
@@ -9,7 +9,7 @@ use Rattle.xw_fill.specs.Below.{any_below}
 use Rattle.xw_fill.specs.Search.{light_count, is_entered, spelling, spell_same, is_repeat, first_same, is_dead}
 use Rattle.xw_fill.specs.Noted.{is_spelled_again, AreEntered, SpellApart}
 use Rattle.xw_fill.proofs.Shaped.{IsShaped}
-use Rattle.xw_fill.proofs.BelowLemmas.{any_below-from, any_below-gives, first_below-all}
+use Rattle.xw_fill.proofs.BelowLemmas.{any_below-from, any_below-gives, any_below-first, first_below-all}
 use Rattle.xw_fill.proofs.PlacingLemmas.{entered-at, spelled-same}
 use Rattle.xw_fill.proofs.SearchLemmas.{alive-distinct, placed-kept}
 
@@ -19,6 +19,9 @@ not_same position light other gap = and_left _ _ gap
 
 pub not_first : (position : Position) (light : ℕ) → is_entered position light ≡ false → first_same position light ≡ None
 not_first position light gap = first_below-all (spell_same position light) light (λ other below. not_same position light other gap)
+
+pub not_repeat : (position : Position) (light : ℕ) → is_entered position light ≡ false → is_repeat position light ≡ false
+not_repeat position light gap = any_below-first (spell_same position light) light ∙ ap is_some (not_first position light gap)
 
 pub not_again : (position : Position) (light : ℕ) → is_entered position light ≡ false → is_spelled_again position light ≡ false
 not_again position light gap = false_from_ne_true _ (λ h.

@@ -4,6 +4,7 @@ pub mod FeasibleWords
 pub mod FeasibleLetters
 pub mod Search
 pub mod Noted
+pub mod Linked
 pub mod Fill
 pub mod Tries
 pub mod Filling

@@ -4,6 +4,7 @@
 pub mod laws;
 pub mod listing;
 mod noted;
+mod repeats;
 mod scan;
 pub mod search;
 pub mod suggesting;

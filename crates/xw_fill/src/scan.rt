@@ -98,7 +98,7 @@ pub fn agree<E: Feasible>(engine: &E, light: usize, other: usize) -> bool
 }
 
 /// Whether two lights are wholly entered and spell the same.
-fn spell_same<E: Feasible>(engine: &E, light: usize, other: usize) -> bool
+pub fn spell_same<E: Feasible>(engine: &E, light: usize, other: usize) -> bool
     requires light { light < light_count (position_of (E.state engine.now)) }
     requires other { other < light_count (position_of (E.state engine.now)) }
     ensures { result ≡ spell_same (position_of (E.state engine.now)) light other }
@@ -132,18 +132,6 @@ pub fn first_without_words<E: Feasible>(engine: &E) -> Option<usize>
         }
     }
     None
-}
-
-/// Whether two wholly entered lights spell the same.
-pub fn has_repeat<E: Feasible>(engine: &E) -> bool
-    ensures { result ≡ any_below (is_repeat (position_of (E.state engine.now))) (light_count (position_of (E.state engine.now))) }
-{
-    for light in 0..light_count(engine) {
-        if first_same(engine, light).is_some() {
-            return true;
-        }
-    }
-    false
 }
 
 /// Of the lights that are not wholly entered the first with the fewest feasible words.

@@ -8,7 +8,8 @@ ghost use Rattle.xw_fill.specs.Words.{spellings_at};
 ghost use Rattle.xw_fill.specs.Filling.{IsFilling, HasFill, UnlessFilled, unless_repeated, outlook};
 
 use crate::noted::{has_new_repeat, note_entered};
-use crate::scan::{Scan, has_repeat, light_count, next_place, scan_lights};
+use crate::repeats::has_repeat;
+use crate::scan::{Scan, light_count, next_place, scan_lights};
 use crate::tries::{Try, make_try, place_word, take_all_back, take_back};
 use std::alloc::Global;
 use xw_feas::edit::Refusal;
@@ -45,16 +46,24 @@ fn open_outlook(chosen: Option<usize>, repeats: bool) -> Next
 }
 
 /// What is to be done where the search begins; what the notes were is passed over.
-fn begin<E: Feasible>(engine: &E, since: &mut [Option<usize>]) -> Next
+fn begin<E: Feasible>(
+    alloc: Global,
+    engine: &E,
+    since: &mut [Option<usize>],
+) -> Result<Next, Refusal>
     requires { length since.old ≡ light_count (position_of (E.state engine.now)) }
     ensures long { length since.new ≡ length since.old }
     ensures entered { AreEntered (position_of (E.state engine.now)) (noted since.new 1) }
-    ensures next { result ≡ outlook (position_of (E.state engine.now)) }
+    ensures next { IfOk result (λ next. next ≡ outlook (position_of (E.state engine.now))) }
+    ensures memory { IfErr result (λ refusal. refusal ≡ Refusal.Grid GridFault.Memory) }
 {
     note_entered(engine, since, 0);
     match scan_lights(engine, since) {
-        Scan::Blocked => Next::Spent,
-        Scan::Open(chosen) => open_outlook(chosen, has_repeat(engine)),
+        Scan::Blocked => Ok(Next::Spent),
+        Scan::Open(chosen) => {
+            let repeats = has_repeat(alloc, engine).map_err(|_| Refusal::Grid(GridFault::Memory))?;
+            Ok(open_outlook(chosen, repeats))
+        }
     }
 }
 
@@ -99,7 +108,7 @@ pub fn fill<E: Feasible>(alloc: Global, engine: &mut E, limit: u64) -> Result<Fi
     ))?;
     let mut since = vec![in alloc; None; count].map_err(|_| Refusal::Grid(GridFault::Memory))?;
     let mut used = 0;
-    let mut next = begin(engine, since.as_mut_slice());
+    let mut next = begin(alloc, engine, since.as_mut_slice())?;
     'search: loop {
         match next {
             Next::Done => return Ok(Filling::Filled),

@@ -26,12 +26,12 @@ search-init g c =
     let ok = c.in_ok-since.since.ok in
     let long : length c.in_ok-since.since.items ≡ light_count start = omega (arith, many, ok, c.light_count-count.ensures) in
     record {
-      searching = rw (items, c.begin-next.ensures.next) (searching-start start);
+      searching = rw (items, c.in_ok-next.ensures.next) (searching-start start);
       entries = DiffersInEntries-itself before;
       room = omega (arith, capacity, c.light_count-count.ensures);
       few = omega arith;
-      noted = rw (items, with_items_is c.in_ok-since.since c.begin-next.new.since (omega (arith, c.begin-next.ensures.long, ap length c.as_mut_slice.ensures.value, ok))) c.begin-next.ensures.entered;
-      long = ap length (with_items_is c.in_ok-since.since c.begin-next.new.since (omega (arith, c.begin-next.ensures.long, ap length c.as_mut_slice.ensures.value, ok))) ∙ c.begin-next.ensures.long ∙ ap length c.as_mut_slice.ensures.value ∙ long;
+      noted = rw (items, with_items_is c.in_ok-since.since c.begin.new.since (omega (arith, c.begin.ensures.long, ap length c.as_mut_slice.ensures.value, ok))) c.begin.ensures.entered;
+      long = ap length (with_items_is c.in_ok-since.since c.begin.new.since (omega (arith, c.begin.ensures.long, ap length c.as_mut_slice.ensures.value, ok))) ∙ c.begin.ensures.long ∙ ap length c.as_mut_slice.ensures.value ∙ long;
     }
 
 pub returns-in-None-clause-found : goal.returns-in-None-clause-found

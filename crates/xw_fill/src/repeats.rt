@@ -1,0 +1,62 @@
+//! Whether the grid repeats a word: a light is compared with the earlier ones of its size alone.
+ghost use Rattle.std.specs.Prelude.{◌≡◌, ◌<◌, ◌≤◌, length, IfOk};
+ghost use Rattle.xw_fill.specs.Position.{position_of};
+ghost use Rattle.xw_fill.specs.Below.{any_below};
+ghost use Rattle.xw_fill.specs.Search.{is_repeat, light_count};
+ghost use Rattle.xw_fill.specs.Linked.{size_of, last_of_size, AreLinked};
+
+use crate::scan::{board, is_entered, light_count, spell_same};
+use std::alloc::{AllocError, Global};
+use xw_feas::feasible::Feasible;
+use xw_words::word::LONGEST;
+
+/// How many cells a light has.
+fn size<E: Feasible>(engine: &E, light: usize) -> usize
+    requires { light < light_count (position_of (E.state engine.now)) }
+    ensures size { result ≡ size_of (position_of (E.state engine.now)) light }
+    ensures short { result ≤ 255 }
+{
+    board(engine).light(light).len()
+}
+
+/// Whether a light spells what an earlier one does; `last` is the last one before it of its size that is wholly entered, and `earlier` has that of each of these.
+fn is_repeat<E: Feasible>(
+    engine: &E,
+    light: usize,
+    last: Option<usize>,
+    earlier: &[Option<usize>],
+) -> bool
+    requires light { light < light_count (position_of (E.state engine.now)) }
+    requires last { last ≡ last_of_size (position_of (E.state engine.now)) (size_of (position_of (E.state engine.now)) light) light }
+    requires long { length earlier.now ≡ light_count (position_of (E.state engine.now)) }
+    requires linked { AreLinked (position_of (E.state engine.now)) light earlier.now }
+    ensures { result ≡ is_repeat (position_of (E.state engine.now)) light }
+{
+    let mut next = last;
+    while let Some(other) = next {
+        if spell_same(engine, light, other) {
+            return true;
+        }
+        next = earlier[other];
+    }
+    false
+}
+
+/// Whether two wholly entered lights spell the same; want of memory is the only refusal.
+pub fn has_repeat<E: Feasible>(alloc: Global, engine: &E) -> Result<bool, AllocError>
+    ensures { IfOk result (λ repeats. repeats ≡ any_below (is_repeat (position_of (E.state engine.now))) (light_count (position_of (E.state engine.now)))) }
+{
+    let mut earlier = vec![in alloc; None; light_count(engine)]?;
+    let mut last = [None; LONGEST + 1];
+    for light in 0..light_count(engine) {
+        if is_entered(engine, light) {
+            let size = size(engine, light);
+            if is_repeat(engine, light, last[size], &earlier) {
+                return Ok(true);
+            }
+            earlier[light] = last[size];
+            last[size] = Some(light);
+        }
+    }
+    Ok(false)
+}
