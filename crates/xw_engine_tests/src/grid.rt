@@ -1,4 +1,5 @@
 //! What the calls that take memory do where there is memory, and examples from end to end.
+use std::process::Abort;
 use std::test::Fail;
 use xw_grid::cell::{Cell, Direction, LightName, Side, Square, Symmetry};
 use xw_grid::circles::Circles;
@@ -31,6 +32,61 @@ fn one_cell(rt: HostRuntime) -> Result<(), Fail> {
     Ok(())
 }
 
+/// A light as a table tells it: number, direction, row and column of its start, and size.
+type Told = (u16, Direction, u32, u32, u32);
+
+/// A question about a list of lights, with its answer: the light at a place; the number of a cell by row and column, and the places of the lights
+/// through it.
+#[derive(Clone, Copy)]
+enum Ask {
+    Light(usize, Option<Told>),
+    Number(u32, u32, Option<u16>),
+    Across(u32, u32, Option<usize>),
+    Down(u32, u32, Option<usize>),
+}
+
+fn light_told(told: Option<Told>) -> Option<Light> {
+    match told {
+        None => None,
+        Some((number, direction, row, col, size)) => light(number, direction, row, col, size),
+    }
+}
+
+/// Asks each question of a table.
+fn ask_each(rt: &impl Abort, lights: &Lights, table: &[Ask]) {
+    for ask in table {
+        match *ask {
+            Ask::Light(place, told) => assert_eq!(rt; lights.get(place), light_told(told)),
+            Ask::Number(row, col, number) => assert_eq!(rt; lights.number(cell(row, col)), number),
+            Ask::Across(row, col, place) => assert_eq!(rt; lights.across_at(cell(row, col)), place),
+            Ask::Down(row, col, place) => assert_eq!(rt; lights.down_at(cell(row, col)), place),
+        }
+    }
+}
+
+/// Looks which of the lights stay in another grid, and where they are there: a table of places.
+fn stay(rt: &impl Abort, lights: &Lights, later: &Lights, table: &[(usize, Option<usize>)]) {
+    for (light, place) in table {
+        assert_eq!(rt; lights.same(*light, later), *place);
+    }
+}
+
+const CORNERS: [Ask; 13] = [
+    Ask::Light(0, Some((1, Direction::Across, 1, 2, 2))),
+    Ask::Light(1, Some((1, Direction::Down, 1, 2, 3))),
+    Ask::Light(2, Some((2, Direction::Down, 1, 3, 2))),
+    Ask::Light(3, Some((3, Direction::Across, 2, 1, 3))),
+    Ask::Light(4, Some((3, Direction::Down, 2, 1, 2))),
+    Ask::Light(5, Some((4, Direction::Across, 3, 1, 2))),
+    Ask::Light(6, None),
+    Ask::Number(2, 1, Some(3)),
+    Ask::Number(2, 2, None),
+    Ask::Across(2, 2, Some(3)),
+    Ask::Down(3, 1, Some(4)),
+    Ask::Down(1, 1, None),
+    Ask::Across(4, 1, None),
+];
+
 #[test]
 fn three_by_three_under_half_turn(rt: HostRuntime) -> Result<(), Fail> {
     let mut grid = Grid::new(rt.alloc(), 3, 3)?;
@@ -39,27 +95,27 @@ fn three_by_three_under_half_turn(rt: HostRuntime) -> Result<(), Fail> {
     assert_eq!(rt; grid.is_block(cell(3, 3)), true);
     let corners = Lights::of(rt.alloc(), &grid)?;
     assert_eq!(rt; corners.len(), 6);
-    assert_eq!(rt; corners.get(0), light(1, Direction::Across, 1, 2, 2));
-    assert_eq!(rt; corners.get(1), light(1, Direction::Down, 1, 2, 3));
-    assert_eq!(rt; corners.get(2), light(2, Direction::Down, 1, 3, 2));
-    assert_eq!(rt; corners.get(3), light(3, Direction::Across, 2, 1, 3));
-    assert_eq!(rt; corners.get(4), light(3, Direction::Down, 2, 1, 2));
-    assert_eq!(rt; corners.get(5), light(4, Direction::Across, 3, 1, 2));
-    assert_eq!(rt; corners.get(6), None);
-    assert_eq!(rt; corners.number(cell(2, 1)), Some(3));
-    assert_eq!(rt; corners.number(cell(2, 2)), None);
-    assert_eq!(rt; corners.across_at(cell(2, 2)), Some(3));
-    assert_eq!(rt; corners.down_at(cell(3, 1)), Some(4));
-    assert_eq!(rt; corners.down_at(cell(1, 1)), None);
-    assert_eq!(rt; corners.across_at(cell(4, 1)), None);
+    ask_each(&rt, &corners, &CORNERS);
     grid.toggle_block(cell(2, 2))?;
     let lights = Lights::of(rt.alloc(), &grid)?;
     assert_eq!(rt; lights.len(), 4);
-    assert_eq!(rt; lights.get(2), light(3, Direction::Down, 2, 1, 2));
-    assert_eq!(rt; corners.same(4, &lights), Some(2));
-    assert_eq!(rt; corners.same(3, &lights), None);
-    assert_eq!(rt; corners.same(6, &lights), None);
+    ask_each(
+        &rt,
+        &lights,
+        &[Ask::Light(2, Some((3, Direction::Down, 2, 1, 2)))],
+    );
+    stay(
+        &rt,
+        &corners,
+        &lights,
+        &[(4, Some(2)), (3, None), (6, None)],
+    );
     Ok(())
+}
+
+/// The bar between the second and the third of four cells.
+fn toggle_bar(grid: &mut Grid) -> Result<(), GridFault> {
+    grid.toggle_bar(cell(1, 2), Side::Right)
 }
 
 #[test]
@@ -70,18 +126,26 @@ fn bar_parts_a_row(rt: HostRuntime) -> Result<(), Fail> {
     };
     let mut grid = Grid::new(rt.alloc(), 4, 1)?;
     let whole = Lights::of(rt.alloc(), &grid)?;
-    assert_eq!(rt; whole.get(0), light(1, Direction::Across, 1, 1, 4));
+    ask_each(
+        &rt,
+        &whole,
+        &[Ask::Light(0, Some((1, Direction::Across, 1, 1, 4)))],
+    );
     assert_eq!(rt; whole.index(second), None);
-    grid.toggle_bar(cell(1, 2), Side::Right)?;
+    toggle_bar(&mut grid)?;
     let parted = Lights::of(rt.alloc(), &grid)?;
     assert_eq!(rt; parted.len(), 2);
-    assert_eq!(rt; parted.get(1), light(2, Direction::Across, 1, 3, 2));
+    ask_each(
+        &rt,
+        &parted,
+        &[Ask::Light(1, Some((2, Direction::Across, 1, 3, 2)))],
+    );
     assert_eq!(rt; parted.index(second), Some(1));
-    assert_eq!(rt; parted.same(1, &whole), None);
-    grid.toggle_bar(cell(1, 2), Side::Right)?;
+    stay(&rt, &parted, &whole, &[(1, None)]);
+    toggle_bar(&mut grid)?;
     let again = Lights::of(rt.alloc(), &grid)?;
     assert_eq!(rt; again.len(), 1);
-    assert_eq!(rt; whole.same(0, &again), Some(0));
+    stay(&rt, &whole, &again, &[(0, Some(0))]);
     Ok(())
 }
 
