@@ -2,7 +2,7 @@
 use Rattle.std.proofs.Common.{◌≡◌, ℕ, zero, suc, ◌+◌, ◌-◌, ◌*◌, ◌<◌, ◌≤◌, Bool, true, false, cond, not, ◌&&◌, ◌||◌, leb, eqb, List, [], ◌∷◌, ◌++◌, map, length, get_or, Some, None, refl, sym, ◌∙◌, ap, subst, arith, inl, inr}
 use Rattle.std.specs.Prelude.{◌⊎◌, Option, Contains, slice_index, slice_get, unwrap_or, is_none, Result, Ok, Err}
 use Rattle.std.proofs.lemmas.List.Elements.{Contains-get_or}
-use Rattle.std.proofs.lemmas.Bool.{cases_lt, cases_eq, cases_Bool, both_ways, false≢true, or_left, or_right, and_from, eq-eqb, leb-false, or_cases, and_parts}
+use Rattle.std.proofs.lemmas.Bool.{cases_lt, cases_eq, cases_Bool, both_ways, false≢true, or_left, or_right, and_from, eq-eqb, leb-false, or_cases, or_parts, and_parts, false_from_ne_true}
 use Rattle.std.proofs.lemmas.List.{get_or_default, get_or-map, length-map, ext_get_or, get_or_append_left}
 use Rattle.std.proofs.lemmas.Option.{slice_get_within, unwrap_or-slice_get, slice_get-get_or}
 use Rattle.std.proofs.Math.ListN.{get_or-map as get_or-map_any}
@@ -28,7 +28,7 @@ use Rattle.xw_live.specs.Brought.{IsBase}
 use Rattle.xw_live.specs.Revival.{same_light, StandsOn}
 use Rattle.xw_live.specs.Region.{IsRegion, edited_cells, changes_words}
 use Rattle.xw_live.specs.Marks.{Marks, IsPlace, cell_at, slot_at, known, puts}
-use Rattle.xw_live.specs.Begin.{IsEdited, is_seed, is_fill, IsStarted, common_bits}
+use Rattle.xw_live.specs.Begin.{IsEdited, is_long, is_read, may_have, is_seed, is_fill, IsStarted, common_bits}
 use Rattle.xw_live.proofs.Exact.{exact_may}
 use Rattle.xw_live.proofs.Changing.{written_places}
 use Rattle.xw_live.proofs.Region.{light_stands}
@@ -69,8 +69,7 @@ same_elements (x ∷ xs) (y ∷ ys) h = ap (λ z. z ∷ xs) (some_entry x y (h 0
 
 module _ (before now : State) (action : Action) (change : Change) (is : IsChange before now action change) (letters : ℕ → ℕ → Bool) (queued seed : ℕ → Bool)
     (inside : (listed : Cell × Option ℕ) → Contains change.cells.now listed → is_inside before.grid listed.0 ≡ true)
-    (edited : (listed : Cell × Option ℕ) → Contains change.cells.now listed → IsEdited (board_of now.grid) letters queued seed (index_of now.grid listed.0) listed.1)
-    (long : (count place light : ℕ) → change.word ≡ Some (count, place) → light < length (board_of now.grid).lights → length (light_at (board_of now.grid) light) ≡ count → queued light ≡ true) where
+    (edited : (listed : Cell × Option ℕ) → Contains change.cells.now listed → IsEdited (board_of now.grid) letters queued seed (index_of now.grid listed.0) listed.1) where
   abbrev old_board : Board
   old_board = board_of before.grid
 
@@ -113,15 +112,16 @@ module _ (before now : State) (action : Action) (change : Change) (is : IsChange
       both_ways _ calm ((edited this.listed this.has).queued light in_cells.0 (in_board, in_cells.1) (meets light cell in_cells ∙ sym this.at)))
 
   -- where no word of its length is changed a light has the words that it had
-  pub changed_words_calm : (light : ℕ) → light < length new_board.lights → queued light ≡ false → row now.words (length (light_at new_board light)) ≡ row before.words (length (light_at new_board light))
-  changed_words_calm light in_board calm = same_elements _ _ (λ k. is.entries (length (light_at new_board light)) k (not_there k change.word refl)) where
+  pub changed_words_same : (light : ℕ) → is_long change.word (length (light_at new_board light)) ≡ false → row now.words (length (light_at new_board light)) ≡ row before.words (length (light_at new_board light))
+  changed_words_same light short = same_elements _ _ (λ k. is.entries (length (light_at new_board light)) k (not_there k change.word refl)) where
     not_there : (k : ℕ) (word : Option (ℕ × ℕ)) → change.word ≡ word → ¬ IsPlaceOf change.word (length (light_at new_board light)) k
     not_there k None none found = subst (λ w. IsPlaceOf w (length (light_at new_board light)) k) none found
     not_there k (Some word) some found =
         let there = subst (λ w. IsPlaceOf w (length (light_at new_board light)) k) some found in
-        both_ways _ calm (long word.0 word.1 light some in_board (sym there.0))
+        both_ways _ short (ap (λ w. is_long w (length (light_at new_board light))) some ∙ eq-eqb word.0 (length (light_at new_board light)) there.0)
 
-  module _ (seeds : (light : ℕ) → light < length new_board.lights → queued light ≡ true → is_seed new_board change.word (light_at new_board light) (base_bits new_board (light_at new_board light) (row now.words (length (light_at new_board light)))) ≡ true → seed light ≡ true) where
+  module _ (calm : (light : ℕ) → light < length new_board.lights → queued light ≡ false → may_have change.word (length (light_at new_board light)) (base_bits new_board (light_at new_board light) (row now.words (length (light_at new_board light)))) ≡ false)
+      (seeds : (light : ℕ) → light < length new_board.lights → queued light ≡ true → is_seed new_board change.word (light_at new_board light) (base_bits new_board (light_at new_board light) (row now.words (length (light_at new_board light)))) ≡ true → seed light ≡ true) where
     pub changed_entered : (light : ℕ) → light < length new_board.lights → queued light ≡ true → is_wholly_entered new_board (light_at new_board light) ≡ true → seed light ≡ true
     changed_entered light in_board is_queued whole = seeds light in_board is_queued (or_left _ _ whole)
 
@@ -132,31 +132,32 @@ module _ (before now : State) (action : Action) (change : Change) (is : IsChange
       pub off : get_or (base_bits new_board cells (row now.words (length cells))) place false ≡ false
       pub others : (k : ℕ) → (k ≡ place → ⊥) → slice_get (row now.words (length cells)) k ≡ slice_get (row before.words (length cells)) k
 
-    row_cases : (light : ℕ) → light < length new_board.lights → seed light ≡ false → (row now.words (length (light_at new_board light)) ≡ row before.words (length (light_at new_board light))) ⊎ IsRowBut (light_at new_board light)
-    row_cases light in_board no_seed = elim (cases_Bool (queued light)) [
-      | inr calm ↦ inl (changed_words_calm light in_board calm)
-      | inl is_queued ↦ by_word is_queued change.word refl
-    ] where
-      cells : List ℕ
-      cells = light_at new_board light
+    -- a light that is no seed does not have the word that is changed
+    pub changed_has_not : (light : ℕ) → light < length new_board.lights → seed light ≡ false → may_have change.word (length (light_at new_board light)) (base_bits new_board (light_at new_board light) (row now.words (length (light_at new_board light)))) ≡ false
+    changed_has_not light in_board no_seed = elim (cases_Bool (queued light)) [
+      | inr is_calm ↦ calm light in_board is_calm
+      | inl is_queued ↦ false_from_ne_true _ (λ has. both_ways _ no_seed (seeds light in_board is_queued (or_right (is_wholly_entered new_board (light_at new_board light)) _ has)))
+    ]
 
+    row_cases : (light : ℕ) → light < length new_board.lights → seed light ≡ false → (row now.words (length (light_at new_board light)) ≡ row before.words (length (light_at new_board light))) ⊎ IsRowBut (light_at new_board light)
+    row_cases light in_board no_seed = by_word change.word refl where
       bits : List Bool
       bits = base_bits new_board (light_at new_board light) (row now.words (length (light_at new_board light)))
 
-      by_word : queued light ≡ true → (word : Option (ℕ × ℕ)) → change.word ≡ word → (row now.words (length (light_at new_board light)) ≡ row before.words (length (light_at new_board light))) ⊎ IsRowBut (light_at new_board light)
-      by_word is_queued None none = inl (same_elements _ _ (λ k. is.entries (length (light_at new_board light)) k (λ found. subst (λ w. IsPlaceOf w (length (light_at new_board light)) k) none found)))
-      by_word is_queued (Some word) some = elim (cases_eq word.0 (length (light_at new_board light))) [
-        | inr apart ↦ inl (same_elements _ _ (λ k. is.entries (length (light_at new_board light)) k (λ found. apart (subst (λ w. IsPlaceOf w (length (light_at new_board light)) k) some found).0)))
+      by_word : (word : Option (ℕ × ℕ)) → change.word ≡ word → (row now.words (length (light_at new_board light)) ≡ row before.words (length (light_at new_board light))) ⊎ IsRowBut (light_at new_board light)
+      by_word None none = inl (changed_words_same light (ap (λ w. is_long w (length (light_at new_board light))) none))
+      by_word (Some word) some = elim (cases_Bool (eqb word.0 (length (light_at new_board light)))) [
+        | inr apart ↦ inl (changed_words_same light (ap (λ w. is_long w (length (light_at new_board light))) some ∙ apart))
         | inl e ↦
-            let no : is_seed new_board (Some word) (light_at new_board light) bits ≡ true → ⊥ = λ h. both_ways _ no_seed (seeds light in_board is_queued (ap (λ w. is_seed new_board w (light_at new_board light) bits) some ∙ h)) in
+            let no : may_have (Some word) (length (light_at new_board light)) bits ≡ true → ⊥ = λ h. both_ways _ (changed_has_not light in_board no_seed) (ap (λ w. may_have w (length (light_at new_board light)) bits) some ∙ h) in
             inr (record {
               place = word.1;
               inner = elim (cases_Bool (leb (length bits) (word.1 + 1))) [
-                | inl last ↦ absurd (no (or_right (is_wholly_entered new_board (light_at new_board light)) _ (and_from _ _ (eq-eqb word.0 (length (light_at new_board light)) e) (or_left _ _ last))))
+                | inl last ↦ absurd (no (and_from _ _ e (or_left _ _ last)))
                 | inr not_last ↦ subst (λ n. word.1 + 1 < n) (length-base_bits new_board (light_at new_board light) (row now.words (length (light_at new_board light)))) (leb-false (length bits) (word.1 + 1) not_last)
               ];
               off = elim (cases_Bool (get_or bits word.1 false)) [
-                | inl on ↦ absurd (no (or_right (is_wholly_entered new_board (light_at new_board light)) _ (and_from _ _ (eq-eqb word.0 (length (light_at new_board light)) e) (or_right (leb (length bits) (word.1 + 1)) _ on))))
+                | inl on ↦ absurd (no (and_from _ _ e (or_right (leb (length bits) (word.1 + 1)) _ on)))
                 | inr is_off ↦ is_off
               ];
               others = λ k apart. is.entries (length (light_at new_board light)) k (λ found. apart (sym (subst (λ w. IsPlaceOf w (length (light_at new_board light)) k) some found).1));
@@ -226,29 +227,30 @@ base_bits_same before after cells (word ∷ entries) same =
 module _ (before now : State) (action : Action) (change : Change) (is : IsChange before now action change) (letters : ℕ → ℕ → Bool) (queued seed : ℕ → Bool)
     (inside : (listed : Cell × Option ℕ) → Contains change.cells.now listed → is_inside before.grid listed.0 ≡ true)
     (edited : (listed : Cell × Option ℕ) → Contains change.cells.now listed → IsEdited (board_of now.grid) letters queued seed (index_of now.grid listed.0) listed.1)
-    (long : (count place light : ℕ) → change.word ≡ Some (count, place) → light < length (board_of now.grid).lights → length (light_at (board_of now.grid) light) ≡ count → queued light ≡ true)
     (new : (light : ℕ) → light < length (board_of now.grid).lights → same_light before.grid now.grid light ≡ None → queued light ≡ true) where
   -- the base rows of lights to which no edit comes are those of before
   pub changed_base : (base_before base base' : List RowOfBits)
       → IsBase (board_of before.grid) before.words base_before
-      → ((light other : ℕ) → light < length (board_of now.grid).lights → same_light before.grid now.grid light ≡ Some other → queued light ≡ false → bits_in base light ≡ bits_in base_before other)
-      → ((light : ℕ) → light < length (board_of now.grid).lights → queued light ≡ true → bits_in base' light ≡ base_bits (board_of now.grid) (light_at (board_of now.grid) light) (row now.words (length (light_at (board_of now.grid) light))))
-      → ((light : ℕ) → queued light ≡ false → bits_in base' light ≡ bits_in base light)
+      → ((light other : ℕ) → light < length (board_of now.grid).lights → same_light before.grid now.grid light ≡ Some other → is_long change.word (length (light_at (board_of now.grid) light)) ≡ false → bits_in base light ≡ bits_in base_before other)
+      → ((light : ℕ) → light < length (board_of now.grid).lights → is_read (board_of now.grid) change.word queued light ≡ true → bits_in base' light ≡ base_bits (board_of now.grid) (light_at (board_of now.grid) light) (row now.words (length (light_at (board_of now.grid) light))))
+      → ((light : ℕ) → is_read (board_of now.grid) change.word queued light ≡ false → bits_in base' light ≡ bits_in base light)
       → IsBase (board_of now.grid) now.words base'
-  changed_base base_before base base' was moved on off light in_board = elim (cases_Bool (queued light)) [
-    | inl is_queued ↦ on light in_board is_queued
-    | inr calm ↦ by_match calm (same_light before.grid now.grid light) refl
+  changed_base base_before base base' was moved on off light in_board = elim (cases_Bool (is_read (board_of now.grid) change.word queued light)) [
+    | inl read ↦ on light in_board read
+    | inr not_read ↦ by_match not_read (same_light before.grid now.grid light) refl
   ] where
-    by_match : queued light ≡ false → (o : Option ℕ) → same_light before.grid now.grid light ≡ o → bits_in base' light ≡ base_bits (board_of now.grid) (light_at (board_of now.grid) light) (row now.words (length (light_at (board_of now.grid) light)))
-    by_match calm None at = absurd (both_ways _ calm (new light in_board at))
-    by_match calm (Some other) at =
+    by_match : is_read (board_of now.grid) change.word queued light ≡ false → (o : Option ℕ) → same_light before.grid now.grid light ≡ o → bits_in base' light ≡ base_bits (board_of now.grid) (light_at (board_of now.grid) light) (row now.words (length (light_at (board_of now.grid) light)))
+    by_match not_read None at = absurd (both_ways _ (or_parts (queued light) _ not_read).0 (new light in_board at))
+    by_match not_read (Some other) at =
+        let calm = (or_parts (queued light) (is_long change.word (length (light_at (board_of now.grid) light))) not_read).0 in
+        let short = (or_parts (queued light) (is_long change.word (length (light_at (board_of now.grid) light))) not_read).1 in
         let matching = same_is_matching before.grid now.grid is.width in
         let cells = matching.cells light other in_board at in
-        off light calm ∙ moved light other in_board at calm ∙ was other (matching.lights light other in_board at)
+        off light not_read ∙ moved light other in_board at short ∙ was other (matching.lights light other in_board at)
         ∙ ap (λ cs. base_bits (board_of before.grid) cs (row before.words (length cs))) (sym cells)
-        ∙ ap (base_bits (board_of before.grid) (light_at (board_of now.grid) light)) (sym (changed_words_calm before now action change is letters queued seed inside edited long light in_board calm))
+        ∙ ap (base_bits (board_of before.grid) (light_at (board_of now.grid) light)) (sym (changed_words_same before now action change is letters queued seed inside edited light short))
         ∙ sym (base_bits_same (board_of before.grid) (board_of now.grid) (light_at (board_of now.grid) light) (row now.words (length (light_at (board_of now.grid) light)))
-        (λ cell in_cells. changed_entry_calm before now action change is letters queued seed inside edited long light cell in_board calm in_cells))
+        (λ cell in_cells. changed_entry_calm before now action change is letters queued seed inside edited light cell in_board calm in_cells))
 
   -- ---- letters
 
@@ -267,7 +269,7 @@ module _ (before now : State) (action : Action) (change : Change) (is : IsChange
     | inl stood ↦ elim (cases_Bool (may_stand (board_of now.grid) cell letter)) [
       | inl may ↦ may
       | inr may_not ↦ may_same cell letter (λ has.
-          let this = listed_at before now action change is letters queued seed inside edited long cell has in
+          let this = listed_at before now action change is letters queued seed inside edited cell has in
           both_ways _ may_not (subst (λ n. may_stand (board_of now.grid) n letter ≡ true) this.at ((edited this.listed this.has).may letter (ap (λ n. letters n letter) this.at ∙ stands)))) ∙ might cell letter stood
     ]
   ]
@@ -278,7 +280,7 @@ module _ (before now : State) (action : Action) (change : Change) (is : IsChange
   changed_letters_come opened cell letter may might_not = elim (cases_Bool (letters cell letter)) [
     | inl stands ↦ stands
     | inr stands_not ↦ absurd (might_not (sym (may_same cell letter (λ has.
-        let this = listed_at before now action change is letters queued seed inside edited long cell has in
+        let this = listed_at before now action change is letters queued seed inside edited cell has in
         elim (cases_Bool (is_fill (board_of now.grid) (index_of now.grid this.listed.0) this.listed.1)) [
           | inr no_fill ↦ both_ways _ stands_not (subst (λ n. letters n letter ≡ true) this.at ((edited this.listed this.has).all no_fill letter (subst (λ n. may_stand (board_of now.grid) n letter ≡ true) (sym this.at) may)))
           | inl fill ↦
@@ -347,15 +349,16 @@ module _ (before now : State) (action : Action) (change : Change) (is : IsChange
     (exact : IsExact (board_of before.grid) before.words settled.words settled.letters)
     (inside : (listed : Cell × Option ℕ) → Contains change.cells.now listed → is_inside before.grid listed.0 ≡ true)
     (edited : (listed : Cell × Option ℕ) → Contains change.cells.now listed → IsEdited (board_of now.grid) start.letters start.queued seed (index_of now.grid listed.0) listed.1)
-    (long : (count place light : ℕ) → change.word ≡ Some (count, place) → light < length (board_of now.grid).lights → length (light_at (board_of now.grid) light) ≡ count → start.queued light ≡ true)
     (new : (light : ℕ) → light < length (board_of now.grid).lights → same_light before.grid now.grid light ≡ None → start.queued light ≡ true)
     (new_seeds : (light : ℕ) → light < length (board_of now.grid).lights → same_light before.grid now.grid light ≡ None → seed light ≡ true)
+    (calm : (light : ℕ) → light < length (board_of now.grid).lights → start.queued light ≡ false → may_have change.word (length (light_at (board_of now.grid) light)) (base_bits (board_of now.grid) (light_at (board_of now.grid) light) (row now.words (length (light_at (board_of now.grid) light)))) ≡ false)
     (seeds : (light : ℕ) → light < length (board_of now.grid).lights → start.queued light ≡ true → is_seed (board_of now.grid) change.word (light_at (board_of now.grid) light) (base_bits (board_of now.grid) (light_at (board_of now.grid) light) (row now.words (length (light_at (board_of now.grid) light)))) ≡ true → seed light ≡ true)
     (spread : IsSpread (board_of now.grid) settled.letters start.letters seed waiting no_places)
     (opened : (listed : Cell × Option ℕ) → Contains change.cells.now listed → is_fill (board_of now.grid) (index_of now.grid listed.0) listed.1 ≡ true → is_open (board_of before.grid) (index_of now.grid listed.0) ≡ true)
     (lights : (light choice : ℕ) → start.words light choice ≡ true → light < length (board_of now.grid).lights)
     (words_on : (light other choice : ℕ) → light < length (board_of now.grid).lights → seed light ≡ false → start.queued light ≡ true → same_light before.grid now.grid light ≡ Some other → start.words light choice ≡ (settled.words other choice && is_base_at (board_of now.grid) now.words light choice))
     (words_off : (light other choice : ℕ) → light < length (board_of now.grid).lights → seed light ≡ false → start.queued light ≡ false → same_light before.grid now.grid light ≡ Some other → start.words light choice ≡ settled.words other choice)
+    (words_calm : (light other choice : ℕ) → light < length (board_of now.grid).lights → start.queued light ≡ false → seed light ≡ false → same_light before.grid now.grid light ≡ Some other → settled.words other choice ≡ true → is_base_at (board_of now.grid) now.words light choice ≡ true)
     (freed : (other k : ℕ) → other < length (board_of before.grid).lights → ¬ StandsOn (board_of now.grid) (same_light before.grid now.grid) other → k < length (light_at (board_of before.grid) other) → HasAll (board_of now.grid) start.letters (slice_index (light_at (board_of before.grid) other) k))
     (held : (light place letter : ℕ) → IsPlace (board_of now.grid) light place → is_capital letter ≡ true → seed light ≡ false → start.held (slot_at (board_of now.grid) light place) letter ≡ settled.held (slot_at (board_of now.grid) light place) letter)
     (restart : (slot letter : ℕ) → start.restart slot letter ≡ settled.restart slot letter)
@@ -364,19 +367,19 @@ module _ (before now : State) (action : Action) (change : Change) (is : IsChange
   pub changed_started : IsStarted (board_of before.grid) (board_of now.grid) before.words now.words (same_light before.grid now.grid) settled start seed
   changed_started = record {
     matched = λ light in_board no_seed. by_match light in_board no_seed (same_light before.grid now.grid light) refl;
-    entry_kept = λ light cell entered in_board no_seed in_cells had. changed_entry_kept before now action change is start.letters start.queued seed inside edited long light cell entered in_board no_seed in_cells had;
-    entry_calm = λ light cell in_board calm no_seed in_cells. changed_entry_calm before now action change is start.letters start.queued seed inside edited long light cell in_board calm in_cells;
-    entered = λ light in_board is_queued whole. changed_entered before now action change is start.letters start.queued seed inside edited long seeds light in_board is_queued whole;
-    spelled = λ light in_board no_seed. changed_spelled before now action change is start.letters start.queued seed inside edited long seeds light in_board no_seed;
-    active = λ light choice in_board no_seed base act. changed_active before now action change is start.letters start.queued seed inside edited long seeds light choice in_board no_seed base act;
-    words_calm = λ light in_board calm no_seed. changed_words_calm before now action change is start.letters start.queued seed inside edited long light in_board calm;
+    entry_kept = λ light cell entered in_board no_seed in_cells had. changed_entry_kept before now action change is start.letters start.queued seed inside edited light cell entered in_board no_seed in_cells had;
+    entry_calm = λ light cell in_board calm no_seed in_cells. changed_entry_calm before now action change is start.letters start.queued seed inside edited light cell in_board calm in_cells;
+    entered = λ light in_board is_queued whole. changed_entered before now action change is start.letters start.queued seed inside edited calm seeds light in_board is_queued whole;
+    spelled = λ light in_board no_seed. changed_spelled before now action change is start.letters start.queued seed inside edited calm seeds light in_board no_seed;
+    active = λ light choice in_board no_seed base act. changed_active before now action change is start.letters start.queued seed inside edited calm seeds light choice in_board no_seed base act;
+    words_calm = words_calm;
     lights = lights;
     words_on = words_on;
     words_off = words_off;
-    letters_from = λ cell letter stands. changed_letters_may before now action change is start.letters start.queued seed inside edited long new settled.letters
+    letters_from = λ cell letter stands. changed_letters_may before now action change is start.letters start.queued seed inside edited new settled.letters
         (exact_may (board_of before.grid) before.words settled.words settled.letters exact) spread.from cell letter stands;
     letters_stay = spread.stay;
-    letters_come = λ cell letter may might_not. changed_letters_come before now action change is start.letters start.queued seed inside edited long new opened cell letter may might_not;
+    letters_come = λ cell letter may might_not. changed_letters_come before now action change is start.letters start.queued seed inside edited new opened cell letter may might_not;
     letters_reach = λ light place letter here stands stood_not. elim (cases_Bool (settled.letters (cell_at (board_of now.grid) light place) letter)) [
       | inl stood ↦ absurd (stood_not stood)
       | inr none ↦ spread.reaches light place letter here stands none

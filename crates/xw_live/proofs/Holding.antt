@@ -1,13 +1,13 @@
 -- What is held and pending at the beginning of a settling.
 use Rattle.std.proofs.Common.{◌≡◌, ℕ, ◌+◌, ◌-◌, ◌*◌, ◌<◌, ◌≤◌, Bool, true, false, cond, ◌&&◌, leb, ltb, eqb, List, [], ◌∷◌, map, length, get_or, Some, None, lit<, lit≤, refl, sym, ◌∙◌, ap, subst, arith, inl, inr}
 use Rattle.std.specs.Prelude.{Option}
-use Rattle.std.proofs.lemmas.Bool.{cases_lt, cases_eq, cases_Bool, both_ways, and_from, and_parts, or_left, or_right, eq-eqb, eqb-true, le-leb, leb-false, ltb-false}
+use Rattle.std.proofs.lemmas.Bool.{cases_lt, cases_eq, cases_Bool, both_ways, and_from, and_parts, or_left, eq-eqb, le-leb, leb-false, ltb-false}
 use Rattle.std.proofs.lemmas.List.{get_or_append_left, get_or-map, length-map}
 use Rattle.std.proofs.lemmas.Option.{slice_get_within, slice_get-get_or}
 use Rattle.xw_words.specs.Letter.{is_capital}
 use Rattle.xw_words.specs.Dictionary.{Entry, row, no_entry}
 use Rattle.xw_grid.specs.Light.{lights_of}
-use Rattle.xw_feas.specs.Board.{board_of, light_at, is_wholly_entered, spelled}
+use Rattle.xw_feas.specs.Board.{board_of, light_at, spelled}
 use Rattle.xw_feas.specs.Choices.{choices}
 use Rattle.xw_feas.specs.State.{State, Action}
 use Rattle.xw_live.specs.declared.net.Net.{Net}
@@ -20,7 +20,7 @@ use Rattle.xw_live.specs.Nets.{marks_of, held_in, pending_in}
 use Rattle.xw_live.specs.Renumber.{same_before}
 use Rattle.xw_live.specs.Spread.{is_marked}
 use Rattle.xw_live.specs.Marks.{IsHolding}
-use Rattle.xw_live.specs.Begin.{is_seed, may_have}
+use Rattle.xw_live.specs.Begin.{may_have}
 use Rattle.xw_live.specs.Forget.{nowhere, lose, lost_from, Forgets}
 use Rattle.xw_live.specs.Opened.{arrays_of, IsOpening, IsMoved}
 use Rattle.xw_live.proofs.Rooms.{known_few}
@@ -46,8 +46,8 @@ module _ (before now : State) (action : Action) (change : Change) (is : IsChange
     (opening : IsOpening now.grid (board_of now.grid) (lights_of now.grid) (row now.words) change (arrays_of net) (arrays_of opened))
     (forgets : Forgets (board_of now.grid) (λ light. lost_from change.word (same_before change.before.now (lights_of now.grid) light) (length (light_at (board_of now.grid) light)) (length (row now.words (length (light_at (board_of now.grid) light)))))
     net.held.items opened.held.items net.pending.items opened.pending.items)
-    (seeds : (light : ℕ) → light < length (board_of now.grid).lights → is_marked opened.is_queued.items light ≡ true
-    → is_seed (board_of now.grid) change.word (light_at (board_of now.grid) light) (base_bits (board_of now.grid) (light_at (board_of now.grid) light) (row now.words (length (light_at (board_of now.grid) light)))) ≡ true → is_marked opened.is_marked.items light ≡ true) where
+    (has_not : (light : ℕ) → light < length (board_of now.grid).lights → is_marked opened.is_marked.items light ≡ false
+    → may_have change.word (length (light_at (board_of now.grid) light)) (base_bits (board_of now.grid) (light_at (board_of now.grid) light) (row now.words (length (light_at (board_of now.grid) light)))) ≡ false) where
   abbrev seed : ℕ → Bool
   seed = is_marked opened.is_marked.items
 
@@ -90,11 +90,9 @@ module _ (before now : State) (action : Action) (change : Change) (is : IsChange
       | inl goes ↦
           let both = and_parts (eqb word.0 (length (light_at (board_of now.grid) light))) (leb (known (board_of now.grid) now.words light) (word.1 + 1)) goes in
           let long = length-base_bits (board_of now.grid) (light_at (board_of now.grid) light) (row now.words (length (light_at (board_of now.grid) light))) in
-          let queued = opening.long word.0 word.1 light some in_board (sym (eqb-true word.0 (length (light_at (board_of now.grid) light)) both.0)) in
           let last : leb (length (base_bits (board_of now.grid) (light_at (board_of now.grid) light) (row now.words (length (light_at (board_of now.grid) light))))) (word.1 + 1) ≡ true = ap (λ n. leb n (word.1 + 1)) long ∙ both.1 in
           let has : may_have (Some word) (length (light_at (board_of now.grid) light)) (base_bits (board_of now.grid) (light_at (board_of now.grid) light) (row now.words (length (light_at (board_of now.grid) light)))) ≡ true = and_from _ _ both.0 (or_left _ _ last) in
-          absurd (both_ways _ no_seed (seeds light in_board queued
-          (ap (λ w. is_seed (board_of now.grid) w (light_at (board_of now.grid) light) (base_bits (board_of now.grid) (light_at (board_of now.grid) light) (row now.words (length (light_at (board_of now.grid) light))))) some ∙ or_right (is_wholly_entered (board_of now.grid) (light_at (board_of now.grid) light)) _ has)))
+          absurd (both_ways _ (has_not light in_board no_seed) (ap (λ w. may_have w (length (light_at (board_of now.grid) light)) (base_bits (board_of now.grid) (light_at (board_of now.grid) light) (row now.words (length (light_at (board_of now.grid) light))))) some ∙ has))
     ]
 
     by_match : (o : Option ℕ) → same_light before.grid now.grid light ≡ o → lost light ≡ nowhere

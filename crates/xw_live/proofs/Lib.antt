@@ -47,6 +47,7 @@ pub mod Settled
 pub mod First
 pub mod Changing
 pub mod Started
+pub mod Long
 pub mod Changed
 pub mod Freed
 pub mod Opening

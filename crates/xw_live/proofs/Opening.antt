@@ -1,8 +1,8 @@
 -- Rows and cells at the beginning of a settling.
-use Rattle.std.proofs.Common.{◌≡◌, ℕ, ◌+◌, ◌-◌, ◌*◌, ◌<◌, Bool, true, false, ◌&&◌, [], ◌∷◌, ◌++◌, length, get_or, Some, None, refl, sym, ◌∙◌, ap, subst, arith, inl, inr}
+use Rattle.std.proofs.Common.{◌≡◌, ℕ, zero, suc, ◌+◌, ◌-◌, ◌*◌, ◌<◌, Bool, true, false, ◌&&◌, ◌||◌, leb, eqb, [], ◌∷◌, ◌++◌, length, get_or, Some, None, refl, sym, ◌∙◌, ap, subst, arith, inl, inr}
 use Rattle.std.specs.Prelude.{Option, Ok, List, Contains, slice_index, slice_get, unwrap_or}
-use Rattle.std.proofs.lemmas.Bool.{cases_Bool, both_ways, and_from}
-use Rattle.std.proofs.lemmas.List.{get_or_default, get_or_push, length-map}
+use Rattle.std.proofs.lemmas.Bool.{cases_Bool, both_ways, and_from, and_cases, or_parts, eq-eqb, leb-false}
+use Rattle.std.proofs.lemmas.List.{get_or_append_left, get_or_default, get_or_push, length-map}
 use Rattle.std.proofs.lemmas.Option.{slice_get-get_or, unwrap_or-slice_get}
 use Rattle.xw_words.specs.Dictionary.{Entry, row, entry_at, no_entry}
 use Rattle.xw_grid.specs.declared.cell.Cell.{Cell}
@@ -25,7 +25,7 @@ use Rattle.xw_live.specs.Filled.{IsFilled}
 use Rattle.xw_live.specs.Renumber.{same_before}
 use Rattle.xw_live.specs.Spread.{is_marked, bits_in, HasAll}
 use Rattle.xw_live.specs.Brought.{IsBase}
-use Rattle.xw_live.specs.Begin.{common_bits, AreBaseBut, IsPrepared}
+use Rattle.xw_live.specs.Begin.{common_bits, is_long, may_have, AreBaseBut, IsPrepared}
 use Rattle.xw_live.specs.Opened.{arrays_of, IsOpening, IsMoved}
 use Rattle.xw_live.proofs.Exact.{exact_base}
 use Rattle.xw_live.proofs.Same.{same_is_matching, same_is_whole}
@@ -35,7 +35,7 @@ use Rattle.xw_live.proofs.NetLemmas.{waiting_within}
 use Rattle.xw_live.proofs.Edits.{with_words-Ok}
 use Rattle.xw_live.proofs.Started.{empty_not_whole}
 use Rattle.xw_live.proofs.Listed.{inside_sized}
-use Rattle.xw_live.proofs.Changed.{changed_base, changed_entry_kept, changed_words_calm, changed_spelled, row_narrowed}
+use Rattle.xw_live.proofs.Changed.{base_bits_same, changed_base, changed_entry_calm, changed_entry_kept, changed_words_same, changed_has_not, changed_spelled, row_narrowed}
 
 -- a word that is added or struck leaves the grid
 word_keeps_grid : (before now : State) (action : Action) (word : ℕ × ℕ) → after before action ≡ Ok now → word_changed before.words action ≡ Some word → now.grid ≡ before.grid
@@ -51,6 +51,14 @@ word_keeps_grid before now (symmetry_chosen kind) word made some = let never : N
 
 same_entry : (old new : List Entry) (place : ℕ) → slice_get old place ≡ slice_get new place → entry_at old place ≡ entry_at new place
 same_entry old new place same = sym (unwrap_or-slice_get old place no_entry) ∙ ap (λ o. unwrap_or o no_entry) same ∙ unwrap_or-slice_get new place no_entry
+
+-- a flag of two rows that are as long and equal there, with the same one last
+same_flag : (xs ys : List Bool) (last : Bool) (k : ℕ) → length xs ≡ length ys → get_or xs k false ≡ get_or ys k false → get_or (xs ++ last ∷ []) k false ≡ get_or (ys ++ last ∷ []) k false
+same_flag [] [] last k long same = refl
+same_flag [] (y ∷ ys) last k long same = absurd (omega (arith, long))
+same_flag (x ∷ xs) [] last k long same = absurd (omega (arith, long))
+same_flag (x ∷ xs) (y ∷ ys) last zero long same = same
+same_flag (x ∷ xs) (y ∷ ys) last (suc k) long same = same_flag xs ys last k (omega (arith, long)) same
 
 module _ (before now : State) (action : Action) (change : Change) (is : IsChange before now action change) (settled net opened : Net)
     (filled : IsFilled (board_of before.grid) before.words settled) (moved : IsMoved before now settled net)
@@ -109,15 +117,15 @@ module _ (before now : State) (action : Action) (change : Change) (is : IsChange
   pub opened_prepared : IsPrepared (board_of now.grid) (row now.words) change.word net.rows.items opened.rows.items net.base.items opened.base.items (is_marked opened.is_queued.items) (is_marked opened.is_marked.items)
   opened_prepared = opening.prepared base_but
 
-  calm_known : (light other : ℕ) → light < length (board_of now.grid).lights → same_light before.grid now.grid light ≡ Some other → queued light ≡ false → known (board_of now.grid) now.words light ≡ known (board_of before.grid) before.words other
-  calm_known light other in_board at calm =
-      ap length (changed_words_calm before now action change is (set_has opened.letters.items) queued seed listed_inside opening.edited opening.long light in_board calm)
+  short_known : (light other : ℕ) → light < length (board_of now.grid).lights → same_light before.grid now.grid light ≡ Some other → is_long change.word (length (light_at (board_of now.grid) light)) ≡ false → known (board_of now.grid) now.words light ≡ known (board_of before.grid) before.words other
+  short_known light other in_board at short =
+      ap length (changed_words_same before now action change is (set_has opened.letters.items) queued seed listed_inside opening.edited light short)
       ∙ ap (λ cs. length (row before.words (length cs))) (matching.cells light other in_board at)
 
   pub opened_base : IsBase (board_of now.grid) now.words opened.base.items
   opened_base =
-      changed_base before now action change is (set_has opened.letters.items) queued seed listed_inside opening.edited opening.long new_queued settled.base.items net.base.items opened.base.items
-      filled.is_base (λ light other in_board at calm. moved.base light other in_board at (calm_known light other in_board at calm)) opened_prepared.base_on opened_prepared.base_off
+      changed_base before now action change is (set_has opened.letters.items) queued seed listed_inside opening.edited new_queued settled.base.items net.base.items opened.base.items
+      filled.is_base (λ light other in_board at short. moved.base light other in_board at (short_known light other in_board at short)) opened_prepared.base_on opened_prepared.base_off
 
   -- ---- words
 
@@ -133,12 +141,6 @@ module _ (before now : State) (action : Action) (change : Change) (is : IsChange
         ∙ ap (λ flags. get_or (bits_in opened.rows.items light ++ get_or flags light false ∷ []) choice false) (sym entered_kept) ∙ stands)
   ]
 
-  pub opened_words_off : (light other choice : ℕ) → light < length (board_of now.grid).lights → seed light ≡ false → queued light ≡ false → same_light before.grid now.grid light ≡ Some other → word_stands opened light choice ≡ word_stands settled other choice
-  unfolding word_stands
-  opened_words_off light other choice in_board no_seed calm at =
-      ap (λ bits. get_or (bits ++ get_or opened.entered.items light false ∷ []) choice false) (opened_prepared.rows_off light calm ∙ moved.rows light other in_board at (calm_known light other in_board at calm))
-      ∙ ap (λ e. get_or (bits_in settled.rows.items other ++ e ∷ []) choice false) (ap (λ flags. get_or flags light false) entered_kept ∙ moved.entered light other in_board at)
-
   -- a light that is no seed stays wholly entered
   whole_stays : (light : ℕ) → light < length (board_of now.grid).lights → seed light ≡ false → is_wholly_entered (board_of before.grid) (light_at (board_of now.grid) light) ≡ true → is_wholly_entered (board_of now.grid) (light_at (board_of now.grid) light) ≡ true
   whole_stays light in_board no_seed whole = entered_same (board_of before.grid) (board_of now.grid) (light_at (board_of now.grid) light) same ∙ whole where
@@ -146,14 +148,69 @@ module _ (before now : State) (action : Action) (change : Change) (is : IsChange
     same cell in_cells = split (entry (board_of before.grid) cell) refl where
       split : (o : Option ℕ) → entry (board_of before.grid) cell ≡ o → entry (board_of now.grid) cell ≡ entry (board_of before.grid) cell
       split None empty = absurd (both_ways _ (empty_not_whole (board_of before.grid) (light_at (board_of now.grid) light) in_cells.0 in_cells.1 (ap (entry (board_of before.grid)) (get_or_default (light_at (board_of now.grid) light) in_cells.0 0 cell in_cells.1 ∙ in_cells.2) ∙ empty)) whole)
-      split (Some letter) had = changed_entry_kept before now action change is (set_has opened.letters.items) queued seed listed_inside opening.edited opening.long light cell letter in_board no_seed in_cells had
+      split (Some letter) had = changed_entry_kept before now action change is (set_has opened.letters.items) queued seed listed_inside opening.edited light cell letter in_board no_seed in_cells had
 
   kept_known : (light other : ℕ) → light < length (board_of now.grid).lights → seed light ≡ false → same_light before.grid now.grid light ≡ Some other → known (board_of now.grid) now.words light ≡ known (board_of before.grid) before.words other
   kept_known light other in_board no_seed at =
       sym (length-map (row now.words (length (light_at (board_of now.grid) light))) (λ (word : Entry). word.word))
-      ∙ ap length (changed_spelled before now action change is (set_has opened.letters.items) queued seed listed_inside opening.edited opening.long opened_prepared.seeds light in_board no_seed)
+      ∙ ap length (changed_spelled before now action change is (set_has opened.letters.items) queued seed listed_inside opening.edited opened_prepared.calm opened_prepared.seeds light in_board no_seed)
       ∙ length-map (row before.words (length (light_at (board_of now.grid) light))) (λ (word : Entry). word.word)
       ∙ ap (λ cs. length (row before.words (length cs))) (matching.cells light other in_board at)
+
+  pub opened_words_off : (light other choice : ℕ) → light < length (board_of now.grid).lights → seed light ≡ false → queued light ≡ false → same_light before.grid now.grid light ≡ Some other → word_stands opened light choice ≡ word_stands settled other choice
+  unfolding word_stands
+  opened_words_off light other choice in_board no_seed calm at =
+      ap (λ bits. get_or (bits ++ get_or opened.entered.items light false ∷ []) choice false) (opened_prepared.rows_off light calm ∙ moved.rows light other in_board at (kept_known light other in_board no_seed at))
+      ∙ ap (λ e. get_or (bits_in settled.rows.items other ++ e ∷ []) choice false) (ap (λ flags. get_or flags light false) entered_kept ∙ moved.entered light other in_board at)
+
+  -- of a light that is no seed the word that is changed is no base word
+  pub opened_has_not : (light : ℕ) → light < length (board_of now.grid).lights → seed light ≡ false → may_have change.word (length (light_at (board_of now.grid) light)) (base_bits (board_of now.grid) (light_at (board_of now.grid) light) (row now.words (length (light_at (board_of now.grid) light)))) ≡ false
+  opened_has_not = changed_has_not before now action change is (set_has opened.letters.items) queued seed listed_inside opening.edited opened_prepared.calm opened_prepared.seeds
+
+  -- the word that is changed did not stand at a light that is not queued, and each that stood is a base word still
+  pub opened_words_calm : (light other choice : ℕ) → light < length (board_of now.grid).lights → queued light ≡ false → seed light ≡ false → same_light before.grid now.grid light ≡ Some other → word_stands settled other choice ≡ true → is_base_at (board_of now.grid) now.words light choice ≡ true
+  unfolding word_stands
+  opened_words_calm light other choice in_board calm no_seed at stood =
+      ap (λ bits. get_or (bits ++ is_wholly_entered (board_of now.grid) (light_at (board_of now.grid) light) ∷ []) choice false) (base_bits_same (board_of before.grid) (board_of now.grid) (light_at (board_of now.grid) light) (row now.words (length (light_at (board_of now.grid) light))) entries)
+      ∙ ap (λ e. get_or (base_bits (board_of before.grid) (light_at (board_of now.grid) light) (row now.words (length (light_at (board_of now.grid) light))) ++ e ∷ []) choice false) (entered_same (board_of before.grid) (board_of now.grid) (light_at (board_of now.grid) light) entries)
+      ∙ same_flag (base_bits (board_of before.grid) (light_at (board_of now.grid) light) (row now.words (length (light_at (board_of now.grid) light)))) (base_bits (board_of before.grid) (light_at (board_of now.grid) light) (row before.words (length (light_at (board_of now.grid) light))))
+      (is_wholly_entered (board_of before.grid) (light_at (board_of now.grid) light)) choice many same_bit
+      ∙ ap (λ cs. get_or (base_bits (board_of before.grid) cs (row before.words (length cs)) ++ is_wholly_entered (board_of before.grid) cs ∷ []) choice false) (matching.cells light other in_board at)
+      ∙ exact_base (board_of before.grid) before.words _ _ filled.exact other choice (matching.lights light other in_board at) stood where
+        entries : HaveSameEntries (board_of before.grid) (board_of now.grid) (light_at (board_of now.grid) light)
+        entries cell in_cells = changed_entry_calm before now action change is (set_has opened.letters.items) queued seed listed_inside opening.edited light cell in_board calm in_cells
+
+        many : length (base_bits (board_of before.grid) (light_at (board_of now.grid) light) (row now.words (length (light_at (board_of now.grid) light)))) ≡ length (base_bits (board_of before.grid) (light_at (board_of now.grid) light) (row before.words (length (light_at (board_of now.grid) light))))
+        many =
+            length-base_bits (board_of before.grid) (light_at (board_of now.grid) light) (row now.words (length (light_at (board_of now.grid) light)))
+            ∙ kept_known light other in_board no_seed at
+            ∙ ap (λ cs. length (row before.words (length cs))) (sym (matching.cells light other in_board at))
+            ∙ sym (length-base_bits (board_of before.grid) (light_at (board_of now.grid) light) (row before.words (length (light_at (board_of now.grid) light))))
+
+        rows : bits_in net.rows.items light ≡ bits_in settled.rows.items other
+        rows = moved.rows light other in_board at (kept_known light other in_board no_seed at)
+
+        not_there : (word : Option (ℕ × ℕ)) → change.word ≡ word → ¬ IsPlaceOf change.word (length (light_at (board_of now.grid) light)) choice
+        not_there None none found = subst (λ w. IsPlaceOf w (length (light_at (board_of now.grid) light)) choice) none found
+        not_there (Some word) some found =
+            let there = subst (λ w. IsPlaceOf w (length (light_at (board_of now.grid) light)) choice) some found in
+            let has_not : may_have (Some word) (length (light_at (board_of now.grid) light)) (bits_in net.rows.items light) ≡ false =
+            ap (λ w. may_have w (length (light_at (board_of now.grid) light)) (bits_in net.rows.items light)) (sym some) ∙ opened_prepared.stood_not light in_board calm in
+            elim (and_cases (eqb word.0 (length (light_at (board_of now.grid) light))) (leb (length (bits_in net.rows.items light)) (word.1 + 1) || get_or (bits_in net.rows.items light) word.1 false) has_not) [
+              | inl apart ↦ both_ways _ apart (eq-eqb word.0 (length (light_at (board_of now.grid) light)) there.0)
+              | inr rest ↦
+                  let parts = or_parts (leb (length (bits_in net.rows.items light)) (word.1 + 1)) (get_or (bits_in net.rows.items light) word.1 false) rest in
+                  let inner = leb-false (length (bits_in net.rows.items light)) (word.1 + 1) parts.0 in
+                  let below : choice < length (bits_in settled.rows.items other) = omega (arith, inner, there.1, ap length rows) in
+                  let on : get_or (bits_in settled.rows.items other) choice false ≡ true = sym (get_or_append_left (bits_in settled.rows.items other) (get_or settled.entered.items other false ∷ []) false choice below) ∙ stood in
+                  both_ways _ parts.1 (ap (λ k. get_or (bits_in net.rows.items light) k false) there.1 ∙ ap (λ bits. get_or bits choice false) rows ∙ on)
+            ]
+
+        same_bit : get_or (base_bits (board_of before.grid) (light_at (board_of now.grid) light) (row now.words (length (light_at (board_of now.grid) light)))) choice false ≡ get_or (base_bits (board_of before.grid) (light_at (board_of now.grid) light) (row before.words (length (light_at (board_of now.grid) light)))) choice false
+        same_bit =
+            sym (base_bit (board_of before.grid) (light_at (board_of now.grid) light) (row now.words (length (light_at (board_of now.grid) light))) choice)
+            ∙ ap (is_base_word (board_of before.grid) (light_at (board_of now.grid) light)) (same_entry (row now.words (length (light_at (board_of now.grid) light))) (row before.words (length (light_at (board_of now.grid) light))) choice (is.entries (length (light_at (board_of now.grid) light)) choice (not_there change.word refl)))
+            ∙ base_bit (board_of before.grid) (light_at (board_of now.grid) light) (row before.words (length (light_at (board_of now.grid) light))) choice
 
   -- the word that is entered stood only where the light is wholly entered
   entered_whole : (light other : ℕ) → light < length (board_of now.grid).lights → seed light ≡ false → same_light before.grid now.grid light ≡ Some other → get_or settled.entered.items other false ≡ true → is_wholly_entered (board_of now.grid) (light_at (board_of now.grid) light) ≡ true

@@ -29,7 +29,8 @@ use Rattle.xw_live.specs.Renumber.{same_before}
 use Rattle.xw_live.specs.Spread.{is_marked, is_waiting, HasAll}
 use Rattle.xw_live.specs.Brought.{IsBegun}
 use Rattle.xw_live.specs.Marks.{IsHolding}
-use Rattle.xw_live.specs.Begin.{IsStarted, IsPrepared}
+use Rattle.xw_live.specs.Base.{base_bits}
+use Rattle.xw_live.specs.Begin.{may_have, IsStarted, IsPrepared}
 use Rattle.xw_live.specs.Forget.{lost_from, Forgets}
 use Rattle.xw_live.specs.Gone.{IsFreed}
 use Rattle.xw_live.specs.Opened.{arrays_of, IsOpening, IsMoved, IsOpened}
@@ -39,7 +40,7 @@ use Rattle.xw_live.proofs.Started.{started_begun, started_carried}
 use Rattle.xw_live.proofs.Changed.{changed_started, new_within, edited_within, long_within}
 use Rattle.xw_live.proofs.Filling.{filled_was_open}
 use Rattle.xw_live.proofs.Holding.{opened_held, opened_pending, opened_hits}
-use Rattle.xw_live.proofs.Opening.{listed_inside, opened_prepared, new_queued, new_seeds, opened_base, opened_lights, opened_words_on, opened_words_off, opened_freed}
+use Rattle.xw_live.proofs.Opening.{listed_inside, opened_prepared, new_queued, new_seeds, opened_base, opened_lights, opened_words_on, opened_words_off, opened_words_calm, opened_has_not, opened_freed}
 
 -- what waits is in the list
 pub waiting_contained : (queue : List ℕ) (light : ℕ) → is_waiting queue light ≡ true → Contains queue light
@@ -66,24 +67,29 @@ module _ (before now : State) (action : Action) (change : Change) (is : IsChange
   prepared : IsPrepared (board_of now.grid) (row now.words) change.word net.rows.items opened.rows.items net.base.items opened.base.items (is_marked opened.is_queued.items) (is_marked opened.is_marked.items)
   prepared = opened_prepared before now action change is settled net opened filled moved opening entered_kept inside
 
+  has_not : (light : ℕ) → light < length (board_of now.grid).lights → is_marked opened.is_marked.items light ≡ false
+      → may_have change.word (length (light_at (board_of now.grid) light)) (base_bits (board_of now.grid) (light_at (board_of now.grid) light) (row now.words (length (light_at (board_of now.grid) light)))) ≡ false
+  has_not = opened_has_not before now action change is settled net opened filled moved opening entered_kept inside
+
   started : IsStarted (board_of before.grid) (board_of now.grid) before.words now.words (same_light before.grid now.grid) (marks_of settled) (marks_of opened) (is_marked opened.is_marked.items)
   unfolding letter_stands restart_in queued_in is_marked
   started =
       changed_started before now action change is (marks_of settled) (marks_of opened) (is_marked opened.is_marked.items) (is_waiting opened.stack.items) filled.exact inside_before
-      opening.edited opening.long
+      opening.edited
       (new_queued before now action change is settled net opened filled moved opening entered_kept inside)
       (new_seeds before now action change is settled net opened filled moved opening entered_kept inside)
-      (prepared.seeds)
+      prepared.calm prepared.seeds
       (subst (λ ls. Rattle.xw_live.specs.Spread.IsSpread (board_of now.grid) (set_has ls) (set_has opened.letters.items) (is_marked opened.is_marked.items) (is_waiting opened.stack.items) Rattle.xw_live.specs.Spread.no_places) moved.letters opening.spread)
       (λ listed has fill. filled_was_open before now action change is listed has (inside_before listed has) (inside listed has) fill)
       (opened_lights before now action change is settled net opened filled moved opening entered_kept inside)
       (opened_words_on before now action change is settled net opened filled moved opening entered_kept inside)
       (opened_words_off before now action change is settled net opened filled moved opening entered_kept inside)
+      (opened_words_calm before now action change is settled net opened filled moved opening entered_kept inside)
       (opened_freed before now action change is settled net opened filled moved opening entered_kept inside)
-      (opened_held before now action change is settled net opened filled.settled holding moved opening forgets prepared.seeds)
+      (opened_held before now action change is settled net opened filled.settled holding moved opening forgets has_not)
       (λ slot letter. ap (λ rs. set_has rs slot letter) (restart_kept ∙ moved.restart))
-      (opened_pending before now action change is settled net opened filled.settled holding moved opening forgets prepared.seeds)
-      (opened_hits before now action change is settled net opened filled.settled holding moved opening forgets prepared.seeds)
+      (opened_pending before now action change is settled net opened filled.settled holding moved opening forgets has_not)
+      (opened_hits before now action change is settled net opened filled.settled holding moved opening forgets has_not)
 
   begun : IsBegun (board_of before.grid) (board_of now.grid) before.words now.words (same_light before.grid now.grid) (word_stands settled) (letter_stands settled) (word_stands opened) (letter_stands opened) (is_marked opened.is_marked.items)
   begun = started_begun (board_of before.grid) (board_of now.grid) before.words now.words (same_light before.grid now.grid) (marks_of settled) (marks_of opened) (is_marked opened.is_marked.items) matching filled.exact started

@@ -16,7 +16,7 @@ use Rattle.xw_live.specs.Brought.{IsBegun, IsCarried}
 use Rattle.xw_live.specs.Begin.{IsStarted}
 use Rattle.xw_live.proofs.Exact.{exact_base}
 use Rattle.xw_live.proofs.Revival.{was-gives, was-from}
-use Rattle.xw_live.proofs.Kept.{HaveSameEntries, AllowNoMore, narrowed_same, narrowed_choice, entered_same, spelled_same}
+use Rattle.xw_live.proofs.Kept.{HaveSameEntries, AllowNoMore, entered_same, spelled_same}
 
 -- the known words and entries of a light are those of before, but for its base words' being active
 pub record IsNarrowedBut (before after : Board) (old new : Dictionary) (cells : List ℕ) : Type 0 where
@@ -136,14 +136,6 @@ module _ (before after : Board) (old new : Dictionary) (same : ℕ → Option �
         (ap (λ cs. get_or (base_flags before old cs) choice false) (sym cells_same) ∙ had.0)
         (ap (λ cs. get_or (choices before old cs) choice []) (sym cells_same) ∙ had.1)
 
-    -- a light to which the edit does not come has the base words that it had
-    calm_base : start.queued light ≡ false → (other choice : ℕ) → same light ≡ Some other → is_base_at before old other choice ≡ true → is_base_at after new light choice ≡ true
-    calm_base calm other choice at base =
-        let cells_same = matching.cells light other in_board at in
-        let back : HaveSameEntries after before (light_at after light) = λ cell in_cells. sym (calm_same calm cell in_cells) in
-        let words = started.words_calm light in_board calm no_seed in
-        (narrowed_choice after before new old (light_at after light) (narrowed_same after before new old (light_at after light) back (sym words)) choice (ap (λ cs. get_or (base_flags before old cs) choice false) cells_same ∙ base)).0
-
     as_many : known after new light ≡ length (row old (length (light_at after light)))
     as_many = sym (length-map (row new (length (light_at after light))) (λ (word : Entry). word.word)) ∙ ap length (started.spelled light in_board no_seed) ∙ length-map (row old (length (light_at after light))) (λ (word : Entry). word.word)
 
@@ -171,10 +163,6 @@ module _ (before after : Board) (old new : Dictionary) (same : ℕ → Option �
   stood_base : (light other choice : ℕ) → light < length after.lights → same light ≡ Some other → settled.words other choice ≡ true → is_base_at before old other choice ≡ true
   stood_base light other choice in_board at stood = exact_base before old settled.words settled.letters exact other choice (matching.lights light other in_board at) stood
 
-  still_base : (light other choice : ℕ) → light < length after.lights → seed light ≡ false → start.queued light ≡ false → same light ≡ Some other → settled.words other choice ≡ true → is_base_at after new light choice ≡ true
-  still_base light other choice in_board no_seed calm at stood =
-      calm_base before after old new same settled start seed matching started light in_board no_seed calm other choice at (stood_base light other choice in_board at stood)
-
   choice_same : (light other choice : ℕ) → light < length after.lights → seed light ≡ false → same light ≡ Some other → settled.words other choice ≡ true → choice_at before old other choice ≡ choice_at after new light choice
   choice_same light other choice in_board no_seed at stood =
       same_choice before after old new same settled start seed matching started light in_board no_seed other choice at (stood_base light other choice in_board at stood)
@@ -196,7 +184,7 @@ module _ (before after : Board) (old new : Dictionary) (same : ℕ → Option �
           | inr calm ↦ (
             λ stands.
                 let stood = sym (started.words_off light other.0 choice in_board no_seed calm other.1) ∙ stands in (
-                  still_base light other.0 choice in_board no_seed calm other.1 stood,
+                  started.words_calm light other.0 choice in_board calm no_seed other.1 stood,
                   was-from before after old new same settled.words light choice other.0 other.1 stood (choice_same light other.0 choice in_board no_seed other.1 stood),
                 ),
             λ both.
@@ -219,7 +207,7 @@ module _ (before after : Board) (old new : Dictionary) (same : ℕ → Option �
     choices = choice_same;
     calm = λ light choice in_board no_seed calm was_there.
         let found = was-gives before after old new same settled.words light choice was_there in
-        still_base light found.0 choice in_board no_seed calm found.1 found.2;
+        started.words_calm light found.0 choice in_board calm no_seed found.1 found.2;
     letters = started.letters_from;
     held = started.held;
     restart = λ light place letter here no_seed. started.restart (slot_at after light place) letter;

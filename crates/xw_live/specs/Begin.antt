@@ -3,7 +3,7 @@ use Rattle.std.specs.Prelude.{◌≡◌, ℕ, ◌+◌, ◌<◌, Bool, true, fals
 use Rattle.std.specs.Simd.Lanes.{zip2}
 use Rattle.xw_words.specs.Bits.{RowOfBits}
 use Rattle.xw_words.specs.Letter.{is_capital}
-use Rattle.xw_words.specs.Dictionary.{Entry, Dictionary, row}
+use Rattle.xw_words.specs.Dictionary.{Entry, Dictionary}
 use Rattle.xw_feas.specs.Board.{Board, entry, light_at, is_wholly_entered}
 use Rattle.xw_feas.specs.Feasible.{may_stand}
 use Rattle.xw_live.specs.Base.{base_bits, IsBaseBut}
@@ -17,10 +17,23 @@ use Rattle.xw_live.specs.Spread.{HasAll, bits_in}
 abbrev pub is_fill : Board → ℕ → Option ℕ → Bool
 is_fill board cell old = is_none old && is_some (entry board cell)
 
+-- a word of this length is changed
+abbrev pub is_long : Option (ℕ × ℕ) → ℕ → Bool
+is_long None count = false
+is_long (Some word) count = word.0 == count
+
 -- a word of this length and place is changed, and the light is as long as it and may have it, or the word is the last one
 abbrev pub may_have : Option (ℕ × ℕ) → ℕ → List Bool → Bool
 may_have None count bits = false
 may_have (Some word) count bits = (word.0 == count) && (nat_le (length bits) (word.1 + 1) || slice_index_or bits word.1 false)
+
+-- the word may be a base word of the light, or stood
+abbrev pub has_changed : Option (ℕ × ℕ) → ℕ → List Bool → List Bool → Bool
+has_changed word count base bits = may_have word count base || may_have word count bits
+
+-- a base row is read anew where the edit comes to the light, or a word as long as the light is changed
+abbrev pub is_read : Board → Option (ℕ × ℕ) → (ℕ → Bool) → ℕ → Bool
+is_read board word in_queue light = in_queue light || is_long word (length (light_at board light))
 
 -- a light is a seed where it is entered in whole, or may have a word that is changed
 abbrev pub is_seed : Board → Option (ℕ × ℕ) → List ℕ → List Bool → Bool
@@ -47,7 +60,8 @@ pub record IsStarted (before after : Board) (old new : Dictionary) (same : ℕ �
   -- it has the known words that it had, and no base word that was not active
   pub spelled : (light : ℕ) → light < length after.lights → seed light ≡ false → spellings new (length (light_at after light)) ≡ spellings old (length (light_at after light))
   pub active : (light choice : ℕ) → light < length after.lights → seed light ≡ false → is_base_at after new light choice ≡ true → slice_index_or (actives new (length (light_at after light))) choice false ≡ true → slice_index_or (actives old (length (light_at after light))) choice false ≡ true
-  pub words_calm : (light : ℕ) → light < length after.lights → start.queued light ≡ false → seed light ≡ false → row new (length (light_at after light)) ≡ row old (length (light_at after light))
+  -- at a light that is not queued each word that stood is a base word
+  pub words_calm : (light other choice : ℕ) → light < length after.lights → start.queued light ≡ false → seed light ≡ false → same light ≡ Some other → settled.words other choice ≡ true → is_base_at after new light choice ≡ true
   -- of the words that stood those stand that are base words
   pub lights : (light choice : ℕ) → start.words light choice ≡ true → light < length after.lights
   pub words_on : (light other choice : ℕ) → light < length after.lights → seed light ≡ false → start.queued light ≡ true → same light ≡ Some other → start.words light choice ≡ (settled.words other choice && is_base_at after new light choice)
@@ -70,8 +84,11 @@ AreBaseBut board entries word base = (light : ℕ) → light < length board.ligh
 
 -- Base rows and rows of words after an edit, where these lights are queued and those are seeds.
 pub record IsPrepared (board : Board) (entries : ℕ → List Entry) (word : Option (ℕ × ℕ)) (rows rows' base base' : List RowOfBits) (in_queue in_chain : ℕ → Bool) : Type 0 where
-  pub base_on : (light : ℕ) → light < length board.lights → in_queue light ≡ true → bits_in base' light ≡ base_bits board (light_at board light) (entries (length (light_at board light)))
-  pub base_off : (light : ℕ) → in_queue light ≡ false → bits_in base' light ≡ bits_in base light
+  pub base_on : (light : ℕ) → light < length board.lights → is_read board word in_queue light ≡ true → bits_in base' light ≡ base_bits board (light_at board light) (entries (length (light_at board light)))
+  pub base_off : (light : ℕ) → is_read board word in_queue light ≡ false → bits_in base' light ≡ bits_in base light
   pub rows_on : (light : ℕ) → light < length board.lights → in_queue light ≡ true → bits_in rows' light ≡ common_bits (bits_in rows light) (base_bits board (light_at board light) (entries (length (light_at board light))))
   pub rows_off : (light : ℕ) → in_queue light ≡ false → bits_in rows' light ≡ bits_in rows light
+  -- the word that is changed is no base word of a light that is not queued, and did not stand there
+  pub calm : (light : ℕ) → light < length board.lights → in_queue light ≡ false → may_have word (length (light_at board light)) (base_bits board (light_at board light) (entries (length (light_at board light)))) ≡ false
+  pub stood_not : (light : ℕ) → light < length board.lights → in_queue light ≡ false → may_have word (length (light_at board light)) (bits_in rows light) ≡ false
   pub seeds : (light : ℕ) → light < length board.lights → in_queue light ≡ true → is_seed board word (light_at board light) (base_bits board (light_at board light) (entries (length (light_at board light)))) ≡ true → in_chain light ≡ true

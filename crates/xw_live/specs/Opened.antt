@@ -48,7 +48,6 @@ pub record IsOpening (grid : Grid) (board : Board) (lights : List Light) (entrie
   pub new_queued : (light : ℕ) → light < length board.lights → same_before change.before.now lights light ≡ None → is_marked new.is_queued light ≡ true
   pub new_marked : (light : ℕ) → light < length board.lights → same_before change.before.now lights light ≡ None → is_marked new.is_marked light ≡ true
   pub edited : (listed : Cell × Option ℕ) → Contains change.cells.now listed → IsEdited board (set_has new.letters) (is_marked new.is_queued) (is_marked new.is_marked) (index_of grid listed.0) listed.1
-  pub long : (count place light : ℕ) → change.word ≡ Some (count, place) → light < length board.lights → length (light_at board light) ≡ count → is_marked new.is_queued light ≡ true
   pub spread : IsSpread board (set_has old.letters) (set_has new.letters) (is_marked new.is_marked) (is_waiting new.stack) no_places
   pub freed : (cell : ℕ) → IsFreed grid change.before.now lights (length change.before.now) cell → HasAll board (set_has new.letters) cell
   pub prepared : AreBaseBut board entries change.word old.base → IsPrepared board entries change.word old.rows new.rows old.base new.base (is_marked new.is_queued) (is_marked new.is_marked)

@@ -9,6 +9,7 @@ ghost use Rattle.xw_live.specs.Region.{chunks_of};
 ghost use Rattle.xw_live.specs.Spread.{is_marked, bits_in};
 ghost use Rattle.xw_live.specs.Room.{row_at};
 ghost use Rattle.xw_live.specs.Brought.{HasBase, base_cost};
+ghost use Rattle.xw_live.specs.Begin.{is_long as is_long_of, is_read as is_read_of};
 
 use xw_feas::board::{Board, Cells};
 use xw_feas::standing::has_all_entries;
@@ -237,7 +238,26 @@ fn read_row<R: Rows>(
     read_changed(rows, board, word, light, &mut base[light]);
 }
 
-/// Reads the base row of each marked light anew, as far as the edit can have changed it.
+/// Whether a word that is changed is so long.
+fn is_long(word: Option<(usize, usize)>, count: usize) -> bool
+    ensures { result ≡ is_long_of word count }
+{
+    match word {
+        Some((long, _)) => long == count,
+        None => false,
+    }
+}
+
+/// Whether the edit can have changed the base row of a light.
+fn is_read(board: &Board<'_>, word: Option<(usize, usize)>, marks: &[bool], light: usize) -> bool
+    requires light { light < length board.now.lights }
+    requires marks { light < length marks.now }
+    ensures { result ≡ is_read_of board.now word (is_marked marks.now) light }
+{
+    marks[light] || is_long(word, board.light(light).len())
+}
+
+/// Reads anew the base row of each light that is marked or as long as a word that is changed, as far as the edit can have changed it.
 pub fn read_marked<R: Rows>(
     rows: &mut R,
     board: &Board<'_>,
@@ -251,13 +271,13 @@ pub fn read_marked<R: Rows>(
     ensures entries { R.entries rows.new ≡ R.entries rows.old }
     ensures risen { R.ticks rows.old ≤ R.ticks rows.new }
     ensures base { HasBase board.now (R.entries rows.old) base.new }
-    ensures on { (light : ℕ) → light < length board.now.lights → is_marked marks.now light ≡ true → IsBaseBut board.now (light_at board.now light) (R.entries rows.old (length (light_at board.now light))) word (bits_in base.old light) → bits_in base.new light ≡ base_bits board.now (light_at board.now light) (R.entries rows.old (length (light_at board.now light))) }
-    ensures off { (light : ℕ) → is_marked marks.now light ≡ false → bits_in base.new light ≡ bits_in base.old light }
+    ensures on { (light : ℕ) → light < length board.now.lights → is_read_of board.now word (is_marked marks.now) light ≡ true → IsBaseBut board.now (light_at board.now light) (R.entries rows.old (length (light_at board.now light))) word (bits_in base.old light) → bits_in base.new light ≡ base_bits board.now (light_at board.now light) (R.entries rows.old (length (light_at board.now light))) }
+    ensures off { (light : ℕ) → is_read_of board.now word (is_marked marks.now) light ≡ false → bits_in base.new light ≡ bits_in base.old light }
     ensures row_room { (other : ℕ) → (row_at base.old other).room ≤ (row_at base.new other).room }
-    ensures cost { (member : ℕ → Bool) → ((light : ℕ) → is_marked marks.now light ≡ true → member light ≡ true) → R.ticks rows.new ≤ R.ticks rows.old + base_cost board.now (R.entries rows.old) member }
+    ensures cost { (member : ℕ → Bool) → ((light : ℕ) → light < length board.now.lights → is_read_of board.now word (is_marked marks.now) light ≡ true → member light ≡ true) → R.ticks rows.new ≤ R.ticks rows.old + base_cost board.now (R.entries rows.old) member }
 {
     for light in 0..board.light_count() {
-        if !marks[light] {
+        if !is_read(board, word, marks, light) {
             continue;
         }
         read_row(rows, board, word, light, base);

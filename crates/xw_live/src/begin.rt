@@ -7,7 +7,7 @@ ghost use Rattle.xw_feas.specs.Feasible.{may_stand};
 ghost use Rattle.xw_feas.specs.Flags.{set_has};
 ghost use Rattle.xw_live.specs.Marks.{IsPlace, cell_at};
 ghost use Rattle.xw_live.specs.Spread.{is_marked, is_waiting, no_places, IsSpread, HasAll, HasSeeds, Grows, bits_in};
-ghost use Rattle.xw_live.specs.Begin.{is_fill, IsEdited, may_have, is_seed as is_seed_of, common_bits, AreBaseBut, IsPrepared};
+ghost use Rattle.xw_live.specs.Begin.{is_fill, IsEdited, may_have, is_seed as is_seed_of, has_changed, is_read, common_bits, AreBaseBut, IsPrepared};
 ghost use Rattle.xw_live.specs.Brought.{HasBase, base_cost};
 ghost use Rattle.xw_live.specs.Gone.{IsFreed};
 ghost use Rattle.xw_live.specs.Room.{row_at};
@@ -18,7 +18,7 @@ ghost use Rattle.std.specs.Option.{option_and_then};
 use crate::base::read_marked;
 use crate::change::Change;
 use crate::gone::raise_gone;
-use crate::seeds::{free_cell, mark_found, mark_length, mark_through};
+use crate::seeds::{free_cell, mark_found, mark_new, mark_through};
 use crate::spread::letters_allowed;
 use xw_feas::board::Board;
 use xw_feas::standing::has_all_entries;
@@ -160,14 +160,14 @@ fn narrow_row(base: &[BitRow], light: usize, rows: &mut [BitRow])
     rows[light].and(&base[light]);
 }
 
-/// Whether a word that is changed may be a base word of a light with so many cells, or is the
-/// last one known.
-fn may_have_word(word: Option<(usize, usize)>, count: usize, base: &BitRow) -> bool
-    ensures { result ≡ may_have word count base.now.bits }
+/// Whether a word that is changed is among those of a light with so many cells, or is the last
+/// one known.
+fn may_have_word(word: Option<(usize, usize)>, count: usize, row: &BitRow) -> bool
+    ensures { result ≡ may_have word count row.now.bits }
 {
     match word {
         Some((long, place)) => {
-            long == count && (base.len() <= place || base.len() - 1 == place || base.has(place))
+            long == count && (row.len() <= place || row.len() - 1 == place || row.has(place))
         }
         None => false,
     }
@@ -258,73 +258,85 @@ fn touch_lights(
     }
 }
 
-/// Queues and marks a light if none of before has its cells.
-fn mark_if_new(
-    lights: &Lights,
-    before: &Lights,
-    light: usize,
-    is_queued: &mut [bool],
-    queue: &mut Vec<usize>,
-    marks: &mut [bool],
-    stack: &mut Vec<usize>,
-)
-    requires is_queued { light < length is_queued.old }
-    requires queue_room { vec_len queue.old + count_by (λ mark. not mark) is_queued.old ≤ vec_capacity queue.old }
-    requires marks { light < length marks.old }
-    requires room { vec_len stack.old + count_by (λ mark. not mark) marks.old ≤ vec_capacity stack.old }
-    ensures is_queued { length is_queued.new ≡ length is_queued.old }
-    ensures queue { (n : ℕ) → light < n → All (λ other. other < n) queue.old.items → All (λ other. other < n) queue.new.items }
-    ensures queue_room { vec_len queue.new + count_by (λ mark. not mark) is_queued.new ≤ vec_capacity queue.new }
-    ensures queue_grows { Grows is_queued.old queue.old.items is_queued.new queue.new.items }
-    ensures marks { length marks.new ≡ length marks.old }
-    ensures stack { (n : ℕ) → light < n → All (λ other. other < n) stack.old.items → All (λ other. other < n) stack.new.items }
-    ensures room { vec_len stack.new + count_by (λ mark. not mark) marks.new ≤ vec_capacity stack.new }
-    ensures capacity { vec_capacity stack.old ≤ vec_capacity stack.new }
-    ensures grows { Grows marks.old stack.old.items marks.new stack.new.items }
-    ensures queued { option_and_then (place_with_cells before.now) (slice_get lights.now light) ≡ None → is_marked is_queued.new light ≡ true }
-    ensures marked { option_and_then (place_with_cells before.now) (slice_get lights.now light) ≡ None → is_marked marks.new light ≡ true }
-    ensures queued_within { (member : ℕ → Bool) → ((other : ℕ) → is_marked is_queued.old other ≡ true → member other ≡ true) → (option_and_then (place_with_cells before.now) (slice_get lights.now light) ≡ None → member light ≡ true) → (other : ℕ) → is_marked is_queued.new other ≡ true → member other ≡ true }
-    ensures within { (member : ℕ → Bool) → ((other : ℕ) → is_marked marks.old other ≡ true → member other ≡ true) → (option_and_then (place_with_cells before.now) (slice_get lights.now light) ≡ None → member light ≡ true) → (other : ℕ) → is_marked marks.new other ≡ true → member other ≡ true }
+/// Whether a word that is changed is among the base words of a light with so many cells, or stood
+/// there.
+fn has_changed_word(
+    word: Option<(usize, usize)>,
+    count: usize,
+    base: &BitRow,
+    words: &BitRow,
+) -> bool
+    ensures { result ≡ has_changed word count base.now.bits words.now.bits }
 {
-    match lights.same(light, before) {
-        Some(_) => {}
-        None => {
-            mark_found(Some(light), is_queued, queue);
-            mark_found(Some(light), marks, stack);
-        }
-    }
+    may_have_word(word, count, base) || may_have_word(word, count, words)
 }
 
-/// Queues the lights as long as a word that is changed.
-fn queue_long(
+/// Queues a light that has a word that is changed, or had it.
+fn queue_if_changed(
     board: &Board<'_>,
     word: Option<(usize, usize)>,
+    light: usize,
+    base: &[BitRow],
+    words: &[BitRow],
     is_queued: &mut [bool],
     queue: &mut Vec<usize>,
 )
+    requires light { light < length board.now.lights }
+    requires base { light < length base.now }
+    requires words { light < length words.now }
     requires is_queued { length board.now.lights ≤ length is_queued.old }
     requires queue_room { vec_len queue.old + count_by (λ mark. not mark) is_queued.old ≤ vec_capacity queue.old }
     requires queue { All (λ other. other < length board.now.lights) queue.old.items }
     ensures is_queued { length is_queued.new ≡ length is_queued.old }
     ensures queue { All (λ other. other < length board.now.lights) queue.new.items }
     ensures queue_room { vec_len queue.new + count_by (λ mark. not mark) is_queued.new ≤ vec_capacity queue.new }
-    ensures listed { HasSeeds is_queued.old queue.old.items → HasSeeds is_queued.new queue.new.items }
-    ensures more { (light : ℕ) → is_marked is_queued.old light ≡ true → is_marked is_queued.new light ≡ true }
-    ensures long { (count place light : ℕ) → word ≡ Some (count, place) → light < length board.now.lights → length (light_at board.now light) ≡ count → is_marked is_queued.new light ≡ true }
-    ensures within { (member : ℕ → Bool) → ((light : ℕ) → is_marked is_queued.old light ≡ true → member light ≡ true) → ((count place light : ℕ) → word ≡ Some (count, place) → light < length board.now.lights → length (light_at board.now light) ≡ count → member light ≡ true) → (light : ℕ) → is_marked is_queued.new light ≡ true → member light ≡ true }
+    ensures grows { Grows is_queued.old queue.old.items is_queued.new queue.new.items }
+    ensures queued { has_changed word (length (light_at board.now light)) (bits_in base.now light) (bits_in words.now light) ≡ true → is_marked is_queued.new light ≡ true }
+    ensures within { (member : ℕ → Bool) → ((other : ℕ) → is_marked is_queued.old other ≡ true → member other ≡ true) → (has_changed word (length (light_at board.now light)) (bits_in base.now light) (bits_in words.now light) ≡ true → member light ≡ true) → (other : ℕ) → is_marked is_queued.new other ≡ true → member other ≡ true }
 {
-    if let Some((count, _)) = word {
-        mark_length(board, count, is_queued, queue);
+    let count = board.light(light).len();
+    if has_changed_word(word, count, &base[light], &words[light]) {
+        mark_found(Some(light), is_queued, queue);
     }
 }
 
-/// Reads the base rows of the queued lights anew as far as they can have changed, and leaves of their words the base words. Those
-/// to which a word may come back are seeds.
+/// The same for each light.
+fn queue_changed(
+    board: &Board<'_>,
+    word: Option<(usize, usize)>,
+    base: &[BitRow],
+    words: &[BitRow],
+    is_queued: &mut [bool],
+    queue: &mut Vec<usize>,
+)
+    requires base { length board.now.lights ≤ length base.now }
+    requires words { length board.now.lights ≤ length words.now }
+    requires is_queued { length board.now.lights ≤ length is_queued.old }
+    requires queue_room { vec_len queue.old + count_by (λ mark. not mark) is_queued.old ≤ vec_capacity queue.old }
+    requires queue { All (λ other. other < length board.now.lights) queue.old.items }
+    ensures is_queued { length is_queued.new ≡ length is_queued.old }
+    ensures queue { All (λ other. other < length board.now.lights) queue.new.items }
+    ensures queue_room { vec_len queue.new + count_by (λ mark. not mark) is_queued.new ≤ vec_capacity queue.new }
+    ensures grows { Grows is_queued.old queue.old.items is_queued.new queue.new.items }
+    ensures queued { (light : ℕ) → light < length board.now.lights → has_changed word (length (light_at board.now light)) (bits_in base.now light) (bits_in words.now light) ≡ true → is_marked is_queued.new light ≡ true }
+    ensures within { (member : ℕ → Bool) → ((light : ℕ) → is_marked is_queued.old light ≡ true → member light ≡ true) → ((light : ℕ) → light < length board.now.lights → has_changed word (length (light_at board.now light)) (bits_in base.now light) (bits_in words.now light) ≡ true → member light ≡ true) → (light : ℕ) → is_marked is_queued.new light ≡ true → member light ≡ true }
+{
+    if word.is_none() {
+        return;
+    }
+    for light in 0..board.light_count() {
+        queue_if_changed(board, word, light, base, words, is_queued, queue);
+    }
+}
+
+/// Reads the base rows anew as far as they can have changed, queues the lights that have a changed word or had it, and leaves of
+/// the words of the queued lights the base words. Those to which a word may come back are seeds.
 fn prepare<R: Rows>(
     rows: &mut R,
     board: &Board<'_>,
     word: Option<(usize, usize)>,
-    is_queued: &[bool],
+    is_queued: &mut [bool],
+    queue: &mut Vec<usize>,
     base: &mut [BitRow],
     words: &mut [BitRow],
     marks: &mut [bool],
@@ -332,7 +344,9 @@ fn prepare<R: Rows>(
 )
     requires long { (light : ℕ) → light < length board.now.lights → All (λ (entry : Entry). length entry.word ≡ length (light_at board.now light)) (R.entries rows.old (length (light_at board.now light))) }
     requires base { HasBase board.now (R.entries rows.old) base.old }
-    requires is_queued { length board.now.lights ≤ length is_queued.now }
+    requires is_queued { length board.now.lights ≤ length is_queued.old }
+    requires queue { All (λ other. other < length board.now.lights) queue.old.items }
+    requires queue_room { vec_len queue.old + count_by (λ mark. not mark) is_queued.old ≤ vec_capacity queue.old }
     requires words { HasBase board.now (R.entries rows.old) words.old }
     requires marks { length board.now.lights ≤ length marks.old }
     requires stack { All (λ other. other < length board.now.lights) stack.old.items }
@@ -344,51 +358,23 @@ fn prepare<R: Rows>(
     ensures words_len { length words.new ≡ length words.old }
     ensures words_room { (other : ℕ) → (row_at words.old other).room ≤ (row_at words.new other).room }
     ensures base_room { (other : ℕ) → (row_at base.old other).room ≤ (row_at base.new other).room }
+    ensures is_queued { length is_queued.new ≡ length is_queued.old }
+    ensures queue { All (λ other. other < length board.now.lights) queue.new.items }
+    ensures queue_room { vec_len queue.new + count_by (λ mark. not mark) is_queued.new ≤ vec_capacity queue.new }
+    ensures queue_grows { Grows is_queued.old queue.old.items is_queued.new queue.new.items }
     ensures marks { length marks.new ≡ length marks.old }
     ensures stack { All (λ other. other < length board.now.lights) stack.new.items }
     ensures room { vec_len stack.new + count_by (λ mark. not mark) marks.new ≤ vec_capacity stack.new }
     ensures capacity { vec_capacity stack.old ≤ vec_capacity stack.new }
     ensures grows { Grows marks.old stack.old.items marks.new stack.new.items }
-    ensures prepared { AreBaseBut board.now (R.entries rows.old) word base.old → IsPrepared board.now (R.entries rows.old) word words.old words.new base.old base.new (is_marked is_queued.now) (is_marked marks.new) }
-    ensures within { (member : ℕ → Bool) → ((light : ℕ) → is_marked marks.old light ≡ true → member light ≡ true) → ((light : ℕ) → is_marked is_queued.now light ≡ true → member light ≡ true) → (light : ℕ) → is_marked marks.new light ≡ true → member light ≡ true }
-    ensures cost { (member : ℕ → Bool) → ((light : ℕ) → is_marked is_queued.now light ≡ true → member light ≡ true) → R.ticks rows.new ≤ R.ticks rows.old + base_cost board.now (R.entries rows.old) member }
+    ensures prepared { AreBaseBut board.now (R.entries rows.old) word base.old → IsPrepared board.now (R.entries rows.old) word words.old words.new base.old base.new (is_marked is_queued.new) (is_marked marks.new) }
+    ensures queued_within { (member : ℕ → Bool) → ((light : ℕ) → is_marked is_queued.old light ≡ true → member light ≡ true) → ((count place light : ℕ) → word ≡ Some (count, place) → light < length board.now.lights → length (light_at board.now light) ≡ count → member light ≡ true) → (light : ℕ) → is_marked is_queued.new light ≡ true → member light ≡ true }
+    ensures within { (member : ℕ → Bool) → ((light : ℕ) → is_marked marks.old light ≡ true → member light ≡ true) → ((light : ℕ) → is_marked is_queued.new light ≡ true → member light ≡ true) → (light : ℕ) → is_marked marks.new light ≡ true → member light ≡ true }
+    ensures cost { (member : ℕ → Bool) → ((light : ℕ) → light < length board.now.lights → is_read board.now word (is_marked is_queued.new) light ≡ true → member light ≡ true) → R.ticks rows.new ≤ R.ticks rows.old + base_cost board.now (R.entries rows.old) member }
 {
     read_marked(rows, board, word, is_queued, base);
+    queue_changed(board, word, base, words, is_queued, queue);
     touch_lights(board, word, base, is_queued, words, marks, stack);
-}
-
-/// Queues and marks the lights that are new.
-fn mark_new(
-    lights: &Lights,
-    before: &Lights,
-    is_queued: &mut [bool],
-    queue: &mut Vec<usize>,
-    marks: &mut [bool],
-    stack: &mut Vec<usize>,
-)
-    requires is_queued { length lights.now ≤ length is_queued.old }
-    requires queue { All (λ other. other < length lights.now) queue.old.items }
-    requires queue_room { vec_len queue.old + count_by (λ mark. not mark) is_queued.old ≤ vec_capacity queue.old }
-    requires marks { length lights.now ≤ length marks.old }
-    requires stack { All (λ other. other < length lights.now) stack.old.items }
-    requires room { vec_len stack.old + count_by (λ mark. not mark) marks.old ≤ vec_capacity stack.old }
-    ensures is_queued { length is_queued.new ≡ length is_queued.old }
-    ensures queue { All (λ other. other < length lights.now) queue.new.items }
-    ensures queue_room { vec_len queue.new + count_by (λ mark. not mark) is_queued.new ≤ vec_capacity queue.new }
-    ensures queue_grows { Grows is_queued.old queue.old.items is_queued.new queue.new.items }
-    ensures marks { length marks.new ≡ length marks.old }
-    ensures stack { All (λ other. other < length lights.now) stack.new.items }
-    ensures room { vec_len stack.new + count_by (λ mark. not mark) marks.new ≤ vec_capacity stack.new }
-    ensures capacity { vec_capacity stack.old ≤ vec_capacity stack.new }
-    ensures grows { Grows marks.old stack.old.items marks.new stack.new.items }
-    ensures queued { (light : ℕ) → light < length lights.now → option_and_then (place_with_cells before.now) (slice_get lights.now light) ≡ None → is_marked is_queued.new light ≡ true }
-    ensures marked { (light : ℕ) → light < length lights.now → option_and_then (place_with_cells before.now) (slice_get lights.now light) ≡ None → is_marked marks.new light ≡ true }
-    ensures queued_within { (member : ℕ → Bool) → ((light : ℕ) → is_marked is_queued.old light ≡ true → member light ≡ true) → ((light : ℕ) → light < length lights.now → option_and_then (place_with_cells before.now) (slice_get lights.now light) ≡ None → member light ≡ true) → (light : ℕ) → is_marked is_queued.new light ≡ true → member light ≡ true }
-    ensures within { (member : ℕ → Bool) → ((light : ℕ) → is_marked marks.old light ≡ true → member light ≡ true) → ((light : ℕ) → light < length lights.now → option_and_then (place_with_cells before.now) (slice_get lights.now light) ≡ None → member light ≡ true) → (light : ℕ) → is_marked marks.new light ≡ true → member light ≡ true }
-{
-    for light in 0..lights.len() {
-        mark_if_new(lights, before, light, is_queued, queue, marks, stack);
-    }
 }
 
 /// The state from which a revival begins after an edit, of arrays that go by the lights after it:
@@ -443,13 +429,12 @@ pub fn begin<R: Rows>(
     ensures new_queued { (light : ℕ) → light < length board.now.lights → option_and_then (place_with_cells change.now.before.now) (slice_get lights.now light) ≡ None → is_marked is_queued.new light ≡ true }
     ensures new_marked { (light : ℕ) → light < length board.now.lights → option_and_then (place_with_cells change.now.before.now) (slice_get lights.now light) ≡ None → is_marked marks.new light ≡ true }
     ensures edited { (listed : CellOfGrid × Option ℕ) → Contains change.now.cells.now listed → IsEdited board.now (set_has letters.new) (is_marked is_queued.new) (is_marked marks.new) (index_of grid.now listed.0) listed.1 }
-    ensures long { (count place light : ℕ) → change.now.word ≡ Some (count, place) → light < length board.now.lights → length (light_at board.now light) ≡ count → is_marked is_queued.new light ≡ true }
     ensures spread { IsSpread board.now (set_has letters.old) (set_has letters.new) (is_marked marks.new) (is_waiting stack.new.items) no_places }
     ensures freed { (cell : ℕ) → IsFreed grid.now change.now.before.now lights.now (length change.now.before.now) cell → HasAll board.now (set_has letters.new) cell }
     ensures prepared { AreBaseBut board.now (R.entries rows.old) change.now.word base.old → IsPrepared board.now (R.entries rows.old) change.now.word words.old words.new base.old base.new (is_marked is_queued.new) (is_marked marks.new) }
     ensures queued_within { (member : ℕ → Bool) → ((light : ℕ) → is_marked is_queued.old light ≡ true → member light ≡ true) → ((light : ℕ) → light < length board.now.lights → option_and_then (place_with_cells change.now.before.now) (slice_get lights.now light) ≡ None → member light ≡ true) → ((listed : CellOfGrid × Option ℕ) (light place : ℕ) → Contains change.now.cells.now listed → IsPlace board.now light place → cell_at board.now light place ≡ index_of grid.now listed.0 → member light ≡ true) → ((count place light : ℕ) → change.now.word ≡ Some (count, place) → light < length board.now.lights → length (light_at board.now light) ≡ count → member light ≡ true) → (light : ℕ) → is_marked is_queued.new light ≡ true → member light ≡ true }
     ensures within { (member : ℕ → Bool) → ((light : ℕ) → is_marked is_queued.old light ≡ true → member light ≡ true) → ((light : ℕ) → is_marked marks.old light ≡ true → member light ≡ true) → ((light : ℕ) → light < length board.now.lights → option_and_then (place_with_cells change.now.before.now) (slice_get lights.now light) ≡ None → member light ≡ true) → ((cell light place : ℕ) → IsFreed grid.now change.now.before.now lights.now (length change.now.before.now) cell → ¬ HasAll board.now (set_has letters.old) cell → IsPlace board.now light place → cell_at board.now light place ≡ cell → member light ≡ true) → ((listed : CellOfGrid × Option ℕ) (light place : ℕ) → Contains change.now.cells.now listed → IsPlace board.now light place → cell_at board.now light place ≡ index_of grid.now listed.0 → member light ≡ true) → ((count place light : ℕ) → change.now.word ≡ Some (count, place) → light < length board.now.lights → length (light_at board.now light) ≡ count → member light ≡ true) → (light : ℕ) → is_marked marks.new light ≡ true → member light ≡ true }
-    ensures cost { (member : ℕ → Bool) → ((light : ℕ) → is_marked is_queued.new light ≡ true → member light ≡ true) → R.ticks rows.new ≤ R.ticks rows.old + base_cost board.now (R.entries rows.old) member }
+    ensures cost { (member : ℕ → Bool) → ((light : ℕ) → light < length board.now.lights → is_read board.now change.now.word (is_marked is_queued.new) light ≡ true → member light ≡ true) → R.ticks rows.new ≤ R.ticks rows.old + base_cost board.now (R.entries rows.old) member }
 {
     mark_new(lights, change.before, is_queued, queue, marks, stack);
     raise_gone(grid, board, lights, change.before, letters, marks, stack);
@@ -463,12 +448,12 @@ pub fn begin<R: Rows>(
         marks,
         stack,
     );
-    queue_long(board, change.word, is_queued, queue);
     prepare(
         rows,
         board,
         change.word,
         is_queued,
+        queue,
         base,
         words,
         marks,

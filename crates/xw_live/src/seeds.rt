@@ -1,6 +1,7 @@
 //! The lights with which a chain begins.
-ghost use Rattle.std.specs.Prelude.{◌≡◌, ℕ, ◌+◌, ◌*◌, ◌^◌, ◌<◌, ◌≤◌, Bool, true, false, not, All, IfSome, length, vec_len, vec_capacity, count_by, slice_index_or};
-ghost use Rattle.xw_feas.specs.Board.{light_at};
+ghost use Rattle.std.specs.Option.{option_and_then};
+ghost use Rattle.std.specs.Prelude.{◌≡◌, ℕ, ◌+◌, ◌*◌, ◌^◌, ◌<◌, ◌≤◌, Bool, true, false, not, All, IfSome, None, length, vec_len, vec_capacity, count_by, slice_index_or, slice_get};
+ghost use Rattle.xw_grid.specs.Light.{place_with_cells};
 ghost use Rattle.xw_feas.specs.Feasible.{may_stand};
 ghost use Rattle.xw_feas.specs.Flags.{set_has};
 ghost use Rattle.xw_live.specs.Marks.{IsPlace, cell_at};
@@ -8,6 +9,7 @@ ghost use Rattle.xw_live.specs.Spread.{is_marked, is_waiting, Grows, no_places, 
 
 use crate::spread::{letters_allowed, mark, raise};
 use xw_feas::board::Board;
+use xw_grid::lights::Lights;
 use xw_words::letter_set::LetterSet;
 
 /// Unmarks every light.
@@ -121,48 +123,74 @@ pub fn raise_cell(
     }
 }
 
-/// Marks a light if it has a length.
-fn mark_if_long(
-    board: &Board<'_>,
+/// Queues and marks a light if none of before has its cells.
+fn mark_if_new(
+    lights: &Lights,
+    before: &Lights,
     light: usize,
-    count: usize,
+    is_queued: &mut [bool],
+    queue: &mut Vec<usize>,
     marks: &mut [bool],
     stack: &mut Vec<usize>,
 )
-    requires light { light < length board.now.lights }
-    requires marks { length board.now.lights ≤ length marks.old }
+    requires is_queued { light < length is_queued.old }
+    requires queue_room { vec_len queue.old + count_by (λ mark. not mark) is_queued.old ≤ vec_capacity queue.old }
+    requires marks { light < length marks.old }
     requires room { vec_len stack.old + count_by (λ mark. not mark) marks.old ≤ vec_capacity stack.old }
-    requires waiting { All (λ other. other < length board.now.lights) stack.old.items }
+    ensures is_queued { length is_queued.new ≡ length is_queued.old }
+    ensures queue { (n : ℕ) → light < n → All (λ other. other < n) queue.old.items → All (λ other. other < n) queue.new.items }
+    ensures queue_room { vec_len queue.new + count_by (λ mark. not mark) is_queued.new ≤ vec_capacity queue.new }
+    ensures queue_grows { Grows is_queued.old queue.old.items is_queued.new queue.new.items }
     ensures marks { length marks.new ≡ length marks.old }
+    ensures stack { (n : ℕ) → light < n → All (λ other. other < n) stack.old.items → All (λ other. other < n) stack.new.items }
     ensures room { vec_len stack.new + count_by (λ mark. not mark) marks.new ≤ vec_capacity stack.new }
     ensures capacity { vec_capacity stack.old ≤ vec_capacity stack.new }
-    ensures waiting { All (λ other. other < length board.now.lights) stack.new.items }
     ensures grows { Grows marks.old stack.old.items marks.new stack.new.items }
-    ensures marked { length (light_at board.now light) ≡ count → is_marked marks.new light ≡ true }
-    ensures within { (member : ℕ → Bool) → ((other : ℕ) → is_marked marks.old other ≡ true → member other ≡ true) → (length (light_at board.now light) ≡ count → member light ≡ true) → (other : ℕ) → is_marked marks.new other ≡ true → member other ≡ true }
+    ensures queued { option_and_then (place_with_cells before.now) (slice_get lights.now light) ≡ None → is_marked is_queued.new light ≡ true }
+    ensures marked { option_and_then (place_with_cells before.now) (slice_get lights.now light) ≡ None → is_marked marks.new light ≡ true }
+    ensures queued_within { (member : ℕ → Bool) → ((other : ℕ) → is_marked is_queued.old other ≡ true → member other ≡ true) → (option_and_then (place_with_cells before.now) (slice_get lights.now light) ≡ None → member light ≡ true) → (other : ℕ) → is_marked is_queued.new other ≡ true → member other ≡ true }
+    ensures within { (member : ℕ → Bool) → ((other : ℕ) → is_marked marks.old other ≡ true → member other ≡ true) → (option_and_then (place_with_cells before.now) (slice_get lights.now light) ≡ None → member light ≡ true) → (other : ℕ) → is_marked marks.new other ≡ true → member other ≡ true }
 {
-    if board.light(light).len() == count {
-        mark(marks, stack, light);
+    match lights.same(light, before) {
+        Some(_) => {}
+        None => {
+            mark_found(Some(light), is_queued, queue);
+            mark_found(Some(light), marks, stack);
+        }
     }
 }
 
-/// Marks the lights of a length, as seeds.
-pub fn mark_length(board: &Board<'_>, count: usize, marks: &mut [bool], stack: &mut Vec<usize>)
-    requires marks { length board.now.lights ≤ length marks.old }
+/// Queues and marks the lights that are new.
+pub(crate) fn mark_new(
+    lights: &Lights,
+    before: &Lights,
+    is_queued: &mut [bool],
+    queue: &mut Vec<usize>,
+    marks: &mut [bool],
+    stack: &mut Vec<usize>,
+)
+    requires is_queued { length lights.now ≤ length is_queued.old }
+    requires queue { All (λ other. other < length lights.now) queue.old.items }
+    requires queue_room { vec_len queue.old + count_by (λ mark. not mark) is_queued.old ≤ vec_capacity queue.old }
+    requires marks { length lights.now ≤ length marks.old }
+    requires stack { All (λ other. other < length lights.now) stack.old.items }
     requires room { vec_len stack.old + count_by (λ mark. not mark) marks.old ≤ vec_capacity stack.old }
-    requires waiting { All (λ other. other < length board.now.lights) stack.old.items }
+    ensures is_queued { length is_queued.new ≡ length is_queued.old }
+    ensures queue { All (λ other. other < length lights.now) queue.new.items }
+    ensures queue_room { vec_len queue.new + count_by (λ mark. not mark) is_queued.new ≤ vec_capacity queue.new }
+    ensures queue_grows { Grows is_queued.old queue.old.items is_queued.new queue.new.items }
     ensures marks { length marks.new ≡ length marks.old }
+    ensures stack { All (λ other. other < length lights.now) stack.new.items }
     ensures room { vec_len stack.new + count_by (λ mark. not mark) marks.new ≤ vec_capacity stack.new }
     ensures capacity { vec_capacity stack.old ≤ vec_capacity stack.new }
-    ensures waiting { All (λ other. other < length board.now.lights) stack.new.items }
-    ensures seeds { HasSeeds marks.old stack.old.items → HasSeeds marks.new stack.new.items }
-    ensures more { (light : ℕ) → is_marked marks.old light ≡ true → is_marked marks.new light ≡ true }
-    ensures marked { (light : ℕ) → light < length board.now.lights → length (light_at board.now light) ≡ count → is_marked marks.new light ≡ true }
-    ensures within { (member : ℕ → Bool) → ((light : ℕ) → is_marked marks.old light ≡ true → member light ≡ true) → ((light : ℕ) → light < length board.now.lights → length (light_at board.now light) ≡ count → member light ≡ true) → (light : ℕ) → is_marked marks.new light ≡ true → member light ≡ true }
-    ensures spread { (start letters : ℕ → ℕ → Bool) → IsSpread board.now start letters (is_marked marks.old) (is_waiting stack.old.items) no_places → IsSpread board.now start letters (is_marked marks.new) (is_waiting stack.new.items) no_places }
+    ensures grows { Grows marks.old stack.old.items marks.new stack.new.items }
+    ensures queued { (light : ℕ) → light < length lights.now → option_and_then (place_with_cells before.now) (slice_get lights.now light) ≡ None → is_marked is_queued.new light ≡ true }
+    ensures marked { (light : ℕ) → light < length lights.now → option_and_then (place_with_cells before.now) (slice_get lights.now light) ≡ None → is_marked marks.new light ≡ true }
+    ensures queued_within { (member : ℕ → Bool) → ((light : ℕ) → is_marked is_queued.old light ≡ true → member light ≡ true) → ((light : ℕ) → light < length lights.now → option_and_then (place_with_cells before.now) (slice_get lights.now light) ≡ None → member light ≡ true) → (light : ℕ) → is_marked is_queued.new light ≡ true → member light ≡ true }
+    ensures within { (member : ℕ → Bool) → ((light : ℕ) → is_marked marks.old light ≡ true → member light ≡ true) → ((light : ℕ) → light < length lights.now → option_and_then (place_with_cells before.now) (slice_get lights.now light) ≡ None → member light ≡ true) → (light : ℕ) → is_marked marks.new light ≡ true → member light ≡ true }
 {
-    for light in 0..board.light_count() {
-        mark_if_long(board, light, count, marks, stack);
+    for light in 0..lights.len() {
+        mark_if_new(lights, before, light, is_queued, queue, marks, stack);
     }
 }
 

@@ -9,7 +9,7 @@ use xw_grid::lights::Lights;
 use xw_words::rows::Rows;
 
 impl Net {
-    ghost use Rattle.std.specs.Prelude.{◌≡◌, ℕ, ◌+◌, ◌≤◌, Bool, true, false, List, Option, None, Contains, length, vec_len, vec_capacity};
+    ghost use Rattle.std.specs.Prelude.{◌≡◌, ℕ, ◌+◌, ◌<◌, ◌≤◌, Bool, true, false, List, Option, None, Contains, length, vec_len, vec_capacity};
     ghost use Rattle.xw_words.specs.Dictionary.{Dictionary};
     ghost use Rattle.xw_grid.specs.declared.cell.Cell.{Cell as CellOfGrid};
     ghost use Rattle.xw_grid.specs.Grid.{is_inside};
@@ -29,6 +29,7 @@ impl Net {
     ghost use Rattle.xw_live.specs.Change.{IsChange, AreReadsOf};
     ghost use Rattle.xw_live.specs.Net.{StoodFor, IsSettledFor, IsRevivedFor};
     ghost use Rattle.xw_live.specs.Opened.{IsMoved, IsOpened};
+    ghost use Rattle.xw_live.specs.Begin.{is_read};
 
     /// Brings a net that was settled before an edit, and goes by the lights after it, to the state
     /// from which words and letters come back.
@@ -70,7 +71,7 @@ impl Net {
             IsFilled (board_of before.grid) before.words settled →
             IsMoved before (record { grid = grid.now; words = words }) settled self.old →
             IsOpened before (record { grid = grid.now; words = words }) action settled self.new }
-        ensures cost { (member : ℕ → Bool) → ((light : ℕ) → is_marked self.new.is_queued.items light ≡ true → member light ≡ true) → R.ticks rows.new ≤ R.ticks rows.old + base_cost board.now (R.entries rows.old) member }
+        ensures cost { (member : ℕ → Bool) → ((light : ℕ) → light < length board.now.lights → is_read board.now change.now.word (is_marked self.new.is_queued.items) light ≡ true → member light ≡ true) → R.ticks rows.new ≤ R.ticks rows.old + base_cost board.now (R.entries rows.old) member }
     {
         forget_lights(
             rows,

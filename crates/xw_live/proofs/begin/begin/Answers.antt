@@ -14,7 +14,7 @@ returns-clause-edited g c listed has =
     let edited = c.edit_cells.ensures.edited listed has in
     record {
       may = edited.may;
-      queued = λ light place here at. c.queue_long.ensures.more light (edited.queued light place here at);
+      queued = λ light place here at. c.prepare.ensures.queue_grows.more light (edited.queued light place here at);
       all = edited.all;
       marked = λ filled light place here at. c.prepare.ensures.grows.more light (edited.marked filled light place here at);
     }
@@ -28,7 +28,7 @@ returns-clause-spread g c =
 
 pub returns-clause-queued_within : goal.returns-clause-queued_within
 returns-clause-queued_within g c member queued new edited long =
-    c.queue_long.ensures.within member
+    c.prepare.ensures.queued_within member
     (c.edit_cells.ensures.queued_within member (c.mark_new.ensures.queued_within member queued (λ light lt. new light (omega (arith, c.requires.lights, lt)))) edited)
     long
 

@@ -93,7 +93,6 @@ returns-clause-opened g c before words action settled read is filled moved =
       new_queued = b.new_queued;
       new_marked = b.new_marked;
       edited = b.edited;
-      long = b.long;
       spread = b.spread;
       freed = b.freed;
       prepared = b.prepared;

@@ -1,4 +1,5 @@
-use Rattle.std.proofs.Common.{◌≡◌, ◌≤◌, ℕ, true, List, length, None, Some, sym, ap, subst, ◌∙◌, arith, rules}
+use Rattle.std.proofs.Common.{◌≡◌, ◌≤◌, ℕ, true, false, List, length, None, Some, sym, ap, subst, ◌∙◌, arith, rules}
+use Rattle.std.proofs.lemmas.Bool.{or_left}
 use Rattle.std.proofs.lemmas.List.{with_items_is}
 use Rattle.std.specs.Vec.{with_items}
 use Rattle.xw_words.specs.Bits.{RowOfBits}
@@ -56,7 +57,7 @@ returns-clause-filled g c dictionary position =
     let start : Net = record old { base = with_items old.base c.read_marked.new.base; letters = with_items old.letters c.fill_letters.new.letters; stack = c.mark_all.new.stack; is_marked = with_items old.is_marked c.mark_all.new.marks } in
     let is_base : IsBase board dictionary start.base.items = λ light lt.
     ap (λ (rows : List RowOfBits). bits_in rows light) base_is
-    ∙ c.read_marked.ensures.on light lt (ap (λ m. is_marked m light) (c.deref.ensures.value ∙ marks_is) ∙ c.mark_all.ensures.marked light lt) (λ place some. let never : None ≡ Some (length (light_at board light), place) = some in cc)
+    ∙ c.read_marked.ensures.on light lt (or_left (is_marked c.deref.result.now light) false (ap (λ m. is_marked m light) (c.deref.ensures.value ∙ marks_is) ∙ c.mark_all.ensures.marked light lt)) (λ place some. let never : None ≡ Some (length (light_at board light), place) = some in cc)
     ∙ ap (base_bits board (light_at board light)) (position.read (length (light_at board light))) in
     let held_far : (light place letter : ℕ) → IsPlace c.args.board.now light place → is_capital letter ≡ true → known c.args.board.now dictionary light ≤ held_in c.args.self.now (slot_at c.args.board.now light place) letter =
     λ light place letter here capital. omega (arith, fresh.held light place letter here capital, known_few dictionary (length (light_at board light)) position.words) in

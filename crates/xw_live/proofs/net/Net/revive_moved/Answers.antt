@@ -1,5 +1,5 @@
-use Rattle.std.proofs.Common.{◌≡◌, ℕ, Bool, true, false, List, length, sym, ap, subst, ◌∙◌, inl, inr, arith}
-use Rattle.std.proofs.lemmas.Bool.{cases_Bool}
+use Rattle.std.proofs.Common.{◌≡◌, ◌<◌, ℕ, Bool, true, false, List, length, sym, ap, subst, ◌∙◌, inl, inr, arith}
+use Rattle.std.proofs.lemmas.Bool.{cases_Bool, or_cases}
 use Rattle.xw_words.specs.Dictionary.{Entry, row}
 use Rattle.xw_feas.specs.Board.{Board, board_of, light_at}
 use Rattle.xw_feas.specs.Flags.{set_has}
@@ -13,7 +13,10 @@ use Rattle.xw_live.specs.Nets.{marks_of, word_stands, letter_stands, held_in, re
 use Rattle.xw_live.specs.Spread.{is_marked}
 use Rattle.xw_live.specs.Brought.{IsBase, IsBegun, IsReadyBut, base_cost}
 use Rattle.xw_live.specs.Filled.{IsWholeNet, IsUnstripped}
+use Rattle.xw_live.specs.Begin.{is_long, is_read}
 use Rattle.xw_live.specs.Opened.{IsOpened}
+use Rattle.xw_live.proofs.Changed.{long_within}
+use Rattle.xw_live.proofs.Long.{long_word}
 use Rattle.xw_live.proofs.Same.{same_is_matching}
 use Rattle.xw_live.proofs.Slots.{slots_apart}
 use Rattle.xw_live.proofs.Left.{base_read}
@@ -94,8 +97,15 @@ pub returns-clause-cost : goal.returns-clause-cost
 returns-clause-cost g c before words action settled member read is filled moved region =
     let opened = c.begin.ensures.opened before words action settled read is filled moved in
     let entries : g.R.Rows.entries c.args.rows.now ≡ row words = λ t. λ count. read count t in
-    let queued : (light : ℕ) → is_marked c.begin.new.self.is_queued.items light ≡ true → member (light_at c.args.board.now light) ≡ true =
-    λ light on. ap (λ b. member (light_at b light)) c.requires.board ∙ opened.queued_within member region light on in
-    let reading = c.begin.ensures.cost (λ light. member (light_at c.args.board.now light)) queued in
+    let read_within : (light : ℕ) → light < length c.args.board.now.lights → is_read c.args.board.now c.args.change.now.word (is_marked c.begin.new.self.is_queued.items) light ≡ true → member (light_at c.args.board.now light) ≡ true =
+    λ light in_board is_in. elim (or_cases (is_marked c.begin.new.self.is_queued.items light) (is_long c.args.change.now.word (length (light_at c.args.board.now light))) is_in) [
+      | inl on ↦ ap (λ b. member (light_at b light)) c.requires.board ∙ opened.queued_within member region light on
+      | inr long ↦
+          let word = long_word c.args.change.now.word (length (light_at c.args.board.now light)) long in
+          ap (λ b. member (light_at b light)) c.requires.board
+          ∙ long_within before (record { grid = c.args.grid.now; words = words }) action c.args.change.now is member region (length (light_at c.args.board.now light)) word.0 light word.1
+          (subst (λ (b : Board). light < length b.lights) c.requires.board in_board) (ap (λ b. length (light_at b light)) (sym c.requires.board))
+    ] in
+    let reading = c.begin.ensures.cost (λ light. member (light_at c.args.board.now light)) read_within in
     let bases = cost_of (record { grid = c.args.grid.now; words = words }) member c.args.board.now (g.R.Rows.entries c.args.rows.now) c.requires.board entries in
     omega (arith, reading, bases, revival-is (record { grid = c.args.grid.now; words = words }) member)

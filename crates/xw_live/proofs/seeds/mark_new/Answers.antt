@@ -5,7 +5,7 @@ use Rattle.std.proofs.lemmas.Bool.{cases_eq}
 use Rattle.xw_grid.specs.Light.{place_with_cells}
 use Rattle.xw_live.specs.Spread.{is_marked}
 use Rattle.xw_live.proofs.SpreadLemmas.{grows_none, grows_more}
-use Rattle.xw_live.proofs.begin.mark_new.Goals as goal
+use Rattle.xw_live.proofs.seeds.mark_new.Goals as goal
 
 pub loop-light-init : goal.loop-light-init
 loop-light-init c = record {

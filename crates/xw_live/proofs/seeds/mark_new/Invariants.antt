@@ -3,7 +3,7 @@ use Rattle.std.specs.Prelude.{slice_get}
 use Rattle.std.specs.Option.{option_and_then}
 use Rattle.xw_grid.specs.Light.{place_with_cells}
 use Rattle.xw_live.specs.Spread.{is_marked, Grows}
-use Rattle.xw_live.proofs.begin.mark_new.Given as goal
+use Rattle.xw_live.proofs.seeds.mark_new.Given as goal
 
 abbrev pub invariant-loop-light : goal.invariant-loop-light
 invariant-loop-light l = record {
