@@ -5,9 +5,9 @@ ghost use Rattle.xw_feas.specs.Board.{board_of, is_wholly_entered, spelled, entr
 ghost use Rattle.xw_feas.specs.Queries.{next_found};
 ghost use Rattle.xw_fill.specs.Position.{position_of, name_at};
 ghost use Rattle.xw_fill.specs.FeasibleWords.{feasible_words};
-ghost use Rattle.xw_fill.specs.Below.{any_below, first_below};
+ghost use Rattle.xw_fill.specs.Below.{first_below};
 ghost use Rattle.xw_fill.specs.Words.{IsNextWord, HasNoMore};
-ghost use Rattle.xw_fill.specs.Search.{is_entered, spelling, spell_same, is_repeat, first_same, lacks_words, light_count, chosen};
+ghost use Rattle.xw_fill.specs.Search.{is_entered, spelling, spell_same, first_same, lacks_words, light_count, chosen};
 ghost use Rattle.xw_fill.specs.Noted.{has_note, AreEntered};
 ghost use Rattle.xw_fill.specs.Filling.{scanned};
 

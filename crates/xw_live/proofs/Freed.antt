@@ -1,12 +1,14 @@
 -- Letters that come back at the cells of lights that are gone.
-use Rattle.std.proofs.Common.{ℕ, ◌+◌, Bool, List, refl, ◌∙◌, subst, inl, inr, arith}
+use Rattle.std.proofs.Common.{◌≡◌, ℕ, ◌+◌, Bool, List, refl, sym, ◌∙◌, subst, inl, inr, arith}
 use Rattle.std.specs.Prelude.{◌⊎◌}
+use Rattle.std.proofs.lemmas.Option.{slice_get_within}
 use Rattle.std.proofs.lemmas.Bool.{cases_eq}
 use Rattle.xw_grid.specs.declared.lights.Light.{Light}
 use Rattle.xw_grid.specs.Grid.{Grid}
 use Rattle.xw_feas.specs.Board.{Board}
 use Rattle.xw_live.specs.Spread.{HasSeeds}
 use Rattle.xw_live.specs.Gone.{IsAlong, IsAmong, IsGone, IsFreed, IsFreedAt, Raises}
+use Rattle.xw_live.proofs.Same.{none_new}
 
 module _ (board : Board) where
   pub raises_none : (freed : ℕ → Type 0) (letters : List ℕ) (marks : List Bool) (stack : List ℕ) → HasSeeds marks stack → ((cell : ℕ) → freed cell → ⊥) → Raises board freed letters letters marks marks stack stack
@@ -79,3 +81,7 @@ freed_split grid before after count cell is = elim (cases_eq is.other count) [
   | inl e ↦ inr (record { light = is.light; gone = subst (λ o. IsGone before after o is.light) e is.gone; among = is.among })
   | inr apart ↦ inl (record { other = is.other; below = omega (arith, is.below, apart); light = is.light; gone = is.gone; among = is.among })
 ]
+
+-- where the lights are those of before, none is gone
+pub none_freed : (grid : Grid) (before after : List Light) (count cell : ℕ) → after ≡ before → IsFreed grid before after count cell → ⊥
+none_freed grid before after count cell same is = none_new after before (sym same) is.other (slice_get_within before is.other is.light is.gone.at) is.gone.none

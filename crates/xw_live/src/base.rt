@@ -238,12 +238,13 @@ fn read_row<R: Rows>(
     read_changed(rows, board, word, light, &mut base[light]);
 }
 
-/// Whether a word that is changed is so long.
-fn is_long(word: Option<(usize, usize)>, count: usize) -> bool
-    ensures { result ≡ is_long_of word count }
+/// Whether a word that is changed is as long as the light. A light's length is looked up only where one is.
+fn is_long(board: &Board<'_>, word: Option<(usize, usize)>, light: usize) -> bool
+    requires { light < length board.now.lights }
+    ensures { result ≡ is_long_of word (length (light_at board.now light)) }
 {
     match word {
-        Some((long, _)) => long == count,
+        Some((long, _)) => long == board.light(light).len(),
         None => false,
     }
 }
@@ -254,7 +255,7 @@ fn is_read(board: &Board<'_>, word: Option<(usize, usize)>, marks: &[bool], ligh
     requires marks { light < length marks.now }
     ensures { result ≡ is_read_of board.now word (is_marked marks.now) light }
 {
-    marks[light] || is_long(word, board.light(light).len())
+    marks[light] || is_long(board, word, light)
 }
 
 /// Reads anew the base row of each light that is marked or as long as a word that is changed, as far as the edit can have changed it.

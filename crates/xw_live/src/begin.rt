@@ -300,7 +300,7 @@ fn queue_if_changed(
     }
 }
 
-/// The same for each light.
+/// Queues the lights that have a word that is changed, or had it.
 fn queue_changed(
     board: &Board<'_>,
     word: Option<(usize, usize)>,
@@ -386,6 +386,7 @@ pub fn begin<R: Rows>(
     board: &Board<'_>,
     lights: &Lights,
     change: &Change<'_>,
+    stays: bool,
     base: &mut [BitRow],
     words: &mut [BitRow],
     letters: &mut [LetterSet],
@@ -397,6 +398,7 @@ pub fn begin<R: Rows>(
     requires cells { length grid.now.squares ≡ length board.now.open_cells }
     requires inside { (listed : CellOfGrid × Option ℕ) → Contains change.now.cells.now listed → is_inside grid.now listed.0 ≡ true }
     requires lights { length lights.now ≡ length board.now.lights }
+    requires stays { stays ≡ true → lights.now ≡ change.now.before.now }
     requires long { (light : ℕ) → light < length board.now.lights → All (λ (entry : Entry). length entry.word ≡ length (light_at board.now light)) (R.entries rows.old (length (light_at board.now light))) }
     requires base { HasBase board.now (R.entries rows.old) base.old }
     requires words { HasBase board.now (R.entries rows.old) words.old }
@@ -436,8 +438,17 @@ pub fn begin<R: Rows>(
     ensures within { (member : ℕ → Bool) → ((light : ℕ) → is_marked is_queued.old light ≡ true → member light ≡ true) → ((light : ℕ) → is_marked marks.old light ≡ true → member light ≡ true) → ((light : ℕ) → light < length board.now.lights → option_and_then (place_with_cells change.now.before.now) (slice_get lights.now light) ≡ None → member light ≡ true) → ((cell light place : ℕ) → IsFreed grid.now change.now.before.now lights.now (length change.now.before.now) cell → ¬ HasAll board.now (set_has letters.old) cell → IsPlace board.now light place → cell_at board.now light place ≡ cell → member light ≡ true) → ((listed : CellOfGrid × Option ℕ) (light place : ℕ) → Contains change.now.cells.now listed → IsPlace board.now light place → cell_at board.now light place ≡ index_of grid.now listed.0 → member light ≡ true) → ((count place light : ℕ) → change.now.word ≡ Some (count, place) → light < length board.now.lights → length (light_at board.now light) ≡ count → member light ≡ true) → (light : ℕ) → is_marked marks.new light ≡ true → member light ≡ true }
     ensures cost { (member : ℕ → Bool) → ((light : ℕ) → light < length board.now.lights → is_read board.now change.now.word (is_marked is_queued.new) light ≡ true → member light ≡ true) → R.ticks rows.new ≤ R.ticks rows.old + base_cost board.now (R.entries rows.old) member }
 {
-    mark_new(lights, change.before, is_queued, queue, marks, stack);
-    raise_gone(grid, board, lights, change.before, letters, marks, stack);
+    mark_new(lights, change.before, stays, is_queued, queue, marks, stack);
+    raise_gone(
+        grid,
+        board,
+        lights,
+        change.before,
+        stays,
+        letters,
+        marks,
+        stack,
+    );
     edit_cells(
         grid,
         board,

@@ -1,5 +1,5 @@
 //! Words that are held no more.
-ghost use Rattle.std.specs.Prelude.{◌≡◌, ◌⊎◌, ℕ, ◌+◌, ◌-◌, ◌*◌, ◌^◌, ◌<◌, ◌≤◌, false, true, Option, length, slice_index};
+ghost use Rattle.std.specs.Prelude.{◌≡◌, ◌⊎◌, ℕ, ◌+◌, ◌-◌, ◌*◌, ◌^◌, ◌<◌, ◌≤◌, false, true, Option, is_some, length, slice_index};
 ghost use Rattle.xw_words.specs.Letter.{is_capital};
 ghost use Rattle.xw_feas.specs.Board.{light_at};
 ghost use Rattle.xw_feas.specs.Flags.{set_has};
@@ -57,11 +57,11 @@ fn forget_light(
     }
 }
 
-/// The first number that a light may hold no more.
-fn lost_from(word: Option<(usize, usize)>, same: Option<usize>, size: usize, known: usize) -> usize
-    ensures { result ≡ lost_from_of word same size known }
+/// The first number that a light may hold no more, which stays or is new.
+fn lost_from(word: Option<(usize, usize)>, has_stayed: bool, size: usize, known: usize) -> usize
+    ensures { (same : Option ℕ) → has_stayed ≡ is_some same → result ≡ lost_from_of word same size known }
 {
-    if same.is_none() {
+    if !has_stayed {
         return 0;
     }
     match word {
@@ -70,20 +70,33 @@ fn lost_from(word: Option<(usize, usize)>, same: Option<usize>, size: usize, kno
     }
 }
 
+/// Whether a light has the cells of one of before.
+fn has_stayed(lights: &Lights, before: &Lights, stays: bool, light: usize) -> bool
+    requires light { light < length lights.now }
+    requires stays { stays ≡ true → lights.now ≡ before.now }
+    ensures { result ≡ is_some (same_before before.now lights.now light) }
+{
+    stays || lights.same(light, before).is_some()
+}
+
 /// The same for the light of a board after an edit.
 fn lost_of<R: Rows>(
     rows: &R,
     board: &Board<'_>,
     lights: &Lights,
     change: &Change<'_>,
+    stays: bool,
     light: usize,
 ) -> usize
-    requires { light < length board.now.lights }
+    requires light { light < length board.now.lights }
+    requires lights { length lights.now ≡ length board.now.lights }
+    requires stays { stays ≡ true → lights.now ≡ change.now.before.now }
     ensures { result ≡ lost_from_of change.now.word (same_before change.now.before.now lights.now light) (length (light_at board.now light)) (length (R.entries rows.now (length (light_at board.now light)))) }
 {
     let size = board.light(light).len();
     let known = rows.known(size);
-    lost_from(change.word, lights.same(light, change.before), size, known)
+    let has_stayed = has_stayed(lights, change.before, stays, light);
+    lost_from(change.word, has_stayed, size, known)
 }
 
 /// Lets a light hold no word that it may not hold after an edit.
@@ -117,9 +130,12 @@ pub(crate) fn forget_lights<R: Rows>(
     board: &Board<'_>,
     lights: &Lights,
     change: &Change<'_>,
+    stays: bool,
     held: &mut [usize],
     pending: &mut [LetterSet],
 )
+    requires lights { length lights.now ≡ length board.now.lights }
+    requires stays { stays ≡ true → lights.now ≡ change.now.before.now }
     requires few { length board.now.open_cells < 2 ^ 32 }
     requires apart { AreSlotsApart board.now }
     requires held { length held.old ≡ 52 * length board.now.open_cells }
@@ -127,7 +143,7 @@ pub(crate) fn forget_lights<R: Rows>(
     ensures { Forgets board.now (λ light. lost_from_of change.now.word (same_before change.now.before.now lights.now light) (length (light_at board.now light)) (length (R.entries rows.now (length (light_at board.now light))))) held.old held.new pending.old pending.new }
 {
     for light in 0..board.light_count() {
-        let first = lost_of(rows, board, lights, change, light);
+        let first = lost_of(rows, board, lights, change, stays, light);
         forget_lost(board, light, first, held, pending);
     }
 }

@@ -1,5 +1,5 @@
 //! Cells of lights that are gone.
-ghost use Rattle.std.specs.Prelude.{◌≡◌, ℕ, ◌+◌, ◌<◌, ◌≤◌, not, All, None, IfSome, length, vec_len, vec_capacity, count_by};
+ghost use Rattle.std.specs.Prelude.{◌≡◌, ℕ, ◌+◌, ◌<◌, ◌≤◌, true, not, All, None, IfSome, length, vec_len, vec_capacity, count_by};
 ghost use Rattle.xw_live.specs.Spread.{HasSeeds};
 ghost use Rattle.xw_live.specs.Gone.{IsAlong, IsAmong, IsFreed, IsFreedAt, Raises};
 
@@ -102,16 +102,18 @@ fn raise_if_gone(
 }
 
 /// Lets all letters stand that may at the cells of the lights of before that are gone. The lights
-/// through a cell where one comes back are seeds.
+/// through a cell where one comes back are seeds. Where the lights are those of before, none is gone.
 pub(crate) fn raise_gone(
     grid: &Grid,
     board: &Board<'_>,
     lights: &Lights,
     before: &Lights,
+    stays: bool,
     letters: &mut [LetterSet],
     marks: &mut [bool],
     stack: &mut Vec<usize>,
 )
+    requires stays { stays ≡ true → lights.now ≡ before.now }
     requires cells { length grid.now.squares ≡ length board.now.open_cells }
     requires letters { length letters.old ≡ length board.now.open_cells }
     requires marks { length board.now.lights ≤ length marks.old }
@@ -123,6 +125,9 @@ pub(crate) fn raise_gone(
     ensures waiting { All (λ other. other < length board.now.lights) stack.new.items }
     ensures raises { Raises board.now (IsFreed grid.now before.now lights.now (length before.now)) letters.old letters.new marks.old marks.new stack.old.items stack.new.items }
 {
+    if stays {
+        return;
+    }
     for other in 0..before.len() {
         raise_if_gone(grid, board, lights, before, other, letters, marks, stack);
     }

@@ -24,4 +24,5 @@ mod spread;
 mod support;
 #[cfg(test)]
 mod tests;
+mod unmoved;
 mod written;

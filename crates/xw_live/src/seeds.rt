@@ -160,15 +160,17 @@ fn mark_if_new(
     }
 }
 
-/// Queues and marks the lights that are new.
+/// Queues and marks the lights that are new. Where the lights are those of before, none is.
 pub(crate) fn mark_new(
     lights: &Lights,
     before: &Lights,
+    stays: bool,
     is_queued: &mut [bool],
     queue: &mut Vec<usize>,
     marks: &mut [bool],
     stack: &mut Vec<usize>,
 )
+    requires stays { stays ≡ true → lights.now ≡ before.now }
     requires is_queued { length lights.now ≤ length is_queued.old }
     requires queue { All (λ other. other < length lights.now) queue.old.items }
     requires queue_room { vec_len queue.old + count_by (λ mark. not mark) is_queued.old ≤ vec_capacity queue.old }
@@ -189,6 +191,9 @@ pub(crate) fn mark_new(
     ensures queued_within { (member : ℕ → Bool) → ((light : ℕ) → is_marked is_queued.old light ≡ true → member light ≡ true) → ((light : ℕ) → light < length lights.now → option_and_then (place_with_cells before.now) (slice_get lights.now light) ≡ None → member light ≡ true) → (light : ℕ) → is_marked is_queued.new light ≡ true → member light ≡ true }
     ensures within { (member : ℕ → Bool) → ((light : ℕ) → is_marked marks.old light ≡ true → member light ≡ true) → ((light : ℕ) → light < length lights.now → option_and_then (place_with_cells before.now) (slice_get lights.now light) ≡ None → member light ≡ true) → (light : ℕ) → is_marked marks.new light ≡ true → member light ≡ true }
 {
+    if stays {
+        return;
+    }
     for light in 0..lights.len() {
         mark_if_new(lights, before, light, is_queued, queue, marks, stack);
     }

@@ -3,6 +3,7 @@ use crate::begin::begin;
 use crate::change::Change;
 use crate::forget::forget_lights;
 use crate::net::Net;
+use crate::unmoved::are_same;
 use xw_feas::board::Board;
 use xw_grid::grid::Grid;
 use xw_grid::lights::Lights;
@@ -73,11 +74,13 @@ impl Net {
             IsOpened before (record { grid = grid.now; words = words }) action settled self.new }
         ensures cost { (member : ℕ → Bool) → ((light : ℕ) → light < length board.now.lights → is_read board.now change.now.word (is_marked self.new.is_queued.items) light ≡ true → member light ≡ true) → R.ticks rows.new ≤ R.ticks rows.old + base_cost board.now (R.entries rows.old) member }
     {
+        let stays = are_same(lights, change.before);
         forget_lights(
             rows,
             board,
             lights,
             change,
+            stays,
             &mut self.held,
             &mut self.pending,
         );
@@ -87,6 +90,7 @@ impl Net {
             board,
             lights,
             change,
+            stays,
             &mut self.base,
             &mut self.rows,
             &mut self.letters,

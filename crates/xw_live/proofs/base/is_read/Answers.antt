@@ -12,5 +12,5 @@ returns-then-marks-light c = c.if-marks-light.true ∙ sym (or_left _ (is_long c
 pub returns-else-marks-light : goal.returns-else-marks-light
 unfolding is_marked
 returns-else-marks-light c =
-    c.is_long.ensures ∙ ap (is_long c.args.word) (c.len.ensures ∙ ap length c.light.ensures.cells)
+    c.is_long.ensures
     ∙ sym (ap (λ b. b || is_long c.args.word (length (light_at c.args.board.now c.args.light))) c.if-marks-light.false)

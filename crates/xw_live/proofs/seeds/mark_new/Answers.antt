@@ -5,6 +5,7 @@ use Rattle.std.proofs.lemmas.Bool.{cases_eq}
 use Rattle.xw_grid.specs.Light.{place_with_cells}
 use Rattle.xw_live.specs.Spread.{is_marked}
 use Rattle.xw_live.proofs.SpreadLemmas.{grows_none, grows_more}
+use Rattle.xw_live.proofs.Same.{none_new}
 use Rattle.xw_live.proofs.seeds.mark_new.Goals as goal
 
 pub loop-light-init : goal.loop-light-init
@@ -50,3 +51,9 @@ loop-light-preserved c =
       queued_within = λ member start new. k.ensures.queued_within member (inv.queued_within member start new) (λ here. new c.loop-light.light in_list here);
       within = λ member start new. k.ensures.within member (inv.within member start new) (λ here. new c.loop-light.light in_list here);
     }
+
+pub returns-then-stays-clause-queued : goal.returns-then-stays-clause-queued
+returns-then-stays-clause-queued c light within none = absurd (none_new c.args.before.now c.args.lights.now (c.requires.stays c.if-stays.true) light within none)
+
+pub returns-then-stays-clause-marked : goal.returns-then-stays-clause-marked
+returns-then-stays-clause-marked c light within none = absurd (none_new c.args.before.now c.args.lights.now (c.requires.stays c.if-stays.true) light within none)

@@ -51,6 +51,12 @@ arrays_same : {rows rows' base base' : List RowOfBits} {letters letters' : List 
     (record { rows = rows'; base = base'; letters = letters'; is_queued = is_queued'; queue = queue; is_marked = is_marked'; stack = stack })
 arrays_same {queue = queue} {stack = stack} a b d e f = λ t. record { rows = a t; base = b t; letters = d t; is_queued = e t; queue = queue; is_marked = f t; stack = stack }
 
+as_many : (grid : Grid) (board : Board) (lights : List Light) → board ≡ board_of grid → lights ≡ lights_of grid → length lights ≡ length board.lights
+as_many grid board lights b l = ap length l ∙ sym (length-lights grid) ∙ sym (ap (λ (of_grid : Board). length of_grid.lights) b)
+
+pub forget_lights-requires-clause-lights : goal.forget_lights-requires-clause-lights
+forget_lights-requires-clause-lights g c = as_many c.args.grid.now c.args.board.now c.args.lights.now c.requires.board c.requires.lights
+
 pub forget_lights-requires-clause-apart : goal.forget_lights-requires-clause-apart
 forget_lights-requires-clause-apart g c = subst AreSlotsApart (sym c.requires.board) (slots_apart c.args.grid.now)
 
@@ -58,7 +64,7 @@ pub begin-requires-clause-cells : goal.begin-requires-clause-cells
 begin-requires-clause-cells g c = sym (length-open_cells c.args.grid.now) ∙ sym (ap (λ (b : Board). length b.open_cells) c.requires.board)
 
 pub begin-requires-clause-lights : goal.begin-requires-clause-lights
-begin-requires-clause-lights g c = ap length c.requires.lights ∙ sym (length-lights c.args.grid.now) ∙ sym (ap (λ (b : Board). length b.lights) c.requires.board)
+begin-requires-clause-lights g c = as_many c.args.grid.now c.args.board.now c.args.lights.now c.requires.board c.requires.lights
 
 pub returns-clause-queue : goal.returns-clause-queue
 unfolding queued_in is_marked
