@@ -142,9 +142,8 @@ module _ (old new : Net) (larger : IsLarger old new) where
     room = λ spare lights counts has. subst (HasRoomIn lights counts new) (sym spare) (room_same lights counts old.spare has);
   }
 
--- reserving leaves a net alike, whatever waits then
-pub roomier_alike : (old new : Net) (spare : Option Spare) → IsRoomier old new → IsAlike old (record new { spare = spare })
-roomier_alike old new spare more = alike old (record new { spare = spare }) record {
+larger_of : (old new : Net) (spare : Option Spare) → IsRoomier old new → IsLarger old (record new { spare = spare })
+larger_of old new spare more = record {
   rows = more.rows;
   base = more.base;
   queue = more.queue;
@@ -153,3 +152,10 @@ roomier_alike old new spare more = alike old (record new { spare = spare }) reco
   stack_room = more.stack_room;
   rest = ap (λ (net : Net). record net { spare = spare }) more.rest;
 }
+
+-- reserving leaves a net alike, whatever waits then
+pub roomier_alike : (old new : Net) (spare : Option Spare) → IsRoomier old new → IsAlike old (record new { spare = spare })
+roomier_alike old new spare more = alike old (record new { spare = spare }) (larger_of old new spare more)
+
+pub roomier_filled : (old new : Net) → IsRoomier old new → (board : Board) (dictionary : Dictionary) → IsFilled board dictionary old → IsFilled board dictionary new
+roomier_filled old new more = filled old new (larger_of old new new.spare more)

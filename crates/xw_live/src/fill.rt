@@ -56,6 +56,7 @@ impl Net {
         self.bring_back(board);
         self.unmark();
         self.strip_queued(rows, board);
+        self.keep_counts();
     }
 
     /// A net with the answers for a grid and a dictionary.

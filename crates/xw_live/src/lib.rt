@@ -5,6 +5,7 @@ mod base;
 mod begin;
 mod blank;
 pub mod change;
+mod counts;
 mod fill;
 mod fit;
 mod forget;

@@ -1,5 +1,5 @@
 //! A row of bits.
-ghost use Rattle.std.specs.Prelude.{◌≡◌, ℕ, ◌+◌, ◌-◌, ◌*◌, ◌/◌, ◌%◌, ◌^◌, ◌<◌, ◌≤◌, Bool, false, not, ◌&&◌, [], ◌∷◌, ◌++◌, length, min, slice_index, slice_index_or, slice_set, count_by, OnOk, OnErr, IfErr, IfSome, IfNone, true, if◌then◌else◌, nat_eq};
+ghost use Rattle.std.specs.Prelude.{◌≡◌, ℕ, ◌+◌, ◌-◌, ◌*◌, ◌/◌, ◌%◌, ◌^◌, ◌<◌, ◌≤◌, Bool, false, not, ◌&&◌, [], ◌∷◌, ◌++◌, length, min, slice_index, slice_index_or, slice_set, count_by, OnOk, OnErr, IfErr, IfSome, IfNone, None, true, if◌then◌else◌, nat_eq};
 ghost use Rattle.std.specs.Simd.Lanes.{zip2};
 ghost use Rattle.xw_words.specs.Bits.{RowOfBits, has_bit};
 ghost use Rattle.xw_words.specs.Places.{set_places};
@@ -17,11 +17,19 @@ use std::simd::prelude::*;
 /// The most bits that a row may be given room for.
 pub const MAX_BITS: usize = 0x1FF_FFFF_FFFF_FFFF;
 
-/// Bits in a row, packed 64 to a word.
+/// Bits in a row, packed 64 to a word. How many are set is known where they were counted since one changed.
 #[derive(Drop)]
 pub struct BitRow {
     words: Vec<u64>,
     len: usize,
+    counted: Option<usize>,
+}
+
+/// The count of a row with one bit more, where that is known.
+fn count_with(counted: Option<usize>, bit: bool) -> Option<usize>
+    ensures { result ≡ (if bit then None else counted) }
+{
+    if bit { None } else { counted }
 }
 
 impl Model for BitRow {
@@ -43,6 +51,7 @@ impl BitRow {
         BitRow {
             words: Vec::new(alloc),
             len: 0,
+            counted: Some(0),
         }
     }
 
@@ -59,6 +68,7 @@ impl BitRow {
         ensures bits { self.new.bits ≡ zip2 (λ x y. x && y) self.old.bits other.now.bits }
         ensures room { self.new.room ≡ self.old.room }
     {
+        self.counted = None;
         and_words(&mut self.words, &other.words);
     }
 
@@ -68,6 +78,7 @@ impl BitRow {
         ensures bits { self.new.bits ≡ zip2 (λ x y. x && not y) self.old.bits other.now.bits }
         ensures room { self.new.room ≡ self.old.room }
     {
+        self.counted = None;
         and_not_words(&mut self.words, &other.words);
     }
 
@@ -77,6 +88,7 @@ impl BitRow {
         ensures bits { self.new.bits ≡ other.now.bits }
         ensures room { self.new.room ≡ self.old.room }
     {
+        self.counted = None;
         self.words.as_mut_slice().copy_from_slice(&other.words);
     }
 
@@ -86,6 +98,7 @@ impl BitRow {
         ensures bits { (i : ℕ) → slice_index_or self.new.bits i false ≡ false }
         ensures room { self.new.room ≡ self.old.room }
     {
+        self.counted = None;
         self.words.as_mut_slice().fill(0);
     }
 
@@ -114,6 +127,7 @@ impl BitRow {
         ensures above { (i : ℕ) → 64 * at + 512 ≤ i → slice_index_or self.new.bits i false ≡ slice_index_or self.old.bits i false }
         ensures room { self.new.room ≡ self.old.room }
     {
+        self.counted = None;
         keep_at(&mut self.words, at, block);
     }
 
@@ -148,7 +162,17 @@ impl BitRow {
     pub fn count(&self) -> usize
         ensures { result ≡ count_by (λ bit. bit) self.now.bits }
     {
-        count_words(&self.words) as usize
+        match self.counted {
+            Some(count) => count,
+            None => count_words(&self.words) as usize,
+        }
+    }
+
+    /// Counts the bits that are set, so that `count` need not until one changes.
+    pub fn keep_count(&mut self)
+        ensures { self.new ≡ self.old }
+    {
+        self.counted = Some(self.count());
     }
 
     /// Makes room for so many bits in all; `Memory` where that is refused.
@@ -172,6 +196,8 @@ impl BitRow {
         ensures bits { self.new.bits ≡ self.old.bits ++ bit ∷ [] }
         ensures room { self.old.room ≤ self.new.room }
     {
+        let counted = count_with(self.counted, bit);
+        self.counted = counted;
         make_room_for_bit(&mut self.words, self.len);
         put_bit(&mut self.words, self.len, bit);
         self.len += 1;
@@ -186,6 +212,7 @@ impl BitRow {
         ensures bits { (i : ℕ) → slice_index_or self.new.bits i false ≡ slice_index_or self.old.bits i false }
         ensures room { self.old.room ≤ self.new.room }
     {
+        self.counted = None;
         make_room_for_bit(&mut self.words, self.len);
         self.len += 64;
     }
@@ -206,6 +233,7 @@ impl BitRow {
         ensures others { (i : ℕ) → (i / 64 ≡ chunk → ⊥) → slice_index_or self.new.bits i false ≡ slice_index_or self.old.bits i false }
         ensures room { self.new.room ≡ self.old.room }
     {
+        self.counted = None;
         let left = self.len - 64 * chunk;
         self.words[chunk] = low_bits(word, left.min(64));
     }

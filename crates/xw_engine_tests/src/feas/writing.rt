@@ -1,5 +1,6 @@
 //! Lists of cells that are written, and the same cells one after another in a second engine.
-use crate::edits::{SQUARE, Start, add_all, at, engine};
+use crate::edits::{Do, SQUARE, add_all, at, engine};
+use crate::feas::{Step, pass};
 use std::alloc::Global;
 use std::process::Abort;
 use xw_feas::edit::{Edit, Refusal};
@@ -65,31 +66,38 @@ fn have_same_words(one: &Plain, other: &Plain) -> bool {
     true
 }
 
-/// Writes each list at once in one engine and in turn in another, and compares the two.
-fn write_both_ways(
+/// Writes a list at once in one engine and in turn in another.
+fn write_twice(
+    alloc: Global,
+    one: &mut Plain,
+    other: &mut Plain,
+    spelled: List,
+) -> Result<(), Refusal> {
+    let list = list_of(alloc, spelled)?;
+    let _ = one.edit(&Edit::Write(list.as_slice()))?;
+    write_in_turn(other, list.as_slice())
+}
+
+/// Writes each list in both ways, and compares the two engines after it.
+fn write_each(
     rt: &(impl Abort + AllocGlobal),
-    start: Start,
+    one: &mut Plain,
+    other: &mut Plain,
     lists: &[List],
 ) -> Result<(), Refusal> {
-    let (width, height, texts) = start;
-    let mut one = engine(rt.alloc(), width, height)?;
-    let mut other = engine(rt.alloc(), width, height)?;
-    add_all(&mut one, texts)?;
-    add_all(&mut other, texts)?;
     for (place, spelled) in lists.iter().enumerate() {
-        let list = list_of(rt.alloc(), *spelled)?;
-        let _ = one.edit(&Edit::Write(list.as_slice()))?;
-        write_in_turn(&mut other, list.as_slice())?;
-        assert!(rt;
-            have_same_cells(&one, &other),
-            "the cells after list {place}"
-        );
-        assert!(rt;
-            have_same_words(&one, &other),
-            "the words after list {place}"
-        );
+        write_twice(rt.alloc(), one, other, *spelled)?;
+        assert!(rt; have_same_cells(one, other), "the cells after list {place}");
+        assert!(rt; have_same_words(one, other), "the words after list {place}");
     }
     Ok(())
+}
+
+fn square(alloc: Global) -> Result<Plain, Refusal> {
+    let (width, height, texts) = SQUARE;
+    let mut square = engine(alloc, width, height)?;
+    add_all(&mut square, texts)?;
+    Ok(square)
 }
 
 const LISTS: &[List] = &[
@@ -105,7 +113,9 @@ const LISTS: &[List] = &[
 
 #[test]
 fn lists_written_at_once_and_in_turn(rt: HostRuntime) -> Result<(), Refusal> {
-    write_both_ways(&rt, SQUARE, LISTS)
+    let mut one = square(rt.alloc())?;
+    let mut other = square(rt.alloc())?;
+    write_each(&rt, &mut one, &mut other, LISTS)
 }
 
 /// Lists for a square with its last cell blocked, each with the fault that refuses it.
@@ -119,27 +129,49 @@ const REFUSED: &[(List, GridFault)] = &[
     (&[(2, 2, None), (0, 1, None)], GridFault::OnBlock),
 ];
 
-#[test]
-fn lists_refused_as_a_whole(rt: HostRuntime) -> Result<(), Refusal> {
-    let (width, height, texts) = SQUARE;
-    let mut one = engine(rt.alloc(), width, height)?;
-    let mut other = engine(rt.alloc(), width, height)?;
-    add_all(&mut one, texts)?;
-    add_all(&mut other, texts)?;
-    let _ = one.edit(&Edit::Block(at(2, 2)))?;
-    let _ = other.edit(&Edit::Block(at(2, 2)))?;
-    for (place, refused) in REFUSED.iter().enumerate() {
+/// Why an engine does not write a list.
+fn refusal_of(
+    alloc: Global,
+    engine: &mut Plain,
+    spelled: List,
+) -> Result<Option<Refusal>, Refusal> {
+    let list = list_of(alloc, spelled)?;
+    Ok(engine.edit(&Edit::Write(list.as_slice())).err())
+}
+
+/// Has each list refused by one engine, and compares it with another that no list was given.
+fn refuse_each(
+    rt: &(impl Abort + AllocGlobal),
+    one: &mut Plain,
+    other: &Plain,
+    lists: &[(List, GridFault)],
+) -> Result<(), Refusal> {
+    for (place, refused) in lists.iter().enumerate() {
         let (spelled, fault) = *refused;
-        let list = list_of(rt.alloc(), spelled)?;
-        let refusal = one.edit(&Edit::Write(list.as_slice())).err();
+        let refusal = refusal_of(rt.alloc(), one, spelled)?;
         assert!(rt;
             refusal == Some(Refusal::Grid(fault)),
             "the refusal of list {place}"
         );
-        assert!(rt;
-            have_same_cells(&one, &other),
-            "the cells after list {place}"
-        );
+        assert!(rt; have_same_cells(one, other), "the cells after list {place}");
     }
     Ok(())
+}
+
+const CORNER_BLOCKED: &[Step] = &[Step::Told(
+    Do::Block(2, 2),
+    &[(1, 1, b"AIST"), (1, 2, b"NOST"), (2, 1, b"NOST")],
+)];
+
+fn blocked_square(rt: &(impl Abort + AllocGlobal)) -> Result<Plain, Refusal> {
+    let mut blocked = square(rt.alloc())?;
+    pass(rt, &mut blocked, CORNER_BLOCKED)?;
+    Ok(blocked)
+}
+
+#[test]
+fn lists_refused_as_a_whole(rt: HostRuntime) -> Result<(), Refusal> {
+    let mut one = blocked_square(&rt)?;
+    let other = blocked_square(&rt)?;
+    refuse_each(&rt, &mut one, &other, REFUSED)
 }

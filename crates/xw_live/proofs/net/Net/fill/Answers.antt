@@ -18,6 +18,7 @@ use Rattle.xw_live.proofs.Left.{base_read}
 use Rattle.xw_live.proofs.Rooms.{known_few}
 use Rattle.xw_live.proofs.Quiet.{quiet_queue, quiet_seeds, quiet_stack_room}
 use Rattle.xw_live.specs.Filled.{IsWholeNet}
+use Rattle.xw_live.proofs.Alike.{roomier_filled}
 use Rattle.xw_live.proofs.Unstripped.{brought_unstripped}
 use Rattle.xw_live.proofs.Fresh.{brought_ready_all}
 use Rattle.xw_live.proofs.net.Net.fill.Goals as goal
@@ -86,7 +87,8 @@ returns-clause-filled g c dictionary position =
         ap (λ (rows : List RowOfBits). (row_at rows light).room) base_is,
       );
     } in
-    last.ensures.filled dictionary position' (brought_unstripped board dictionary start back.new.self c.unmark.new.self whole is_base
+    roomier_filled last.new.self c.keep_counts.new.self c.keep_counts.ensures board dictionary
+    (last.ensures.filled dictionary position' (brought_unstripped board dictionary start back.new.self c.unmark.new.self whole is_base
     (c.unmark.ensures.shaped board back.ensures.shaped) (c.unmark.ensures.chained board back.ensures.chained)
     (back.ensures.bits (row dictionary) whole.bits) back.ensures.base back.ensures.stack back.ensures.row_room (is_marked back.new.self.is_marked.items) (back.ensures.brought dictionary is_base)
-    ready (λ light place letter here capital lt. absurd (omega (arith, lt, held_far light place letter here capital))) fresh.pending c.unmark.ensures.rest c.unmark.ensures.marked)
+    ready (λ light place letter here capital lt. absurd (omega (arith, lt, held_far light place letter here capital))) fresh.pending c.unmark.ensures.rest c.unmark.ensures.marked))

@@ -1,12 +1,15 @@
 use Rattle.std.proofs.Common.{ℕ, List, ◌∙◌, ap, arith}
 use Rattle.xw_words.specs.Dictionary.{Entry}
+use Rattle.xw_live.specs.Layout.{layout_of}
+use Rattle.xw_live.proofs.Alike.{roomier_alike}
 use Rattle.xw_live.proofs.CostBound.{settled_cost}
 use Rattle.xw_live.proofs.net.Net.settle.Goals as goal
 
 pub returns-clause-settled : goal.returns-clause-settled
 returns-clause-settled g c before words action read is settled =
-    c.strip.ensures.settled words (λ count. ap (λ (entries : ℕ → List Entry). entries count) c.revive.ensures.entries ∙ read count) is.formed_now
-    (c.revive.ensures.revived before words action read is settled).unstripped
+    (roomier_alike c.strip.new.self c.keep_counts_after.new.self c.keep_counts_after.new.self.spare c.keep_counts_after.ensures).settled (layout_of c.args.grid.now) words
+    (c.strip.ensures.settled words (λ count. ap (λ (entries : ℕ → List Entry). entries count) c.revive.ensures.entries ∙ read count) is.formed_now
+    (c.revive.ensures.revived before words action read is settled).unstripped)
 
 pub returns-clause-cost : goal.returns-clause-cost
 returns-clause-cost g c before words action member read is settled region =

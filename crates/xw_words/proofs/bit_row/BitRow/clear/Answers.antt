@@ -13,6 +13,7 @@ invariant_of-self c = record {
   nothing_past = λ i le.
       ap (λ ws. words_have ws i) (with_items_is c.self.inside.words c.fill.new.self (omega (arith, c.fill.ensures.len, c.as_mut_slice.ensures.len)) ∙ c.fill.ensures.after (λ y clone. clone))
       ∙ zeros_have (length c.as_mut_slice.result.now) i;
+  counted = tt;
 }
 
 pub returns-clause-len : goal.returns-clause-len

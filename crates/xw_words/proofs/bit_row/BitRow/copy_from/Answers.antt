@@ -19,6 +19,7 @@ invariant_of-self c =
       nothing_past = λ i le.
           ap (λ ws. words_have ws i) (with_items_is r.words c.copy_from_slice.new.self (omega (arith, c.copy_from_slice.ensures.len, c.as_mut_slice.ensures.len)) ∙ c.copy_from_slice.ensures.after ∙ c.deref.ensures.value)
           ∙ c.other.invariant.nothing_past i (omega (arith, le, same));
+      counted = tt;
     }
 
 pub returns-clause-bits : goal.returns-clause-bits

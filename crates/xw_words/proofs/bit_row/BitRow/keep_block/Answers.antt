@@ -16,6 +16,7 @@ invariant_of-self c = record {
   nothing_past = λ i le.
       ap (λ ws. words_have ws i) (with_items_is c.self.inside.words c.keep_at.new.words (omega (arith, c.keep_at.auto.words, c.deref_mut.ensures.len)))
       ∙ block_none c.deref_mut.result.now c.keep_at.new.words c.args.block c.args.at c.keep_at.ensures.below c.keep_at.ensures.inside c.keep_at.ensures.above i (ap (λ ws. words_have ws i) c.deref_mut.ensures.value ∙ c.self.invariant.nothing_past i le);
+  counted = tt;
 }
 
 pub returns-clause-len : goal.returns-clause-len

@@ -16,6 +16,7 @@ invariant_of-self c =
       small = omega (arith, known, c.requires.small);
       words_len = omega (arith, known, c.requires.whole, c.make_room_for_bit.ensures.words);
       nothing_past = λ i le. c.make_room_for_bit.ensures.bits i ∙ c.self.invariant.nothing_past i (omega (arith, le));
+      counted = tt;
     }
 
 pub returns-clause-len : goal.returns-clause-len
