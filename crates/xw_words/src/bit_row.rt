@@ -6,8 +6,8 @@ ghost use Rattle.xw_words.specs.Places.{set_places};
 
 use crate::fault::WordFault;
 use crate::kernels::{
-    and_not_words, and_words, block_at, count_words, is_clear_block, keep_at, low_bits,
-    make_room_for_bit, next_common, put_bit, with_bit,
+    and_not_words, and_words, block_at, count_after, count_words, is_clear_block, keep_at,
+    low_bits, make_room_for_bit, next_common, put_bit, with_bit,
 };
 use crate::ones::{Ones, next_one};
 use std::alloc::Global;
@@ -17,7 +17,8 @@ use std::simd::prelude::*;
 /// The most bits that a row may be given room for.
 pub const MAX_BITS: usize = 0x1FF_FFFF_FFFF_FFFF;
 
-/// Bits in a row, packed 64 to a word. How many are set is known where they were counted since one changed.
+/// Bits in a row, packed 64 to a word. How many are set is known once they were counted, and stays known where
+/// one chunk is replaced; any other change drops it.
 #[derive(Drop)]
 pub struct BitRow {
     words: Vec<u64>,
@@ -233,9 +234,10 @@ impl BitRow {
         ensures others { (i : ℕ) → (i / 64 ≡ chunk → ⊥) → slice_index_or self.new.bits i false ≡ slice_index_or self.old.bits i false }
         ensures room { self.new.room ≡ self.old.room }
     {
-        self.counted = None;
         let left = self.len - 64 * chunk;
-        self.words[chunk] = low_bits(word, left.min(64));
+        let word = low_bits(word, left.min(64));
+        self.counted = count_after(&self.words, chunk, word, self.counted);
+        self.words[chunk] = word;
     }
 
     /// Sets the bit at a place, or clears it.
