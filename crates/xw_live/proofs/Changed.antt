@@ -28,7 +28,8 @@ use Rattle.xw_live.specs.Brought.{IsBase}
 use Rattle.xw_live.specs.Revival.{same_light, StandsOn}
 use Rattle.xw_live.specs.Region.{IsRegion, edited_cells, changes_words}
 use Rattle.xw_live.specs.Marks.{Marks, IsPlace, cell_at, slot_at, known, puts}
-use Rattle.xw_live.specs.Begin.{IsEdited, is_long, is_read, may_have, is_seed, is_fill, IsStarted, common_bits}
+use Rattle.xw_live.specs.Begin.{IsEdited, is_long, is_read, may_have, is_seed, is_fill, IsStarted}
+use Rattle.xw_live.proofs.Narrowed.{common_bits}
 use Rattle.xw_live.proofs.Exact.{exact_may}
 use Rattle.xw_live.proofs.Changing.{written_places}
 use Rattle.xw_live.proofs.Region.{light_stands}

@@ -63,3 +63,4 @@ pub mod Idle
 pub mod Made
 pub mod Next
 pub mod Noting
+pub mod Narrowed

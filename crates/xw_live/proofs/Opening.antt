@@ -13,6 +13,7 @@ use Rattle.xw_feas.specs.Choices.{is_base_at}
 use Rattle.xw_feas.specs.Flags.{set_has}
 use Rattle.xw_feas.specs.State.{State, Action, after, letter_set, cell_cleared, word_placed, list_written, block_toggled, bar_toggled, symmetry_chosen, word_added, word_struck, add_word, strike_word}
 use Rattle.xw_feas.proofs.ChoicesLemmas.{base_flag_entered}
+use Rattle.xw_feas.proofs.Support.{set_flag_within}
 use Rattle.xw_feas.proofs.FormedLemmas.{light_in, length-light_at, within_lights, place_is, inside_at}
 use Rattle.xw_live.specs.declared.net.Net.{Net}
 use Rattle.xw_live.specs.declared.change.Change.{Change}
@@ -25,7 +26,7 @@ use Rattle.xw_live.specs.Filled.{IsFilled}
 use Rattle.xw_live.specs.Renumber.{same_before}
 use Rattle.xw_live.specs.Spread.{is_marked, bits_in, HasAll}
 use Rattle.xw_live.specs.Brought.{IsBase}
-use Rattle.xw_live.specs.Begin.{common_bits, is_long, may_have, AreBaseBut, IsPrepared}
+use Rattle.xw_live.specs.Begin.{IsNarrowedRow, is_long, may_have, AreBaseBut, IsPrepared}
 use Rattle.xw_live.specs.Opened.{arrays_of, IsOpening, IsMoved}
 use Rattle.xw_live.proofs.Exact.{exact_base}
 use Rattle.xw_live.proofs.Same.{same_is_matching, same_is_whole}
@@ -35,6 +36,7 @@ use Rattle.xw_live.proofs.NetLemmas.{waiting_within}
 use Rattle.xw_live.proofs.Edits.{with_words-Ok}
 use Rattle.xw_live.proofs.Started.{empty_not_whole}
 use Rattle.xw_live.proofs.Listed.{inside_sized}
+use Rattle.xw_live.proofs.Narrowed.{common_bits, narrowed_common}
 use Rattle.xw_live.proofs.Changed.{base_bits_same, changed_base, changed_entry_calm, changed_entry_kept, changed_words_same, changed_has_not, changed_spelled, row_narrowed}
 
 -- a word that is added or struck leaves the grid
@@ -224,6 +226,22 @@ module _ (before now : State) (action : Action) (change : Change) (is : IsChange
       let last = base_flag_entered (board_of before.grid) before.words (light_at (board_of before.grid) other) (length (row before.words (length (light_at (board_of before.grid) other)))) (sym (length-map (row before.words (length (light_at (board_of before.grid) other))) (λ (word : Entry). word.word))) in
       whole_stays light in_board no_seed (ap (is_wholly_entered (board_of before.grid)) (matching.cells light other in_board at) ∙ sym last ∙ base)
 
+  -- after an edit of a word each other word that stood is a base word still
+  still_base : (light other : ℕ) → light < length (board_of now.grid).lights → same_light before.grid now.grid light ≡ Some other
+      → (place : ℕ) → change.word ≡ Some (length (light_at (board_of now.grid) light), place) → (k : ℕ) → (k ≡ place → ⊥) → get_or (bits_in settled.rows.items other) k false ≡ true
+      → get_or (base_bits (board_of now.grid) (light_at (board_of now.grid) light) (row now.words (length (light_at (board_of now.grid) light)))) k false ≡ true
+  unfolding word_stands
+  still_base light other in_board at place some k apart stood =
+      let in_before = matching.lights light other in_board at in
+      let cells = light_at (board_of before.grid) other in
+      let below : k < length (bits_in settled.rows.items other) = set_flag_within (bits_in settled.rows.items other) k stood in
+      let many = filled.whole.bits other in_before ∙ sym (length-base_bits (board_of before.grid) (light_at (board_of before.grid) other) (row before.words (length (light_at (board_of before.grid) other)))) in
+      let stands = get_or_append_left (bits_in settled.rows.items other) (get_or settled.entered.items other false ∷ []) false k below ∙ stood in
+      sym (base_bit (board_of now.grid) (light_at (board_of now.grid) light) (row now.words (length (light_at (board_of now.grid) light))) k)
+      ∙ sym (base_but light in_board place some k apart) ∙ moved.base_at light other k in_board at ∙ ap (λ bits. get_or bits k false) (filled.is_base other in_before)
+      ∙ sym (get_or_append_left (base_bits (board_of before.grid) (light_at (board_of before.grid) other) (row before.words (length (light_at (board_of before.grid) other)))) (is_wholly_entered (board_of before.grid) (light_at (board_of before.grid) other) ∷ []) false k (omega (arith, below, many)))
+      ∙ exact_base (board_of before.grid) before.words _ _ filled.exact other k in_before stands
+
   pub opened_words_on : (light other choice : ℕ) → light < length (board_of now.grid).lights → seed light ≡ false → queued light ≡ true → same_light before.grid now.grid light ≡ Some other
       → word_stands opened light choice ≡ (word_stands settled other choice && is_base_at (board_of now.grid) now.words light choice)
   unfolding word_stands
@@ -234,8 +252,13 @@ module _ (before now : State) (action : Action) (change : Change) (is : IsChange
       let e = get_or settled.entered.items other false in
       let whole = is_wholly_entered (board_of now.grid) (light_at (board_of now.grid) light) in
       let many = kept_known light other in_board no_seed at in
+      let long : length (bits_in settled.rows.items other) ≡ length base =
+      filled.whole.bits other in_before ∙ sym many ∙ sym (length-base_bits (board_of now.grid) (light_at (board_of now.grid) light) (row now.words (length (light_at (board_of now.grid) light)))) in
       let bits : bits_in opened.rows.items light ≡ common_bits (bits_in settled.rows.items other) base =
-      opened_prepared.rows_on light in_board on ∙ ap (λ b. common_bits b (base_bits (board_of now.grid) (light_at (board_of now.grid) light) (row now.words (length (light_at (board_of now.grid) light))))) (moved.rows light other in_board at many) in
+      narrowed_common change.word (length cells) (bits_in settled.rows.items other) base (bits_in opened.rows.items light) long
+      (subst (λ b. IsNarrowedRow change.word (length (light_at (board_of now.grid) light)) b (base_bits (board_of now.grid) (light_at (board_of now.grid) light) (row now.words (length (light_at (board_of now.grid) light)))) (bits_in opened.rows.items light))
+      (moved.rows light other in_board at many) (opened_prepared.rows_on light in_board on))
+      (λ place some k apart stood. still_base light other in_board at place some k apart stood) in
       let last : get_or settled.entered.items other false ≡ (get_or settled.entered.items other false && is_wholly_entered (board_of now.grid) (light_at (board_of now.grid) light)) = elim (cases_Bool (get_or settled.entered.items other false)) [
         | inl stood ↦ stood ∙ sym (and_from _ _ stood (entered_whole light other in_board no_seed at stood))
         | inr none ↦ none ∙ sym (ap (λ b. b && is_wholly_entered (board_of now.grid) (light_at (board_of now.grid) light)) none)

@@ -1,6 +1,5 @@
 -- From where the revival and the stripping begin after an edit.
 use Rattle.std.specs.Prelude.{◌≡◌, ℕ, ◌+◌, ◌<◌, Bool, true, false, List, length, slice_index, slice_index_or, Option, Some, None, is_some, is_none, Contains, ◌&&◌, ◌||◌, ◌==◌, nat_le}
-use Rattle.std.specs.Simd.Lanes.{zip2}
 use Rattle.xw_words.specs.Bits.{RowOfBits}
 use Rattle.xw_words.specs.Letter.{is_capital}
 use Rattle.xw_words.specs.Dictionary.{Entry, Dictionary}
@@ -39,8 +38,12 @@ is_read board word in_queue light = in_queue light || is_long word (length (ligh
 abbrev pub is_seed : Board → Option (ℕ × ℕ) → List ℕ → List Bool → Bool
 is_seed board word cells bits = is_wholly_entered board cells || may_have word (length cells) bits
 
-abbrev pub common_bits : List Bool → List Bool → List Bool
-common_bits bits others = zip2 (λ x y. x && y) bits others
+-- Of the words of a light the base words are left. Where a word as long as the light is changed, that one alone need be looked at.
+pub record IsNarrowedRow (word : Option (ℕ × ℕ)) (count : ℕ) (bits base bits' : List Bool) : Type 0 where
+  pub len : length bits' ≡ length bits
+  pub from : (k : ℕ) → slice_index_or bits' k false ≡ true → slice_index_or bits k false ≡ true
+  pub stays : (k : ℕ) → slice_index_or bits k false ≡ true → slice_index_or base k false ≡ true → slice_index_or bits' k false ≡ true
+  pub goes : (k : ℕ) → (is_long word count ≡ true → word ≡ Some (count, k)) → slice_index_or base k false ≡ false → slice_index_or bits' k false ≡ false
 
 module _ (board : Board) where
   -- a cell that was edited, with its entry of before: lights are queued and marked, and letters stand
@@ -86,7 +89,7 @@ AreBaseBut board entries word base = (light : ℕ) → light < length board.ligh
 pub record IsPrepared (board : Board) (entries : ℕ → List Entry) (word : Option (ℕ × ℕ)) (rows rows' base base' : List RowOfBits) (in_queue in_chain : ℕ → Bool) : Type 0 where
   pub base_on : (light : ℕ) → light < length board.lights → is_read board word in_queue light ≡ true → bits_in base' light ≡ base_bits board (light_at board light) (entries (length (light_at board light)))
   pub base_off : (light : ℕ) → is_read board word in_queue light ≡ false → bits_in base' light ≡ bits_in base light
-  pub rows_on : (light : ℕ) → light < length board.lights → in_queue light ≡ true → bits_in rows' light ≡ common_bits (bits_in rows light) (base_bits board (light_at board light) (entries (length (light_at board light))))
+  pub rows_on : (light : ℕ) → light < length board.lights → in_queue light ≡ true → IsNarrowedRow word (length (light_at board light)) (bits_in rows light) (base_bits board (light_at board light) (entries (length (light_at board light)))) (bits_in rows' light)
   pub rows_off : (light : ℕ) → in_queue light ≡ false → bits_in rows' light ≡ bits_in rows light
   -- the word that is changed is no base word of a light that is not queued, and did not stand there
   pub calm : (light : ℕ) → light < length board.lights → in_queue light ≡ false → may_have word (length (light_at board light)) (base_bits board (light_at board light) (entries (length (light_at board light)))) ≡ false

@@ -181,7 +181,7 @@ fn read_chunk<R: Rows>(
 }
 
 /// The place of a word that is changed, if it is so long.
-fn place_if_long(word: Option<(usize, usize)>, count: usize) -> Option<usize>
+pub(crate) fn place_if_long(word: Option<(usize, usize)>, count: usize) -> Option<usize>
     ensures found { IfSome result (λ place. word ≡ Some (count, place)) }
     ensures none { IfNone result ((place : ℕ) → word ≡ Some (count, place) → ⊥) }
 {

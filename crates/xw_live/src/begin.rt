@@ -7,7 +7,7 @@ ghost use Rattle.xw_feas.specs.Feasible.{may_stand};
 ghost use Rattle.xw_feas.specs.Flags.{set_has};
 ghost use Rattle.xw_live.specs.Marks.{IsPlace, cell_at};
 ghost use Rattle.xw_live.specs.Spread.{is_marked, is_waiting, no_places, IsSpread, HasAll, HasSeeds, Grows, bits_in};
-ghost use Rattle.xw_live.specs.Begin.{is_fill, IsEdited, may_have, is_seed as is_seed_of, has_changed, is_read, common_bits, AreBaseBut, IsPrepared};
+ghost use Rattle.xw_live.specs.Begin.{is_fill, IsEdited, may_have, is_seed as is_seed_of, has_changed, is_read, IsNarrowedRow, AreBaseBut, IsPrepared};
 ghost use Rattle.xw_live.specs.Brought.{HasBase, base_cost};
 ghost use Rattle.xw_live.specs.Gone.{IsFreed};
 ghost use Rattle.xw_live.specs.Room.{row_at};
@@ -18,6 +18,7 @@ ghost use Rattle.std.specs.Option.{option_and_then};
 use crate::base::read_marked;
 use crate::change::Change;
 use crate::gone::raise_gone;
+use crate::narrow::narrow_row;
 use crate::seeds::{free_cell, mark_found, mark_new, mark_through};
 use crate::spread::letters_allowed;
 use xw_feas::board::Board;
@@ -147,19 +148,6 @@ fn edit_cells(
     }
 }
 
-/// Of the words that stand for a light, leaves the base words.
-fn narrow_row(base: &[BitRow], light: usize, rows: &mut [BitRow])
-    requires base { light < length base.now }
-    requires rows { light < length rows.old }
-    requires bits { length (bits_in rows.old light) ≡ length (bits_in base.now light) }
-    ensures len { length rows.new ≡ length rows.old }
-    ensures row_room { (other : ℕ) → (row_at rows.old other).room ≤ (row_at rows.new other).room }
-    ensures here { bits_in rows.new light ≡ common_bits (bits_in rows.old light) (bits_in base.now light) }
-    ensures others { (other : ℕ) → (other ≡ light → ⊥) → bits_in rows.new other ≡ bits_in rows.old other }
-{
-    rows[light].and(&base[light]);
-}
-
 /// Whether a word that is changed is among those of a light with so many cells, or is the last
 /// one known.
 fn may_have_word(word: Option<(usize, usize)>, count: usize, row: &BitRow) -> bool
@@ -202,7 +190,7 @@ fn touch_light(
     requires room { vec_len stack.old + count_by (λ mark. not mark) marks.old ≤ vec_capacity stack.old }
     ensures len { length rows.new ≡ length rows.old }
     ensures row_room { (other : ℕ) → (row_at rows.old other).room ≤ (row_at rows.new other).room }
-    ensures here { bits_in rows.new light ≡ common_bits (bits_in rows.old light) (bits_in base.now light) }
+    ensures here { IsNarrowedRow word (length (light_at board.now light)) (bits_in rows.old light) (bits_in base.now light) (bits_in rows.new light) }
     ensures others { (other : ℕ) → (other ≡ light → ⊥) → bits_in rows.new other ≡ bits_in rows.old other }
     ensures marks { length marks.new ≡ length marks.old }
     ensures stack { All (λ other. other < length board.now.lights) stack.new.items }
@@ -212,7 +200,7 @@ fn touch_light(
     ensures marked { is_seed_of board.now word (light_at board.now light) (bits_in base.now light) ≡ true → is_marked marks.new light ≡ true }
     ensures within { (member : ℕ → Bool) → ((other : ℕ) → is_marked marks.old other ≡ true → member other ≡ true) → member light ≡ true → (other : ℕ) → is_marked marks.new other ≡ true → member other ≡ true }
 {
-    narrow_row(base, light, rows);
+    narrow_row(board, word, base, light, rows);
     let found = if is_seed(board, word, base, light) {
         Some(light)
     } else {
@@ -240,7 +228,7 @@ fn touch_lights(
     requires room { vec_len stack.old + count_by (λ mark. not mark) marks.old ≤ vec_capacity stack.old }
     ensures len { length rows.new ≡ length rows.old }
     ensures row_room { (other : ℕ) → (row_at rows.old other).room ≤ (row_at rows.new other).room }
-    ensures on { (light : ℕ) → light < length board.now.lights → is_marked is_queued.now light ≡ true → bits_in rows.new light ≡ common_bits (bits_in rows.old light) (bits_in base.now light) }
+    ensures on { (light : ℕ) → light < length board.now.lights → is_marked is_queued.now light ≡ true → IsNarrowedRow word (length (light_at board.now light)) (bits_in rows.old light) (bits_in base.now light) (bits_in rows.new light) }
     ensures off { (light : ℕ) → is_marked is_queued.now light ≡ false → bits_in rows.new light ≡ bits_in rows.old light }
     ensures marks { length marks.new ≡ length marks.old }
     ensures stack { All (λ other. other < length board.now.lights) stack.new.items }

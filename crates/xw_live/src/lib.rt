@@ -11,6 +11,7 @@ mod fit;
 mod forget;
 mod gone;
 pub mod live;
+mod narrow;
 pub mod net;
 mod noted;
 mod place;

@@ -260,6 +260,6 @@ impl Net {
     {
         self.revive(rows, change, grid, lights);
         self.strip(rows, change, grid, lights);
-        self.keep_counts_after(change);
+        self.keep_counts();
     }
 }

@@ -1,8 +1,8 @@
-use Rattle.std.proofs.Common.{◌≡◌, true, false, get_or, refl, subst, sym, ap, ◌∙◌, inl, inr, arith}
+use Rattle.std.proofs.Common.{◌≡◌, true, false, length, get_or, refl, subst, sym, ap, ◌∙◌, inl, inr, arith}
 use Rattle.std.proofs.lemmas.Bool.{cases_eq, both_ways}
 use Rattle.xw_feas.specs.Board.{light_at}
 use Rattle.xw_live.specs.Spread.{is_marked, bits_in}
-use Rattle.xw_live.specs.Begin.{is_seed, common_bits}
+use Rattle.xw_live.specs.Begin.{is_seed, IsNarrowedRow}
 use Rattle.xw_live.proofs.SpreadLemmas.{grows_none, grows_more}
 use Rattle.xw_live.proofs.begin.touch_lights.Goals as goal
 
@@ -57,9 +57,10 @@ loop-light-preserved c =
       row_room = λ other. omega (arith, inv.row_room other, k.ensures.row_room other);
       on = λ light lt queued. elim (cases_eq light c.loop-light.light) [
         | inl e ↦
-            subst (λ n. bits_in c.touch_light.new.rows n ≡ common_bits (bits_in c.args.rows.now n) (bits_in c.args.base.now n)) (sym e)
-            (k.ensures.here ∙ ap (λ b. common_bits b (bits_in c.args.base.now c.loop-light.light)) (inv.rest c.loop-light.light (omega arith)))
-        | inr n ↦ k.ensures.others light n ∙ inv.on light (omega arith) queued
+            subst (λ n. IsNarrowedRow c.args.word (length (light_at c.args.board.now n)) (bits_in c.args.rows.now n) (bits_in c.args.base.now n) (bits_in c.touch_light.new.rows n)) (sym e)
+            (subst (λ b. IsNarrowedRow c.args.word (length (light_at c.args.board.now c.loop-light.light)) b (bits_in c.args.base.now c.loop-light.light) (bits_in c.touch_light.new.rows c.loop-light.light)) (inv.rest c.loop-light.light (omega arith)) k.ensures.here)
+        | inr n ↦
+            subst (λ b. IsNarrowedRow c.args.word (length (light_at c.args.board.now light)) (bits_in c.args.rows.now light) (bits_in c.args.base.now light) b) (sym (k.ensures.others light n)) (inv.on light (omega arith) queued)
       ];
       rest = λ light past. k.ensures.others light (λ e. absurd (omega arith)) ∙ inv.rest light (omega arith);
       off = λ light off.

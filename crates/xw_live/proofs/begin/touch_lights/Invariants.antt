@@ -1,7 +1,7 @@
 use Rattle.std.proofs.Common.{◌≡◌, ◌≤◌, ◌<◌, ◌+◌, ℕ, Bool, true, false, not, All, length, vec_len, vec_capacity, count_by}
 use Rattle.xw_feas.specs.Board.{light_at}
 use Rattle.xw_live.specs.Spread.{is_marked, Grows, bits_in}
-use Rattle.xw_live.specs.Begin.{is_seed, common_bits}
+use Rattle.xw_live.specs.Begin.{is_seed, IsNarrowedRow}
 use Rattle.xw_live.specs.Room.{row_at}
 use Rattle.xw_live.proofs.begin.touch_lights.Given as goal
 
@@ -9,7 +9,7 @@ abbrev pub invariant-loop-light : goal.invariant-loop-light
 invariant-loop-light l = record {
   len : length l.rows ≡ length l.fn.rows;
   row_room : (other : ℕ) → (row_at l.fn.rows other).room ≤ (row_at l.rows other).room;
-  on : (light : ℕ) → light < l.light → is_marked l.is_queued light ≡ true → bits_in l.rows light ≡ common_bits (bits_in l.fn.rows light) (bits_in l.base light);
+  on : (light : ℕ) → light < l.light → is_marked l.is_queued light ≡ true → IsNarrowedRow l.word (length (light_at l.board light)) (bits_in l.fn.rows light) (bits_in l.base light) (bits_in l.rows light);
   rest : (light : ℕ) → l.light ≤ light → bits_in l.rows light ≡ bits_in l.fn.rows light;
   off : (light : ℕ) → is_marked l.is_queued light ≡ false → bits_in l.rows light ≡ bits_in l.fn.rows light;
   marks_len : length l.marks ≡ length l.fn.marks;

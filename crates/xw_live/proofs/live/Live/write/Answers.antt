@@ -1,4 +1,4 @@
-use Rattle.std.proofs.Common.{◌≡◌, length, take, refl, sym, ◌∙◌, ap}
+use Rattle.std.proofs.Common.{◌≡◌, length, refl, sym, ◌∙◌, ap}
 use Rattle.std.specs.Prelude.{Ok}
 use Rattle.xw_feas.specs.State.{State, list_written, after, with_grid, by_fault}
 use Rattle.xw_feas.specs.WellFormed.{IsWellFormed}

@@ -7,7 +7,7 @@ use Rattle.xw_live.proofs.net.Net.settle.Goals as goal
 
 pub returns-clause-settled : goal.returns-clause-settled
 returns-clause-settled g c before words action read is settled =
-    (roomier_alike c.strip.new.self c.keep_counts_after.new.self c.keep_counts_after.new.self.spare c.keep_counts_after.ensures).settled (layout_of c.args.grid.now) words
+    (roomier_alike c.strip.new.self c.keep_counts.new.self c.keep_counts.new.self.spare c.keep_counts.ensures).settled (layout_of c.args.grid.now) words
     (c.strip.ensures.settled words (λ count. ap (λ (entries : ℕ → List Entry). entries count) c.revive.ensures.entries ∙ read count) is.formed_now
     (c.revive.ensures.revived before words action read is settled).unstripped)
 
