@@ -1,5 +1,5 @@
 -- The lights through a cell are those that are found there.
-use Rattle.std.proofs.Common.{◌≡◌, ℕ, ◌+◌, ◌<◌, length, get_or, sym, ◌∙◌, ap, subst, arith, inl, inr, List, Option, Some, None}
+use Rattle.std.proofs.Common.{◌≡◌, ℕ, ◌+◌, sym, ◌∙◌, ap, subst, arith, inl, inr, List, Some}
 use Rattle.std.specs.Prelude.{◌⊎◌}
 use Rattle.xw_grid.specs.declared.cell.Cell.{Cell}
 use Rattle.xw_grid.specs.declared.cell.Direction.{Direction}
@@ -7,7 +7,7 @@ use Rattle.xw_grid.specs.declared.cell.Direction.TheVariants.{Across, Down}
 use Rattle.xw_grid.specs.declared.lights.Light.{Light}
 use Rattle.xw_grid.specs.Grid.{Grid, cell_at}
 use Rattle.xw_grid.specs.Light.{lights_of, place_through}
-use Rattle.xw_feas.specs.Board.{Board, board_of, light_at}
+use Rattle.xw_feas.specs.Board.{Board, board_of}
 use Rattle.xw_feas.specs.Passes.{Passes}
 use Rattle.xw_feas.proofs.CrossingLemmas.{towards, found_at, through_at}
 

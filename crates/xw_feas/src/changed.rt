@@ -45,9 +45,13 @@ impl<'a> Iterator for Changed<'a> {
         while self.place < self.grid.size() {
             let place = self.place;
             self.place += 1;
-            let cell = self.grid.cell_at(place);
             let after = set_at(self.after, place);
-            if self.grid.is_open(cell) && !set_at(self.before, place).is_same(after) {
+            // most sets are the same, and a cell takes a division to find
+            if set_at(self.before, place).is_same(after) {
+                continue;
+            }
+            let cell = self.grid.cell_at(place);
+            if self.grid.is_open(cell) {
                 return Some((cell, after));
             }
         }

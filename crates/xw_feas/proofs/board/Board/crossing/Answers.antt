@@ -1,5 +1,5 @@
-use Rattle.std.proofs.Common.{◌≡◌, Some, None, length, get_or, refl, sym, ap, ◌∙◌}
-use Rattle.xw_grid.specs.declared.cell.Direction.TheVariants.{Across, Down}
+use Rattle.std.proofs.Common.{get_or, refl, sym, ap, ◌∙◌}
+use Rattle.xw_grid.specs.declared.cell.Direction.TheVariants.{Down}
 use Rattle.xw_grid.specs.Grid.{cell_at}
 use Rattle.xw_grid.specs.Light.{place_through}
 use Rattle.xw_feas.specs.Board.{light_at, IsCrossing, other_than}
