@@ -184,18 +184,22 @@ impl Net {
         }
     }
 
-    /// Sees to one letter at a place: it keeps its word, gets another one, or dies.
+    /// Sees to one letter that stands at a place: it keeps its word, gets another one, or dies.
     fn keep_letter<R: Rows>(&mut self, rows: &mut R, board: &Board<'_>, here: Place, letter: Letter)
         requires letter { IsLetter letter }
         requires shaped { IsShaped board.now self.old }
         requires bits { HasBits board.now (R.entries rows.old) self.old }
         requires there { IsThere board.now here }
+        requires stands { letter_stands self.old here.cell letter ≡ true }
+        requires open { slice_index_or self.old.entered.items here.light false ≡ false }
         ensures entries { R.entries rows.new ≡ R.entries rows.old }
         ensures risen { R.ticks rows.old ≤ R.ticks rows.new }
         ensures shaped { IsShaped board.now self.new }
         ensures rest { IsLeft self.old self.new }
         ensures bits { HasBits board.now (R.entries rows.old) self.new }
         ensures fewer { left_of self.new ≤ left_of self.old }
+        ensures entered { self.new.entered.items ≡ self.old.entered.items }
+        ensures others { (other : ℕ) → (other ≡ letter → ⊥) → letter_stands self.old here.cell other ≡ true → letter_stands self.new here.cell other ≡ true }
         ensures alive { (cell other : ℕ) → letter_stands self.new cell other ≡ true → letter_stands self.old cell other ≡ true }
         ensures waits { (other : ℕ) → Waits self.old other → Waits self.new other }
         ensures held { (dictionary : Dictionary) → IsPosition board.now (R.entries rows.old) dictionary → letter_stands self.new here.cell letter ≡ true → IsHeld board.now dictionary (marks_of self.new) here.light here.place letter }
@@ -204,12 +208,6 @@ impl Net {
         ensures pending { (slot other : ℕ) → pending_in self.new slot other ≡ true → (pending_in self.old slot other ≡ true) ⊎ IsSlot board.now slot }
         ensures kept { (dictionary : Dictionary) (measure : Measure) → IsPosition board.now (R.entries rows.old) dictionary → measure.member here.light ≡ true → IsUnderway board.now dictionary measure (marks_of self.old) (and_light (queued_in self.old) here.light) (R.ticks rows.old) → IsUnderway board.now dictionary measure (marks_of self.new) (and_light (queued_in self.new) here.light) (R.ticks rows.new) }
     {
-        if !self.letters[here.cell].has(letter) {
-            return;
-        }
-        if self.entered[here.light] {
-            return;
-        }
         let row = &self.rows[here.light];
         if !find_support(rows, row, here, letter, &mut self.held, &mut self.restart) {
             self.drop_letter(board, here, letter);
@@ -221,12 +219,14 @@ impl Net {
         requires shaped { IsShaped board.now self.old }
         requires bits { HasBits board.now (R.entries rows.old) self.old }
         requires place { IsPlace board.now light place }
+        requires open { slice_index_or self.old.entered.items light false ≡ false }
         ensures entries { R.entries rows.new ≡ R.entries rows.old }
         ensures risen { R.ticks rows.old ≤ R.ticks rows.new }
         ensures shaped { IsShaped board.now self.new }
         ensures rest { IsLeft self.old self.new }
         ensures bits { HasBits board.now (R.entries rows.old) self.new }
         ensures fewer { left_of self.new ≤ left_of self.old }
+        ensures entered { self.new.entered.items ≡ self.old.entered.items }
         ensures waits { (other : ℕ) → Waits self.old other → Waits self.new other }
         ensures held { (dictionary : Dictionary) → IsPosition board.now (R.entries rows.old) dictionary → (letter : ℕ) → letter_stands self.new (cell_at board.now light place) letter ≡ true → IsHeld board.now dictionary (marks_of self.new) light place letter }
         ensures stays { (dictionary : Dictionary) → IsPosition board.now (R.entries rows.old) dictionary → Stays board.now dictionary light (marks_of self.old) (marks_of self.new) }

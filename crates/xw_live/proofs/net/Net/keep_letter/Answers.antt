@@ -1,43 +1,26 @@
-use Rattle.std.proofs.Common.{◌≡◌, ◌<◌, ◌+◌, ◌-◌, ◌*◌, true, false, not, ◌&&◌, eqb, length, get_or, refl, sym, ap, ◌∙◌, inl, inr, arith}
+use Rattle.std.proofs.Common.{◌≡◌, ◌<◌, ◌+◌, ◌-◌, ◌*◌, Bool, true, false, not, ◌&&◌, eqb, length, get_or, refl, sym, ap, ◌∙◌, inl, inr, arith}
 use Rattle.std.specs.Vec.{with_items}
-use Rattle.std.proofs.lemmas.Bool.{both_ways, and_parts}
-use Rattle.std.proofs.lemmas.List.{with_items_is, get_or_default}
+use Rattle.std.proofs.lemmas.Bool.{and_parts, and_from, ne_eqb}
+use Rattle.std.proofs.lemmas.List.{with_items_is}
 use Rattle.std.proofs.lemmas.Option.{slice_get_read}
 use Rattle.xw_words.specs.LetterSet.{has}
 use Rattle.xw_feas.specs.Board.{light_at}
-use Rattle.xw_live.specs.Marks.{cell_at, slot_at, known}
+use Rattle.xw_live.specs.Marks.{cell_at, slot_at}
 use Rattle.xw_live.specs.Support.{Held}
 use Rattle.xw_live.specs.Nets.{marks_of, bits_at, bits_for, word_stands, letter_stands, held_in, restart_in, pending_in, queued_in}
 use Rattle.xw_live.specs.declared.net.Net.{Net}
 use Rattle.xw_live.proofs.Striking.{set_letter}
-use Rattle.xw_live.proofs.Rows.{entered_is, bits_known}
 use Rattle.xw_live.proofs.HeldWords.{same_holding}
 use Rattle.xw_live.proofs.Found.{finds_at, found_held, found_stays, found_holding, found_kept, none_kept, none_stays}
 use Rattle.xw_live.proofs.net.Net.keep_letter.Goals as goal
 
-pub returns-then-not-has-clause-held : goal.returns-then-not-has-clause-held
-unfolding letter_stands
-returns-then-not-has-clause-held g c dictionary position alive =
-    let sets = c.args.self.now.letters.items in
-    let cell = c.args.here.cell in
-    let within : cell < length sets = omega (arith, c.requires.there.in_board, c.requires.shaped.letters) in
-    absurd (both_ways (has (get_or sets cell 0) c.args.letter) (ap (λ s. has s c.args.letter) (sym (get_or_default sets cell c.index.result.now 0 within) ∙ sym c.index.ensures) ∙ sym c.has.ensures ∙ c.if-not-has.true) alive)
-
-pub returns-then-index-clause-held : goal.returns-then-index-clause-held
-returns-then-index-clause-held g c dictionary position alive =
-    let old = c.args.self.now in
-    let i = c.args.here.light in
-    let within : i < length old.entered.items = omega (arith, c.requires.there.place.0, c.requires.shaped.entered) in
-    inr (entered_is old i (known c.args.board.now dictionary i) (bits_known c.args.board.now (g.R.Rows.entries c.args.rows.now) dictionary position old c.requires.bits i c.requires.there.place.0)
-    ∙ sym (get_or_default old.entered.items i c.index-2.result.now false within) ∙ sym c.index-2.ensures ∙ c.if-index.true)
+not_both : (b : Bool) → not (b && false) ≡ true
+not_both true = refl
+not_both false = refl
 
 pub drop_letter-requires-clause-stood : goal.drop_letter-requires-clause-stood
 unfolding letter_stands
-drop_letter-requires-clause-stood g c =
-    let sets = c.args.self.now.letters.items in
-    let cell = c.args.here.cell in
-    let within : cell < length sets = omega (arith, c.requires.there.in_board, c.requires.shaped.letters) in
-    ap (λ s. has s c.args.letter) (sym (get_or_default sets cell c.index.result.now 0 within) ∙ sym c.index.ensures) ∙ sym c.has.ensures ∙ c.if-not-has.false
+drop_letter-requires-clause-stood g c = c.requires.stands
 
 pub returns-then-not-find_support-clause-waits : goal.returns-then-not-find_support-clause-waits
 unfolding queued_in
@@ -66,8 +49,7 @@ returns-else-not-find_support-clause-held g c dictionary position alive =
     let row_is = slice_get_read old.rows.items (length old.rows.items) i c.index-row.result.now refl in_rows c.index-row.ensures in
     let before : Held = record { places = old.held.items; restart = old.restart.items } in
     let after : Held = record { places = new.held.items; restart = new.restart.items } in
-    let within : i < length old.entered.items = omega (arith, there.place.0, shaped.entered) in
-    let no_entry : get_or old.entered.items i false ≡ false = sym (get_or_default old.entered.items i c.index-2.result.now false within) ∙ sym c.index-2.ensures ∙ c.if-index.false in
+    let no_entry : get_or old.entered.items i false ≡ false = c.requires.open in
     let spent = g.R.Rows.ticks k.new.rows - g.R.Rows.ticks c.args.rows.now in
     let outcome = finds_at c.index-row.result.now.bits (bits_for old i) (entries c.args.here.count) (entries (length (light_at board i))) q b c.args.here.slot (slot_at board i q) spent k.result
     (record { places = c.deref_mut.result.now; restart = c.deref_mut-2.result.now }) before (record { places = k.new.held; restart = k.new.restart }) after
@@ -94,8 +76,7 @@ returns-else-not-find_support-clause-stays g c dictionary position r d here stoo
     let row_is = slice_get_read old.rows.items (length old.rows.items) i c.index-row.result.now refl in_rows c.index-row.ensures in
     let before : Held = record { places = old.held.items; restart = old.restart.items } in
     let after : Held = record { places = new.held.items; restart = new.restart.items } in
-    let within : i < length old.entered.items = omega (arith, there.place.0, shaped.entered) in
-    let no_entry : get_or old.entered.items i false ≡ false = sym (get_or_default old.entered.items i c.index-2.result.now false within) ∙ sym c.index-2.ensures ∙ c.if-index.false in
+    let no_entry : get_or old.entered.items i false ≡ false = c.requires.open in
     let spent = g.R.Rows.ticks k.new.rows - g.R.Rows.ticks c.args.rows.now in
     let outcome = finds_at c.index-row.result.now.bits (bits_for old i) (entries c.args.here.count) (entries (length (light_at board i))) q b c.args.here.slot (slot_at board i q) spent k.result
     (record { places = c.deref_mut.result.now; restart = c.deref_mut-2.result.now }) before (record { places = k.new.held; restart = k.new.restart }) after
@@ -123,16 +104,13 @@ returns-else-not-find_support-clause-kept g c dictionary measure position in_set
     let row_is = slice_get_read old.rows.items (length old.rows.items) i c.index-row.result.now refl in_rows c.index-row.ensures in
     let before : Held = record { places = old.held.items; restart = old.restart.items } in
     let after : Held = record { places = new.held.items; restart = new.restart.items } in
-    let within : i < length old.entered.items = omega (arith, there.place.0, shaped.entered) in
-    let no_entry : get_or old.entered.items i false ≡ false = sym (get_or_default old.entered.items i c.index-2.result.now false within) ∙ sym c.index-2.ensures ∙ c.if-index.false in
+    let no_entry : get_or old.entered.items i false ≡ false = c.requires.open in
     let spent = g.R.Rows.ticks k.new.rows - g.R.Rows.ticks c.args.rows.now in
     let outcome = finds_at c.index-row.result.now.bits (bits_for old i) (entries c.args.here.count) (entries (length (light_at board i))) q b c.args.here.slot (slot_at board i q) spent k.result
     (record { places = c.deref_mut.result.now; restart = c.deref_mut-2.result.now }) before (record { places = k.new.held; restart = k.new.restart }) after
     (sym (ap bits_at row_is)) (ap entries there.count) there.slot (λ t. record { places = c.deref_mut.ensures.value t; restart = c.deref_mut-2.ensures.value t }) (λ t. record { places = sym held_is t; restart = sym restart_is t }) k.ensures.finds in
     let in_held : 26 * slot_at board i q + (b - 65) < length old.held.items = omega (arith, there.slot, there.in_slots, shaped.held, c.requires.letter) in
-    let in_cells : c.args.here.cell < length old.letters.items = omega (arith, there.in_board, shaped.letters) in
-    let stood : letter_stands old (cell_at board i q) b ≡ true =
-    ap (λ x. has (get_or old.letters.items x 0) b) (sym there.cell) ∙ ap (λ s. has s b) (sym (get_or_default old.letters.items c.args.here.cell c.index.result.now 0 in_cells) ∙ sym c.index.ensures) ∙ sym c.has.ensures ∙ c.if-not-has.false in
+    let stood : letter_stands old (cell_at board i q) b ≡ true = ap (λ x. has (get_or old.letters.items x 0) b) (sym there.cell) ∙ c.requires.stands in
     found_kept board entries dictionary position old new c.requires.bits i q b there.place c.requires.letter (λ j k. refl) (λ x d. refl) (λ s d. refl) (λ j. refl) in_held spent k.result no_entry
     measure (g.R.Rows.ticks c.args.rows.now) (g.R.Rows.ticks k.new.rows) refl stood in_set under outcome c.if-not-find_support.false
 
@@ -156,8 +134,7 @@ returns-then-not-find_support-clause-stays g c dictionary position r d here stoo
     let row_is = slice_get_read old.rows.items (length old.rows.items) i c.index-row.result.now refl in_rows c.index-row.ensures in
     let before : Held = record { places = old.held.items; restart = old.restart.items } in
     let after : Held = record { places = new.held.items; restart = new.restart.items } in
-    let within : i < length old.entered.items = omega (arith, there.place.0, shaped.entered) in
-    let no_entry : get_or old.entered.items i false ≡ false = sym (get_or_default old.entered.items i c.index-2.result.now false within) ∙ sym c.index-2.ensures ∙ c.if-index.false in
+    let no_entry : get_or old.entered.items i false ≡ false = c.requires.open in
     let spent = g.R.Rows.ticks k.new.rows - g.R.Rows.ticks c.args.rows.now in
     let outcome = finds_at c.index-row.result.now.bits (bits_for old i) (entries c.args.here.count) (entries (length (light_at board i))) q b c.args.here.slot (slot_at board i q) spent k.result
     (record { places = c.deref_mut.result.now; restart = c.deref_mut-2.result.now }) before (record { places = k.new.held; restart = k.new.restart }) after
@@ -188,16 +165,13 @@ returns-then-not-find_support-clause-kept g c dictionary measure position in_set
     let row_is = slice_get_read old.rows.items (length old.rows.items) i c.index-row.result.now refl in_rows c.index-row.ensures in
     let before : Held = record { places = old.held.items; restart = old.restart.items } in
     let after : Held = record { places = new.held.items; restart = new.restart.items } in
-    let within : i < length old.entered.items = omega (arith, there.place.0, shaped.entered) in
-    let no_entry : get_or old.entered.items i false ≡ false = sym (get_or_default old.entered.items i c.index-2.result.now false within) ∙ sym c.index-2.ensures ∙ c.if-index.false in
+    let no_entry : get_or old.entered.items i false ≡ false = c.requires.open in
     let spent = g.R.Rows.ticks k.new.rows - g.R.Rows.ticks c.args.rows.now in
     let outcome = finds_at c.index-row.result.now.bits (bits_for old i) (entries c.args.here.count) (entries (length (light_at board i))) q b c.args.here.slot (slot_at board i q) spent k.result
     (record { places = c.deref_mut.result.now; restart = c.deref_mut-2.result.now }) before (record { places = k.new.held; restart = k.new.restart }) after
     (sym (ap bits_at row_is)) (ap entries there.count) there.slot (λ t. record { places = c.deref_mut.ensures.value t; restart = c.deref_mut-2.ensures.value t }) (λ t. record { places = sym held_is t; restart = sym restart_is t }) k.ensures.finds in
     let in_held : 26 * slot_at board i q + (b - 65) < length old.held.items = omega (arith, there.slot, there.in_slots, shaped.held, c.requires.letter) in
-    let in_cells : c.args.here.cell < length old.letters.items = omega (arith, there.in_board, shaped.letters) in
-    let stood : letter_stands old (cell_at board i q) b ≡ true =
-    ap (λ x. has (get_or old.letters.items x 0) b) (sym there.cell) ∙ ap (λ s. has s b) (sym (get_or_default old.letters.items c.args.here.cell c.index.result.now 0 in_cells) ∙ sym c.index.ensures) ∙ sym c.has.ensures ∙ c.if-not-has.false in
+    let stood : letter_stands old (cell_at board i q) b ≡ true = ap (λ x. has (get_or old.letters.items x 0) b) (sym there.cell) ∙ c.requires.stands in
     none_kept board entries dictionary position old new c.requires.bits i q b there.place c.requires.letter (λ j k. refl) (λ x d. refl) (λ s d. refl) (λ j. refl) in_held spent k.result no_entry
     measure (g.R.Rows.ticks c.args.rows.now) (g.R.Rows.ticks k.new.rows) refl stood in_set under outcome c.if-not-find_support.true
     last (λ j n. ap (λ (net : Net). word_stands net j n) c.drop_letter.ensures.same) (λ s d. ap (λ (net : Net). held_in net s d) c.drop_letter.ensures.same) (λ s d. ap (λ (net : Net). restart_in net s d) c.drop_letter.ensures.same) c.drop_letter.ensures.drops
@@ -221,8 +195,7 @@ returns-else-not-find_support-clause-holding g c dictionary position holding =
     let row_is = slice_get_read old.rows.items (length old.rows.items) i c.index-row.result.now refl in_rows c.index-row.ensures in
     let before : Held = record { places = old.held.items; restart = old.restart.items } in
     let after : Held = record { places = new.held.items; restart = new.restart.items } in
-    let within : i < length old.entered.items = omega (arith, there.place.0, shaped.entered) in
-    let no_entry : get_or old.entered.items i false ≡ false = sym (get_or_default old.entered.items i c.index-2.result.now false within) ∙ sym c.index-2.ensures ∙ c.if-index.false in
+    let no_entry : get_or old.entered.items i false ≡ false = c.requires.open in
     let spent = g.R.Rows.ticks k.new.rows - g.R.Rows.ticks c.args.rows.now in
     let outcome = finds_at c.index-row.result.now.bits (bits_for old i) (entries c.args.here.count) (entries (length (light_at board i))) q b c.args.here.slot (slot_at board i q) spent k.result
     (record { places = c.deref_mut.result.now; restart = c.deref_mut-2.result.now }) before (record { places = k.new.held; restart = k.new.restart }) after
@@ -249,8 +222,7 @@ returns-then-not-find_support-clause-holding g c dictionary position holding =
     let row_is = slice_get_read old.rows.items (length old.rows.items) i c.index-row.result.now refl in_rows c.index-row.ensures in
     let before : Held = record { places = old.held.items; restart = old.restart.items } in
     let after : Held = record { places = new.held.items; restart = new.restart.items } in
-    let within : i < length old.entered.items = omega (arith, there.place.0, shaped.entered) in
-    let no_entry : get_or old.entered.items i false ≡ false = sym (get_or_default old.entered.items i c.index-2.result.now false within) ∙ sym c.index-2.ensures ∙ c.if-index.false in
+    let no_entry : get_or old.entered.items i false ≡ false = c.requires.open in
     let spent = g.R.Rows.ticks k.new.rows - g.R.Rows.ticks c.args.rows.now in
     let outcome = finds_at c.index-row.result.now.bits (bits_for old i) (entries c.args.here.count) (entries (length (light_at board i))) q b c.args.here.slot (slot_at board i q) spent k.result
     (record { places = c.deref_mut.result.now; restart = c.deref_mut-2.result.now }) before (record { places = k.new.held; restart = k.new.restart }) after
@@ -280,3 +252,16 @@ returns-then-not-find_support-clause-alive g c cell other alive =
 pub returns-else-not-find_support-clause-alive : goal.returns-else-not-find_support-clause-alive
 unfolding letter_stands
 returns-else-not-find_support-clause-alive g c cell other alive = alive
+
+pub returns-then-not-find_support-clause-others : goal.returns-then-not-find_support-clause-others
+unfolding letter_stands
+returns-then-not-find_support-clause-others g c other apart stood =
+    let at = cell_at c.args.board.now c.args.here.light c.args.here.place in
+    let cell = c.args.here.cell in
+    c.drop_letter.ensures.drops.letters cell other
+    ∙ and_from (letter_stands c.args.self.now cell other) (not (eqb cell at && eqb other c.args.letter)) stood
+    (ap (λ b. not (eqb cell at && b)) (ne_eqb other c.args.letter apart) ∙ not_both (eqb cell at))
+
+pub returns-else-not-find_support-clause-others : goal.returns-else-not-find_support-clause-others
+unfolding letter_stands
+returns-else-not-find_support-clause-others g c other apart stood = stood

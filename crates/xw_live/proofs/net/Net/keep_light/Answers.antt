@@ -1,4 +1,4 @@
-use Rattle.std.proofs.Common.{◌≡◌, ◌<◌, false, length, sym, ap, ◌∙◌, subst, inl, inr, arith}
+use Rattle.std.proofs.Common.{◌≡◌, ◌<◌, Bool, List, false, get_or, length, sym, ap, ◌∙◌, subst, inl, inr, arith}
 use Rattle.std.proofs.lemmas.Bool.{cases_lt}
 use Rattle.std.proofs.lemmas.List.{get_or_default}
 use Rattle.xw_words.specs.Dictionary.{Dictionary}
@@ -12,6 +12,13 @@ pub keep_place-requires-clause-bits : goal.keep_place-requires-clause-bits
 keep_place-requires-clause-bits g c =
     subst (λ e. HasBits c.args.board.now e c.loop-place.self) (sym c.loop-place.invariant.same) c.loop-place.invariant.bits
 
+pub keep_place-requires-clause-open : goal.keep_place-requires-clause-open
+keep_place-requires-clause-open g c =
+    let flags = c.args.self.now.entered.items in
+    let within : c.args.light < length flags = omega (arith, c.requires.light, c.requires.shaped.entered) in
+    ap (λ (flags : List Bool). get_or flags c.args.light false) c.loop-place.invariant.entered
+    ∙ sym (get_or_default flags c.args.light c.index.result.now false within) ∙ sym c.index.ensures ∙ c.if-index.false
+
 pub loop-place-preserved : goal.loop-place-preserved
 loop-place-preserved g c =
     let inv = c.loop-place.invariant in
@@ -19,6 +26,7 @@ loop-place-preserved g c =
     let board = c.args.board.now in
     let move = λ (dictionary : Dictionary) (position : IsPosition c.args.board.now (g.R.Rows.entries c.args.rows.now) dictionary). subst (λ e. IsPosition c.args.board.now e dictionary) (sym inv.same) position in
     record {
+      entered = k.ensures.entered ∙ inv.entered;
       same = k.ensures.entries ∙ inv.same;
       risen = omega (arith, inv.risen, k.ensures.risen);
       rest = left_left inv.rest k.ensures.rest;

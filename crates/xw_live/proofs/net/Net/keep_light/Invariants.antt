@@ -7,6 +7,7 @@ use Rattle.xw_live.proofs.net.Net.keep_light.Given as goal
 
 abbrev pub invariant-loop-place : goal.invariant-loop-place
 invariant-loop-place g l = record {
+  entered : l.self.entered.items ≡ l.fn.self.entered.items;
   same : g.R.Rows.entries l.rows ≡ g.R.Rows.entries l.fn.rows;
   risen : g.R.Rows.ticks l.fn.rows ≤ g.R.Rows.ticks l.rows;
   rest : IsLeft l.fn.self l.self;

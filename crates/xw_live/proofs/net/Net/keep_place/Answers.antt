@@ -1,4 +1,4 @@
-use Rattle.std.proofs.Common.{◌≡◌, ◌+◌, ◌-◌, ℕ, true, get_or, refl, sym, ap, ◌∙◌, subst, inl, inr, arith}
+use Rattle.std.proofs.Common.{◌≡◌, ◌+◌, ◌-◌, ℕ, Bool, List, true, false, get_or, refl, sym, ap, ◌∙◌, subst, inl, inr, arith}
 use Rattle.std.proofs.lemmas.Bool.{cases_lt, both_ways}
 use Rattle.std.proofs.lemmas.List.{get_or_default}
 use Rattle.xw_words.specs.LetterSet.{has}
@@ -20,6 +20,14 @@ pub keep_letter-requires-clause-bits : goal.keep_letter-requires-clause-bits
 keep_letter-requires-clause-bits g c =
     subst (λ e. HasBits c.args.board.now e c.loop-number.self) (sym c.loop-number.invariant.same) c.loop-number.invariant.bits
 
+pub keep_letter-requires-clause-stands : goal.keep_letter-requires-clause-stands
+keep_letter-requires-clause-stands g c =
+    c.loop-number.invariant.left c.at.result (omega (arith, c.at.ensures, c.in-Some.ensures.set.0)) (ap (has c.index-alive.result.now) c.at.ensures ∙ c.in-Some.ensures.set.2)
+
+pub keep_letter-requires-clause-open : goal.keep_letter-requires-clause-open
+keep_letter-requires-clause-open g c =
+    ap (λ (flags : List Bool). get_or flags c.place_of-here.result.light false) c.loop-number.invariant.entered ∙ ap (λ n. get_or c.args.self.now.entered.items n false) c.place_of-here.ensures.light ∙ c.requires.open
+
 pub loop-number-preserved : goal.loop-number-preserved
 loop-number-preserved g c =
     let inv = c.loop-number.invariant in
@@ -39,6 +47,8 @@ loop-number-preserved g c =
     record {
       within = omega (arith, c.in-Some.ensures.set.1);
       alive = λ cell letter alive. inv.alive cell letter (k.ensures.alive cell letter alive);
+      entered = k.ensures.entered ∙ inv.entered;
+      left = λ letter past has. k.ensures.others letter (λ e. absurd (omega (arith, e, past, c.at.ensures))) (inv.left letter (omega (arith, past, c.in-Some.ensures.set.0)) has);
       same = k.ensures.entries ∙ inv.same;
       risen = omega (arith, inv.risen, k.ensures.risen);
       rest = left_left inv.rest k.ensures.rest;
@@ -92,6 +102,9 @@ unfolding letter_stands
 loop-number-init g c = record {
   within = omega arith;
   alive = λ cell letter alive. alive;
+  entered = refl;
+  left = λ letter past is. ap (λ s. has s letter)
+      (sym (c.index-alive.ensures ∙ get_or_default c.args.self.now.letters.items c.place_of-here.result.cell c.index-alive.result.now 0 (omega (arith, c.place_of-here.ensures.in_board, c.requires.shaped.letters)))) ∙ is;
   same = refl;
   risen = omega arith;
   rest = left_same _;

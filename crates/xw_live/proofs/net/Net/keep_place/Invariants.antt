@@ -1,4 +1,5 @@
 use Rattle.std.proofs.Common.{◌≡◌, ◌⊎◌, ◌<◌, ◌≤◌, ◌+◌, ◌-◌, ℕ, true}
+use Rattle.xw_words.specs.LetterSet.{has}
 use Rattle.xw_words.specs.Dictionary.{Dictionary}
 use Rattle.xw_live.specs.Marks.{IsHolding, IsSlot, IsPosition, IsHeld, Stays, cell_at}
 use Rattle.xw_live.specs.Due.{Measure, IsUnderway, and_light}
@@ -9,6 +10,8 @@ abbrev pub invariant-loop-number : goal.invariant-loop-number
 invariant-loop-number g l = record {
   within : l.from ≤ 26;
   alive : (cell letter : ℕ) → letter_stands l.self cell letter ≡ true → letter_stands l.fn.self cell letter ≡ true;
+  entered : l.self.entered.items ≡ l.fn.self.entered.items;
+  left : (letter : ℕ) → 65 + l.from ≤ letter → has l.alive letter ≡ true → letter_stands l.self l.here.cell letter ≡ true;
   same : g.R.Rows.entries l.rows ≡ g.R.Rows.entries l.fn.rows;
   risen : g.R.Rows.ticks l.fn.rows ≤ g.R.Rows.ticks l.rows;
   rest : IsLeft l.fn.self l.self;
