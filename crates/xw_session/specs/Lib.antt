@@ -19,4 +19,3 @@ pub mod Spelling
 pub mod Record
 pub mod Reply
 pub mod Answer
-pub mod Replay

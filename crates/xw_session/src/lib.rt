@@ -7,7 +7,6 @@ pub mod device;
 mod escape;
 mod fields;
 pub mod history;
-pub mod law;
 mod light_line;
 mod line;
 mod lists;

@@ -1,5 +1,0 @@
-use Rattle.xw_session.proofs.CellsAgain.{blocks_again}
-use Rattle.xw_session.proofs.law.blocks_are_made_again.Goals as goal
-
-pub returns : goal.returns
-returns c = λ state made is. blocks_again state made.position.grid is made.clues made.circles

@@ -1,5 +1,0 @@
-use Rattle.xw_session.proofs.CirclesAgain.{circles_again}
-use Rattle.xw_session.proofs.law.circles_are_made_again.Goals as goal
-
-pub returns : goal.returns
-returns c = λ state made is. circles_again state made.position.grid is made.circles made.clues

@@ -1,5 +1,0 @@
-use Rattle.xw_session.proofs.RecordAgain.{commands_again}
-use Rattle.xw_session.proofs.law.commands_make_sessions_again.Goals as goal
-
-pub returns : goal.returns
-returns c = commands_again

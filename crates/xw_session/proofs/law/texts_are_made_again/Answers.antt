@@ -1,5 +1,0 @@
-use Rattle.xw_session.proofs.Replaying.{text_again}
-use Rattle.xw_session.proofs.law.texts_are_made_again.Goals as goal
-
-pub returns : goal.returns
-returns c = text_again

@@ -1,0 +1,421 @@
+-- What a session has, it keeps.
+use Rattle.std.proofs.Common.{◌≡◌, ℕ, ◌<◌, Bool, true, false, not, ◌&&◌, ◌||◌, List, [], ◌∷◌, ◌++◌, length, map, flat_map, get_or, Some, None, refl, sym, ◌∙◌, ap, subst, arith}
+use Rattle.std.specs.Prelude.{Option, Result, Ok, Err, nat_eq, nat_le, nat_lt, position as bad_at, if◌then◌else◌, slice_get, slice_index_or}
+use Rattle.std.specs.Option.{option_and_then}
+use Rattle.std.proofs.lemmas.List.Folds.{list_any-append}
+use Rattle.std.proofs.lemmas.Option.{slice_get_within, get_or_from_slice_get}
+use Rattle.xw_words.specs.Letter.{folded, letter_of}
+use Rattle.xw_words.specs.Word.{is_bad_letter}
+use Rattle.xw_words.specs.Dictionary.{Dictionary, matching_answer, add_answer, strike_answer}
+use Rattle.xw_words.specs.declared.fault.WordFault.{WordFault}
+use Rattle.xw_words.specs.declared.fault.WordFault.TheVariants as faults
+use Rattle.xw_grid.specs.declared.cell.Cell.{Cell}
+use Rattle.xw_grid.specs.declared.cell.Direction.{Direction}
+use Rattle.xw_grid.specs.declared.cell.Direction.TheVariants.{Across, Down}
+use Rattle.xw_grid.specs.declared.fault.GridFault.{GridFault}
+use Rattle.xw_grid.specs.declared.fault.GridFault.TheVariants as grids
+use Rattle.xw_grid.specs.declared.lights.Light.{Light}
+use Rattle.xw_grid.specs.Grid.{Grid, IsGrid, is_inside, is_edge, is_barred, is_open, is_block, index_of}
+use Rattle.xw_grid.specs.Edit.{blank, new_grid, with_entry, is_occupied, with_orbit, with_edges}
+use Rattle.xw_grid.specs.Clue.{ClueMap, no_clues, with_clue, with_circle, is_circled}
+use Rattle.xw_grid.specs.Light.{lights_of, no_light, place_named, cells_of}
+use Rattle.xw_grid.proofs.OrderLemmas.{lights_are_made, made_inside}
+use Rattle.xw_feas.specs.declared.edit.Refusal.{Refusal as EditRefusal}
+use Rattle.xw_feas.specs.State.{State as Position, Action, letter_set, cell_cleared, word_placed, list_written, block_toggled, bar_toggled, symmetry_chosen, word_added, word_struck, after, with_grid as with_edited, with_words as with_dictionary, by_fault, with_letters, spelled_in, placed_in, then_write, write_list}
+use Rattle.xw_feas.specs.WellFormed.{IsWellFormed}
+use Rattle.xw_fill.specs.Position.{position_of, filled_in}
+use Rattle.xw_fill.specs.FeasibleLetters.{feasible_letters}
+use Rattle.xw_fill.specs.FeasibleWords.{feasible_words}
+use Rattle.xw_fill.specs.Listing.{duplicates_of, unlisted_of}
+use Rattle.xw_fill.specs.Search.{found, due, end}
+use Rattle.xw_fill.specs.Suggesting.{suggestion}
+use Rattle.xw_fill.specs.declared.search.Filling.TheVariants as fillings
+use Rattle.xw_files.specs.Puzzle.{TextsShown}
+use Rattle.xw_session.specs.declared.command.Command.{Command}
+use Rattle.xw_session.specs.declared.command.Command.TheVariants as commands
+use Rattle.xw_session.specs.declared.command.Field.{Field}
+use Rattle.xw_session.specs.declared.command.Putting.{Putting}
+use Rattle.xw_session.specs.declared.command.Putting.TheVariants.{Instead, Behind}
+use Rattle.xw_session.specs.declared.command.Spot.{Spot}
+use Rattle.xw_session.specs.declared.command.TextField.{TextField}
+use Rattle.xw_session.specs.declared.command.TextField.TheVariants.{Title, Author, Copyright, Notes}
+use Rattle.xw_session.specs.declared.command.SyntaxFault.{SyntaxFault}
+use Rattle.xw_session.specs.declared.outcome.Step.{Step}
+use Rattle.xw_session.specs.declared.refusal.Refusal.{Refusal}
+use Rattle.xw_session.specs.declared.refusal.Refusal.TheVariants as refusals
+use Rattle.xw_session.specs.declared.session.putting.Place.{Place}
+use Rattle.xw_session.specs.declared.session.putting.Place.TheVariants as places
+use Rattle.xw_session.specs.Refusal.{refusal_of}
+use Rattle.xw_session.specs.Answer.{Replies, state_after, AnswersParsed}
+use Rattle.xw_session.specs.Escape.{text_spelled}
+use Rattle.xw_session.specs.State.{State, with_text_in, cell_of}
+use Rattle.xw_session.specs.Put.{place_of, has_place, text_of_field, text_at, with_text_at, with_piece}
+use Rattle.xw_session.specs.Show.{show_lines}
+use Rattle.xw_session.specs.Text.{word_line, light_lines, circle_lines, letters_line, counted_lines, duplicate_line, spelled_line, suggestion_line}
+use Rattle.xw_session.specs.Reply.{Reply, reply_to, edited, shown, moved, watch_lines, with_letter, resized, matched, with_clue_of, has_nul, written, circle_toggled, worded, lettered, put, light_named, name_of_light, told_lines, first_words, filling_name}
+use Rattle.xw_session_laws.specs.Replay.{BarsAreOnEdges, AreFrom, AreTextsFrom, clues_of, BeganWith, SessionsBegin}
+use Rattle.xw_session_laws.proofs.InOrder.{plain_at}
+use Rattle.xw_session_laws.proofs.KeptInOrder.{circle_kept, clue_kept, cells_there, texts_there}
+use Rattle.xw_session_laws.proofs.KeptEdges.{edges_kept, blank_edges}
+use Rattle.xw_session_laws.proofs.KeptWords.{AllComeFirst, added_kept, struck_kept}
+
+-- ---- a position after an edit
+
+-- a grid of the same size, with bars on edges
+pub record GridKept (grid next : Grid) : Type 0 where
+  pub wide : next.width ≡ grid.width
+  pub high : next.height ≡ grid.height
+  pub bars : BarsAreOnEdges next
+
+-- and a dictionary that began with the same words
+pub record PositionKept (begun : Dictionary) (position next : Position) : Type 0 where
+  pub grid : GridKept position.grid next.grid
+  pub first : AllComeFirst begun next.words
+
+-- the size and the bars
+abbrev IsFramedAs : Grid → Grid → Type 0
+IsFramedAs grid next = (next.width ≡ grid.width) × (next.height ≡ grid.height) × (next.right ≡ grid.right) × (next.below ≡ grid.below)
+
+same_edges : (grid next : Grid) → IsFramedAs grid next → BarsAreOnEdges grid → BarsAreOnEdges next
+same_edges grid next is only =
+    let a : BarsAreOnEdges (record grid { below = next.below }) = subst (λ bits. BarsAreOnEdges (record grid { below = bits })) (sym is.3) only in
+    let b : BarsAreOnEdges (record grid { right = next.right; below = next.below }) = subst (λ bits. BarsAreOnEdges (record grid { right = bits; below = next.below })) (sym is.2) a in
+    let c : BarsAreOnEdges (record grid { height = next.height; right = next.right; below = next.below }) = subst (λ h. BarsAreOnEdges (record grid { height = h; right = next.right; below = next.below })) (sym is.1) b in
+    subst (λ w. BarsAreOnEdges (record grid { width = w; height = next.height; right = next.right; below = next.below })) (sym is.0) c
+
+framed : (grid next : Grid) → IsFramedAs grid next → BarsAreOnEdges grid → GridKept grid next
+framed grid next is only = record { wide = is.0; high = is.1; bars = same_edges grid next is only }
+
+letters_framed : (cells : List Cell) (grid : Grid) (letters : List ℕ) → IsFramedAs grid (with_letters grid cells letters)
+letters_framed [] grid letters = (refl, refl, refl, refl)
+letters_framed (cell ∷ cells) grid [] = (refl, refl, refl, refl)
+letters_framed (cell ∷ cells) grid (letter ∷ letters) = letters_framed cells (with_entry grid cell (Some letter)) letters
+
+list_framed : (list : List (Cell × Option ℕ)) (grid next : Grid) → write_list list grid ≡ Ok next → IsFramedAs grid next
+list_framed [] grid next e =
+    let same : grid ≡ next = cc in
+    subst (IsFramedAs grid) same (refl, refl, refl, refl)
+list_framed (written ∷ list) grid next e = by_tests (is_inside grid written.0) (is_block grid written.0) (list_framed list (with_entry grid written.0 written.1) next) e where
+  by_tests : (a b : Bool) → (write_list list (with_entry grid written.0 written.1) ≡ Ok next → IsFramedAs (with_entry grid written.0 written.1) next) → then_write (write_list list) (if not a then Err grids.OutOfGrid else if b then Err grids.OnBlock else Ok (with_entry grid written.0 written.1)) ≡ Ok next → IsFramedAs grid next
+  by_tests true false rest h = rest h
+  by_tests true true rest h = cc
+  by_tests false b rest h = cc
+
+module _ (begun : Dictionary) (position next : Position) (is : IsGrid position.grid) (only : BarsAreOnEdges position.grid) (first : AllComeFirst begun position.words) where
+  -- where an edit makes another grid
+  to_grid : (grid : Grid) → GridKept position.grid grid → with_edited position (Ok grid) ≡ Ok next → PositionKept begun position next
+  to_grid grid kept e =
+      let same : record position { grid = grid } ≡ next = cc in
+      subst (PositionKept begun position) same (record { grid = kept; first = first })
+
+  to_words : (words : Result Dictionary WordFault) → ((made : Dictionary) → words ≡ Ok made → AllComeFirst begun made) → with_dictionary position words ≡ Ok next → PositionKept begun position next
+  to_words (Ok words) kept e =
+      let same : record position { words = words } ≡ next = cc in
+      subst (PositionKept begun position) same (record { grid = framed position.grid position.grid (refl, refl, refl, refl) only; first = kept words refl })
+  to_words (Err fault) kept e = cc
+
+  by_two : (a b : Bool) (one other : GridFault) (grid : Grid) → GridKept position.grid grid → with_edited position (by_fault (if not a then Err one else if b then Err other else Ok grid)) ≡ Ok next → PositionKept begun position next
+  by_two true false one other grid kept e = to_grid grid kept e
+  by_two true true one other grid kept e = cc
+  by_two false b one other grid kept e = cc
+
+  by_edge : (a b : Bool) (grid : Grid) → (b ≡ true → GridKept position.grid grid) → with_edited position (by_fault (if not a then Err grids.OutOfGrid else if not b then Err grids.Border else Ok grid)) ≡ Ok next → PositionKept begun position next
+  by_edge true true grid kept e = to_grid grid (kept refl) e
+  by_edge true false grid kept e = cc
+  by_edge false b grid kept e = cc
+
+  by_one : (a : Bool) (grid : Grid) → GridKept position.grid grid → with_edited position (by_fault (if a then Err grids.NotSquare else Ok grid)) ≡ Ok next → PositionKept begun position next
+  by_one false grid kept e = to_grid grid kept e
+  by_one true grid kept e = cc
+
+  by_length : (a : Bool) (one : EditRefusal) (grid : Grid) → GridKept position.grid grid → with_edited position (if a then Ok grid else Err one) ≡ Ok next → PositionKept begun position next
+  by_length true one grid kept e = to_grid grid kept e
+  by_length false one grid kept e = cc
+
+  by_spelling : (light : Light) (bad : Option ℕ) (bytes : List ℕ) → with_edited position (spelled_in position.grid light bad bytes) ≡ Ok next → PositionKept begun position next
+  by_spelling light (Some at) bytes e = cc
+  by_spelling light None bytes e =
+      by_length _ _ (with_letters position.grid (cells_of light) (map folded bytes)) (framed position.grid _ (letters_framed (cells_of light) position.grid (map folded bytes)) only) e
+
+  by_place : (place : Option ℕ) (bytes : List ℕ) → with_edited position (placed_in position.grid place bytes) ≡ Ok next → PositionKept begun position next
+  by_place None bytes e = cc
+  by_place (Some place) bytes e = by_spelling (slice_index_or (lights_of position.grid) place no_light) (bad_at is_bad_letter bytes) bytes e
+
+  by_list : (list : List (Cell × Option ℕ)) (written : Result Grid GridFault) → write_list list position.grid ≡ written → with_edited position (by_fault written) ≡ Ok next → PositionKept begun position next
+  by_list list (Ok grid) made e = to_grid grid (framed position.grid grid (list_framed list position.grid grid made) only) e
+  by_list list (Err fault) made e = cc
+
+  pub edit_kept : (action : Action) → after position action ≡ Ok next → PositionKept begun position next
+  edit_kept (letter_set cell letter) e = by_two (is_inside position.grid cell) (is_block position.grid cell) grids.OutOfGrid grids.OnBlock (with_entry position.grid cell (Some letter)) (framed position.grid _ (refl, refl, refl, refl) only) e
+  edit_kept (cell_cleared cell) e = by_two (is_inside position.grid cell) (is_block position.grid cell) grids.OutOfGrid grids.OnBlock (with_entry position.grid cell None) (framed position.grid _ (refl, refl, refl, refl) only) e
+  edit_kept (word_placed name word) e = by_place (place_named (lights_of position.grid) name) word e
+  edit_kept (list_written list) e = by_list list (write_list list position.grid) refl e
+  edit_kept (block_toggled cell) e =
+      by_two (is_inside position.grid cell) (not (is_block position.grid cell) && is_occupied position.grid cell) grids.OutOfGrid grids.Occupied (with_orbit position.grid cell (not (is_block position.grid cell))) (framed position.grid _ (refl, refl, refl, refl) only) e
+  edit_kept (bar_toggled cell side) e =
+      by_edge (is_inside position.grid cell) (is_edge position.grid cell side) (with_edges position.grid cell side (not (is_barred position.grid cell side)))
+      (λ edge. record { wide = refl; high = refl; bars = edges_kept position.grid cell side (not (is_barred position.grid cell side)) is edge only }) e
+  edit_kept (symmetry_chosen kind) e = by_one _ (record position.grid { symmetry = kind }) (framed position.grid _ (refl, refl, refl, refl) only) e
+  edit_kept (word_added word) e = to_words _ (added_kept begun position.words first (map folded word) (add_answer position.words word)) e
+  edit_kept (word_struck word) e = to_words _ (struck_kept begun position.words first (map folded word) (strike_answer position.words word)) e
+
+-- ---- lights
+
+light_starts : (grid : Grid) (place_found : Option ℕ) (light : Light) → option_and_then (slice_get (lights_of grid)) place_found ≡ Some light → is_inside grid light.start ≡ true
+light_starts grid None light e = cc
+light_starts grid (Some place) light e =
+    let within = slice_get_within (lights_of grid) place light e in
+    subst (λ (l : Light). is_inside grid l.start ≡ true) (get_or_from_slice_get (lights_of grid) place light no_light e)
+    (made_inside grid (get_or (lights_of grid) place no_light) (lights_are_made grid place no_light within))
+
+-- ---- a session after a reply
+
+ok_state : (one other : Reply) → ◌≡◌ {A = Result Reply Refusal} (Ok one) (Ok other) → one.state ≡ other.state
+ok_state one other e = let same : one ≡ other = cc in ap (λ (reply : Reply). reply.state) same
+
+text_kept : (texts : TextsShown) (field name : TextField) (text : List ℕ) → has_nul text ≡ false → ((name : TextField) → has_nul (text_of_field texts name) ≡ false) → has_nul (text_of_field (with_text_in texts field text) name) ≡ false
+text_kept texts Title Title text plain are = plain
+text_kept texts Title Author text plain are = are Author
+text_kept texts Title Copyright text plain are = are Copyright
+text_kept texts Title Notes text plain are = are Notes
+text_kept texts Author Title text plain are = are Title
+text_kept texts Author Author text plain are = plain
+text_kept texts Author Copyright text plain are = are Copyright
+text_kept texts Author Notes text plain are = are Notes
+text_kept texts Copyright Title text plain are = are Title
+text_kept texts Copyright Author text plain are = are Author
+text_kept texts Copyright Copyright text plain are = plain
+text_kept texts Copyright Notes text plain are = are Notes
+text_kept texts Notes Title text plain are = are Title
+text_kept texts Notes Author text plain are = are Author
+text_kept texts Notes Copyright text plain are = are Copyright
+text_kept texts Notes Notes text plain are = plain
+
+no_clues_there : (grid : Grid) (direction : Direction) → AreTextsFrom grid 0 (clues_of no_clues direction)
+no_clues_there grid Across = tt
+no_clues_there grid Down = tt
+
+size_bars : (width height : ℕ) (grid : Grid) (b : Bool) → ◌≡◌ {A = Result Grid GridFault} (if b then Ok (blank width height) else Err grids.Size) (Ok grid) → BarsAreOnEdges grid
+size_bars width height grid true e = let same : blank width height ≡ grid = cc in subst BarsAreOnEdges same (blank_edges width height)
+size_bars width height grid false e = cc
+
+module _ (words : Dictionary) (state : State) (is : BeganWith words state) where
+  wide : 0 < state.position.grid.width
+  wide = omega (arith, is.grid.wide)
+
+  -- ---- states that differ in one thing
+
+  with_texts : (texts : TextsShown) → ((name : TextField) → has_nul (text_of_field texts name) ≡ false) → BeganWith words (record state { texts = texts })
+  with_texts texts are = record { grid = is.grid; bars = is.bars; known = is.known; dictionary = is.dictionary; first = is.first; begun = is.begun; texts = are; clues = is.clues; circles = is.circles }
+
+  with_clues : (clues : ClueMap) → ((direction : Direction) → AreTextsFrom state.position.grid 0 (clues_of clues direction)) → BeganWith words (record state { clues = clues })
+  with_clues clues are = record { grid = is.grid; bars = is.bars; known = is.known; dictionary = is.dictionary; first = is.first; begun = is.begun; texts = is.texts; clues = are; circles = is.circles }
+
+  with_circles : (circles : List Cell) → AreFrom state.position.grid 0 circles → BeganWith words (record state { circles = circles })
+  with_circles circles are = record { grid = is.grid; bars = is.bars; known = is.known; dictionary = is.dictionary; first = is.first; begun = is.begun; texts = is.texts; clues = is.clues; circles = are }
+
+  with_watch : (is_on : Bool) → BeganWith words (record state { is_watched = is_on })
+  with_watch is_on = record { grid = is.grid; bars = is.bars; known = is.known; dictionary = is.dictionary; first = is.first; begun = is.begun; texts = is.texts; clues = is.clues; circles = is.circles }
+
+  with_position : (next : Position) → PositionKept words state.position next → IsWellFormed next → BeganWith words (record state { position = next })
+  with_position next kept formed = record {
+    grid = formed.grid;
+    bars = kept.grid.bars;
+    known = is.known;
+    dictionary = formed.dictionary;
+    first = kept.first;
+    begun = is.begun;
+    texts = is.texts;
+    clues = λ direction. texts_there state.position.grid next.grid kept.grid.wide kept.grid.high (clues_of state.clues direction) 0 (is.clues direction);
+    circles = cells_there state.position.grid next.grid kept.grid.wide kept.grid.high state.circles 0 is.circles;
+  }
+
+  with_size : (grid : Grid) → BarsAreOnEdges grid → IsWellFormed (record { grid = grid; words = state.position.words })
+      → BeganWith words (record state { position = record { grid = grid; words = state.position.words }; clues = no_clues; circles = [] })
+  with_size grid only formed = record {
+    grid = formed.grid;
+    bars = only;
+    known = is.known;
+    dictionary = is.dictionary;
+    first = is.first;
+    begun = is.begun;
+    texts = is.texts;
+    clues = no_clues_there grid;
+    circles = tt;
+  }
+
+  -- ---- texts put into their places
+
+  placed_text : (place : Place) (text : List ℕ) → has_place state.position.grid place ≡ true → has_nul text ≡ false → BeganWith words (with_text_at state place text)
+  placed_text (places.Text field) text placed plain = with_texts (with_text_in state.texts field text) (λ name. text_kept state.texts field name text plain is.texts)
+  placed_text (places.Clue cell way) text placed plain = with_clues (with_clue state.clues cell way text) (clue_kept state.position.grid wide state.clues cell way text placed plain is.clues)
+
+  plain_there : (place : Place) → has_nul (text_at state place) ≡ false
+  plain_there (places.Text name) = is.texts name
+  plain_there (places.Clue cell Across) = plain_at state.position.grid state.clues.across 0 cell (is.clues Across)
+  plain_there (places.Clue cell Down) = plain_at state.position.grid state.clues.down 0 cell (is.clues Down)
+
+  piece_kept : (putting : Putting) (place : Place) (text : List ℕ) → has_place state.position.grid place ≡ true → has_nul text ≡ false → BeganWith words (with_piece state putting place text)
+  piece_kept Instead place text placed plain = placed_text place text placed plain
+  piece_kept Behind place [] placed plain = is
+  piece_kept Behind place (byte ∷ bytes) placed plain =
+      placed_text place (text_at state place ++ byte ∷ bytes) placed
+      (list_any-append (nat_eq 0) (text_at state place) (byte ∷ bytes) ∙ ap (λ b. b || has_nul (byte ∷ bytes)) (plain_there place) ∙ plain)
+
+  -- ---- replies
+
+  module _ (reply : Reply) (formed : IsWellFormed reply.state.position) where
+    abbrev Kept : Type 0
+    Kept = BeganWith words reply.state
+
+    by_test : (b : Bool) (x y : Result Reply Refusal) → (b ≡ true → x ≡ Ok reply → Kept) → (b ≡ false → y ≡ Ok reply → Kept) → (if b then x else y) ≡ Ok reply → Kept
+    by_test true x y here there e = here refl e
+    by_test false x y here there e = there refl e
+
+    not_refused : (refusal : Refusal) → ◌≡◌ {A = Result Reply Refusal} (Err refusal) (Ok reply) → Kept
+    not_refused refusal e = cc
+
+    left_at : (one : Reply) → (IsWellFormed one.state.position → BeganWith words one.state) → ◌≡◌ {A = Result Reply Refusal} (Ok one) (Ok reply) → Kept
+    left_at one kept e =
+        let same = ok_state one reply e in
+        subst (BeganWith words) same (kept (subst (λ (s : State). IsWellFormed s.position) (sym same) formed))
+
+    when_shown : (lines : List ℕ) → shown state lines ≡ Ok reply → Kept
+    when_shown lines e = left_at (record { lines = lines; state = state }) (λ _. is) e
+
+    when_edited : (next : State) → BeganWith words next → edited next ≡ Ok reply → Kept
+    when_edited next kept e = left_at (record { lines = []; state = next }) (λ _. kept) e
+
+    when_moved : (result : Result Position EditRefusal) → ((next : Position) → result ≡ Ok next → PositionKept words state.position next) → moved state result ≡ Ok reply → Kept
+    when_moved (Ok next) kept e = left_at (record { lines = watch_lines state next; state = record state { position = next } }) (λ good. with_position next (kept next refl) good) e
+    when_moved (Err refusal) kept e = not_refused (refusal_of refusal) e
+
+    by_edit : (action : Action) → moved state (after state.position action) ≡ Ok reply → Kept
+    by_edit action e = when_moved (after state.position action) (λ next done. edit_kept words state.position next is.grid is.bars is.first action done) e
+
+    by_letter : (at : Spot) (letter : Option ℕ) → with_letter state at letter ≡ Ok reply → Kept
+    by_letter at None e = not_refused (refusals.Word (faults.BadLetter 1)) e
+    by_letter at (Some letter) e = by_edit (letter_set (cell_of at) letter) e
+
+    by_size : (result : Result Grid GridFault) → ((grid : Grid) → result ≡ Ok grid → BarsAreOnEdges grid) → resized state result ≡ Ok reply → Kept
+    by_size (Ok grid) only e =
+        left_at (record { lines = []; state = record state { position = record { grid = grid; words = state.position.words }; clues = no_clues; circles = [] } }) (λ good. with_size grid (only grid refl) good) e
+    by_size (Err fault) only e = not_refused (refusals.Grid fault) e
+
+    by_words : (result : Result (List (List ℕ)) WordFault) → matched state result ≡ Ok reply → Kept
+    by_words (Ok matches) e = when_shown (flat_map word_line matches) e
+    by_words (Err fault) e = not_refused (refusals.Word fault) e
+
+    by_light : (light_found : Option Light) (text : List ℕ) → ((light : Light) → light_found ≡ Some light → is_inside state.position.grid light.start ≡ true) → with_clue_of state light_found text ≡ Ok reply → Kept
+    by_light None text starts e = not_refused refusals.NoLight e
+    by_light (Some light) text starts e =
+        by_test (has_nul text) (Err refusals.NulByte) (edited (record state { clues = with_clue state.clues light.start light.name.direction text })) (λ _ e. not_refused refusals.NulByte e)
+        (λ plain e. when_edited (record state { clues = with_clue state.clues light.start light.name.direction text }) (with_clues (with_clue state.clues light.start light.name.direction text) (clue_kept state.position.grid wide state.clues light.start light.name.direction text (starts light refl) plain is.clues)) e) e
+
+    by_text : (field : TextField) (text : List ℕ) → written state field text ≡ Ok reply → Kept
+    by_text field text e =
+        by_test (has_nul text) (Err refusals.NulByte) (edited (record state { texts = with_text_in state.texts field text })) (λ _ e. not_refused refusals.NulByte e)
+        (λ plain e. when_edited (record state { texts = with_text_in state.texts field text }) (with_texts (with_text_in state.texts field text) (λ name. text_kept state.texts field name text plain is.texts)) e) e
+
+    not_not : (b : Bool) → not b ≡ false → b ≡ true
+    not_not true e = refl
+    not_not false e = cc
+
+    by_circle : (cell : Cell) → circle_toggled state cell ≡ Ok reply → Kept
+    by_circle cell e =
+        let next : State = record state { circles = with_circle state.circles cell (not (is_circled state.circles cell)) } in
+        by_test (not (is_inside state.position.grid cell)) (Err (refusals.Grid grids.OutOfGrid)) (if not (is_open state.position.grid cell) then Err (refusals.Grid grids.OnBlock) else edited next) (λ _ e. not_refused (refusals.Grid grids.OutOfGrid) e)
+        (λ inside e. by_test (not (is_open state.position.grid cell)) (Err (refusals.Grid grids.OnBlock)) (edited next) (λ _ e. not_refused (refusals.Grid grids.OnBlock) e)
+        (λ _ e. when_edited next (with_circles (with_circle state.circles cell (not (is_circled state.circles cell))) (circle_kept state.position.grid wide cell state.circles (not (is_circled state.circles cell)) (not_not (is_inside state.position.grid cell) inside) is.circles)) e) e) e
+
+    by_words_of : (light most : Option ℕ) → worded state light most ≡ Ok reply → Kept
+    by_words_of None most e = not_refused refusals.NoLight e
+    by_words_of (Some light) most e =
+        when_shown (counted_lines (length (feasible_words (position_of state.position) light)) (first_words most (feasible_words (position_of state.position) light))) e
+
+    by_letters : (cell : Cell) → lettered state cell ≡ Ok reply → Kept
+    by_letters cell e =
+        let letters = letters_line (feasible_letters (position_of state.position) (index_of state.position.grid cell)) in
+        by_test (not (is_inside state.position.grid cell)) (Err (refusals.Grid grids.OutOfGrid)) (if is_block state.position.grid cell then Err (refusals.Grid grids.OnBlock) else shown state letters) (λ _ e. not_refused (refusals.Grid grids.OutOfGrid) e)
+        (λ _ e. by_test (is_block state.position.grid cell) (Err (refusals.Grid grids.OnBlock)) (shown state letters) (λ _ e. not_refused (refusals.Grid grids.OnBlock) e) (λ _ e. when_shown letters e) e) e
+
+    by_fill : (past there : Bool) (limit filled none : List ℕ) (entries : List (Option ℕ))
+        → (if past then shown state limit else if there then Ok (record { lines = filled; state = record state { position = filled_in state.position entries } }) else shown state none) ≡ Ok reply → Kept
+    by_fill true there limit filled none entries e = when_shown limit e
+    by_fill false true limit filled none entries e =
+        left_at (record { lines = filled; state = record state { position = filled_in state.position entries } })
+        (λ good. with_position (filled_in state.position entries) (record { grid = framed state.position.grid _ (refl, refl, refl, refl) is.bars; first = is.first }) good) e
+    by_fill false false limit filled none entries e = when_shown none e
+
+    by_put : (putting : Putting) (field : Field) (spelling : Option (List ℕ)) → put state putting field spelling ≡ Ok reply → Kept
+    by_put putting field None e = not_refused refusals.Escape e
+    by_put putting field (Some text) e =
+        let place = place_of field in
+        let next : Result Reply Refusal = edited (with_piece state putting place text) in
+        by_test (not (has_place state.position.grid place)) (Err (refusals.Grid grids.OutOfGrid)) (if has_nul text then Err refusals.NulByte else next) (λ _ e. not_refused (refusals.Grid grids.OutOfGrid) e)
+        (λ placed e. by_test (has_nul text) (Err refusals.NulByte) next (λ _ e. not_refused refusals.NulByte e)
+        (λ plain e. when_edited (with_piece state putting place text) (piece_kept putting place text (not_not (has_place state.position.grid place) placed) plain) e) e) e
+
+    pub reply_kept : (command : Command) → reply_to state command ≡ Ok reply → Kept
+    reply_kept (commands.Size width height) e = by_size (new_grid width height) (λ grid made. size_bars width height grid ((nat_le 1 width && nat_le width 255) && (nat_le 1 height && nat_le height 255)) made) e
+    reply_kept (commands.Symmetry kind) e = by_edit (symmetry_chosen kind) e
+    reply_kept (commands.Add word) e = by_edit (word_added word) e
+    reply_kept (commands.Strike word) e = by_edit (word_struck word) e
+    reply_kept (commands.Match pattern) e = by_words (matching_answer state.position.words pattern) e
+    reply_kept (commands.Set at letter) e = by_letter at (letter_of letter) e
+    reply_kept (commands.Clear at) e = by_edit (cell_cleared (cell_of at)) e
+    reply_kept (commands.Place named word) e = by_edit (word_placed (name_of_light named) word) e
+    reply_kept (commands.Block at) e = by_edit (block_toggled (cell_of at)) e
+    reply_kept (commands.Bar at side) e = by_edit (bar_toggled (cell_of at) side) e
+    reply_kept (commands.Clue named text) e =
+        by_light (light_named state.position.grid named) text (λ light is_found. light_starts state.position.grid (place_named (lights_of state.position.grid) (name_of_light named)) light is_found) e
+    reply_kept (commands.Write field text) e = by_text field text e
+    reply_kept (commands.Circle at) e = by_circle (cell_of at) e
+    reply_kept commands.Circles e = when_shown (circle_lines state.position.grid state.circles) e
+    reply_kept commands.Show e = when_shown (show_lines state.position.grid) e
+    reply_kept commands.Lights e = when_shown (light_lines state.position.grid) e
+    reply_kept (commands.Words named most) e = by_words_of (place_named (lights_of state.position.grid) (name_of_light named)) most e
+    reply_kept (commands.Letters at) e = by_letters (cell_of at) e
+    reply_kept commands.Duplicates e = when_shown (flat_map (duplicate_line state.position.grid) (duplicates_of state.position)) e
+    reply_kept commands.Unlisted e = when_shown (flat_map (spelled_line state.position.grid) (unlisted_of state.position)) e
+    reply_kept commands.Suggest e = when_shown (suggestion_line state.position (suggestion state.position)) e
+    reply_kept (commands.Fill limit) e =
+        by_fill (nat_lt limit (due (position_of state.position))) (found (position_of state.position)) (word_line (filling_name fillings.Limit)) (word_line (filling_name fillings.Filled)) (word_line (filling_name fillings.NoFill))
+        (end (position_of state.position)).board.entries e
+    reply_kept (commands.Watch is_on) e = when_edited (record state { is_watched = is_on }) (with_watch is_on) e
+    reply_kept (commands.Tell telling) e = when_shown (told_lines state telling) e
+    reply_kept (commands.Put putting field spelling) e = by_put putting field (text_spelled spelling) e
+
+  -- ---- answers
+
+  module _ (next : State) (formed : IsWellFormed next.position) where
+    after_reply : (command : Command) (reply : Result Reply Refusal) → Replies state command reply → next ≡ state_after state reply → BeganWith words next
+    after_reply command (Ok reply) fits same =
+        subst (BeganWith words) (sym same) (reply_kept reply (subst (λ (s : State). IsWellFormed s.position) same formed) command fits)
+    after_reply command (Err refusal) fits same = subst (BeganWith words) (sym same) is
+
+    pub answer_kept : (parsed : Result (Option Command) SyntaxFault) (outcome : Step) (answer : List ℕ) → AnswersParsed state parsed outcome answer next → BeganWith words next
+    answer_kept (Ok None) outcome answer said = subst (BeganWith words) (sym said.2) is
+    answer_kept (Ok (Some command)) outcome answer said = after_reply command said.0 said.1 said.4
+    answer_kept (Err fault) outcome answer said = subst (BeganWith words) (sym said.2) is
+
+-- ---- a session at its beginning
+
+no_text : (name : TextField) → has_nul (text_of_field (record { title = []; author = []; copyright = []; notes = [] }) name) ≡ false
+no_text Title = refl
+no_text Author = refl
+no_text Copyright = refl
+no_text Notes = refl
+
+pub session_begun : SessionsBegin
+session_begun position formed only first = record {
+  grid = formed.grid;
+  bars = only;
+  known = formed.dictionary;
+  dictionary = formed.dictionary;
+  first = first;
+  begun = refl;
+  texts = no_text;
+  clues = no_clues_there position.grid;
+  circles = tt;
+}
