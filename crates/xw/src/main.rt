@@ -1,22 +1,11 @@
 //! A crossword construction engine on the command line.
 #![tactic(auto)]
 
-mod arguments;
-mod failure;
-mod files;
-mod gathered;
-mod perform;
-mod place;
-mod replacing;
-mod resuming;
-#[cfg(test)]
-mod tests;
-
-use crate::arguments::Usage;
-use crate::failure::Status;
-use crate::perform::{explain, perform};
 use std::io::{self, BufWriter, ErrorKind};
 use std::process::ExitCode;
+use xw_program::arguments::{Usage, arguments};
+use xw_program::failure::Status;
+use xw_program::perform::{explain, perform};
 use xw_session::{FromRead, Sink, ToWrite};
 
 /// How many bytes of answers are gathered before they go out together.
@@ -41,7 +30,7 @@ fn start<E: Sink>(rt: &HostRuntime, errors: &mut E) -> io::Result<Status> {
             return Ok(explain(&Usage::Wrong(text), &mut output, errors));
         }
     };
-    let status = match arguments::arguments(rt.alloc(), words.as_slice()) {
+    let status = match arguments(rt.alloc(), words.as_slice()) {
         Ok(call) => perform(
             rt,
             call,

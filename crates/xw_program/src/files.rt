@@ -1,0 +1,253 @@
+//! The files of the program: word lists and puzzles.
+ghost use Rattle.std.specs.Prelude.{◌≡◌, IfOk};
+ghost use Rattle.xw_session.specs.Record.{record_lines};
+ghost use Rattle.xw_program.specs.Names.{IsKindNamed, read_fault, write_fault};
+
+use crate::arguments::SessionFiles;
+use crate::failure::Failure;
+use crate::gathered::Gathered;
+use crate::place::{self, Place};
+use crate::replacing::replace;
+use std::alloc::Global;
+use std::os::unix::fs::MetadataExt;
+use std::rt::Files;
+use std::{fs, io};
+use xw_feas::feasible::Feasible;
+use xw_files::fault::{ReadFault, WriteFault};
+use xw_files::puzzle::Puzzle;
+use xw_files::{Kind, kind_of, read_puz, read_text, write_puz, write_text};
+use xw_session::refusal::{self, Refusal};
+use xw_session::{Session, Sink, device};
+use xw_words::{Bank, Loaded, WordFault};
+
+/// The bytes of a file.
+pub fn read_file<R: Files + AllocGlobal>(rt: &R, file: &str) -> Result<Vec<u8>, Failure> {
+    match fs::read(rt, file) {
+        Ok(bytes) => Ok(bytes),
+        Err(error) => {
+            if error.kind() == io::ErrorKind::OutOfMemory {
+                return Err(Failure::Memory);
+            }
+            let file = String::from_str(rt.alloc(), file)?;
+            Err(Failure::CannotRead { file })
+        }
+    }
+}
+
+/// The dictionary of a word list, of which the number of words is told.
+pub fn read_dictionary<R: Files + AllocGlobal, E: Sink>(
+    rt: &R,
+    file: &str,
+    errors: &mut E,
+) -> Result<Bank, Failure> {
+    let alloc = rt.alloc();
+    let bytes = read_file(rt, file)?;
+    match Bank::load_list(alloc, bytes.as_slice()) {
+        Ok((bank, loaded)) => {
+            tell_loaded(alloc, file, loaded, errors)?;
+            Ok(bank)
+        }
+        Err(WordFault::Memory) => Err(Failure::Memory),
+        Err(fault) => Err(file_fault(alloc, file, refusal::name(Refusal::Word(fault)), None)),
+    }
+}
+
+/// Says how many lines of a word list were added. A fault of the writer is passed over.
+fn tell_loaded<E: Sink>(
+    alloc: Global,
+    file: &str,
+    loaded: Loaded,
+    errors: &mut E,
+) -> Result<(), Failure> {
+    let (added, skipped) = (loaded.added, loaded.skipped);
+    let text = format!(in alloc; "xw: {file}: {added} added, {skipped} skipped\n")?;
+    let _ = device::write_all(errors, text.as_bytes());
+    Ok(())
+}
+
+/// The puzzle of a file, and the format that the file is of; with the place of a fault where that is asked for.
+pub fn read_puzzle<R: Files + AllocGlobal>(
+    rt: &R,
+    file: &str,
+    explain: bool,
+) -> Result<(Kind, Puzzle), Failure> {
+    let alloc = rt.alloc();
+    let bytes = read_file(rt, file)?;
+    let kind = kind_of(bytes.as_slice());
+    let read = match kind {
+        Kind::Puz => read_puz(alloc, bytes.as_slice()),
+        Kind::Text => read_text(alloc, bytes.as_slice()),
+    };
+    match read {
+        Ok(puzzle) => Ok((kind, puzzle)),
+        Err(ReadFault::Memory) => Err(Failure::Memory),
+        Err(fault) => {
+            let place = if explain {
+                place::in_file(alloc, bytes.as_slice(), fault)?
+            } else {
+                None
+            };
+            Err(file_fault(alloc, file, read_fault_name(fault), place))
+        }
+    }
+}
+
+/// A fault of a file, with its place where there is one.
+fn file_fault(alloc: Global, file: &str, name: &'static str, place: Option<Place>) -> Failure {
+    match (String::from_str(alloc, file), place) {
+        (Ok(file), Some(place)) => Failure::Placed { file, name, place },
+        (Ok(file), None) => Failure::File { file, name },
+        (Err(_), _) => Failure::Memory,
+    }
+}
+
+/// Writes a puzzle into a file, which is not opened before all its bytes are made; with the place of a
+/// fault where that is asked for.
+pub fn write_puzzle<R: Files + AllocGlobal>(
+    rt: &R,
+    file: &str,
+    puzzle: &Puzzle,
+    explain: bool,
+) -> Result<(), Failure> {
+    let alloc = rt.alloc();
+    let made = match kind_by_name(file) {
+        Kind::Puz => write_puz(alloc, puzzle),
+        Kind::Text => write_text(alloc, puzzle),
+    };
+    let bytes = match made {
+        Ok(bytes) => bytes,
+        Err(WriteFault::Memory) => return Err(Failure::Memory),
+        Err(fault) => {
+            let place = if explain {
+                place::in_puzzle(alloc, &puzzle.grid, fault)?
+            } else {
+                None
+            };
+            return Err(file_fault(alloc, file, write_fault_name(fault), place));
+        }
+    };
+    write_file(rt, file, bytes.as_slice())
+}
+
+/// The record of a session.
+fn record<F: Feasible>(alloc: Global, session: &Session<F>) -> Result<Vec<u8>, Failure>
+    ensures { IfOk result (λ bytes. bytes.items ≡ record_lines session.now) }
+{
+    let mut gathered = Gathered::new(alloc);
+    match session.write_record(&mut gathered) {
+        Ok(()) => Ok(gathered.into_bytes()),
+        Err(_) => Err(Failure::Memory),
+    }
+}
+
+/// Writes the record of a session into a file, which is not opened before all its bytes are made.
+pub fn write_record<R: Files + AllocGlobal, F: Feasible>(
+    rt: &R,
+    file: &str,
+    session: &Session<F>,
+) -> Result<(), Failure> {
+    let bytes = record(rt.alloc(), session)?;
+    write_file(rt, file, bytes.as_slice())
+}
+
+fn write_file<R: Files + AllocGlobal>(rt: &R, file: &str, bytes: &[u8]) -> Result<(), Failure> {
+    match replace(rt, file, bytes) {
+        Ok(()) => Ok(()),
+        Err(error) => {
+            if error.kind() == io::ErrorKind::OutOfMemory {
+                return Err(Failure::Memory);
+            }
+            let file = String::from_str(rt.alloc(), file)?;
+            Err(Failure::CannotWrite { file })
+        }
+    }
+}
+
+/// Refuses to write into the word list, and to write two texts into one file, whatever the names are.
+pub fn keep_apart<R: Files + AllocGlobal>(rt: &R, named: SessionFiles<'_>) -> Result<(), Failure> {
+    spare(rt, named.dict, named.to_file)?;
+    spare(rt, named.dict, named.save_file)?;
+    match (named.to_file, named.save_file) {
+        (Some(to_file), Some(file)) if is_one_file(rt, to_file, file) => {
+            let file = String::from_str(rt.alloc(), file)?;
+            Err(Failure::TwoTexts { file })
+        }
+        _ => Ok(()),
+    }
+}
+
+/// Refuses to write into the word list.
+fn spare<R: Files + AllocGlobal>(
+    rt: &R,
+    dict: Option<&str>,
+    written: Option<&str>,
+) -> Result<(), Failure> {
+    match (dict, written) {
+        (Some(dict), Some(file)) if is_one_file(rt, dict, file) => {
+            let file = String::from_str(rt.alloc(), file)?;
+            Err(Failure::OneFile { file })
+        }
+        _ => Ok(()),
+    }
+}
+
+/// Whether two names are of one file, be it there or not.
+fn is_one_file<R: Files>(rt: &R, one: &str, other: &str) -> bool {
+    match (fs::metadata(rt, one), fs::metadata(rt, other)) {
+        (Ok(one), Ok(other)) => one.dev() == other.dev() && one.ino() == other.ino(),
+        _ => one == other,
+    }
+}
+
+/// The format in which a file of this name is written.
+fn kind_by_name(name: &str) -> Kind
+    ensures { IsKindNamed name.now result }
+{
+    let name = name.as_bytes();
+    let ending = &name[name.len().saturating_sub(4)..];
+    if ending.eq_ignore_ascii_case(b".puz") {
+        Kind::Puz
+    } else {
+        Kind::Text
+    }
+}
+
+/// The name of a fault of a file that was read, without its place.
+fn read_fault_name(fault: ReadFault) -> &'static str
+    ensures { result.now ≡ read_fault fault }
+{
+    match fault {
+        ReadFault::Short(_) => "Short",
+        ReadFault::Magic => "Magic",
+        ReadFault::Version => "Version",
+        ReadFault::Scrambled => "Scrambled",
+        ReadFault::Size => "Size",
+        ReadFault::NoNul(_) => "NoNul",
+        ReadFault::BadSum(_) => "BadSum",
+        ReadFault::BadCell(_) => "BadCell",
+        ReadFault::ClueCount => "ClueCount",
+        ReadFault::Memory => "Memory",
+        ReadFault::Header => "Header",
+        ReadFault::Tag(_) => "Tag",
+        ReadFault::SizeLine => "SizeLine",
+        ReadFault::GridLine(_) => "GridLine",
+        ReadFault::AcrossCount => "AcrossCount",
+        ReadFault::DownCount => "DownCount",
+        ReadFault::NulByte(_) => "NulByte",
+        ReadFault::GextSize => "GextSize",
+        ReadFault::GextSum => "GextSum",
+    }
+}
+
+/// The name of a fault of a puzzle that is to be written, without its place.
+fn write_fault_name(fault: WriteFault) -> &'static str
+    ensures { result.now ≡ write_fault fault }
+{
+    match fault {
+        WriteFault::Barred => "Barred",
+        WriteFault::NotFilled(_) => "NotFilled",
+        WriteFault::Field(_) => "Field",
+        WriteFault::Memory => "Memory",
+        WriteFault::Circled(_) => "Circled",
+    }
+}
