@@ -9,3 +9,4 @@ pub mod perform;
 mod place;
 pub mod replacing;
 mod resuming;
+pub mod start;
