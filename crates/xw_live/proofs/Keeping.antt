@@ -32,14 +32,14 @@ use Rattle.xw_feas.proofs.AnswersLemmas.{AreAnswers-rows}
 use Rattle.xw_feas.proofs.BoardLemmas.{entry-square, length-open_cells, length-lights, light_at-found}
 use Rattle.xw_feas.proofs.QueryLemmas.{count_is}
 use Rattle.xw_feas.proofs.FormedLemmas.{formed}
-use Rattle.xw_live.specs.declared.net.Net.{Net}
+use Rattle.xw_net.specs.declared.net.Net.{Net}
 use Rattle.xw_live.specs.Engine.{IsKept, net_answers}
-use Rattle.xw_live.specs.Layout.{layout_of}
-use Rattle.xw_live.specs.Net.{flags_of, flags_at, sets_of, IsSettledFor, HasRoomIn, IsAlike, StandsFor, StoodFor, known_counts}
-use Rattle.xw_live.specs.Room.{HasRoom}
-use Rattle.xw_live.specs.Fit.{HasRoomBetween}
-use Rattle.xw_live.specs.declared.room.Spare.{Spare}
-use Rattle.xw_live.proofs.Settled.{filled_room}
+use Rattle.xw_net.specs.Layout.{layout_of}
+use Rattle.xw_net.specs.Net.{flags_of, flags_at, sets_of, IsSettledFor, HasRoomIn, IsAlike, StandsFor, StoodFor, known_counts}
+use Rattle.xw_net.specs.Room.{HasRoom}
+use Rattle.xw_net.specs.Fit.{HasRoomBetween}
+use Rattle.xw_net.specs.declared.room.Spare.{Spare}
+use Rattle.xw_net.proofs.Settled.{filled_room}
 
 settled_answers : (state : State) (net : Net) → IsSettledFor state net → AreAnswers (board_of state.grid) state.words (net_answers state net)
 settled_answers state net settled = AreAnswers-rows (board_of state.grid) state.words (flags_of (lights_of state.grid) net) (sets_of net) settled.rows settled.exact

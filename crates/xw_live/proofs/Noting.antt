@@ -6,8 +6,8 @@ use Rattle.std.proofs.lemmas.List.{with_items_is}
 use Rattle.xw_grid.specs.declared.cell.Cell.{Cell}
 use Rattle.xw_grid.specs.Grid.{Grid, cells, entry}
 use Rattle.xw_feas.specs.State.{write_list, list_written, by_fault}
-use Rattle.xw_live.specs.Region.{same_entry, cells_changed}
-use Rattle.xw_live.specs.Change.{with_entry_of, is_changed, entries_written}
+use Rattle.xw_net.specs.Region.{same_entry, cells_changed}
+use Rattle.xw_net.specs.Change.{with_entry_of, is_changed, entries_written}
 
 -- a filter before a map, and after it
 changed_among : (grid new : Grid) (some : List Cell) → filter (is_changed new) (map (with_entry_of grid) some) ≡ map (with_entry_of grid) (filter (λ cell. not (same_entry (entry grid cell) (entry new cell))) some)

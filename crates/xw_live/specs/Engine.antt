@@ -7,8 +7,8 @@ use Rattle.xw_feas.specs.Feasible.{Answers, AreAnswers}
 use Rattle.xw_feas.specs.Single.{AreAnswers-prop, IsWellFormed-prop}
 use Rattle.xw_feas.specs.State.{State}
 use Rattle.xw_feas.specs.WellFormed.{IsWellFormed}
-use Rattle.xw_live.specs.declared.net.Net.{Net}
-use Rattle.xw_live.specs.Net.{flags_of, sets_of, IsSettledFor}
+use Rattle.xw_net.specs.declared.net.Net.{Net}
+use Rattle.xw_net.specs.Net.{flags_of, sets_of, IsSettledFor}
 use mathlib.Core.Logic.{∥∥₁_prop}
 use mathlib.Core.Bool.{Bool-set}
 

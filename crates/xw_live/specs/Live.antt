@@ -5,8 +5,8 @@ use Rattle.xw_feas.specs.Feasible.{Answers}
 use Rattle.xw_feas.specs.State.{State, Action, after}
 use Rattle.xw_live.specs.declared.live.Live.{Live}
 use Rattle.xw_live.specs.Engine.{net_answers}
-use Rattle.xw_live.specs.Net.{flags_of, sets_of}
-use Rattle.xw_live.specs.Cost.{RoseWithinCost}
+use Rattle.xw_net.specs.Net.{flags_of, sets_of}
+use Rattle.xw_net.specs.Cost.{RoseWithinCost}
 
 -- the grid and the dictionary of an engine
 abbrev pub state_of : Live → State

@@ -1,7 +1,7 @@
 //! The cells of a grid with their entries, noted before a list is written.
 ghost use Rattle.std.specs.Prelude.{◌≡◌, ◌≤◌, length, map, take, filter, IfOk, IsOkUnless};
 ghost use Rattle.xw_grid.specs.Grid.{cells};
-ghost use Rattle.xw_live.specs.Change.{with_entry_of, is_changed};
+ghost use Rattle.xw_net.specs.Change.{with_entry_of, is_changed};
 
 use std::alloc::Global;
 use xw_grid::cell::Cell;

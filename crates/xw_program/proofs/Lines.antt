@@ -2,12 +2,12 @@
 use Rattle.std.proofs.Common.{◌≡◌, ◌∙◌, ◌+◌, ap, sym, ℕ, List, [], ◌∷◌, ◌++◌, subst, append_assoc, append-nil}
 use Rattle.xw_words.specs.WordList.{lines_of as pieces_of}
 use Rattle.xw_words.proofs.LineLemmas.{lines_of-with_lfs}
-use Rattle.xw_session.specs.Cut.{lines_of, ended_lines, last_piece}
+use Rattle.xw_lines.specs.Cut.{lines_of, ended_lines, last_piece}
 use Rattle.xw_session.specs.Answer.{Answers}
-use Rattle.xw_session.specs.Spoken.{Spoken}
+use Rattle.xw_lines.specs.Spoken.{Spoken}
 use Rattle.xw_session.specs.State.{State}
-use Rattle.xw_session.proofs.Cuts.{cut-whole}
-use Rattle.xw_session.proofs.Turns.{spoken-more}
+use Rattle.xw_lines.proofs.Cuts.{cut-whole}
+use Rattle.xw_lines.proofs.Turns.{spoken-more}
 use Rattle.xw_program.specs.Resuming.{Does}
 
 -- commands are cut into lines as word lists are

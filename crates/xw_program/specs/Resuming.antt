@@ -1,10 +1,10 @@
 -- Lines done without their answers.
 use Rattle.std.specs.Prelude.{◌≡◌, ℕ, List, Option, Some, None}
 use Rattle.xw_session.specs.Answer.{Answers}
-use Rattle.xw_session.specs.Spoken.{refusals}
+use Rattle.xw_lines.specs.Spoken.{refusals}
 use Rattle.xw_session.specs.State.{State}
-use Rattle.xw_session.specs.declared.outcome.Step.{Step}
-use Rattle.xw_session.specs.declared.outcome.Step.TheVariants.{Refused}
+use Rattle.xw_lines.specs.declared.outcome.Step.{Step}
+use Rattle.xw_lines.specs.declared.outcome.Step.TheVariants.{Refused}
 
 -- in a state a line may be done, leave this state, and be refused so many times
 abbrev pub Does : State → List ℕ → ℕ → State → Type 0

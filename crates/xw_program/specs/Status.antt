@@ -4,8 +4,8 @@ use Rattle.xw_program.specs.declared.failure.Status.{Status}
 use Rattle.xw_program.specs.declared.failure.Status.TheVariants.{Accepted, Refused, Usage, Format, Failed}
 use Rattle.xw_program.specs.declared.failure.Failure.{Failure}
 use Rattle.xw_program.specs.declared.failure.Failure.TheVariants as failures
-use Rattle.xw_session.specs.declared.outcome.RunEnd.{RunEnd}
-use Rattle.xw_session.specs.declared.outcome.RunEnd.TheVariants.{Done, ReadFailed, WriteFailed, Endless, Memory}
+use Rattle.xw_lines.specs.declared.outcome.RunEnd.{RunEnd}
+use Rattle.xw_lines.specs.declared.outcome.RunEnd.TheVariants.{Done, ReadFailed, WriteFailed, Endless, Memory}
 
 abbrev pub code_of : Status → ℕ
 code_of Accepted = 0

@@ -3,7 +3,6 @@ ghost use Rattle.std.specs.Prelude.{◌≡◌, IfOk};
 ghost use Rattle.xw_session.specs.Record.{record_lines};
 ghost use Rattle.xw_program.specs.Names.{IsKindNamed, read_fault, write_fault};
 
-use crate::arguments::SessionFiles;
 use crate::failure::Failure;
 use crate::gathered::Gathered;
 use crate::place::{self, Place};
@@ -12,12 +11,14 @@ use std::alloc::Global;
 use std::os::unix::fs::MetadataExt;
 use std::rt::Files;
 use std::{fs, io};
+use xw_arguments::arguments::SessionFiles;
 use xw_feas::feasible::Feasible;
 use xw_files::fault::{ReadFault, WriteFault};
 use xw_files::puzzle::Puzzle;
 use xw_files::{Kind, kind_of, read_puz, read_text, write_puz, write_text};
+use xw_lines::device;
 use xw_session::refusal::{self, Refusal};
-use xw_session::{Session, Sink, device};
+use xw_session::{Session, Sink};
 use xw_words::{Bank, Loaded, WordFault};
 
 /// The bytes of a file.

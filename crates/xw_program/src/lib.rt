@@ -1,7 +1,6 @@
 //! What the program does with its arguments, its files and its streams.
 #![tactic(auto)]
 
-pub mod arguments;
 pub mod failure;
 mod files;
 mod gathered;

@@ -1,20 +1,21 @@
 //! Doing what a call asks for.
 ghost use Rattle.std.specs.Prelude.{◌≡◌, [], ◌∷◌, ◌++◌};
-ghost use Rattle.xw_session.specs.Device.{flushed};
-ghost use Rattle.xw_session.specs.Sends.{Sends};
+ghost use Rattle.xw_lines.specs.Device.{flushed};
+ghost use Rattle.xw_lines.specs.Sends.{Sends};
 ghost use Rattle.xw_program.specs.Status.{run_ended};
-ghost use Rattle.xw_program.specs.Usage.{IsExplained};
+ghost use Rattle.xw_program.specs.Explained.{IsExplained};
 
-use crate::arguments::{Call, SessionFiles, Usage};
 use crate::failure::{Failure, Status};
 use crate::{files, resuming};
 use std::alloc::Global;
 use std::rt::Files;
+use xw_arguments::arguments::{Call, SessionFiles, Usage};
 use xw_feas::feasible::Feasible;
 use xw_files::Kind;
 use xw_grid::{Grid, Lights};
+use xw_lines::device;
 use xw_live::live::Live;
-use xw_session::{RunEnd, Session, Sink, Source, device};
+use xw_session::{RunEnd, Session, Sink, Source};
 use xw_words::Bank;
 
 /// What works out the feasible words and letters.

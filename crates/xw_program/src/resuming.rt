@@ -1,8 +1,8 @@
 //! A session that starts with the lines of a file.
 ghost use Rattle.std.specs.Prelude.{◌≡◌, ℕ, ◌≤◌, ◌<◌, List, ◌∷◌, length, IfOk, position, option_map};
 ghost use Rattle.xw_words.specs.WordList.{is_line_feed};
-ghost use Rattle.xw_session.specs.Cut.{lines_of};
-ghost use Rattle.xw_session.specs.Spoken.{Spoken};
+ghost use Rattle.xw_lines.specs.Cut.{lines_of};
+ghost use Rattle.xw_lines.specs.Spoken.{Spoken};
 ghost use Rattle.xw_session.specs.Answer.{Answers};
 ghost use Rattle.xw_session.specs.Text.{refused, word_line, name_of};
 ghost use Rattle.xw_session.specs.declared.refusal.Refusal.{Refusal};
@@ -12,7 +12,8 @@ use crate::failure::Failure;
 use crate::gathered::Gathered;
 use std::alloc::Global;
 use xw_feas::feasible::Feasible;
-use xw_session::{Session, Sink, Step, device};
+use xw_lines::device;
+use xw_session::{Session, Sink, Step};
 
 /// How many bytes of the answer to a refused line stand before the name: `no` and a space.
 const BEFORE_NAME: usize = 3;

@@ -12,7 +12,7 @@ use std::os::unix::fs::symlink;
 use std::process::Abort;
 use std::rt::Files;
 use std::test::Fail;
-use xw_program::arguments::{Call, SessionFiles, Usage, arguments};
+use xw_arguments::arguments::{Call, SessionFiles, Usage, arguments};
 use xw_program::failure::Status;
 use xw_program::perform::{explain, perform};
 use xw_session::{FromRead, ToWrite};

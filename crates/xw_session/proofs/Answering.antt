@@ -3,19 +3,19 @@ use Rattle.std.proofs.Common.{◌≡◌, ℕ, true, leb, List, ◌++◌, length,
 use Rattle.std.proofs.lemmas.Bool.{cases_Bool, cases_lt}
 use Rattle.std.proofs.lemmas.Bool.Decides.{nat_tests}
 use Rattle.std.specs.Prelude.{Option, Some, None, Result, Ok, Err, IfOk, nat_lt}
-use Rattle.xw_session.specs.Sends.{Sends}
-use Rattle.xw_session.specs.Device.{Begins, HasFailed}
-use Rattle.xw_session.proofs.SendsLemmas.{sends-then, stops-within}
-use Rattle.xw_session.specs.declared.outcome.Step.{Step}
-use Rattle.xw_session.specs.declared.outcome.Step.TheVariants.{Silent, Refused}
-use Rattle.xw_session.specs.declared.command.SyntaxFault.TheVariants as syntax
-use Rattle.xw_session.specs.Cut.{held}
-use Rattle.xw_session.specs.Spoken.{Answered, BrokeOff, AnswersPiece}
-use Rattle.xw_session.specs.Command.{command_of}
+use Rattle.xw_lines.specs.Sends.{Sends}
+use Rattle.xw_lines.specs.Device.{Begins, HasFailed}
+use Rattle.xw_lines.proofs.SendsLemmas.{sends-then, stops-within}
+use Rattle.xw_lines.specs.declared.outcome.Step.{Step}
+use Rattle.xw_lines.specs.declared.outcome.Step.TheVariants.{Silent, Refused}
+use Rattle.xw_commands.specs.declared.command.SyntaxFault.TheVariants as syntax
+use Rattle.xw_lines.specs.Cut.{held}
+use Rattle.xw_lines.specs.Spoken.{Answered, BrokeOff, AnswersPiece}
+use Rattle.xw_commands.specs.Command.{command_of}
 use Rattle.xw_session.specs.Text.{accepted, refused}
-use Rattle.xw_session.specs.declared.command.SyntaxFault.{SyntaxFault}
+use Rattle.xw_commands.specs.declared.command.SyntaxFault.{SyntaxFault}
 use Rattle.xw_session.specs.State.{State}
-use Rattle.xw_session.specs.declared.command.Command.{Command}
+use Rattle.xw_commands.specs.declared.command.Command.{Command}
 use Rattle.xw_session.specs.declared.refusal.Refusal.{Refusal}
 use Rattle.xw_session.specs.declared.refusal.Refusal.TheVariants as refusals
 use Rattle.xw_session.specs.Reply.{Reply, shown, reply_to, want_of}

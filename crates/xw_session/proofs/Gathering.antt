@@ -1,10 +1,10 @@
 -- Lines that are put together and go out now and then.
 use Rattle.std.proofs.Common.{◌≡◌, ℕ, List, [], ◌∷◌, ◌++◌, sym, ◌∙◌, ap, append_assoc, append-nil, subst}
 use Rattle.std.specs.Prelude.{Result, Ok, Err, flat_map}
-use Rattle.xw_session.specs.Device.{Begins, HasFailed}
-use Rattle.xw_session.specs.Sends.{Sends, Gathers}
-use Rattle.xw_session.proofs.SendsLemmas.{sends-then}
-use Rattle.xw_session.proofs.Texts.{begins-longer, begins-after}
+use Rattle.xw_lines.specs.Device.{Begins, HasFailed}
+use Rattle.xw_lines.specs.Sends.{Sends, Gathers}
+use Rattle.xw_lines.proofs.SendsLemmas.{sends-then}
+use Rattle.xw_lines.proofs.Texts.{begins-longer, begins-after}
 
 module _ {S : Type 0} (told : S → List ℕ) (failures : S → ℕ) where
   -- what was put together went out, and then the text was sent

@@ -8,16 +8,16 @@ use Rattle.std.proofs.Math.Nat.{min_comm}
 use Rattle.std.proofs.lemmas.List.Folds.{flat_map-map}
 use Rattle.std.proofs.lemmas.Grind.{flat_map-append}
 use Rattle.xw_words.specs.Dictionary.{Dictionary, row}
-use Rattle.xw_session.specs.Device.{Begins, HasFailed}
-use Rattle.xw_session.specs.Sends.{Sends}
-use Rattle.xw_session.specs.declared.command.Command.{Command}
-use Rattle.xw_session.specs.declared.command.Command.TheVariants.{Put}
-use Rattle.xw_session.specs.declared.command.Field.{Field}
-use Rattle.xw_session.specs.declared.command.Field.TheVariants as fields
-use Rattle.xw_session.specs.declared.command.Putting.{Putting}
-use Rattle.xw_session.specs.declared.command.Spot.{Spot}
-use Rattle.xw_session.specs.declared.command.Name.TheVariants as names
-use Rattle.xw_session.specs.Name.{word_of}
+use Rattle.xw_lines.specs.Device.{Begins, HasFailed}
+use Rattle.xw_lines.specs.Sends.{Sends}
+use Rattle.xw_commands.specs.declared.command.Command.{Command}
+use Rattle.xw_commands.specs.declared.command.Command.TheVariants.{Put}
+use Rattle.xw_commands.specs.declared.command.Field.{Field}
+use Rattle.xw_commands.specs.declared.command.Field.TheVariants as fields
+use Rattle.xw_commands.specs.declared.command.Putting.{Putting}
+use Rattle.xw_commands.specs.declared.command.Spot.{Spot}
+use Rattle.xw_commands.specs.declared.command.Name.TheVariants as names
+use Rattle.xw_commands.specs.Name.{word_of}
 use Rattle.xw_session.specs.Escape.{escaped_text}
 use Rattle.xw_session.specs.Text.{line_of}
 use Rattle.xw_session.specs.Spelling.{command_line, in_field}

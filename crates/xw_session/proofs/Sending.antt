@@ -4,9 +4,9 @@ use Rattle.std.specs.List.{range_with_len}
 use Rattle.std.proofs.lemmas.List.{take_all, take_more, get_or_default}
 use Rattle.std.proofs.lemmas.List.FromFn.{get_or-range_with_len, length-range_with_len}
 use Rattle.std.proofs.lemmas.Grind.{flat_map-append}
-use Rattle.xw_session.specs.Device.{Begins, HasFailed}
+use Rattle.xw_lines.specs.Device.{Begins, HasFailed}
 use Rattle.xw_session.specs.Text.{line_of}
-use Rattle.xw_session.proofs.SendsLemmas.{stops-in-each}
+use Rattle.xw_lines.proofs.SendsLemmas.{stops-in-each}
 
 -- a line of two words or more: the first one, a space, and the line of the others
 pub line_of_more : {X : Type 0} (view : X → List ℕ) (words : List X) (d : X) → 2 ≤ length words

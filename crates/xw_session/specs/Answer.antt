@@ -7,16 +7,16 @@ use Rattle.xw_feas.specs.State.{action_of, after}
 use Rattle.xw_feas.specs.Changed.{changes_left}
 use Rattle.xw_feas.specs.Changes.{spelled_out}
 use Rattle.xw_fill.specs.declared.search.Filling.{Filling}
-use Rattle.xw_session.specs.declared.outcome.Step.{Step}
-use Rattle.xw_session.specs.declared.outcome.Step.TheVariants.{Silent, Accepted, Refused}
-use Rattle.xw_session.specs.declared.command.Command.{Command}
-use Rattle.xw_session.specs.declared.command.SyntaxFault.{SyntaxFault}
+use Rattle.xw_lines.specs.declared.outcome.Step.{Step}
+use Rattle.xw_lines.specs.declared.outcome.Step.TheVariants.{Silent, Accepted, Refused}
+use Rattle.xw_commands.specs.declared.command.Command.{Command}
+use Rattle.xw_commands.specs.declared.command.SyntaxFault.{SyntaxFault}
 use Rattle.xw_session.specs.declared.refusal.Refusal.{Refusal}
 use Rattle.xw_session.specs.declared.refusal.Refusal.TheVariants as refusals
-use Rattle.xw_session.specs.Command.{command_of}
+use Rattle.xw_commands.specs.Command.{command_of}
 use Rattle.xw_session.specs.Refusal.{refusal_of}
 use Rattle.xw_session.specs.Reply.{Reply, reply_to, want_of, want_of_action, moved, filling_name}
-use Rattle.xw_session.specs.Sends.{Sends}
+use Rattle.xw_lines.specs.Sends.{Sends}
 use Rattle.xw_session.specs.State.{State}
 use Rattle.xw_session.specs.Text.{accepted, refused, word_line, change_line}
 

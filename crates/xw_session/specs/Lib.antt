@@ -1,12 +1,3 @@
-pub mod Device
-pub mod Sends
-pub mod Cut
-pub mod Spoken
-pub mod Run
-pub mod Line
-pub mod Reading
-pub mod Name
-pub mod Command
 pub mod State
 pub mod Escape
 pub mod Refusal

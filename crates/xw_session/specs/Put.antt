@@ -3,12 +3,12 @@ use Rattle.std.specs.Prelude.{ℕ, Bool, true, List, [], ◌∷◌, ◌++◌}
 use Rattle.xw_grid.specs.Grid.{Grid, is_inside}
 use Rattle.xw_grid.specs.Clue.{clue_at, with_clue}
 use Rattle.xw_files.specs.Puzzle.{TextsShown}
-use Rattle.xw_session.specs.declared.command.Field.{Field}
-use Rattle.xw_session.specs.declared.command.Field.TheVariants as fields
-use Rattle.xw_session.specs.declared.command.TextField.{TextField}
-use Rattle.xw_session.specs.declared.command.TextField.TheVariants.{Title, Author, Copyright, Notes}
-use Rattle.xw_session.specs.declared.command.Putting.{Putting}
-use Rattle.xw_session.specs.declared.command.Putting.TheVariants.{Instead, Behind}
+use Rattle.xw_commands.specs.declared.command.Field.{Field}
+use Rattle.xw_commands.specs.declared.command.Field.TheVariants as fields
+use Rattle.xw_commands.specs.declared.command.TextField.{TextField}
+use Rattle.xw_commands.specs.declared.command.TextField.TheVariants.{Title, Author, Copyright, Notes}
+use Rattle.xw_commands.specs.declared.command.Putting.{Putting}
+use Rattle.xw_commands.specs.declared.command.Putting.TheVariants.{Instead, Behind}
 use Rattle.xw_session.specs.declared.session.putting.Place.{Place}
 use Rattle.xw_session.specs.declared.session.putting.Place.TheVariants as places
 use Rattle.xw_session.specs.State.{State, cell_of, with_text_in}

@@ -9,13 +9,13 @@ use Rattle.xw_grid.specs.declared.cell.Side.{Side}
 use Rattle.xw_grid.specs.declared.cell.Side.TheVariants.{Right, Below}
 use Rattle.xw_grid.specs.Grid.{Grid, cells, is_block, is_barred, entry}
 use Rattle.xw_grid.specs.Clue.{ClueMap, clue_at, is_circled}
-use Rattle.xw_session.specs.declared.command.Command.{Command}
-use Rattle.xw_session.specs.declared.command.Command.TheVariants.{Size, Symmetry as Turn, Add, Strike, Set, Block, Bar, Circle, Watch, Put}
-use Rattle.xw_session.specs.declared.command.Field.{Field}
-use Rattle.xw_session.specs.declared.command.Field.TheVariants as fields
-use Rattle.xw_session.specs.declared.command.Putting.TheVariants.{Instead, Behind}
-use Rattle.xw_session.specs.declared.command.Spot.{Spot}
-use Rattle.xw_session.specs.declared.command.TextField.TheVariants.{Title, Author, Copyright, Notes}
+use Rattle.xw_commands.specs.declared.command.Command.{Command}
+use Rattle.xw_commands.specs.declared.command.Command.TheVariants.{Size, Symmetry as Turn, Add, Strike, Set, Block, Bar, Circle, Watch, Put}
+use Rattle.xw_commands.specs.declared.command.Field.{Field}
+use Rattle.xw_commands.specs.declared.command.Field.TheVariants as fields
+use Rattle.xw_commands.specs.declared.command.Putting.TheVariants.{Instead, Behind}
+use Rattle.xw_commands.specs.declared.command.Spot.{Spot}
+use Rattle.xw_commands.specs.declared.command.TextField.TheVariants.{Title, Author, Copyright, Notes}
 use Rattle.xw_session.specs.declared.record.Part.{Part}
 use Rattle.xw_session.specs.declared.record.Part.TheVariants as parts
 use Rattle.xw_session.specs.declared.record.Section.{Section}

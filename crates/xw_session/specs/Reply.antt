@@ -25,18 +25,18 @@ use Rattle.xw_fill.specs.Suggesting.{suggestion}
 use Rattle.xw_fill.specs.declared.search.Filling.{Filling}
 use Rattle.xw_fill.specs.declared.search.Filling.TheVariants as fillings
 use Rattle.xw_fill.specs.Listing.{duplicates_of, unlisted_of}
-use Rattle.xw_session.specs.declared.command.Spot.{Spot}
-use Rattle.xw_session.specs.declared.command.Named.{Named}
-use Rattle.xw_session.specs.declared.command.TextField.{TextField}
-use Rattle.xw_session.specs.declared.command.Command.{Command}
-use Rattle.xw_session.specs.declared.command.Command.TheVariants as commands
+use Rattle.xw_commands.specs.declared.command.Spot.{Spot}
+use Rattle.xw_commands.specs.declared.command.Named.{Named}
+use Rattle.xw_commands.specs.declared.command.TextField.{TextField}
+use Rattle.xw_commands.specs.declared.command.Command.{Command}
+use Rattle.xw_commands.specs.declared.command.Command.TheVariants as commands
 use Rattle.xw_session.specs.declared.refusal.Refusal.{Refusal}
 use Rattle.xw_session.specs.declared.refusal.Refusal.TheVariants as refusals
 use Rattle.xw_session.specs.Refusal.{refusal_of}
-use Rattle.xw_session.specs.declared.command.Telling.{Telling}
-use Rattle.xw_session.specs.declared.command.Telling.TheVariants.{Cells, Counts, Texts, Stats, Record}
-use Rattle.xw_session.specs.declared.command.Putting.{Putting}
-use Rattle.xw_session.specs.declared.command.Field.{Field}
+use Rattle.xw_commands.specs.declared.command.Telling.{Telling}
+use Rattle.xw_commands.specs.declared.command.Telling.TheVariants.{Cells, Counts, Texts, Stats, Record}
+use Rattle.xw_commands.specs.declared.command.Putting.{Putting}
+use Rattle.xw_commands.specs.declared.command.Field.{Field}
 use Rattle.xw_session.specs.State.{State, with_text_in}
 pub use Rattle.xw_session.specs.State.{cell_of}
 use Rattle.xw_session.specs.Escape.{text_spelled}

@@ -4,19 +4,19 @@ use Rattle.xw_grid.specs.declared.cell.Side.{Side}
 use Rattle.xw_grid.specs.declared.cell.Side.TheVariants.{Right, Below}
 use Rattle.xw_grid.specs.declared.cell.Symmetry.{Symmetry}
 use Rattle.xw_grid.specs.declared.cell.Symmetry.TheVariants as kinds
-use Rattle.xw_session.specs.declared.command.Command.{Command}
-use Rattle.xw_session.specs.declared.command.Command.TheVariants as commands
-use Rattle.xw_session.specs.declared.command.Field.{Field}
-use Rattle.xw_session.specs.declared.command.Field.TheVariants as fields
-use Rattle.xw_session.specs.declared.command.Name.TheVariants as names
-use Rattle.xw_session.specs.declared.command.Named.{Named}
-use Rattle.xw_session.specs.declared.command.Spot.{Spot}
-use Rattle.xw_session.specs.declared.command.TextField.{TextField}
-use Rattle.xw_session.specs.declared.command.TextField.TheVariants.{Title, Author, Copyright, Notes}
-use Rattle.xw_session.specs.declared.command.WithWord.TheVariants as with_word
-use Rattle.xw_session.specs.declared.command.WithCell.TheVariants as with_cell
-use Rattle.xw_session.specs.declared.command.WithLight.TheVariants as with_light
-use Rattle.xw_session.specs.Name.{word_of}
+use Rattle.xw_commands.specs.declared.command.Command.{Command}
+use Rattle.xw_commands.specs.declared.command.Command.TheVariants as commands
+use Rattle.xw_commands.specs.declared.command.Field.{Field}
+use Rattle.xw_commands.specs.declared.command.Field.TheVariants as fields
+use Rattle.xw_commands.specs.declared.command.Name.TheVariants as names
+use Rattle.xw_commands.specs.declared.command.Named.{Named}
+use Rattle.xw_commands.specs.declared.command.Spot.{Spot}
+use Rattle.xw_commands.specs.declared.command.TextField.{TextField}
+use Rattle.xw_commands.specs.declared.command.TextField.TheVariants.{Title, Author, Copyright, Notes}
+use Rattle.xw_commands.specs.declared.command.WithWord.TheVariants as with_word
+use Rattle.xw_commands.specs.declared.command.WithCell.TheVariants as with_cell
+use Rattle.xw_commands.specs.declared.command.WithLight.TheVariants as with_light
+use Rattle.xw_commands.specs.Name.{word_of}
 use Rattle.xw_session.specs.Text.{line_of, direction_name}
 
 abbrev pub symmetry_name : Symmetry → List ℕ

@@ -18,8 +18,8 @@ use Rattle.xw_fill.specs.declared.suggesting.Suggestion.{Suggestion}
 use Rattle.xw_fill.specs.declared.suggesting.Suggestion.TheVariants as suggestions
 use Rattle.xw_words.specs.declared.fault.WordFault.{WordFault}
 use Rattle.xw_words.specs.declared.fault.WordFault.TheVariants as words
-use Rattle.xw_session.specs.declared.command.SyntaxFault.{SyntaxFault}
-use Rattle.xw_session.specs.declared.command.SyntaxFault.TheVariants as syntax
+use Rattle.xw_commands.specs.declared.command.SyntaxFault.{SyntaxFault}
+use Rattle.xw_commands.specs.declared.command.SyntaxFault.TheVariants as syntax
 use Rattle.xw_session.specs.declared.refusal.Refusal.{Refusal}
 use Rattle.xw_session.specs.declared.refusal.Refusal.TheVariants as refusals
 

@@ -1,12 +1,12 @@
 //! Texts as lines spell them, with escapes.
 ghost use Rattle.std.specs.Prelude.{◌≡◌, ℕ, ◌<◌, ◌++◌, [], ◌∷◌, List, Some, length, not, IfOk, MatchOption};
 ghost use Rattle.std.specs.Option.{is_some};
-ghost use Rattle.xw_session.specs.Sends.{Sends};
+ghost use Rattle.xw_lines.specs.Sends.{Sends};
 ghost use Rattle.xw_session.specs.Text.{line_of};
 ghost use Rattle.xw_session.specs.Escape.{meaning as meaning_of, added as added_so, begins_escape as begins_escape_so, text_spelled, letter_for as letter_for_byte, escaped, is_end as is_end_of, spelled_at, escaped_text};
 
-use crate::device::{self, Sink, WriteFailed};
 use std::alloc::{AllocError, Global};
+use xw_lines::device::{self, Sink, WriteFailed};
 
 /// What a letter after a backslash stands for.
 fn meaning(letter: u8) -> Option<u8>

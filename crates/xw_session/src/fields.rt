@@ -2,15 +2,15 @@
 ghost use Rattle.std.specs.Prelude.{◌≡◌, ◌<◌, [], ◌∷◌, length, decimal, slice_index_or};
 ghost use Rattle.xw_grid.specs.Light.{lights_of, no_light};
 ghost use Rattle.xw_files.specs.Puzzle.{texts_view};
-ghost use Rattle.xw_session.specs.Sends.{Sends};
+ghost use Rattle.xw_lines.specs.Sends.{Sends};
 ghost use Rattle.xw_session.specs.Text.{line_of, direction_name as name_of_direction};
 ghost use Rattle.xw_session.specs.Escape.{escaped_text};
 ghost use Rattle.xw_session.specs.Told.{field_line, title_and_author, copyright_and_notes, field_lines, clue_line, clue_told, clue_lines};
 
-use crate::device::{Sink, WriteFailed};
 use crate::{escape, text};
 use xw_files::puzzle::Texts;
 use xw_grid::{Clues, Direction, Grid, LightName, Lights};
+use xw_lines::device::{Sink, WriteFailed};
 
 /// Writes a text behind its name, where it is not empty.
 fn write_field<W: Sink>(sink: &mut W, name: &[u8], text: &[u8]) -> Result<(), WriteFailed>

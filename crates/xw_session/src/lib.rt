@@ -1,30 +1,19 @@
-//! Line commands, from any reader to any writer.
+//! A session: what is kept between lines, and the answer to each.
 #![tactic(auto)]
 
 mod answer_line;
-pub mod command;
-pub mod device;
 mod escape;
 mod fields;
-pub mod history;
 mod light_line;
-mod line;
 mod lists;
 mod lookup;
-pub mod outcome;
-mod piece;
 mod record;
 pub mod refusal;
-mod run;
 pub mod session;
 mod show;
 mod spelling;
-pub mod standard;
 mod stats;
 mod text;
-mod words;
 
-pub use device::{DeviceFault, Sink, Source, WriteFailed};
-pub use outcome::{RunEnd, Step};
 pub use session::Session;
-pub use standard::{FromRead, ToWrite};
+pub use xw_lines::{DeviceFault, FromRead, RunEnd, Sink, Source, Step, ToWrite, WriteFailed};

@@ -3,11 +3,10 @@ ghost use Rattle.std.specs.Prelude.{◌≡◌, ◌<◌, ◌≤◌, flat_map, len
 ghost use Rattle.xw_grid.specs.Light.{lights_of, no_light};
 ghost use Rattle.xw_feas.specs.Changed.{changes_left};
 ghost use Rattle.xw_feas.specs.Changes.{spelled_out};
-ghost use Rattle.xw_session.specs.Sends.{Sends};
+ghost use Rattle.xw_lines.specs.Sends.{Sends};
 ghost use Rattle.xw_session.specs.Text.{word_line, light_line, light_lines, circle_line, circle_lines, change_line, duplicate_line, spelled_line};
 
 use crate::answer_line::AnswerLine;
-use crate::device::{self, Sink, WriteFailed};
 use crate::spelling::gather_letters_line;
 use crate::{light_line, text};
 use xw_feas::changed::Changed;
@@ -15,6 +14,7 @@ use xw_feas::feasible::Feasible;
 use xw_feas::words::WordIter;
 use xw_fill::listing::Duplicate;
 use xw_grid::{Cell, Circles, Grid, Light, LightName, Lights};
+use xw_lines::device::{self, Sink, WriteFailed};
 use xw_words::Matching;
 
 /// Writes words, each on a line.

@@ -4,20 +4,20 @@ ghost use Rattle.std.specs.List.{range_with_len};
 ghost use Rattle.xw_words.specs.Dictionary.{row as words_of, entry_at};
 ghost use Rattle.xw_grid.specs.Clue.{clue_at};
 ghost use Rattle.xw_grid.specs.Grid.{entry as entry_of};
-ghost use Rattle.xw_session.specs.declared.command.Command.TheVariants as commands;
-ghost use Rattle.xw_session.specs.declared.command.Name.TheVariants as names;
-ghost use Rattle.xw_session.specs.Sends.{Sends};
+ghost use Rattle.xw_commands.specs.declared.command.Command.TheVariants as commands;
+ghost use Rattle.xw_commands.specs.declared.command.Name.TheVariants as names;
+ghost use Rattle.xw_lines.specs.Sends.{Sends};
 ghost use Rattle.xw_session.specs.Escape.{escaped_text};
-ghost use Rattle.xw_session.specs.Name.{word_of};
+ghost use Rattle.xw_commands.specs.Name.{word_of};
 ghost use Rattle.xw_session.specs.Spelling.{symmetry_name as name_of_symmetry, side_name as name_of_side, field_name as name_of_field, at_spot, command_line};
 ghost use Rattle.xw_session.specs.Text.{line_of, direction_name as name_of_direction};
 ghost use Rattle.xw_session.specs.Record.{command_lines, known_counts, add_command, strike_commands, row_commands, length_commands, word_commands, piece_at, further_pieces, more_command, text_commands, spot_of, circle_commands, bar_commands, block_commands, letter_commands, clue_commands, cell_commands, part_commands};
 
-use crate::command::{Field, Putting, Spot, TextField};
-use crate::device::{Sink, WriteFailed};
 use crate::text::{self, Decimal};
 use crate::{escape, fields};
+use xw_commands::command::{Field, Putting, Spot, TextField};
 use xw_grid::{Cell, Circles, Clues, Direction, Grid, Side, Symmetry};
+use xw_lines::device::{Sink, WriteFailed};
 use xw_words::{Bank, Letter};
 
 /// What is kept for some cells of a grid.

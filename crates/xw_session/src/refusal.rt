@@ -2,7 +2,7 @@
 ghost use Rattle.std.specs.Prelude.{◌≡◌};
 ghost use Rattle.xw_session.specs.Text.{word_fault, grid_fault, syntax_fault, name_of};
 
-use crate::command::SyntaxFault;
+use xw_commands::command::SyntaxFault;
 use xw_feas::edit::Refusal as EditRefusal;
 use xw_grid::GridFault;
 use xw_words::WordFault;

@@ -10,28 +10,28 @@ ghost use Rattle.std.specs.Prelude.{◌≡◌, ℕ, ◌+◌, ◌-◌, ◌^◌, �
 ghost use Rattle.xw_grid.specs.Grid.{is_inside};
 ghost use Rattle.xw_grid.specs.Clue.{no_clues};
 ghost use Rattle.xw_files.specs.Puzzle.{texts_view, puzzle_view};
-ghost use Rattle.xw_session.specs.Cut.{lines_of, ended_lines};
-ghost use Rattle.xw_session.specs.Device.{saturated, HasFailed};
-ghost use Rattle.xw_session.specs.Run.{Speaks, StopsIn, IfDone, OnReadFailed, OnWriteFailed, OnEndless, OnMemory, UnlessWriteFailed};
-ghost use Rattle.xw_session.specs.Sends.{Sends};
+ghost use Rattle.xw_lines.specs.Cut.{lines_of, ended_lines};
+ghost use Rattle.xw_lines.specs.Device.{saturated, HasFailed};
+ghost use Rattle.xw_lines.specs.Run.{Speaks, StopsIn, IfDone, OnReadFailed, OnWriteFailed, OnEndless, OnMemory, UnlessWriteFailed};
+ghost use Rattle.xw_lines.specs.Sends.{Sends};
 ghost use Rattle.xw_session.specs.State.{State};
 ghost use Rattle.xw_session.specs.Record.{known_counts};
 ghost use Rattle.xw_session.specs.Reply.{cell_of};
 ghost use Rattle.xw_session.specs.Answer.{AnswersTo, AnswersLine, Answers, reply_of, text_of, step_of};
 
-use crate::command::{self, Command, Spot, SyntaxFault};
-use crate::device::{Sink, Source, WriteFailed};
-use crate::outcome::{RunEnd, Step};
 use crate::record::{LENGTHS, known_words};
 use crate::refusal::Refusal;
-use crate::run::{self, Speaker};
 use crate::text;
 use std::alloc::Global;
 use std::marker::Model;
+use xw_commands::command::{self, Command, Spot, SyntaxFault};
 use xw_feas::edit::Refusal as EditRefusal;
 use xw_feas::feasible::Feasible;
 use xw_files::puzzle::{Puzzle, Texts};
 use xw_grid::{Cell, Circles, Clues, GridFault};
+use xw_lines::device::{Sink, Source, WriteFailed};
+use xw_lines::outcome::{RunEnd, Step};
+use xw_lines::run::{self, Speaker};
 
 /// A session over an engine.
 #[derive(Drop)]
@@ -92,7 +92,7 @@ fn copy_texts(texts: &Texts) -> Result<Texts, GridFault>
 }
 
 impl<E: Feasible> Session<E> {
-    ghost use Rattle.xw_session.specs.declared.command.Command.TheVariants as commands;
+    ghost use Rattle.xw_commands.specs.declared.command.Command.TheVariants as commands;
 
     /// A session over an engine, without texts, clues and circles, and with the watch off.
     pub fn new(alloc: Global, engine: E) -> Session<E>

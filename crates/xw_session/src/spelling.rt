@@ -1,10 +1,10 @@
 //! Letters, many of which are written at once.
 ghost use Rattle.std.specs.Prelude.{◌≡◌, ◌<◌, ◌≤◌, [], ◌∷◌, length, min, take, IfOk};
-ghost use Rattle.xw_session.specs.Sends.{Sends, Gathers};
+ghost use Rattle.xw_lines.specs.Sends.{Sends, Gathers};
 ghost use Rattle.xw_session.specs.Text.{line_of};
 
 use crate::answer_line::AnswerLine;
-use crate::device::{self, Sink, WriteFailed};
+use xw_lines::device::{self, Sink, WriteFailed};
 use xw_words::Letter;
 
 /// How many letters are put together to be written at once.

@@ -4,12 +4,11 @@ ghost use Rattle.xw_words.specs.LetterSet.{has, letters_in};
 ghost use Rattle.xw_grid.specs.Grid.{entry as entry_of};
 ghost use Rattle.xw_grid.specs.Light.{lights_of};
 ghost use Rattle.xw_feas.specs.Spelled.{spelling};
-ghost use Rattle.xw_session.specs.Sends.{Sends, Gathers};
+ghost use Rattle.xw_lines.specs.Sends.{Sends, Gathers};
 ghost use Rattle.xw_session.specs.Told.{numbered_line};
 ghost use Rattle.xw_session.specs.Text.{line_of, accepted, refused, direction_name as name_of_direction, letter_or_dot as byte_of_entry, pattern as pattern_in, pattern_of, light_of, cell_line, letters_or_dash, letters_line, change_line, duplicate_line, spelled_line};
 
 use crate::answer_line::AnswerLine;
-use crate::device::{self, Sink, WriteFailed};
 use crate::lookup::light_named;
 use crate::refusal::{self, Refusal};
 use crate::spelling::{gather_letters_line, send_lines, write_letters_line};
@@ -17,6 +16,7 @@ use std::marker::Model;
 use xw_feas::words::{Entries, Spelled};
 use xw_fill::listing::Duplicate;
 use xw_grid::{Cell, Direction, Grid, Light, LightName, Lights};
+use xw_lines::device::{self, Sink, WriteFailed};
 use xw_words::word::LONGEST;
 use xw_words::{Letter, LetterSet};
 

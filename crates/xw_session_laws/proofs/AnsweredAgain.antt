@@ -2,16 +2,16 @@
 use Rattle.std.proofs.Common.{◌≡◌, ℕ, List, [], ◌∷◌, ◌++◌, Some, None, refl, sym, ◌∙◌, ap, inl, inr, arith}
 use Rattle.std.specs.Prelude.{Option, Result, Ok, Err}
 use Rattle.std.specs.Option.{option_and_then}
-use Rattle.xw_session.specs.declared.command.Command.{Command}
-use Rattle.xw_session.specs.declared.command.SyntaxFault.{SyntaxFault}
-use Rattle.xw_session.specs.declared.outcome.Step.{Step}
-use Rattle.xw_session.specs.declared.outcome.Step.TheVariants.{Silent, Refused}
+use Rattle.xw_commands.specs.declared.command.Command.{Command}
+use Rattle.xw_commands.specs.declared.command.SyntaxFault.{SyntaxFault}
+use Rattle.xw_lines.specs.declared.outcome.Step.{Step}
+use Rattle.xw_lines.specs.declared.outcome.Step.TheVariants.{Silent, Refused}
 use Rattle.xw_session.specs.declared.refusal.Refusal.{Refusal}
 use Rattle.xw_session.specs.State.{State}
-use Rattle.xw_session.specs.Command.{command_of}
+use Rattle.xw_commands.specs.Command.{command_of}
 use Rattle.xw_session.specs.Reply.{Reply, reply_to, want_of}
 use Rattle.xw_session.specs.Answer.{IsReply, Replies, text_of, step_of, state_after, AnswersParsed, Answers}
-use Rattle.xw_session.specs.Spoken.{Spoken, refusals}
+use Rattle.xw_lines.specs.Spoken.{Spoken, refusals}
 use Rattle.xw_session_laws.specs.Replay.{state_left, left_by_line, replayed_lines, WantsMemory}
 
 -- ---- lines of which none is refused

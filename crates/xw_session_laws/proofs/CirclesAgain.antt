@@ -19,7 +19,7 @@ use Rattle.xw_grid.specs.Edit.{blank}
 use Rattle.xw_grid.specs.Clue.{ClueMap, is_circled, with_circle}
 use Rattle.xw_grid.proofs.ClueLemmas.{same_at}
 use Rattle.xw_grid.proofs.GridLemmas.{cell_at-inside, take-cells, all-cells}
-use Rattle.xw_session.specs.declared.command.Command.TheVariants as commands
+use Rattle.xw_commands.specs.declared.command.Command.TheVariants as commands
 use Rattle.xw_session.specs.declared.record.Part.TheVariants.{Circles}
 use Rattle.xw_session.specs.declared.refusal.Refusal.TheVariants as refusals
 use Rattle.xw_session.specs.State.{State}

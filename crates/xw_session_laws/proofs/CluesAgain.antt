@@ -7,7 +7,7 @@ use Rattle.xw_grid.specs.declared.cell.Direction.TheVariants.{Across, Down}
 use Rattle.xw_grid.specs.Grid.{Grid, IsGrid, cell_at}
 use Rattle.xw_grid.specs.Clue.{Texts, ClueMap, no_clues, clue_at, text_at, with_clue}
 use Rattle.xw_grid.proofs.GridLemmas.{cell_at-inside}
-use Rattle.xw_session.specs.declared.command.Field.TheVariants as fields
+use Rattle.xw_commands.specs.declared.command.Field.TheVariants as fields
 use Rattle.xw_session.specs.declared.record.Part.TheVariants.{Clues}
 use Rattle.xw_session.specs.State.{State}
 use Rattle.xw_session.specs.Reply.{has_nul}

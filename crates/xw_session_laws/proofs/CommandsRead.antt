@@ -13,24 +13,24 @@ use Rattle.xw_grid.specs.declared.cell.Side.{Side}
 use Rattle.xw_grid.specs.declared.cell.Side.TheVariants.{Right, Below}
 use Rattle.xw_grid.specs.declared.cell.Symmetry.{Symmetry}
 use Rattle.xw_grid.specs.declared.cell.Symmetry.TheVariants as kinds
-use Rattle.xw_session.specs.declared.command.Command.{Command}
-use Rattle.xw_session.specs.declared.command.Command.TheVariants as commands
-use Rattle.xw_session.specs.declared.command.Field.{Field}
-use Rattle.xw_session.specs.declared.command.Field.TheVariants as fields
-use Rattle.xw_session.specs.declared.command.Putting.TheVariants.{Instead, Behind}
-use Rattle.xw_session.specs.declared.command.Spot.{Spot}
-use Rattle.xw_session.specs.declared.command.SyntaxFault.TheVariants as faults
-use Rattle.xw_session.specs.declared.command.TextField.{TextField}
-use Rattle.xw_session.specs.declared.command.TextField.TheVariants.{Title, Author, Copyright, Notes}
-use Rattle.xw_session.specs.Command.{command_named, command_in, command_of, whole}
-use Rattle.xw_session.specs.Cut.{HasNoLf}
+use Rattle.xw_commands.specs.declared.command.Command.{Command}
+use Rattle.xw_commands.specs.declared.command.Command.TheVariants as commands
+use Rattle.xw_commands.specs.declared.command.Field.{Field}
+use Rattle.xw_commands.specs.declared.command.Field.TheVariants as fields
+use Rattle.xw_commands.specs.declared.command.Putting.TheVariants.{Instead, Behind}
+use Rattle.xw_commands.specs.declared.command.Spot.{Spot}
+use Rattle.xw_commands.specs.declared.command.SyntaxFault.TheVariants as faults
+use Rattle.xw_commands.specs.declared.command.TextField.{TextField}
+use Rattle.xw_commands.specs.declared.command.TextField.TheVariants.{Title, Author, Copyright, Notes}
+use Rattle.xw_commands.specs.Command.{command_named, command_in, command_of, whole}
+use Rattle.xw_lines.specs.Cut.{HasNoLf}
 use Rattle.xw_session.specs.Escape.{letter_for, escaped, is_end, spelled_at, escaped_text}
-use Rattle.xw_session.specs.Line.{without_cr, first_word, trimmed_start, trimmed_end, trimmed}
-use Rattle.xw_session.specs.Reading.{◌>>=◌, given, number, byte, word, text, side, direction, switch, symmetry, spot, text_name, field_named, field}
+use Rattle.xw_commands.specs.Line.{without_cr, first_word, trimmed_start, trimmed_end, trimmed}
+use Rattle.xw_commands.specs.Reading.{◌>>=◌, given, number, byte, word, text, side, direction, switch, symmetry, spot, text_name, field_named, field}
 use Rattle.xw_session.specs.Spelling.{symmetry_name, side_name, switch_name, field_name, in_field, command_words, command_line}
 use Rattle.xw_session.specs.Text.{line_of, direction_name}
 use Rattle.xw_session_laws.proofs.LinesRead.{spaced, line_parts, first_read, reads_word, then_read, is_high, each_weaker, IsHigh, high_word, short_number, high_number, reads_number, reads_spot, reads_byte, reads_key, reads_side, reads_direction, reads_switch, reads_symmetry, space_first, both, list_all_both}
-use Rattle.xw_session.proofs.Passing.{each_passes}
+use Rattle.xw_commands.proofs.Passing.{each_passes}
 use Rattle.xw_session_laws.proofs.SpelledLines.{IsInked, inked, starts_inked, spelled_trimmed}
 
 -- ---- bytes that stand in a line: no LF and no CR

@@ -16,11 +16,11 @@ use Rattle.xw_grid.specs.declared.cell.Side.TheVariants.{Right, Below}
 use Rattle.xw_grid.specs.declared.cell.Symmetry.{Symmetry}
 use Rattle.xw_grid.specs.declared.cell.Symmetry.TheVariants as kinds
 use Rattle.xw_words.proofs.Position.{position_is_some, position_is_none}
-use Rattle.xw_session.specs.declared.command.SyntaxFault.{SyntaxFault}
-use Rattle.xw_session.specs.declared.command.SyntaxFault.TheVariants as faults
-use Rattle.xw_session.specs.Line.{is_blank, is_ink, is_digit, number_in, byte_in, first_place, trimmed_start, parted, first_word}
-use Rattle.xw_session.specs.declared.command.Spot.{Spot}
-use Rattle.xw_session.specs.Reading.{Reading, ◌>>=◌, given, wanted, word, number, byte, lookup, key_word, direction, side, symmetry, switch, spot}
+use Rattle.xw_commands.specs.declared.command.SyntaxFault.{SyntaxFault}
+use Rattle.xw_commands.specs.declared.command.SyntaxFault.TheVariants as faults
+use Rattle.xw_commands.specs.Line.{is_blank, is_ink, is_digit, number_in, byte_in, first_place, trimmed_start, parted, first_word}
+use Rattle.xw_commands.specs.declared.command.Spot.{Spot}
+use Rattle.xw_commands.specs.Reading.{Reading, ◌>>=◌, given, wanted, word, number, byte, lookup, key_word, direction, side, symmetry, switch, spot}
 use Rattle.xw_session.specs.Spelling.{symmetry_name, side_name, switch_name}
 use Rattle.xw_session.specs.Text.{line_of, direction_name}
 

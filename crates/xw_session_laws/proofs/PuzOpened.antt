@@ -21,8 +21,8 @@ use Rattle.xw_files.specs.Puz.Board.{with_clues, squares_at, grid_at, clues_in, 
 use Rattle.xw_files.proofs.StepLemmas.{ok_is, bind_ok, passed, avoided}
 use Rattle.xw_files.proofs.PuzLemmas.Texts.{text_at-takes}
 use Rattle.xw_files.proofs.PuzLemmas.Taken.{clues_at-takes}
-use Rattle.xw_session.specs.declared.command.TextField.{TextField}
-use Rattle.xw_session.specs.declared.command.TextField.TheVariants.{Title, Author, Copyright, Notes}
+use Rattle.xw_commands.specs.declared.command.TextField.{TextField}
+use Rattle.xw_commands.specs.declared.command.TextField.TheVariants.{Title, Author, Copyright, Notes}
 use Rattle.xw_session.specs.Put.{text_of_field}
 use Rattle.xw_session.specs.Reply.{has_nul}
 use Rattle.xw_session_laws.specs.Replay.{BarsAreOnEdges, AreFrom, AreTextsFrom, clues_of, SessionsOpen}

@@ -26,14 +26,14 @@ use Rattle.xw_grid.proofs.ClueLemmas.{same_at}
 use Rattle.xw_grid.proofs.GridLemmas.{same_cell_itself}
 use Rattle.xw_grid.proofs.KeptLemmas.{clues_are_kept}
 use Rattle.xw_feas.specs.State.{with_grid, by_fault}
-use Rattle.xw_session.specs.declared.command.Command.{Command}
-use Rattle.xw_session.specs.declared.command.Command.TheVariants as commands
+use Rattle.xw_commands.specs.declared.command.Command.{Command}
+use Rattle.xw_commands.specs.declared.command.Command.TheVariants as commands
 use Rattle.xw_session.specs.declared.record.Section.TheVariants as sections
-use Rattle.xw_session.specs.declared.command.Command.TheVariants.{Put}
-use Rattle.xw_session.specs.declared.command.Field.{Field}
-use Rattle.xw_session.specs.declared.command.Putting.{Putting}
-use Rattle.xw_session.specs.declared.command.Putting.TheVariants.{Instead, Behind}
-use Rattle.xw_session.specs.declared.command.TextField.TheVariants.{Title, Author, Copyright, Notes}
+use Rattle.xw_commands.specs.declared.command.Command.TheVariants.{Put}
+use Rattle.xw_commands.specs.declared.command.Field.{Field}
+use Rattle.xw_commands.specs.declared.command.Putting.{Putting}
+use Rattle.xw_commands.specs.declared.command.Putting.TheVariants.{Instead, Behind}
+use Rattle.xw_commands.specs.declared.command.TextField.TheVariants.{Title, Author, Copyright, Notes}
 use Rattle.xw_session.specs.declared.session.putting.Place.{Place}
 use Rattle.xw_session.specs.declared.session.putting.Place.TheVariants as places
 use Rattle.xw_session.specs.State.{State}

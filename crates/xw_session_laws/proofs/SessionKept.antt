@@ -31,16 +31,16 @@ use Rattle.xw_fill.specs.Search.{found, due, end}
 use Rattle.xw_fill.specs.Suggesting.{suggestion}
 use Rattle.xw_fill.specs.declared.search.Filling.TheVariants as fillings
 use Rattle.xw_files.specs.Puzzle.{TextsShown}
-use Rattle.xw_session.specs.declared.command.Command.{Command}
-use Rattle.xw_session.specs.declared.command.Command.TheVariants as commands
-use Rattle.xw_session.specs.declared.command.Field.{Field}
-use Rattle.xw_session.specs.declared.command.Putting.{Putting}
-use Rattle.xw_session.specs.declared.command.Putting.TheVariants.{Instead, Behind}
-use Rattle.xw_session.specs.declared.command.Spot.{Spot}
-use Rattle.xw_session.specs.declared.command.TextField.{TextField}
-use Rattle.xw_session.specs.declared.command.TextField.TheVariants.{Title, Author, Copyright, Notes}
-use Rattle.xw_session.specs.declared.command.SyntaxFault.{SyntaxFault}
-use Rattle.xw_session.specs.declared.outcome.Step.{Step}
+use Rattle.xw_commands.specs.declared.command.Command.{Command}
+use Rattle.xw_commands.specs.declared.command.Command.TheVariants as commands
+use Rattle.xw_commands.specs.declared.command.Field.{Field}
+use Rattle.xw_commands.specs.declared.command.Putting.{Putting}
+use Rattle.xw_commands.specs.declared.command.Putting.TheVariants.{Instead, Behind}
+use Rattle.xw_commands.specs.declared.command.Spot.{Spot}
+use Rattle.xw_commands.specs.declared.command.TextField.{TextField}
+use Rattle.xw_commands.specs.declared.command.TextField.TheVariants.{Title, Author, Copyright, Notes}
+use Rattle.xw_commands.specs.declared.command.SyntaxFault.{SyntaxFault}
+use Rattle.xw_lines.specs.declared.outcome.Step.{Step}
 use Rattle.xw_session.specs.declared.refusal.Refusal.{Refusal}
 use Rattle.xw_session.specs.declared.refusal.Refusal.TheVariants as refusals
 use Rattle.xw_session.specs.declared.session.putting.Place.{Place}

@@ -18,7 +18,7 @@ use Rattle.xw_grid.specs.Light.{lights_of}
 use Rattle.xw_grid.proofs.OrderLemmas.{IsMade, lights_are_made, made_inside}
 use Rattle.xw_feas.specs.WellFormed.{IsWellFormed}
 use Rattle.xw_files.specs.Puzzle.{PuzzleShown}
-use Rattle.xw_session.specs.declared.command.TextField.{TextField}
+use Rattle.xw_commands.specs.declared.command.TextField.{TextField}
 use Rattle.xw_session.specs.Put.{text_of_field}
 use Rattle.xw_session.specs.Reply.{has_nul}
 use Rattle.xw_session_laws.specs.Replay.{BarsAreOnEdges, AreFrom, AreTextsFrom, clues_of, ComeFirst, NoneIsStruck, BeganWith, opened_on}

@@ -23,8 +23,8 @@ use Rattle.xw_files.proofs.StepLemmas.{ok_is, bind_ok}
 use Rattle.xw_files.proofs.TextLemmas.Alls.{all_append}
 use Rattle.xw_files.proofs.TextLemmas.Found.{all_takes}
 use Rattle.xw_files.proofs.TextLemmas.Takes.{header_takes, tag_takes, text_takes, size_takes, rows_take, clues_take, notes_takes}
-use Rattle.xw_session.specs.declared.command.TextField.{TextField}
-use Rattle.xw_session.specs.declared.command.TextField.TheVariants.{Title, Author, Copyright, Notes}
+use Rattle.xw_commands.specs.declared.command.TextField.{TextField}
+use Rattle.xw_commands.specs.declared.command.TextField.TheVariants.{Title, Author, Copyright, Notes}
 use Rattle.xw_session.specs.Put.{text_of_field}
 use Rattle.xw_session.specs.Reply.{has_nul}
 use Rattle.xw_session_laws.specs.Replay.{BarsAreOnEdges, AreTextsFrom, clues_of, SessionsOpen}

@@ -18,8 +18,8 @@ use Rattle.xw_words.specs.Word.{is_bad_letter, word_of, judged}
 use Rattle.xw_words.specs.Dictionary.{Dictionary, Entry, AreWords, IsDictionary, row, no_entry, entry_at, place_in, most_words, marked, added_at, add_to, add_answer, after_add, struck_at, strike_from, strike_answer, after_strike, answer_on}
 use Rattle.xw_words.proofs.Position.{position_is_some, position_is_none}
 use Rattle.xw_feas.specs.State.{answered, with_words as with_dictionary}
-use Rattle.xw_session.specs.declared.command.Command.{Command}
-use Rattle.xw_session.specs.declared.command.Command.TheVariants.{Add, Strike}
+use Rattle.xw_commands.specs.declared.command.Command.{Command}
+use Rattle.xw_commands.specs.declared.command.Command.TheVariants.{Add, Strike}
 use Rattle.xw_session.specs.State.{State}
 use Rattle.xw_session.specs.Reply.{reply_to, moved}
 use Rattle.xw_session.specs.Record.{known_counts, add_command, strike_commands, row_commands, length_commands, word_commands}

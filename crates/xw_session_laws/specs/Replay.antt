@@ -14,19 +14,19 @@ use Rattle.xw_feas.specs.State.{State as Position}
 use Rattle.xw_feas.specs.WellFormed.{IsWellFormed}
 use Rattle.xw_files.specs.declared.fault.ReadFault.{ReadFault}
 use Rattle.xw_files.specs.Puzzle.{PuzzleShown}
-use Rattle.xw_session.specs.declared.command.Command.{Command}
-use Rattle.xw_session.specs.declared.command.SyntaxFault.{SyntaxFault}
-use Rattle.xw_session.specs.declared.command.TextField.{TextField}
-use Rattle.xw_session.specs.declared.outcome.Step.{Step}
-use Rattle.xw_session.specs.declared.outcome.Step.TheVariants.{Refused}
+use Rattle.xw_commands.specs.declared.command.Command.{Command}
+use Rattle.xw_commands.specs.declared.command.SyntaxFault.{SyntaxFault}
+use Rattle.xw_commands.specs.declared.command.TextField.{TextField}
+use Rattle.xw_lines.specs.declared.outcome.Step.{Step}
+use Rattle.xw_lines.specs.declared.outcome.Step.TheVariants.{Refused}
 use Rattle.xw_session.specs.declared.refusal.Refusal.{Refusal}
-use Rattle.xw_session.specs.Command.{command_of}
-use Rattle.xw_session.specs.Cut.{lines_of}
+use Rattle.xw_commands.specs.Command.{command_of}
+use Rattle.xw_lines.specs.Cut.{lines_of}
 use Rattle.xw_session.specs.Put.{text_of_field}
 use Rattle.xw_session.specs.Record.{known_counts, record_commands, record_lines}
 use Rattle.xw_session.specs.Reply.{Reply, reply_to, want_of, has_nul}
 use Rattle.xw_session.specs.Answer.{Answers}
-use Rattle.xw_session.specs.Spoken.{Spoken}
+use Rattle.xw_lines.specs.Spoken.{Spoken}
 use Rattle.xw_session.specs.State.{State}
 use Rattle.xw_session.specs.Text.{refused}
 

@@ -15,10 +15,10 @@ ghost use Rattle.xw_grid.specs.Edit.{blank};
 ghost use Rattle.xw_grid.specs.Clue.{no_clues, is_circled};
 ghost use Rattle.xw_files.specs.Puz.Board.{puzzle_at};
 ghost use Rattle.xw_files.specs.Text.Shape.{all_of};
-ghost use Rattle.xw_session.specs.Line.{trimmed};
+ghost use Rattle.xw_commands.specs.Line.{trimmed};
 ghost use Rattle.xw_session.specs.Escape.{text_spelled, escaped_text};
-ghost use Rattle.xw_session.specs.declared.command.Command.{Command};
-ghost use Rattle.xw_session.specs.declared.command.Field.{Field};
+ghost use Rattle.xw_commands.specs.declared.command.Command.{Command};
+ghost use Rattle.xw_commands.specs.declared.command.Field.{Field};
 ghost use Rattle.xw_session.specs.declared.record.Section.TheVariants as sections;
 ghost use Rattle.xw_session.specs.declared.record.Part.TheVariants as parts;
 ghost use Rattle.xw_session.specs.State.{State};
@@ -26,7 +26,7 @@ ghost use Rattle.xw_session.specs.Reply.{has_nul};
 ghost use Rattle.xw_session.specs.Put.{place_of, has_place, with_text_at};
 ghost use Rattle.xw_session.specs.Record.{known_counts, text_commands, section_commands};
 ghost use Rattle.xw_session_laws.specs.Replay.{NoneIsStruck, SessionsBegin, SessionsOpen, SessionsStay, CommandsMakeSessionsAgain, LinesAreReadAgain, LinesMakeSessionsAgain, AnsweredLinesMakeSessionsAgain, RecordsAreRefusedForMemoryOnly, replayed, bared, with_grid, with_words, clues_of, ComeFirst, BarsAreOnEdges, AreFrom, AreTextsFrom};
-ghost use Rattle.xw_session.specs.Cut.{ended_lines, last_piece, with_lfs, AllHaveNoLf, HasNoLf};
+ghost use Rattle.xw_lines.specs.Cut.{ended_lines, last_piece, with_lfs, AllHaveNoLf, HasNoLf};
 
 /// A text is its ended lines, each with its LF, and then its last piece, and it is nothing else of that form.
 pub fn lines_are_cut_at_each_lf()

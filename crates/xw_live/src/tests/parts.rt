@@ -1,7 +1,5 @@
 //! How many bit rows an engine has, and how long its other lists are.
 use crate::live::Live;
-use crate::net::Net;
-use crate::room::Spare;
 use crate::tests::bounds::{
     CORNER, CORNER_DEAD, CORNER_ENTERED, CORNER_RESTORED, LEFT_ENTERED, NO_LIGHT_TOUCHED,
     SIDE_BY_SIDE,
@@ -16,71 +14,7 @@ use xw_grid::grid::Grid;
 #[derive(Clone, Copy)]
 struct Sizes {
     rows: usize,
-    lists: [usize; 18],
-}
-
-fn spare_sizes(spare: &Option<Spare>) -> [usize; 5] {
-    match spare {
-        None => [0; 5],
-        Some(
-            Spare {
-                rows,
-                base,
-                entered,
-                is_queued,
-                is_marked,
-            },
-        ) => [
-            rows.len(),
-            base.len(),
-            entered.len(),
-            is_queued.len(),
-            is_marked.len(),
-        ],
-    }
-}
-
-fn net_sizes(net: &Net) -> [usize; 16] {
-    let Net {
-        alloc: _,
-        rows,
-        base,
-        entered,
-        letters,
-        held,
-        restart,
-        pending,
-        queue,
-        is_queued,
-        stack,
-        is_marked,
-        spare,
-    } = net;
-    let [
-        spare_rows,
-        spare_base,
-        spare_entered,
-        spare_queued,
-        spare_marked,
-    ] = spare_sizes(spare);
-    [
-        rows.len(),
-        base.len(),
-        spare_rows,
-        spare_base,
-        entered.len(),
-        letters.len(),
-        held.len(),
-        restart.len(),
-        pending.len(),
-        queue.len(),
-        is_queued.len(),
-        stack.len(),
-        is_marked.len(),
-        spare_entered,
-        spare_queued,
-        spare_marked,
-    ]
+    lists: [usize; 16],
 }
 
 fn cell_count(grid: &Grid) -> usize {
@@ -99,18 +33,18 @@ fn sizes_of(engine: &Live) -> Sizes {
         noted,
         spent: _,
     } = engine;
-    let sizes = net_sizes(net);
-    let mut lists = [0; 18];
-    for k in 4..16usize {
-        lists[k] = sizes[k];
-    }
+    let sizes = net.sizes();
+    let mut lists = [0; 16];
     lists[0] = cell_count(grid);
     lists[1] = lights.len();
     lists[2] = before.len();
     lists[3] = noted.len();
+    for k in 0..12usize {
+        lists[k + 4] = sizes.lists[k];
+    }
     let mut rows = 0usize;
     for k in 0..4usize {
-        rows = rows.saturating_add(sizes[k]);
+        rows = rows.saturating_add(sizes.rows[k]);
     }
     Sizes { rows, lists }
 }
@@ -121,7 +55,7 @@ fn has_few_rows(engine: &Live) -> bool {
 }
 
 fn is_no_longer(before: Sizes, after: Sizes) -> bool {
-    for k in 0..18usize {
+    for k in 0..16usize {
         if after.lists[k] > before.lists[k] {
             return false;
         }

@@ -6,7 +6,7 @@ use std::fs::{self, File};
 use std::process::Abort;
 use std::rt::Files;
 use std::test::Fail;
-use xw_program::arguments::{Call, SessionFiles};
+use xw_arguments::arguments::{Call, SessionFiles};
 use xw_program::failure::Status;
 use xw_program::perform::perform;
 use xw_session::{DeviceFault, FromRead, Sink, ToWrite};

@@ -5,7 +5,7 @@ use crate::session::{engine_of, session};
 use std::process::Abort;
 use std::test::Fail;
 use xw_feas::plain::Plain;
-use xw_session::history::History;
+use xw_lines::history::History;
 use xw_session::{DeviceFault, RunEnd, Session, Sink, Source, Step};
 
 /// A reader of some bytes, by pieces, that fails at one of its calls.

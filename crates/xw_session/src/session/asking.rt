@@ -3,23 +3,23 @@ ghost use Rattle.std.specs.Prelude.{◌≡◌, IfOk, flat_map, if◌then◌else�
 ghost use Rattle.xw_feas.specs.Changed.{changes_left};
 ghost use Rattle.xw_feas.specs.Changes.{spelled_out};
 ghost use Rattle.xw_feas.specs.State.{after, action_of};
-ghost use Rattle.xw_session.specs.Sends.{Sends};
+ghost use Rattle.xw_lines.specs.Sends.{Sends};
 ghost use Rattle.xw_session.specs.Text.{change_line};
 ghost use Rattle.xw_session.specs.Reply.{moved, want_of_action};
 ghost use Rattle.xw_session.specs.Answer.{AnswersBy, AnswersTo, Asks, edit_reply, text_of, step_of};
 ghost use Rattle.xw_session.specs.State.{State};
 
-use crate::command::{Named, Spot};
-use crate::device::{Sink, WriteFailed};
 use crate::lists;
 use crate::lookup::light_name;
-use crate::outcome::Step;
 use crate::refusal::Refusal;
 use crate::session::{Session, end_answer};
+use xw_commands::command::{Named, Spot};
 use xw_feas::changed::Changed;
 use xw_feas::edit::{Edit, Refusal as EditRefusal};
 use xw_feas::feasible::Feasible;
 use xw_grid::{Side, Symmetry};
+use xw_lines::device::{Sink, WriteFailed};
+use xw_lines::outcome::Step;
 use xw_words::{Letter, WordFault};
 
 /// With the watch on writes the cells that changed.
@@ -56,8 +56,8 @@ fn end_edit<W: Sink>(
 }
 
 impl<E: Feasible> Session<E> {
-    ghost use Rattle.xw_session.specs.declared.command.Command.{Command as AnyCommand};
-    ghost use Rattle.xw_session.specs.declared.command.Command.TheVariants as commands;
+    ghost use Rattle.xw_commands.specs.declared.command.Command.{Command as AnyCommand};
+    ghost use Rattle.xw_commands.specs.declared.command.Command.TheVariants as commands;
 
     /// Does the edit that a command asks for and answers it, or the refusal that comes before it.
     pub(crate) fn edit<W: Sink>(

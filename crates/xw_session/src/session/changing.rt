@@ -4,11 +4,11 @@ ghost use Rattle.xw_session.specs.Reply.{has_nul as has_nul_byte, light_named as
 ghost use Rattle.xw_session.specs.State.{with_text_in};
 ghost use Rattle.xw_session.specs.Answer.{Edits};
 
-use crate::command::{Named, Spot, TextField};
 use crate::lookup::{light_name, light_named};
 use crate::refusal::Refusal;
 use crate::session::Session;
 use std::alloc::Global;
+use xw_commands::command::{Named, Spot, TextField};
 use xw_feas::feasible::Feasible;
 use xw_grid::{Circles, Clues, Grid, GridFault, Light};
 
@@ -32,7 +32,7 @@ fn kept(alloc: Global, text: &[u8]) -> Result<Vec<u8>, GridFault>
 }
 
 impl<E: Feasible> Session<E> {
-    ghost use Rattle.xw_session.specs.declared.command.Command.TheVariants as commands;
+    ghost use Rattle.xw_commands.specs.declared.command.Command.TheVariants as commands;
 
     /// A new grid of this size, without clues and circles.
     pub(crate) fn resize(&mut self, width: u64, height: u64) -> Result<(), Refusal>

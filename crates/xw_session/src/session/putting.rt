@@ -4,12 +4,12 @@ ghost use Rattle.xw_session.specs.Escape.{text_spelled};
 ghost use Rattle.xw_session.specs.Put.{place_of, has_place, text_at as text_at_place, with_text_at, with_piece};
 ghost use Rattle.xw_session.specs.Answer.{Edits};
 
-use crate::command::{Field, Putting, TextField};
 use crate::escape;
 use crate::refusal::Refusal;
 use crate::session::Session;
 use crate::session::changing::has_nul;
 use std::alloc::{AllocError, Global};
+use xw_commands::command::{Field, Putting, TextField};
 use xw_feas::feasible::Feasible;
 use xw_grid::{Cell, Direction, GridFault};
 
@@ -33,7 +33,7 @@ fn joined(alloc: Global, front: &[u8], spelling: &[u8]) -> Result<Vec<u8>, GridF
 }
 
 impl<E: Feasible> Session<E> {
-    ghost use Rattle.xw_session.specs.declared.command.Command.TheVariants as commands;
+    ghost use Rattle.xw_commands.specs.declared.command.Command.TheVariants as commands;
 
     fn field_place(&self, field: Field) -> Result<Place, Refusal>
         ensures ok { IfOk result (λ place. (place ≡ place_of field) × (has_place self.now.position.grid (place_of field) ≡ true)) }

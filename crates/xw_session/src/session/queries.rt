@@ -6,19 +6,17 @@ ghost use Rattle.xw_grid.specs.Light.{lights_of, place_named};
 ghost use Rattle.xw_fill.specs.Position.{position_of};
 ghost use Rattle.xw_fill.specs.FeasibleWords.{feasible_words};
 ghost use Rattle.xw_fill.specs.FeasibleLetters.{feasible_letters};
-ghost use Rattle.xw_session.specs.Sends.{Sends};
+ghost use Rattle.xw_lines.specs.Sends.{Sends};
 ghost use Rattle.xw_session.specs.Text.{word_line, line_of, counted_lines, direction_name as name_of_direction, suggestion_line, letters_line, word_at as known_word_at};
 ghost use Rattle.xw_session.specs.Reply.{first_words, name_of_light, filling_name as name_of_filling, cell_of, lettered, shown};
 ghost use Rattle.xw_session.specs.Answer.{AnswersTo, fill_reply, text_of, step_of};
 ghost use Rattle.xw_session.specs.State.{State};
 
-use crate::command::{Named, Spot};
-use crate::device::{Sink, WriteFailed};
 use crate::lookup::{light_name, light_named};
-use crate::outcome::Step;
 use crate::refusal::Refusal;
 use crate::session::{Session, end_answer};
 use crate::{lists, show, text};
+use xw_commands::command::{Named, Spot};
 use xw_feas::edit::Refusal as EditRefusal;
 use xw_feas::feasible::Feasible;
 use xw_feas::words::{WordIter, words};
@@ -26,6 +24,8 @@ use xw_fill::listing::{duplicates, unlisted};
 use xw_fill::search::{Filling, fill};
 use xw_fill::suggesting::{Suggestion, suggest};
 use xw_grid::{Direction, LightName};
+use xw_lines::device::{Sink, WriteFailed};
+use xw_lines::outcome::Step;
 use xw_words::{Letter, LetterSet};
 
 /// Writes how many words there are, and then as many of them as are asked for.
@@ -112,7 +112,7 @@ fn end_filling<W: Sink>(
 }
 
 impl<E: Feasible> Session<E> {
-    ghost use Rattle.xw_session.specs.declared.command.Command.TheVariants as commands;
+    ghost use Rattle.xw_commands.specs.declared.command.Command.TheVariants as commands;
 
     /// Answers the words that a pattern fits.
     pub(crate) fn answer_match<W: Sink>(

@@ -1,13 +1,13 @@
 //! The record of a session: what it has, as commands that make it again.
-ghost use Rattle.xw_session.specs.Sends.{Sends};
+ghost use Rattle.xw_lines.specs.Sends.{Sends};
 ghost use Rattle.xw_session.specs.Record.{command_lines, section_commands, record_lines};
 
-use crate::command::Field;
-use crate::device::{Sink, WriteFailed};
 use crate::record::{self, SECTIONS, Section};
 use crate::session::Session;
 use crate::session::putting::Place;
+use xw_commands::command::Field;
 use xw_feas::feasible::Feasible;
+use xw_lines::device::{Sink, WriteFailed};
 
 impl<E: Feasible> Session<E> {
     /// Writes the commands of a section.

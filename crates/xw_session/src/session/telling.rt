@@ -1,19 +1,19 @@
 //! What is told of a whole puzzle: its cells, its lights, its texts.
 ghost use Rattle.std.specs.Prelude.{◌<◌, length};
 ghost use Rattle.xw_grid.specs.Light.{lights_of};
-ghost use Rattle.xw_session.specs.Sends.{Sends};
+ghost use Rattle.xw_lines.specs.Sends.{Sends};
 ghost use Rattle.xw_session.specs.Told.{letters_told, cell_lines, count_line, count_lines, text_lines};
 ghost use Rattle.xw_session.specs.Stats.{stat_lines};
 ghost use Rattle.xw_session.specs.Reply.{told_lines};
 ghost use Rattle.xw_session.specs.Answer.{AnswersTo};
 
-use crate::command::Telling;
-use crate::device::{Sink, WriteFailed};
-use crate::outcome::Step;
 use crate::session::{Session, end_answer};
 use crate::{fields, stats, text};
+use xw_commands::command::Telling;
 use xw_feas::feasible::Feasible;
 use xw_grid::Cell;
+use xw_lines::device::{Sink, WriteFailed};
+use xw_lines::outcome::Step;
 
 /// Writes a cell with its feasible letters, where it is open.
 fn write_cell_letters<E: Feasible, W: Sink>(
@@ -72,7 +72,7 @@ fn write_counts<E: Feasible, W: Sink>(sink: &mut W, engine: &E) -> Result<(), Wr
 }
 
 impl<E: Feasible> Session<E> {
-    ghost use Rattle.xw_session.specs.declared.command.Command.TheVariants as commands;
+    ghost use Rattle.xw_commands.specs.declared.command.Command.TheVariants as commands;
 
     /// Writes the texts, and the clues of the lights.
     fn write_texts<W: Sink>(&self, sink: &mut W) -> Result<(), WriteFailed>

@@ -1,6 +1,6 @@
 use Rattle.std.proofs.Common.{ap}
-use Rattle.xw_session.specs.Cut.{Cut}
-use Rattle.xw_session.proofs.Cuts.{cut-whole, cut-with_lfs}
+use Rattle.xw_lines.specs.Cut.{Cut}
+use Rattle.xw_lines.proofs.Cuts.{cut-whole, cut-with_lfs}
 use Rattle.xw_session_laws.proofs.lines_are_cut_at_each_lf.Goals as goal
 
 pub returns-clause-whole : goal.returns-clause-whole

@@ -1,5 +1,5 @@
 use Rattle.xw_session_laws.proofs.SessionKept.{session_begun, answer_kept}
-use Rattle.xw_session.specs.Command.{command_of}
+use Rattle.xw_commands.specs.Command.{command_of}
 use Rattle.xw_session_laws.proofs.sessions_keep_what_they_have.Goals as goal
 
 pub returns-clause-begun : goal.returns-clause-begun

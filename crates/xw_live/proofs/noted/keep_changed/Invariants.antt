@@ -1,5 +1,5 @@
 use Rattle.std.proofs.lemmas.List.Filters.{FiltersInPlace}
-use Rattle.xw_live.specs.Change.{is_changed}
+use Rattle.xw_net.specs.Change.{is_changed}
 use Rattle.xw_live.proofs.noted.keep_changed.Given as goal
 
 abbrev pub invariant-loop-place : goal.invariant-loop-place

@@ -2,7 +2,7 @@ use Rattle.std.proofs.Common.{◌<◌, ◌*◌, ◌≤◌, ◌++◌, ◌∷◌, 
 use Rattle.std.proofs.lemmas.List.{length-set, take_all, take_more_set, map_push}
 use Rattle.xw_grid.specs.Grid.{cells, cell_at}
 use Rattle.xw_grid.proofs.GridLemmas.{length-cells, take-cells}
-use Rattle.xw_live.specs.Change.{with_entry_of}
+use Rattle.xw_net.specs.Change.{with_entry_of}
 use Rattle.xw_live.proofs.noted.note.Goals as goal
 
 pub loop-place-preserved : goal.loop-place-preserved

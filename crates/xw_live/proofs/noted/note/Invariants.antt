@@ -1,6 +1,6 @@
 use Rattle.std.proofs.Common.{◌≡◌, take, map, length}
 use Rattle.xw_grid.specs.Grid.{cells}
-use Rattle.xw_live.specs.Change.{with_entry_of}
+use Rattle.xw_net.specs.Change.{with_entry_of}
 use Rattle.xw_live.proofs.noted.note.Given as goal
 
 abbrev pub invariant-loop-place : goal.invariant-loop-place

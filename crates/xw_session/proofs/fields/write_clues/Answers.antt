@@ -3,9 +3,9 @@ use Rattle.std.specs.Prelude.{flat_map}
 use Rattle.std.proofs.lemmas.Result.{err_from_is_err_and}
 use Rattle.xw_grid.specs.declared.lights.Light.{Light}
 use Rattle.xw_grid.specs.Light.{no_light}
-use Rattle.xw_session.specs.Device.{Begins, HasFailed}
+use Rattle.xw_lines.specs.Device.{Begins, HasFailed}
 use Rattle.xw_session.specs.Told.{clue_told}
-use Rattle.xw_session.proofs.SendsLemmas.{each_stops}
+use Rattle.xw_lines.proofs.SendsLemmas.{each_stops}
 use Rattle.xw_session.proofs.fields.write_clues.Goals as goal
 
 pub returns-in_err-write_clue_at : goal.returns-in_err-write_clue_at

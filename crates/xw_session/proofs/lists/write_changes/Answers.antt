@@ -3,7 +3,7 @@ use Rattle.std.proofs.Common.{ap}
 use Rattle.xw_words.specs.LetterSet.{letters_in}
 use Rattle.xw_feas.specs.Changes.{spelled_out}
 use Rattle.xw_session.specs.Text.{change_line}
-use Rattle.xw_session.proofs.SendsLemmas.{next_stops}
+use Rattle.xw_lines.proofs.SendsLemmas.{next_stops}
 use Rattle.xw_session.proofs.lists.write_changes.Goals as goal
 
 pub returns-in_err-write_change : goal.returns-in_err-write_change

@@ -1,6 +1,6 @@
 use Rattle.std.proofs.lemmas.Result.{err_from_is_err_and}
 use Rattle.xw_session.specs.Text.{duplicate_line}
-use Rattle.xw_session.proofs.SendsLemmas.{each_stops}
+use Rattle.xw_lines.proofs.SendsLemmas.{each_stops}
 use Rattle.xw_session.proofs.lists.write_duplicates.Goals as goal
 
 pub returns-in_err-write_duplicate : goal.returns-in_err-write_duplicate

@@ -3,7 +3,7 @@ use Rattle.std.proofs.Math.Seq.{take-nil}
 use Rattle.std.proofs.lemmas.Result.{err_from_is_err_and}
 use Rattle.xw_feas.specs.Spelled.{spelling}
 use Rattle.xw_session.specs.Text.{word_line}
-use Rattle.xw_session.proofs.SendsLemmas.{take_due}
+use Rattle.xw_lines.proofs.SendsLemmas.{take_due}
 use Rattle.xw_session.proofs.Gathering.{next_gathered, next_gathered_stops, gathered_all}
 use Rattle.xw_session.proofs.lists.write_first_feasible.Goals.{in-None, in-Some+then-left-eq0}
 use Rattle.xw_session.proofs.lists.write_first_feasible.Goals as goal

@@ -3,7 +3,7 @@ use Rattle.std.specs.Prelude.{slice_get}
 use Rattle.std.proofs.lemmas.Option.{get_or_from_slice_get, slice_get-get_or}
 use Rattle.xw_grid.specs.declared.lights.Light.{Light}
 use Rattle.xw_grid.specs.Light.{no_light}
-use Rattle.xw_session.specs.Sends.{Sends}
+use Rattle.xw_lines.specs.Sends.{Sends}
 use Rattle.xw_session.specs.Text.{light_line}
 use Rattle.xw_session.proofs.LightTexts.{light_short}
 use Rattle.xw_session.proofs.lists.write_light_at.Goals as goal

@@ -5,7 +5,7 @@ use Rattle.xw_words.specs.Dictionary.{Entry, row, no_entry}
 use Rattle.xw_session.specs.Spelling.{command_line}
 use Rattle.xw_session.specs.Record.{add_command}
 use Rattle.xw_session.proofs.Recording.{line_of_each, sent_as, stops_as}
-use Rattle.xw_session.proofs.SendsLemmas.{each_sent, each_stops, each_all}
+use Rattle.xw_lines.proofs.SendsLemmas.{each_sent, each_stops, each_all}
 use Rattle.xw_session.proofs.record.write_added.Goals as goal
 
 pub loop-place-preserved : goal.loop-place-preserved

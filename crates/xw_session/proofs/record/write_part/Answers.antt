@@ -6,7 +6,7 @@ use Rattle.xw_grid.proofs.GridLemmas.{length-cells}
 use Rattle.xw_session.specs.Record.{command_lines, cell_commands}
 use Rattle.xw_session.proofs.LightTexts.{cell_in_order}
 use Rattle.xw_session.proofs.Recording.{lines_of_each, sent_as, stops_as}
-use Rattle.xw_session.proofs.SendsLemmas.{each_sent, each_stops, each_all}
+use Rattle.xw_lines.proofs.SendsLemmas.{each_sent, each_stops, each_all}
 use Rattle.xw_session.proofs.record.write_part.Goals as goal
 
 pub loop-place-preserved : goal.loop-place-preserved

@@ -1,5 +1,5 @@
 use Rattle.std.proofs.lemmas.Result.{err_from_is_err_and}
-use Rattle.xw_session.proofs.SendsLemmas.{sends-then, stops-within}
+use Rattle.xw_lines.proofs.SendsLemmas.{sends-then, stops-within}
 use Rattle.xw_session.proofs.Recording.{put_line_parts}
 use Rattle.xw_session.proofs.record.write_put.Goals as goal
 

@@ -1,6 +1,6 @@
 use Rattle.std.proofs.Common.{[], ◌∷◌}
 use Rattle.std.proofs.lemmas.Result.{err_from_is_err_and}
-use Rattle.xw_session.proofs.SendsLemmas.{sends-then, stops-within}
+use Rattle.xw_lines.proofs.SendsLemmas.{sends-then, stops-within}
 use Rattle.xw_session.proofs.Recording.{spot_parts, sends_as, stops_as}
 use Rattle.xw_session.specs.Escape.{escaped_text}
 use Rattle.xw_session.specs.Text.{line_of, direction_name}

@@ -3,7 +3,7 @@ use Rattle.std.proofs.lemmas.Result.{err_from_is_err_and}
 use Rattle.xw_words.specs.Dictionary.{Entry, row, no_entry}
 use Rattle.xw_session.specs.Record.{command_lines, strike_commands}
 use Rattle.xw_session.proofs.Recording.{lines_of_each, sent_as, stops_as}
-use Rattle.xw_session.proofs.SendsLemmas.{each_sent, each_stops, each_all}
+use Rattle.xw_lines.proofs.SendsLemmas.{each_sent, each_stops, each_all}
 use Rattle.xw_session.proofs.record.write_struck.Goals as goal
 
 pub loop-place-preserved : goal.loop-place-preserved

@@ -1,7 +1,7 @@
 use Rattle.std.proofs.Common.{Bool, true, List, ℕ, [], ◌++◌, ◌≡◌, if◌then◌else◌, subst, sym, ◌∙◌}
 use Rattle.std.proofs.lemmas.Result.{err_from_is_err_and}
-use Rattle.xw_session.specs.Sends.{Sends}
-use Rattle.xw_session.proofs.SendsLemmas.{sends-then, stops-within}
+use Rattle.xw_lines.specs.Sends.{Sends}
+use Rattle.xw_lines.proofs.SendsLemmas.{sends-then, stops-within}
 use Rattle.xw_session.specs.Show.{row_line, bar_line, has_bar_below}
 use Rattle.xw_session.proofs.show.write_row_lines.Goals as goal
 

@@ -1,5 +1,5 @@
 use Rattle.std.proofs.lemmas.Result.{err_from_is_err_and}
-use Rattle.xw_session.proofs.SendsLemmas.{sends-then, stops-within}
+use Rattle.xw_lines.proofs.SendsLemmas.{sends-then, stops-within}
 use Rattle.xw_session.proofs.stats.write_light_stats.Goals as goal
 
 pub returns-in_err-write_lights_and_sizes : goal.returns-in_err-write_lights_and_sizes

@@ -1,5 +1,5 @@
 use Rattle.std.proofs.Common.{[]}
-use Rattle.xw_session.proofs.SendsLemmas.{sends-then}
+use Rattle.xw_lines.proofs.SendsLemmas.{sends-then}
 use Rattle.xw_session.proofs.Sending.{line_of_more}
 use Rattle.xw_session.proofs.text.+write_apart.Goals as goal
 

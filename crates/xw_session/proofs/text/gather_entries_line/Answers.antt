@@ -1,7 +1,7 @@
 use Rattle.std.proofs.Common.{[], ◌∷◌}
 use Rattle.std.proofs.lemmas.Result.{err_from_is_err_and}
 use Rattle.xw_session.specs.Text.{line_of}
-use Rattle.xw_session.proofs.SendsLemmas.{stops-within}
+use Rattle.xw_lines.proofs.SendsLemmas.{stops-within}
 use Rattle.xw_session.proofs.Gathering.{gathers-sent}
 use Rattle.xw_session.proofs.text.gather_entries_line.Goals as goal
 

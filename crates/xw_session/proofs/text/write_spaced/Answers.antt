@@ -1,5 +1,5 @@
 use Rattle.std.proofs.lemmas.Result.{err_from_is_err_and}
-use Rattle.xw_session.proofs.SendsLemmas.{stops-within}
+use Rattle.xw_lines.proofs.SendsLemmas.{stops-within}
 use Rattle.xw_session.proofs.text.write_spaced.Goals as goal
 
 pub returns-in_err-write_all : goal.returns-in_err-write_all

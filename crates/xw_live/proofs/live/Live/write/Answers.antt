@@ -3,11 +3,11 @@ use Rattle.std.specs.Prelude.{Ok}
 use Rattle.xw_feas.specs.State.{State, list_written, after, with_grid, by_fault}
 use Rattle.xw_feas.specs.WellFormed.{IsWellFormed}
 use Rattle.xw_live.specs.Engine.{IsKept}
-use Rattle.xw_live.specs.Net.{known_counts}
+use Rattle.xw_net.specs.Net.{known_counts}
 use Rattle.xw_live.specs.Live.{state_of}
-use Rattle.xw_live.proofs.Changing.{change_made}
+use Rattle.xw_net.proofs.Changing.{change_made}
 use Rattle.xw_live.proofs.Keeping.{kept_cells, state_formed, stood_same, room_without, room_of_lights}
-use Rattle.xw_live.proofs.Listed.{edit_in_grid}
+use Rattle.xw_net.proofs.Listed.{edit_in_grid}
 use Rattle.xw_live.proofs.Noting.{same_length, kept_listed}
 use Rattle.xw_live.proofs.live.Live.write.Goals as goal
 

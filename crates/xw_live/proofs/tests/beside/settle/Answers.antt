@@ -4,8 +4,8 @@ use Rattle.std.proofs.Math.Logic.{∥∥₁_elim}
 use mathlib.Core.Logic.{∥∥₁_prop}
 use Rattle.xw_words.specs.Dictionary.{Dictionary, row}
 use Rattle.xw_feas.specs.State.{State}
-use Rattle.xw_live.specs.Net.{StoodFor, known_counts, sets_of}
-use Rattle.xw_live.specs.Fit.{HasRoomBetween}
+use Rattle.xw_net.specs.Net.{StoodFor, known_counts, sets_of}
+use Rattle.xw_net.specs.Fit.{HasRoomBetween}
 use Rattle.xw_live.proofs.Keeping.{kept_from}
 use Rattle.xw_live.proofs.tests.beside.settle.Goals as goal
 

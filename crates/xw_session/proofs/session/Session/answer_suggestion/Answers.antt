@@ -5,7 +5,7 @@ use Rattle.xw_feas.specs.State.{State as Position}
 use Rattle.xw_fill.specs.Suggesting.{suggestion}
 use Rattle.xw_session.specs.State.{State}
 use Rattle.xw_session.specs.Text.{suggestion_line}
-use Rattle.xw_session.specs.Device.{Begins, HasFailed}
+use Rattle.xw_lines.specs.Device.{Begins, HasFailed}
 use Rattle.xw_session.proofs.Answering.{reply_answers, reply_stops}
 use Rattle.xw_session.proofs.session.Session.answer_suggestion.Goals as goal
 

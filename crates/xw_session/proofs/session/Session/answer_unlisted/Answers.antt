@@ -3,8 +3,8 @@ use Rattle.std.proofs.lemmas.Result.{err_from_is_err_and}
 use Rattle.std.specs.Prelude.{Some, flat_map}
 use Rattle.xw_grid.specs.Grid.{Grid}
 use Rattle.xw_fill.specs.Listing.{unlisted_of}
-use Rattle.xw_session.specs.declared.command.Command.TheVariants as commands
-use Rattle.xw_session.specs.Device.{Begins}
+use Rattle.xw_commands.specs.declared.command.Command.TheVariants as commands
+use Rattle.xw_lines.specs.Device.{Begins}
 use Rattle.xw_session.specs.Refusal.{refusal_of}
 use Rattle.xw_session.specs.State.{State}
 use Rattle.xw_session.specs.Text.{spelled_line}

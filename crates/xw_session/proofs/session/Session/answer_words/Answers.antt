@@ -1,11 +1,11 @@
 use Rattle.std.proofs.Common.{◌≡◌, ◌∙◌, ◌++◌, ℕ, List, Some, ap, subst}
 use Rattle.xw_grid.specs.Light.{lights_of, place_named}
-use Rattle.xw_session.specs.Device.{Begins}
+use Rattle.xw_lines.specs.Device.{Begins}
 use Rattle.std.proofs.lemmas.Result.{err_from_is_err_and}
 use Rattle.std.specs.Prelude.{length}
 use Rattle.xw_fill.specs.Position.{position_of}
 use Rattle.xw_fill.specs.FeasibleWords.{feasible_words}
-use Rattle.xw_session.specs.declared.command.Command.TheVariants as commands
+use Rattle.xw_commands.specs.declared.command.Command.TheVariants as commands
 use Rattle.xw_session.specs.declared.refusal.Refusal.TheVariants as refusals
 use Rattle.xw_session.specs.Text.{counted_lines}
 use Rattle.xw_session.specs.Reply.{worded, first_words, name_of_light}

@@ -1,6 +1,6 @@
 use Rattle.std.proofs.Common.{refl}
 use Rattle.std.proofs.lemmas.Result.{err_from_is_err_and}
-use Rattle.xw_session.specs.declared.command.Command.TheVariants as commands
+use Rattle.xw_commands.specs.declared.command.Command.TheVariants as commands
 use Rattle.xw_session.specs.Reply.{told_lines}
 use Rattle.xw_session.proofs.Answering.{query_answers, query_stops}
 use Rattle.xw_session.proofs.session.Session.tell.Goals as goal

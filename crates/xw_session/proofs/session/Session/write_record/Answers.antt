@@ -4,7 +4,7 @@ use Rattle.xw_session.specs.declared.record.Section.{Section}
 use Rattle.xw_session.specs.declared.record.Section.TheVariants.{Words}
 use Rattle.xw_session.specs.Record.{command_lines, section_commands, record_sections}
 use Rattle.xw_session.proofs.Recording.{lines_of_each, sent_as, stops_as}
-use Rattle.xw_session.proofs.SendsLemmas.{each_sent, each_stops, each_all}
+use Rattle.xw_lines.proofs.SendsLemmas.{each_sent, each_stops, each_all}
 use Rattle.xw_session.proofs.session.Session.write_record.Goals as goal
 
 pub loop-section-preserved : goal.loop-section-preserved

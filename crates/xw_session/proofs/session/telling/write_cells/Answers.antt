@@ -3,10 +3,10 @@ use Rattle.std.proofs.lemmas.Result.{err_from_is_err_and}
 use Rattle.xw_grid.specs.declared.cell.Cell.{Cell}
 use Rattle.xw_grid.specs.Grid.{Grid, cells, cell_at}
 use Rattle.xw_grid.proofs.GridLemmas.{length-cells}
-use Rattle.xw_session.specs.Device.{Begins, HasFailed}
+use Rattle.xw_lines.specs.Device.{Begins, HasFailed}
 use Rattle.xw_session.specs.Told.{letters_told}
 use Rattle.xw_session.proofs.LightTexts.{cell_in_order}
-use Rattle.xw_session.proofs.SendsLemmas.{each_sent, each_stops, each_all}
+use Rattle.xw_lines.proofs.SendsLemmas.{each_sent, each_stops, each_all}
 use Rattle.xw_session.proofs.session.telling.write_cells.Goals as goal
 
 pub loop-place-preserved : goal.loop-place-preserved

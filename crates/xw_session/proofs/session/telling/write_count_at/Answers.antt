@@ -1,7 +1,7 @@
 use Rattle.std.proofs.Common.{◌≡◌, List, Some, ap, sym, ◌∙◌, subst, ℕ}
 use Rattle.std.specs.Prelude.{slice_get}
 use Rattle.xw_grid.specs.Light.{lights_of}
-use Rattle.xw_session.specs.Sends.{Sends}
+use Rattle.xw_lines.specs.Sends.{Sends}
 use Rattle.xw_session.proofs.Telling.{counted_line, never_uncounted}
 use Rattle.xw_session.proofs.session.telling.write_count_at.Goals as goal
 

@@ -3,7 +3,7 @@ use Rattle.xw_words.specs.Dictionary.{Dictionary}
 use Rattle.xw_feas.specs.Shape.{GrowsAt}
 use Rattle.std.specs.Prelude.{Ok, is_some}
 use Rattle.xw_feas.specs.State.{State, word_added, add_word}
-use Rattle.xw_live.specs.Change.{IsWordEdit}
+use Rattle.xw_net.specs.Change.{IsWordEdit}
 use Rattle.xw_live.specs.Engine.{IsKept}
 use Rattle.xw_live.proofs.Made.{added_edit}
 use Rattle.xw_live.proofs.Keeping.{kept_alike, kept_cells, kept_stands, settled_alike, stood_grown, room_for_grown}

@@ -1,0 +1,335 @@
+//! The arguments of the program.
+ghost use Rattle.std.specs.Prelude.{◌≡◌, ◌&&◌, is_some, IfOk, IfErr, OnOk, IfSome, None, map, false, [], codes};
+ghost use Rattle.clap.specs.Values.{kind_of};
+ghost use Rattle.clap.specs.Words.{app_of, fault_of, first_of, found_of, rows_of, rule_of, subcommand_of, subcommand_rows_of};
+ghost use Rattle.clap.specs.declared.builder.command.Command.TheViews.{out-Command as fields_of};
+ghost use Rattle.xw_arguments.specs.Calls.{AreFiles, IsCall, is_set};
+ghost use Rattle.xw_arguments.specs.Usage.{IsTold, IsNoCall, IsUsageOf};
+ghost use Rattle.xw_arguments.specs.Shapes as shapes;
+
+use clap::error::ErrorKind;
+use clap::{Arg, ArgAction, ArgMatches, Command, Error};
+use std::alloc::{AllocError, Global};
+use std::convert::AsStr;
+
+/// Which program this is, as `--version` tells it.
+const VERSION: &str = "0.1.0";
+
+/// What the help shows of a session.
+const EXAMPLE: &str = "Example:
+  $ xw edit --dict words.txt --to mine.puz
+  size 3 1
+  ok
+  add cat
+  ok
+  words 1 across
+  1
+  CAT
+  ok
+  fill 10
+  filled
+  ok
+  clue 1 across It purrs
+  ok";
+
+/// The files of a session, each where it is named.
+#[derive(Clone, Copy, Debug, PartialEq, Eq)]
+pub struct SessionFiles<'a> {
+    /// The word list.
+    pub dict: Option<&'a str>,
+    /// The puzzle that it starts on.
+    pub from_file: Option<&'a str>,
+    /// The lines of commands that it starts with.
+    pub resume_file: Option<&'a str>,
+    /// Where its puzzle is written.
+    pub to_file: Option<&'a str>,
+    /// Where its record is written.
+    pub save_file: Option<&'a str>,
+}
+
+/// What is told of a session that is to start on a puzzle and with commands.
+const TWO_STARTS: &str = "xw: --from and --resume cannot be given together\n";
+
+/// What the program is to do, and whether it tells the place of a fault too.
+#[derive(Clone, Copy, Debug, PartialEq, Eq)]
+pub enum Call<'a> {
+    /// Answers commands over what files give, and writes what files are named for.
+    Edit {
+        files: SessionFiles<'a>,
+        explain: bool,
+    },
+    /// Writes the puzzle of a file into another.
+    Convert {
+        from_file: &'a str,
+        to_file: &'a str,
+        explain: bool,
+    },
+    /// Tells of the puzzle of a file.
+    Check {
+        file: &'a str,
+        explain: bool,
+    },
+}
+
+/// Why there is no call, with the text to show.
+#[derive(Debug, Drop)]
+pub enum Usage {
+    Help(String),
+    Wrong(String),
+    Memory,
+}
+
+/// An option of one file.
+fn option<'a>(alloc: Global, name: &'a str, help: &'a str) -> Arg<'a>
+    ensures rule { rule_of result ≡ shapes.option name.entry.now }
+    ensures local { result.global ≡ false }
+{
+    Arg::new(alloc, name)
+        .long(name)
+        .value_name("FILE")
+        .help(help)
+}
+
+/// The option that asks for the place of a fault.
+fn explain<'a>(alloc: Global) -> Arg<'a>
+    ensures rule { rule_of result ≡ shapes.explain }
+    ensures local { result.global ≡ false }
+{
+    Arg::new(alloc, "explain")
+        .long("explain")
+        .help("Tell where a fault of a file is, in one more line")
+        .action(ArgAction::SetTrue)
+}
+
+/// A file that has to be named.
+fn operand<'a>(alloc: Global, name: &'a str, shown: &'a str, help: &'a str) -> Arg<'a>
+    ensures rule { rule_of result ≡ shapes.operand name.entry.now }
+    ensures local { result.global ≡ false }
+{
+    Arg::new(alloc, name)
+        .value_name(shown)
+        .help(help)
+        .required(true)
+}
+
+/// A session over a word list and a puzzle.
+fn opened<'a>(alloc: Global) -> Result<Command<'a>, AllocError>
+    ensures shape { IfOk result (λ command. app_of command ≡ shapes.opened) }
+    ensures local { IfOk result (λ command. (fields_of command).has_globals ≡ false) }
+{
+    Command::new(alloc, "edit")
+        .about("Answer the commands on standard input, a line each")
+        .after_help(EXAMPLE)
+        .arg(option(alloc, "dict", "The word list to start with, a word a line"))?
+        .arg(option(
+            alloc,
+            "from",
+            "The puzzle to start with, .puz or text [default: 15 by 15 cells, all empty]",
+        ))
+}
+
+/// A session with all that it starts with.
+fn begun<'a>(alloc: Global) -> Result<Command<'a>, AllocError>
+    ensures shape { IfOk result (λ command. app_of command ≡ shapes.begun) }
+    ensures local { IfOk result (λ command. (fields_of command).has_globals ≡ false) }
+{
+    opened(alloc)?.arg(option(
+        alloc,
+        "resume",
+        "Commands to do first, without answers, as --save wrote them",
+    ))
+}
+
+/// A session with the files that it writes.
+fn kept<'a>(alloc: Global) -> Result<Command<'a>, AllocError>
+    ensures shape { IfOk result (λ command. app_of command ≡ shapes.kept) }
+    ensures local { IfOk result (λ command. (fields_of command).has_globals ≡ false) }
+{
+    begun(alloc)?
+        .arg(option(
+            alloc,
+            "to",
+            "Where to write the puzzle at the end, as .puz if it is called so, else as text",
+        ))?
+        .arg(option(
+            alloc,
+            "save",
+            "Where to write the session at the end, as commands for --resume",
+        ))
+}
+
+fn edit<'a>(alloc: Global) -> Result<Command<'a>, AllocError>
+    ensures shape { IfOk result (λ command. app_of command ≡ shapes.edit) }
+    ensures local { IfOk result (λ command. (fields_of command).has_globals ≡ false) }
+{
+    kept(alloc)?.arg(explain(alloc))
+}
+
+fn convert<'a>(alloc: Global) -> Result<Command<'a>, AllocError>
+    ensures shape { IfOk result (λ command. app_of command ≡ shapes.convert) }
+    ensures local { IfOk result (λ command. (fields_of command).has_globals ≡ false) }
+{
+    Command::new(alloc, "convert")
+        .about("Read a puzzle file and write it in another format")
+        .arg(operand(alloc, "from", "FROM", "The puzzle to read, .puz or text"))?
+        .arg(operand(
+            alloc,
+            "to",
+            "TO",
+            "Where to write it, as .puz if it is called so, else as text",
+        ))?
+        .arg(explain(alloc))
+}
+
+fn check<'a>(alloc: Global) -> Result<Command<'a>, AllocError>
+    ensures shape { IfOk result (λ command. app_of command ≡ shapes.check) }
+    ensures local { IfOk result (λ command. (fields_of command).has_globals ≡ false) }
+{
+    Command::new(alloc, "check")
+        .about("Read a puzzle file and tell its format, size and number of lights")
+        .arg(operand(alloc, "file", "FILE", "The puzzle to read, .puz or text"))?
+        .arg(explain(alloc))
+}
+
+/// The program as it is called, but for its subcommands.
+fn top<'a>(alloc: Global) -> Command<'a>
+    ensures shape { app_of result ≡ shapes.top }
+    ensures local { (fields_of result).has_globals ≡ false }
+{
+    Command::new(alloc, "xw")
+        .about("A crossword construction engine")
+        .version(VERSION)
+        .after_help(EXAMPLE)
+        .subcommand_required(true)
+}
+
+/// The program with its first subcommand.
+fn editing<'a>(alloc: Global) -> Result<Command<'a>, AllocError>
+    ensures shape { IfOk result (λ command. app_of command ≡ shapes.editing) }
+    ensures local { IfOk result (λ command. (fields_of command).has_globals ≡ false) }
+{
+    let edit = edit(alloc)?;
+    top(alloc).subcommand(edit)
+}
+
+/// The program with two of its subcommands.
+fn converting<'a>(alloc: Global) -> Result<Command<'a>, AllocError>
+    ensures shape { IfOk result (λ command. app_of command ≡ shapes.converting) }
+    ensures local { IfOk result (λ command. (fields_of command).has_globals ≡ false) }
+{
+    let editing = editing(alloc)?;
+    editing.subcommand(convert(alloc)?)
+}
+
+fn command<'a>(alloc: Global) -> Result<Command<'a>, AllocError>
+    ensures shape { IfOk result (λ command. app_of command ≡ shapes.xw) }
+    ensures local { IfOk result (λ command. (fields_of command).has_globals ≡ false) }
+{
+    let converting = converting(alloc)?;
+    converting.subcommand(check(alloc)?)
+}
+
+/// The call that the words are, of which the first is the program's name.
+pub fn arguments<'a, S: AsStr>(alloc: Global, words: &'a [S]) -> Result<Call<'a>, Usage>
+    // Where the parse succeeds, the call is the subcommand, and the file names are the values that `clap` states.
+    ensures call { IfOk result (λ call. IsCall call (subcommand_of shapes.xw (map S.text words.entry.now))) }
+    // It does succeed where `clap` states no error for the words, want of memory aside.
+    ensures parsed { OnOk result (fault_of shapes.xw (map S.text words.entry.now) ≡ []) }
+    ensures usage { IfErr result (IsUsageOf (fault_of shapes.xw (map S.text words.entry.now)) (subcommand_of shapes.xw (map S.text words.entry.now))) }
+{
+    let command = command(alloc)?;
+    let matches = match command.try_get_matches_from(words) {
+        Ok(matches) => matches,
+        Err(error) => return Err(explanation(alloc, &error)),
+    };
+    match call_of(&matches) {
+        Some(call) => Ok(call),
+        // all else that may be wrong was told by `clap`
+        None => Err(Usage::Wrong(String::from_str(alloc, TWO_STARTS)?)),
+    }
+}
+
+/// Whether a session is to start on a puzzle and with commands.
+fn starts_twice(from_file: Option<&str>, resume_file: Option<&str>) -> bool
+    ensures { result ≡ (is_some from_file.entry && is_some resume_file.entry) }
+{
+    from_file.is_some() && resume_file.is_some()
+}
+
+/// The files of a session, or `None` where it has two to start with.
+fn session_files<'a>(matches: &ArgMatches<'a>) -> Option<SessionFiles<'a>>
+    ensures files { IfSome result (λ files. AreFiles files (rows_of (found_of matches.now))) }
+    ensures none { result ≡ None → (files : SessionFiles) → AreFiles files (rows_of (found_of matches.now)) → ⊥ }
+{
+    let from_file = matches.get_str("from");
+    let resume_file = matches.get_str("resume");
+    if starts_twice(from_file, resume_file) {
+        return None;
+    }
+    Some(SessionFiles {
+        dict: matches.get_str("dict"),
+        from_file,
+        resume_file,
+        to_file: matches.get_str("to"),
+        save_file: matches.get_str("save"),
+    })
+}
+
+/// Whether the place of a fault is asked for.
+fn is_explained(matches: &ArgMatches<'_>) -> bool
+    ensures { result ≡ is_set (first_of (codes "explain") (rows_of (found_of matches.now))) }
+{
+    match matches.get_str("explain") {
+        Some(text) => text == "true",
+        None => false,
+    }
+}
+
+/// The call of the matches, or `None` where they lack a file or have one too many.
+fn call_of<'a>(matches: &ArgMatches<'a>) -> Option<Call<'a>>
+    ensures call { IfSome result (λ call. IsCall call (subcommand_rows_of matches.now)) }
+    ensures none { result ≡ None → IsNoCall (subcommand_rows_of matches.now) }
+{
+    let (name, files) = matches.subcommand()?;
+    match name {
+        "edit" => Some(Call::Edit {
+            files: session_files(files)?,
+            explain: is_explained(files),
+        }),
+        "convert" => Some(Call::Convert {
+            from_file: files.get_str("from")?,
+            to_file: files.get_str("to")?,
+            explain: is_explained(files),
+        }),
+        "check" => Some(Call::Check {
+            file: files.get_str("file")?,
+            explain: is_explained(files),
+        }),
+        _ => None,
+    }
+}
+
+impl From<AllocError> for Usage {
+    ghost use Rattle.std.specs.Prelude.{◌≡◌};
+    ghost use Rattle.xw_arguments.specs.declared.arguments.Usage.TheVariants.{Memory};
+
+    ghost from_gives = { λ _ usage. usage ≡ Memory };
+
+    fn from(_error: AllocError) -> Usage {
+        Usage::Memory
+    }
+}
+
+/// What to show for an error of the parse.
+fn explanation(alloc: Global, error: &Error) -> Usage
+    ensures { IsTold (kind_of error.now) result }
+{
+    if error.kind() == ErrorKind::OutOfMemory {
+        return Usage::Memory;
+    }
+    match error.to_string(alloc) {
+        Ok(text) if error.use_stderr() => Usage::Wrong(text),
+        Ok(text) => Usage::Help(text),
+        Err(_) => Usage::Memory,
+    }
+}

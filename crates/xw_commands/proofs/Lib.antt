@@ -1,0 +1,3 @@
+pub mod Passing
+pub mod Digits
+pub mod Naming

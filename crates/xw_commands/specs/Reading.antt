@@ -1,0 +1,142 @@
+-- Arguments read one after another.
+use Rattle.std.specs.Prelude.{◌≡◌, ℕ, Bool, true, false, ◌==◌, List, [], ◌∷◌, length, Option, Some, None, Result, Ok, Err, bytes_eq, codes, if◌then◌else◌}
+use Rattle.xw_grid.specs.declared.cell.Direction.{Direction}
+use Rattle.xw_grid.specs.declared.cell.Direction.TheVariants.{Across, Down}
+use Rattle.xw_grid.specs.declared.cell.Side.{Side}
+use Rattle.xw_grid.specs.declared.cell.Side.TheVariants.{Right, Below}
+use Rattle.xw_grid.specs.declared.cell.Symmetry.{Symmetry}
+use Rattle.xw_grid.specs.declared.cell.Symmetry.TheVariants as kinds
+use Rattle.xw_commands.specs.declared.command.Spot.{Spot}
+use Rattle.xw_commands.specs.declared.command.Named.{Named}
+use Rattle.xw_commands.specs.declared.command.TextField.{TextField}
+use Rattle.xw_commands.specs.declared.command.TextField.TheVariants.{Title, Author, Copyright, Notes}
+use Rattle.xw_commands.specs.declared.command.Field.{Field}
+use Rattle.xw_commands.specs.declared.command.Field.TheVariants as fields
+use Rattle.xw_commands.specs.declared.command.SyntaxFault.{SyntaxFault}
+use Rattle.xw_commands.specs.declared.command.SyntaxFault.TheVariants as faults
+use Rattle.xw_commands.specs.Line.{first_word, trimmed, trimmed_start, number_in, byte_in}
+
+-- Something is read off what is left of a line: it, and what is left then, or why it isn't there.
+abbrev pub Reading : Type 0 → Type 0
+Reading A = List ℕ → Result (A × List ℕ) SyntaxFault
+
+-- What a function returned, seen by view, and what is left after it, are what a reading gives.
+abbrev pub Reads : {X A : Type 0} → (X → A) → Result X SyntaxFault → List ℕ → Result (A × List ℕ) SyntaxFault → Type 0
+Reads view (Ok x) left reading = reading ≡ Ok (view x, left)
+Reads view (Err fault) left reading = reading ≡ Err fault
+
+-- after one thing another
+abbrev then_others : {A B : Type 0} → Result (A × List ℕ) SyntaxFault → (A → Reading B) → Result (B × List ℕ) SyntaxFault
+then_others (Ok found) others = others found.0 found.1
+then_others (Err fault) others = Err fault
+
+infixl 10 ◌>>=◌
+abbrev pub ◌>>=◌ : {A B : Type 0} → Reading A → (A → Reading B) → Reading B
+◌>>=◌ read others rest = then_others (read rest) others
+
+-- nothing more is read, and this is it
+abbrev pub given : {A : Type 0} → A → Reading A
+given x rest = Ok (x, rest)
+
+abbrev pub fault : {A : Type 0} → SyntaxFault → Reading A
+fault f rest = Err f
+
+abbrev pub wanted : {A : Type 0} → Option A → Reading A
+wanted None = fault faults.Arguments
+wanted (Some x) = given x
+
+-- ---- words, numbers, texts
+
+abbrev next_word : Option (List ℕ × List ℕ) → Result (List ℕ × List ℕ) SyntaxFault
+next_word None = Err faults.Arguments
+next_word (Some found) = Ok found
+
+abbrev pub word : Reading (List ℕ)
+word rest = next_word (first_word rest)
+
+-- a decimal number of 1 to 18 digits
+abbrev pub number : Reading ℕ
+number = do wanted (number_in (← word))
+
+-- a word of one byte
+abbrev pub byte : Reading ℕ
+byte = do wanted (byte_in (← word))
+
+-- all that is left
+abbrev pub text : Reading (List ℕ)
+text rest = Ok (trimmed rest, [])
+
+-- no further word
+abbrev pub is_ended : List ℕ → Bool
+is_ended rest = length (trimmed_start rest) == 0
+
+-- a number, where there is a further word
+abbrev pub number_if_any : Reading (Option ℕ)
+number_if_any rest = if is_ended rest then given None rest else (do given (Some (← number))) rest
+
+-- ---- key words
+
+-- what stands in a table beside a name
+abbrev pub lookup : {A : Type 0} → List (List ℕ × A) → List ℕ → Option A
+lookup [] name = None
+lookup (row ∷ rows) name = if bytes_eq name row.0 then Some row.1 else lookup rows name
+
+abbrev pub key_word : {A : Type 0} → List (List ℕ × A) → Reading A
+key_word table = do wanted (lookup table (← word))
+
+abbrev pub direction : Reading Direction
+direction = key_word ((codes "across", Across) ∷ (codes "down", Down) ∷ [])
+
+abbrev pub side : Reading Side
+side = key_word ((codes "right", Right) ∷ (codes "below", Below) ∷ [])
+
+abbrev pub symmetry : Reading Symmetry
+symmetry = key_word (
+    (codes "none", kinds.None)
+    ∷ (codes "half", kinds.Half)
+    ∷ (codes "quarter", kinds.Quarter)
+    ∷ (codes "leftright", kinds.LeftRight)
+    ∷ (codes "updown", kinds.UpDown)
+    ∷ [])
+
+abbrev pub switch : Reading Bool
+switch = key_word ((codes "on", true) ∷ (codes "off", false) ∷ [])
+
+-- ---- cells and lights
+
+abbrev pub spot : Reading Spot
+spot = do
+  row ← number
+  col ← number
+  given (record { row = row; col = col })
+
+abbrev pub named : Reading Named
+named = do
+  count ← number
+  way ← direction
+  given (record { number = count; direction = way })
+
+-- ---- texts by their names
+
+-- the name of a text that is no clue, or none for a clue
+abbrev pub text_name : Reading (Option TextField)
+text_name = key_word (
+    (codes "title", Some Title)
+    ∷ (codes "author", Some Author)
+    ∷ (codes "copyright", Some Copyright)
+    ∷ (codes "notes", Some Notes)
+    ∷ (codes "clue", None)
+    ∷ [])
+
+abbrev pub clue_place : Reading Field
+clue_place = do
+  start ← spot
+  way ← direction
+  given (fields.Clue start way)
+
+abbrev pub field_named : Option TextField → Reading Field
+field_named (Some name) = given (fields.Text name)
+field_named None = clue_place
+
+abbrev pub field : Reading Field
+field = text_name >>= field_named

@@ -1,0 +1,171 @@
+//! Arguments read one after another.
+ghost use Rattle.std.specs.Prelude.{◌≡◌, Ok};
+ghost use Rattle.xw_commands.specs.Reading.{word as word_of, number as number_of, byte as byte_of, text as text_of, number_if_any as number_if_any_of, is_ended as is_ended_text, direction as direction_of, side as side_of, symmetry as symmetry_of, switch as switch_of, spot as spot_of, named as named_of, text_name as text_name_of, field as field_of, Reads};
+
+use crate::command::{Field, Named, Spot, SyntaxFault, Text, TextField};
+use crate::line;
+use std::marker::Model;
+use xw_grid::{Direction, Side, Symmetry};
+
+/// What is left of a line.
+#[derive(Drop)]
+pub struct Words<'a> {
+    rest: &'a [u8],
+}
+
+impl<'a> Model for Words<'a> {
+    ghost use Rattle.std.specs.Prelude.{ℕ, List};
+
+    ghost Value = { List ℕ };
+
+    ghost view = { λ words. words.rest.now };
+}
+
+impl<'a> Words<'a> {
+    pub fn new(rest: &'a [u8]) -> Words<'a>
+        ensures { result ≡ rest.now }
+    {
+        Words { rest }
+    }
+
+    pub fn is_ended(&self) -> bool
+        ensures { result ≡ is_ended_text self.now }
+    {
+        line::trimmed_start(self.rest).is_empty()
+    }
+
+    /// The next word's bytes.
+    fn next(&mut self) -> Result<&'a [u8], SyntaxFault>
+        ensures { Reads (λ word. word.now) result self.new (word_of self.old) }
+    {
+        let (word, rest) = line::first_word(self.rest).ok_or(SyntaxFault::Arguments)?;
+        self.rest = rest;
+        Ok(word)
+    }
+
+    pub fn word(&mut self) -> Result<Text<'a>, SyntaxFault>
+        ensures { Reads (λ word. word) result self.new (word_of self.old) }
+    {
+        Ok(Text::new(self.next()?))
+    }
+
+    /// All that is left.
+    pub fn text(&mut self) -> Text<'a>
+        ensures { text_of self.old ≡ Ok (result, self.new) }
+    {
+        let text = Text::new(line::trimmed(self.rest));
+        self.rest = &[];
+        text
+    }
+
+    pub fn number(&mut self) -> Result<u64, SyntaxFault>
+        ensures { Reads (λ number. number) result self.new (number_of self.old) }
+    {
+        line::number_in(self.next()?).ok_or(SyntaxFault::Arguments)
+    }
+
+    /// A number, where there is a further word.
+    pub fn number_if_any(&mut self) -> Result<Option<u64>, SyntaxFault>
+        ensures { Reads (λ number. number) result self.new (number_if_any_of self.old) }
+    {
+        if self.is_ended() {
+            return Ok(None);
+        }
+        Ok(Some(self.number()?))
+    }
+
+    pub fn byte(&mut self) -> Result<u8, SyntaxFault>
+        ensures { Reads (λ byte. byte) result self.new (byte_of self.old) }
+    {
+        line::byte_in(self.next()?).ok_or(SyntaxFault::Arguments)
+    }
+
+    pub fn direction(&mut self) -> Result<Direction, SyntaxFault>
+        ensures { Reads (λ direction. direction) result self.new (direction_of self.old) }
+    {
+        let word = self.next()?;
+        match word {
+            _ if line::is(word, "across") => Ok(Direction::Across),
+            _ if line::is(word, "down") => Ok(Direction::Down),
+            _ => Err(SyntaxFault::Arguments),
+        }
+    }
+
+    pub fn side(&mut self) -> Result<Side, SyntaxFault>
+        ensures { Reads (λ side. side) result self.new (side_of self.old) }
+    {
+        let word = self.next()?;
+        match word {
+            _ if line::is(word, "right") => Ok(Side::Right),
+            _ if line::is(word, "below") => Ok(Side::Below),
+            _ => Err(SyntaxFault::Arguments),
+        }
+    }
+
+    pub fn symmetry(&mut self) -> Result<Symmetry, SyntaxFault>
+        ensures { Reads (λ kind. kind) result self.new (symmetry_of self.old) }
+    {
+        let word = self.next()?;
+        match word {
+            _ if line::is(word, "none") => Ok(Symmetry::None),
+            _ if line::is(word, "half") => Ok(Symmetry::Half),
+            _ if line::is(word, "quarter") => Ok(Symmetry::Quarter),
+            _ if line::is(word, "leftright") => Ok(Symmetry::LeftRight),
+            _ if line::is(word, "updown") => Ok(Symmetry::UpDown),
+            _ => Err(SyntaxFault::Arguments),
+        }
+    }
+
+    pub fn switch(&mut self) -> Result<bool, SyntaxFault>
+        ensures { Reads (λ is_on. is_on) result self.new (switch_of self.old) }
+    {
+        let word = self.next()?;
+        match word {
+            _ if line::is(word, "on") => Ok(true),
+            _ if line::is(word, "off") => Ok(false),
+            _ => Err(SyntaxFault::Arguments),
+        }
+    }
+
+    pub fn spot(&mut self) -> Result<Spot, SyntaxFault>
+        ensures { Reads (λ spot. spot) result self.new (spot_of self.old) }
+    {
+        let row = self.number()?;
+        let col = self.number()?;
+        Ok(Spot { row, col })
+    }
+
+    pub fn named(&mut self) -> Result<Named, SyntaxFault>
+        ensures { Reads (λ named. named) result self.new (named_of self.old) }
+    {
+        let number = self.number()?;
+        let direction = self.direction()?;
+        Ok(Named { number, direction })
+    }
+
+    /// The name of a text that is no clue, or none for a clue.
+    fn text_name(&mut self) -> Result<Option<TextField>, SyntaxFault>
+        ensures { Reads (λ name. name) result self.new (text_name_of self.old) }
+    {
+        let word = self.next()?;
+        match word {
+            _ if line::is(word, "title") => Ok(Some(TextField::Title)),
+            _ if line::is(word, "author") => Ok(Some(TextField::Author)),
+            _ if line::is(word, "copyright") => Ok(Some(TextField::Copyright)),
+            _ if line::is(word, "notes") => Ok(Some(TextField::Notes)),
+            _ if line::is(word, "clue") => Ok(None),
+            _ => Err(SyntaxFault::Arguments),
+        }
+    }
+
+    pub fn field(&mut self) -> Result<Field, SyntaxFault>
+        ensures { Reads (λ field. field) result self.new (field_of self.old) }
+    {
+        if let Some(name) = self.text_name()? {
+            return Ok(Field::Text(name));
+        }
+        let spot = self.spot()?;
+        let direction = self.direction()?;
+        Ok(Field::Clue(spot, direction))
+    }
+}

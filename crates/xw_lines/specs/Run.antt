@@ -1,0 +1,81 @@
+-- What a run over a reader and a writer did.
+use Rattle.std.specs.Prelude.{◌≡◌, ℕ, List, ◌∷◌, ◌++◌, Option}
+use Rattle.xw_lines.specs.Cut.{ended_lines, last_piece, lines_of, held}
+use Rattle.xw_lines.specs.Device.{saturated, Begins}
+use Rattle.xw_lines.specs.Spoken.{Spoken}
+use Rattle.xw_lines.specs.declared.outcome.Step.{Step}
+use Rattle.xw_lines.specs.declared.outcome.RunEnd.{RunEnd}
+use Rattle.xw_lines.specs.declared.outcome.RunEnd.TheVariants.{Done, ReadFailed, WriteFailed, Endless, Memory}
+
+-- What went out since begun is answers that the lines may have in this order, from start on, each flushed; count of
+-- them are refused, and the state is the one that they leave.
+pub record Speaks {S : Type 0} (Answers : S → List ℕ → Step → List ℕ → S → Type 0) (start : S) (lines : List (List ℕ)) (count : ℕ) (state : S) (begun told : List ℕ) : Type 0 where
+  pub out : List ℕ
+  pub spoken : Spoken Answers start lines out count state
+  pub told-is : told ≡ begun ++ out
+
+-- What went out since begun is answers of some first lines of the text, each flushed, and a beginning of an answer of
+-- the next line. The state is the one that these lines leave, the last one included.
+pub record StopsIn {S : Type 0} (Answers : S → List ℕ → Step → List ℕ → S → Type 0) (start : S) (text : List ℕ) (state : S) (begun told : List ℕ) : Type 0 where
+  pub before : List (List ℕ)
+  pub line : List ℕ
+  pub after : List (List ℕ)
+  pub are-lines : lines_of text ≡ before ++ line ∷ after
+  pub out : List ℕ
+  pub refused : ℕ
+  pub mid : S
+  pub spoken : Spoken Answers start before out refused mid
+  pub outcome : Step
+  pub answer : List ℕ
+  pub answers : Answers mid line outcome answer state
+  pub begins : Begins (begun ++ out) told answer
+
+-- A run that goes on: the ended lines of the bytes that were read are answered, and the rest is held.
+pub record Progress {S : Type 0} (Answers : S → List ℕ → Step → List ℕ → S → Type 0) (start : S) (begun text : List ℕ) (state : S) (piece : Option (List ℕ)) (refused : ℕ) (told : List ℕ) : Type 0 where
+  pub count : ℕ
+  pub speaks : Speaks Answers start (ended_lines text) count state begun told
+  pub piece-is : piece ≡ held (last_piece text)
+  pub refused-is : refused ≡ saturated count
+
+-- a fact about one way to end
+abbrev pub IfDone : RunEnd → (ℕ → Type 0) → Type 0
+IfDone (Done refused) P = P refused
+IfDone ReadFailed P = Unit {0}
+IfDone WriteFailed P = Unit {0}
+IfDone Endless P = Unit {0}
+IfDone Memory P = Unit {0}
+
+abbrev pub OnReadFailed : RunEnd → Type 0 → Type 0
+OnReadFailed (Done refused) P = Unit {0}
+OnReadFailed ReadFailed P = P
+OnReadFailed WriteFailed P = Unit {0}
+OnReadFailed Endless P = Unit {0}
+OnReadFailed Memory P = Unit {0}
+
+abbrev pub OnWriteFailed : RunEnd → Type 0 → Type 0
+OnWriteFailed (Done refused) P = Unit {0}
+OnWriteFailed ReadFailed P = Unit {0}
+OnWriteFailed WriteFailed P = P
+OnWriteFailed Endless P = Unit {0}
+OnWriteFailed Memory P = Unit {0}
+
+abbrev pub OnEndless : RunEnd → Type 0 → Type 0
+OnEndless (Done refused) P = Unit {0}
+OnEndless ReadFailed P = Unit {0}
+OnEndless WriteFailed P = Unit {0}
+OnEndless Endless P = P
+OnEndless Memory P = Unit {0}
+
+abbrev pub OnMemory : RunEnd → Type 0 → Type 0
+OnMemory (Done refused) P = Unit {0}
+OnMemory ReadFailed P = Unit {0}
+OnMemory WriteFailed P = Unit {0}
+OnMemory Endless P = Unit {0}
+OnMemory Memory P = P
+
+abbrev pub UnlessWriteFailed : RunEnd → Type 0 → Type 0
+UnlessWriteFailed (Done refused) P = P
+UnlessWriteFailed ReadFailed P = P
+UnlessWriteFailed WriteFailed P = Unit {0}
+UnlessWriteFailed Endless P = P
+UnlessWriteFailed Memory P = P

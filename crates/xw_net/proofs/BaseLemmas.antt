@@ -1,0 +1,184 @@
+-- The bits of base words, a place of the light after another and a chunk of words after another.
+use Rattle.std.proofs.Common.{◌≡◌, ℕ, zero, suc, ◌+◌, ◌-◌, ◌*◌, ◌/◌, ◌<◌, ◌≤◌, Bool, true, false, not, ◌&&◌, eqb, List, [], ◌∷◌, length, get_or, take, refl, sym, ap, ◌∙◌, inl, inr, arith, add-one}
+use Rattle.std.specs.Prelude.{All, Option, Some, None, slice_get}
+use Rattle.std.proofs.lemmas.Bool.{cases_lt, cases_eq, eq-eqb, ne_eqb}
+use Rattle.std.proofs.lemmas.List.{same_lists, get_or-map, get_or_past, get_or_default, length-map, take_all}
+use Rattle.xw_words.specs.Bits.{has_bit}
+use Rattle.xw_words.specs.Dictionary.{Entry, entry_at, no_entry}
+use Rattle.xw_words.specs.Columns.{letter_is}
+use Rattle.xw_feas.specs.Board.{Board, entry, allows, agrees, is_wholly_entered}
+use Rattle.xw_net.specs.Base.{is_base_word, base_bits, has_entry}
+
+-- ---- places of the light
+
+and_assoc : (a b c : Bool) → ((a && b) && c) ≡ (a && (b && c))
+and_assoc true b c = refl
+and_assoc false b c = refl
+
+and_one : (b : Bool) → (b && true) ≡ b
+and_one true = refl
+and_one false = refl
+
+and_false : (b : Bool) → (b && false) ≡ false
+and_false true = refl
+and_false false = refl
+
+-- one place more that agrees
+agrees_next : (board : Board) (cells word : List ℕ) (i : ℕ) → i < length cells → i < length word
+    → agrees board (take (suc i) cells) (take (suc i) word) ≡ (agrees board (take i cells) (take i word) && allows (entry board (get_or cells i 0)) (get_or word i 0))
+agrees_next board [] word i hc hw = absurd (omega arith)
+agrees_next board (c ∷ cs) [] i hc hw = absurd (omega arith)
+agrees_next board (c ∷ cs) (w ∷ ws) zero hc hw = and_one (allows (entry board c) w)
+agrees_next board (c ∷ cs) (w ∷ ws) (suc i) hc hw =
+    ap (λ b. allows (entry board c) w && b) (agrees_next board cs ws i (omega arith) (omega arith))
+    ∙ sym (and_assoc (allows (entry board c) w) (agrees board (take i cs) (take i ws)) (allows (entry board (get_or cs i 0)) (get_or ws i 0)))
+
+letter_at : (word : List ℕ) (i letter : ℕ) → i < length word → letter_is (slice_get word i) letter ≡ eqb (get_or word i 0) letter
+letter_at [] i letter lt = absurd (omega arith)
+letter_at (x ∷ xs) zero letter lt = refl
+letter_at (x ∷ xs) (suc i) letter lt = letter_at xs i letter (omega arith)
+
+eqb_other_way : (a b : ℕ) → eqb a b ≡ eqb b a
+eqb_other_way a b = elim (cases_eq a b) [
+  | inl e ↦ eq-eqb a b e ∙ sym (eq-eqb b a (sym e))
+  | inr n ↦ ne_eqb a b n ∙ sym (ne_eqb b a (λ e. n (sym e)))
+]
+
+-- an entry agrees with the letter of a word that is long enough
+has_entry_is : (found : Option ℕ) (entries : List Entry) (position place : ℕ) → position < length (entry_at entries place).word
+    → has_entry found entries position place ≡ allows found (get_or (entry_at entries place).word position 0)
+has_entry_is None entries position place lt = refl
+has_entry_is (Some letter) entries position place lt =
+    letter_at (entry_at entries place).word position letter lt ∙ eqb_other_way (get_or (entry_at entries place).word position 0) letter
+
+-- what is known of a word so far: it is active, and agrees with the first entries
+abbrev pub base_so_far : Board → List ℕ → ℕ → Entry → Bool
+base_so_far board cells n word = word.active && agrees board (take n cells) (take n word.word)
+
+pub base_first : (board : Board) (cells : List ℕ) (word : Entry) → word.active ≡ base_so_far board cells 0 word
+base_first board cells word = sym (and_one (word.active))
+
+module _ (board : Board) (cells : List ℕ) (entries : List Entry) (long : All (λ (word : Entry). length word.word ≡ length cells) entries) where
+  pub base_more : (i place : ℕ) → i < length cells
+      → (base_so_far board cells i (entry_at entries place) && has_entry (entry board (get_or cells i 0)) entries i place) ≡ base_so_far board cells (i + 1) (entry_at entries place)
+  base_more i place lt =
+      elim (cases_lt place (length entries)) [
+        | inr past ↦
+            let none : entry_at entries place ≡ no_entry = get_or_past entries place no_entry past in
+            ap (λ (e : Entry). base_so_far board cells i e && has_entry (entry board (get_or cells i 0)) entries i place) none
+            ∙ sym (ap (base_so_far board cells (i + 1)) none)
+        | inl within ↦
+            let word = (entry_at entries place).word in
+            let in_word : i < length word = omega (arith, long place no_entry within) in
+            ap (λ b. base_so_far board cells i (entry_at entries place) && b) (has_entry_is (entry board (get_or cells i 0)) entries i place in_word)
+            ∙ and_assoc (entry_at entries place).active (agrees board (take i cells) (take i word)) (allows (entry board (get_or cells i 0)) (get_or word i 0))
+            ∙ ap (λ b. (entry_at entries place).active && b) (sym (rw add-one (agrees_next board cells word i lt in_word)))
+      ]
+
+  pub base_all : (i place : ℕ) → i ≡ length cells → base_so_far board cells i (entry_at entries place) ≡ ((entry_at entries place).active && agrees board cells (entry_at entries place).word)
+  base_all i place e =
+      elim (cases_lt place (length entries)) [
+        | inr past ↦
+            let none : entry_at entries place ≡ no_entry = get_or_past entries place no_entry past in
+            ap (base_so_far board cells i) none ∙ sym (ap (λ (w : Entry). w.active && agrees board cells w.word) none)
+        | inl within ↦
+            ap (λ cs. (entry_at entries place).active && agrees board cs (take i (entry_at entries place).word)) (take_all i cells (omega arith))
+            ∙ ap (λ w. (entry_at entries place).active && agrees board cells w) (take_all i (entry_at entries place).word (omega (arith, long place no_entry within)))
+      ]
+
+  -- a word that does not agree with the first entries agrees with none of them all
+  never : (d i place : ℕ) → i + d ≡ length cells → base_so_far board cells i (entry_at entries place) ≡ false → base_so_far board cells (i + d) (entry_at entries place) ≡ false
+  never zero i place e none =
+      let is : i + 0 ≡ i = omega arith in
+      ap (λ n. base_so_far board cells n (entry_at entries place)) is ∙ none
+  never (suc d) i place e none =
+      let is : i + suc d ≡ i + 1 + d = omega arith in
+      ap (λ n. base_so_far board cells n (entry_at entries place)) is
+      ∙ never d (i + 1) place (omega arith) (sym (base_more i place (omega arith)) ∙ ap (λ b. b && has_entry (entry board (get_or cells i 0)) entries i place) none)
+
+  pub base_never : (i place : ℕ) → i ≤ length cells → base_so_far board cells i (entry_at entries place) ≡ false → ((entry_at entries place).active && agrees board cells (entry_at entries place).word) ≡ false
+  base_never i place le none =
+      let left : i + (length cells - i) ≡ length cells = omega arith in
+      sym (base_all (i + (length cells - i)) place left) ∙ never (length cells - i) i place left none
+
+-- ---- chunks of words
+
+-- a bit past the known words is none
+pub base_bit : (board : Board) (cells : List ℕ) (entries : List Entry) (place : ℕ) → is_base_word board cells (entry_at entries place) ≡ get_or (base_bits board cells entries) place false
+base_bit board cells entries place =
+    elim (cases_lt place (length entries)) [
+      | inl lt ↦ sym (get_or-map (is_base_word board cells) entries place no_entry false lt)
+      | inr le ↦
+          ap (is_base_word board cells) (get_or_past entries place no_entry le)
+          ∙ and_false (not (is_wholly_entered board cells))
+          ∙ sym (get_or_past (base_bits board cells entries) place false (omega (arith, length-map entries (is_base_word board cells))))
+    ]
+
+pub length-base_bits : (board : Board) (cells : List ℕ) (entries : List Entry) → length (base_bits board cells entries) ≡ length entries
+length-base_bits board cells entries = length-map entries (is_base_word board cells)
+
+-- The first places of a row are those of another one.
+pub record IsBelow (now target : List Bool) (n : ℕ) : Type 0 where
+  pub long : length now ≡ length target
+  pub below : (i : ℕ) → i < n → get_or now i false ≡ get_or target i false
+
+pub below_none : (now target : List Bool) → length now ≡ length target → IsBelow now target (64 * 0)
+below_none now target long = record { long = long; below = λ i lt. absurd (omega arith) }
+
+-- a chunk is written
+pub below_chunk : (now next target : List Bool) (chunk word : ℕ) → length next ≡ length now
+    → ((k : ℕ) → k < 64 → 64 * chunk + k < length now → get_or next (64 * chunk + k) false ≡ has_bit word k)
+    → ((i : ℕ) → (i / 64 ≡ chunk → ⊥) → get_or next i false ≡ get_or now i false)
+    → ((k : ℕ) → k < 64 → has_bit word k ≡ get_or target (64 * chunk + k) false)
+    → IsBelow now target (64 * chunk) → IsBelow next target (64 * (chunk + 1))
+below_chunk now next target chunk word long inside others bits before = record {
+  long = long ∙ before.long;
+  below = λ i lt. elim (cases_lt i (64 * chunk)) [
+    | inl early ↦ others i (λ e. omega arith) ∙ before.below i early
+    | inr here ↦
+        let at : 64 * chunk + (i - 64 * chunk) ≡ i = omega arith in
+        elim (cases_lt i (length now)) [
+          | inl within ↦ ap (λ n. get_or next n false) (sym at) ∙ inside (i - 64 * chunk) (omega arith) (omega arith) ∙ bits (i - 64 * chunk) (omega arith) ∙ ap (λ n. get_or target n false) at
+          | inr past ↦ get_or_past next i false (omega arith) ∙ sym (get_or_past target i false (omega (arith, before.long)))
+        ]
+  ];
+}
+
+-- and in the end all
+pub below_all : (now target : List Bool) (n : ℕ) → IsBelow now target n → length now ≤ n → now ≡ target
+below_all now target n is all =
+    same_lists now target is.long (λ k d lt. get_or_default now k d false lt ∙ is.below k (omega arith) ∙ get_or_default target k false d (omega (arith, is.long)))
+
+-- a row whose bits are right
+pub all_read : (board : Board) (cells : List ℕ) (entries : List Entry) (now : List Bool) → length now ≡ length entries
+    → ((k : ℕ) → get_or now k false ≡ is_base_word board cells (entry_at entries k)) → now ≡ base_bits board cells entries
+all_read board cells entries now long right = below_all now (base_bits board cells entries) (length now) (record {
+  long = long ∙ sym (length-base_bits board cells entries);
+  below = λ i lt. right i ∙ base_bit board cells entries i;
+}) (omega arith)
+
+-- where all bits but that of a place are right, they are right once the chunk of the place is read
+pub chunk_read : (board : Board) (cells : List ℕ) (entries : List Entry) (now next : List Bool) (place word : ℕ) → length now ≡ length entries → length next ≡ length now
+    → ((k : ℕ) → k < 64 → 64 * (place / 64) + k < length now → get_or next (64 * (place / 64) + k) false ≡ has_bit word k)
+    → ((i : ℕ) → (i / 64 ≡ place / 64 → ⊥) → get_or next i false ≡ get_or now i false)
+    → ((k : ℕ) → k < 64 → has_bit word k ≡ is_base_word board cells (entry_at entries (64 * (place / 64) + k)))
+    → ((k : ℕ) → (k ≡ place → ⊥) → get_or now k false ≡ is_base_word board cells (entry_at entries k))
+    → next ≡ base_bits board cells entries
+chunk_read board cells entries now next place word long same inside others bits right = below_all next (base_bits board cells entries) (length next) (record {
+  long = same ∙ long ∙ sym (length-base_bits board cells entries);
+  below = λ i lt. elim (cases_eq (i / 64) (place / 64)) [
+    | inl here ↦
+        let at : 64 * (place / 64) + (i - 64 * (place / 64)) ≡ i = omega (arith, here) in
+        ap (λ n. get_or next n false) (sym at) ∙ inside (i - 64 * (place / 64)) (omega (arith, here)) (omega (arith, here, lt, same)) ∙ bits (i - 64 * (place / 64)) (omega (arith, here))
+        ∙ ap (λ n. is_base_word board cells (entry_at entries n)) at ∙ base_bit board cells entries i
+    | inr apart ↦ others i apart ∙ right i (λ e. apart (ap (λ n. n / 64) e)) ∙ base_bit board cells entries i
+  ];
+}) (omega arith)
+
+-- and at once where the place is past the row
+pub none_to_read : (board : Board) (cells : List ℕ) (entries : List Entry) (now : List Bool) (place : ℕ) → length now ≡ length entries → length now ≤ place
+    → ((k : ℕ) → (k ≡ place → ⊥) → get_or now k false ≡ is_base_word board cells (entry_at entries k)) → now ≡ base_bits board cells entries
+none_to_read board cells entries now place long past right = below_all now (base_bits board cells entries) (length now) (record {
+  long = long ∙ sym (length-base_bits board cells entries);
+  below = λ i lt. right i (λ e. omega (arith, e, lt, past)) ∙ base_bit board cells entries i;
+}) (omega arith)

@@ -1,0 +1,60 @@
+-- From the vectors of a net to its marks.
+use Rattle.std.proofs.Common.{◌≡◌, ℕ, suc, ◌+◌, ◌-◌, ◌*◌, ◌<◌, Bool, true, false, eqb, List, [], ◌∷◌, ◌++◌, length, get_or, refl, ap, ◌∙◌, subst, inl, inr, arith}
+use Rattle.std.specs.Prelude.{All}
+use Rattle.std.specs.List.{list_any}
+use Rattle.std.proofs.lemmas.Bool.{or_cases, eqb-true, both_ways}
+use Rattle.xw_words.specs.Bits.{RowOfBits}
+use Rattle.xw_words.specs.Dictionary.{Dictionary, row}
+use Rattle.xw_words.specs.LetterSet.{has}
+use Rattle.xw_feas.specs.Board.{Board, light_at}
+use Rattle.xw_feas.specs.Feasible.{may_stand}
+use Rattle.xw_feas.specs.Flags.{set_has}
+use Rattle.xw_net.specs.declared.net.Net.{Net}
+use Rattle.xw_net.specs.Base.{base_bits}
+use Rattle.xw_net.specs.Nets.{marks_of, word_stands, letter_stands, held_in, restart_in, pending_in, queued_in}
+use Rattle.xw_net.specs.Spread.{is_waiting, none_waits, no_places, bits_in, Lit, IsLit, IsSpread}
+use Rattle.xw_net.specs.Brought.{IsBase, IsBrought}
+
+-- what waits is one of those on the stack
+pub waiting_within : (stack : List ℕ) (n light : ℕ) → All (λ other. other < n) stack → is_waiting stack light ≡ true → light < n
+unfolding is_waiting
+waiting_within [] n light all h = absurd (both_ways false refl h)
+waiting_within (x ∷ xs) n light all h = elim (or_cases (eqb x light) (list_any (λ other. eqb other light) xs) h) [
+  | inl here ↦ subst (λ l. l < n) (eqb-true x light here) (all 0 0 (omega arith))
+  | inr later ↦ waiting_within xs n light (λ k d lt. all (suc k) d (omega arith)) later
+]
+
+abbrev pub lit_of : Net → Lit
+lit_of net = record { rows = net.rows.items; entered = net.entered.items; restart = net.restart.items; queued = net.is_queued.items }
+
+pub lit_same : (rows rows' : List RowOfBits) (entered entered' : List Bool) (restart restart' : List ℕ) (queued queued' : List Bool)
+    → rows ≡ rows' → entered ≡ entered' → restart ≡ restart' → queued ≡ queued'
+    → ◌≡◌ {A = Lit} (record { rows = rows; entered = entered; restart = restart; queued = queued }) (record { rows = rows'; entered = entered'; restart = restart'; queued = queued' })
+lit_same rows rows' entered entered' restart restart' queued queued' a b c d = cc
+
+module _ (board : Board) (dictionary : Dictionary) (base : List RowOfBits) (old new : Net) (chain : ℕ → Bool)
+    (is_base : IsBase board dictionary base) (in_board : (light : ℕ) → chain light ≡ true → light < length board.lights)
+    (lit : IsLit board base (lit_of old) (lit_of new) chain none_waits)
+    (spread : IsSpread board (set_has old.letters.items) (set_has new.letters.items) chain none_waits no_places)
+    (held : new.held.items ≡ old.held.items) (pending : new.pending.items ≡ old.pending.items) where
+  pub brought_from : IsBrought board dictionary (marks_of old) (marks_of new) chain
+  unfolding word_stands letter_stands held_in restart_in pending_in queued_in
+  brought_from = record {
+    lights = in_board;
+    words_on = λ light choice on.
+        ap (λ bs. get_or (bs ++ get_or new.entered.items light false ∷ []) choice false) (lit.rows_on light (in_board light on) on refl ∙ is_base light (in_board light on))
+        ∙ ap (λ e. get_or (base_bits board (light_at board light) (row dictionary (length (light_at board light))) ++ e ∷ []) choice false) (lit.entered_on light (in_board light on) on refl);
+    words_off = λ light choice off.
+        ap (λ bs. get_or (bs ++ get_or new.entered.items light false ∷ []) choice false) (lit.rows_off light off)
+        ∙ ap (λ e. get_or (bits_in old.rows.items light ++ e ∷ []) choice false) (lit.entered_off light off);
+    letters_on = λ light place here on. spread.on light place here on refl refl;
+    letters_off = spread.reaches;
+    letters_from = λ cell letter stands. or_cases (set_has old.letters.items cell letter) (may_stand board cell letter) (spread.from cell letter stands);
+    letters_stay = spread.stay;
+    held = λ slot letter. ap (λ hs. get_or hs (26 * slot + (letter - 65)) 0) held;
+    restart_on = λ light place letter here on capital. lit.restart_on light place letter here on refl capital;
+    restart_off = λ slot letter none. ap (λ s. has s letter) (lit.restart_off slot none);
+    pending = λ slot letter. ap (λ ps. set_has ps slot letter) pending;
+    queued_on = λ light on. lit.queued_on light (in_board light on) on refl;
+    queued_off = λ light off. lit.queued_off light off;
+  }

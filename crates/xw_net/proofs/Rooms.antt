@@ -1,0 +1,37 @@
+-- Lemmas on the room of a net.
+use Rattle.std.proofs.Common.{◌≡◌, ℕ, ◌+◌, ◌≤◌, Bool, true, false, cond, eqb, List, [], ◌∷◌, ◌++◌, length, Some, None, refl, sym, ◌∙◌, ap, length-append, arith}
+use Rattle.std.specs.Prelude.{Option, slice_get, unwrap_or}
+use Rattle.std.proofs.lemmas.Option.{unwrap_or-slice_get}
+use Rattle.xw_words.specs.Bits.{RowOfBits}
+use Rattle.xw_words.specs.Dictionary.{Dictionary, IsDictionary, row}
+use Rattle.xw_grid.specs.declared.lights.Light.{Light}
+use Rattle.xw_grid.specs.Light.{no_light}
+use Rattle.xw_net.specs.Nets.{bits_at}
+use Rattle.xw_net.specs.Spread.{bits_in}
+use Rattle.xw_net.specs.Room.{size_at, no_row, row_at, with_word, with_bit, HaveBits, HaveBitMore}
+
+pub known_few : (dictionary : Dictionary) (count : ℕ) → IsDictionary dictionary → length (row dictionary count) ≤ 1048576
+known_few dictionary count is = (is.words count).few
+
+pub size_nowhere : (lights : List Light) (light : ℕ) → slice_get lights light ≡ None → 0 ≡ size_at lights light
+size_nowhere lights light none = ap (λ (l : Light). l.size) (sym (ap (λ o. unwrap_or o no_light) none) ∙ unwrap_or-slice_get lights light no_light)
+
+-- how many bits there are once a word is added
+length-with_bit : (lights : List Light) (count light : ℕ) (bits : List Bool) → length (with_bit lights count light bits) ≡ length bits + cond (eqb (size_at lights light) count) 1 0
+length-with_bit lights count light bits = split (eqb (size_at lights light) count) where
+  split : (b : Bool) → length (cond b (bits ++ false ∷ []) bits) ≡ length bits + cond b 1 0
+  split true = length-append bits (false ∷ [])
+  split false = omega arith
+
+pub bits_more : (lights : List Light) (counts : ℕ → ℕ) (count : ℕ) (old new : List RowOfBits) → HaveBits lights counts old → HaveBitMore lights count old new → HaveBits lights (with_word count counts) new
+bits_more lights counts count old new have more light in_lights =
+    ap length (more light in_lights) ∙ length-with_bit lights count light (row_at old light).bits ∙ ap (λ n. n + cond (eqb (size_at lights light) count) 1 0) (have light in_lights)
+
+pub ruleset bit_steps = (bits_more)
+
+-- the bits at a place, read in two ways
+pub bits_are : (rows : List RowOfBits) (light : ℕ) → bits_in rows light ≡ (row_at rows light).bits
+bits_are rows light = by_row (slice_get rows light) ∙ ap (λ (r : RowOfBits). r.bits) (unwrap_or-slice_get rows light no_row) where
+  by_row : (found : Option RowOfBits) → bits_at found ≡ (unwrap_or found no_row).bits
+  by_row None = refl
+  by_row (Some one) = refl

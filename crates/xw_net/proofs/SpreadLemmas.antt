@@ -1,0 +1,275 @@
+-- Marks that spread from light to light, with the letters that come back.
+use Rattle.std.proofs.Common.{◌≡◌, ℕ, ◌+◌, ◌<◌, Bool, true, false, ◌||◌, eqb, leb, cond, List, [], ◌∷◌, ◌++◌, length, get_or, set, refl, subst, sym, ap, ◌∙◌, inl, inr, arith}
+use Rattle.std.specs.Prelude.{All, filter, bytes_eq}
+use Rattle.std.specs.List.{list_any}
+use Rattle.std.proofs.lemmas.Bool.{and_parts, and_from, or_left, or_right, or_cases, cases_eq, cases_lt, cases_Bool, both_ways, eq-eqb, eqb-true, le-leb, leb-true, cond-true, cond-false, false_from_ne_true}
+use Rattle.std.proofs.lemmas.List.{get_or-set_same, get_or-set_other, set_past}
+use Rattle.std.proofs.lemmas.List.Folds.{list_any-append}
+use Rattle.std.proofs.lemmas.List.Elements.{All-push}
+use Rattle.std.proofs.lemmas.Slice.Eq.{bytes_eq-Decides}
+use Rattle.xw_words.specs.Letter.{alphabet}
+use Rattle.xw_words.specs.LetterSet.{has, letters_in}
+use Rattle.xw_feas.specs.Board.{Board}
+use Rattle.xw_feas.specs.Feasible.{may_stand}
+use Rattle.xw_feas.specs.Flags.{set_has}
+use Rattle.xw_net.specs.Marks.{IsPlace, cell_at}
+use Rattle.xw_net.specs.Spread.{is_marked, is_waiting, Grows, HasAll, IsSpread, places_from, no_places, none_waits, HasSeeds}
+
+-- ---- marks, and a stack of those that wait
+
+or_false : (t : Bool) → (t || false) ≡ t
+or_false true = refl
+or_false false = refl
+
+pub waiting-push : (stack : List ℕ) (o i : ℕ) → is_waiting (stack ++ o ∷ []) i ≡ (is_waiting stack i || eqb o i)
+unfolding is_waiting
+waiting-push stack o i = list_any-append (λ n. eqb n i) stack (o ∷ []) ∙ ap (λ t. list_any (λ n. eqb n i) stack || t) (or_false (eqb o i))
+
+pub waiting-none : (stack : List ℕ) (i : ℕ) → stack ≡ [] → is_waiting stack i ≡ false
+unfolding is_waiting
+waiting-none stack i empty = ap (λ l. is_waiting l i) empty
+
+-- what is marked stays marked
+pub marked_more : (marks : List Bool) (o i : ℕ) → is_marked marks i ≡ true → is_marked (set marks o true) i ≡ true
+unfolding is_marked
+marked_more marks o i h =
+    elim (cases_eq i o) [
+      | inl e ↦
+          elim (cases_lt o (length marks)) [
+            | inl lt ↦ ap (λ n. get_or (set marks o true) n false) e ∙ get_or-set_same marks o true false lt
+            | inr past ↦ ap (λ l. get_or l i false) (set_past marks o true past) ∙ h
+          ]
+      | inr n ↦ get_or-set_other marks o i true false n ∙ h
+    ]
+
+pub marked_now : (marks : List Bool) (o : ℕ) → o < length marks → is_marked (set marks o true) o ≡ true
+unfolding is_marked
+marked_now marks o lt = get_or-set_same marks o true false lt
+
+pub marked_before : (marks : List Bool) (o i : ℕ) → (i ≡ o → ⊥) → is_marked (set marks o true) i ≡ true → is_marked marks i ≡ true
+unfolding is_marked
+marked_before marks o i n h = sym (get_or-set_other marks o i true false n) ∙ h
+
+-- the stack after a light is marked
+abbrev pub IsPushed : List Bool → List ℕ → ℕ → List ℕ → Type 0
+IsPushed marks stack o stack' = stack' ≡ cond (is_marked marks o) stack (stack ++ o ∷ [])
+
+still_waits : (marks : List Bool) (stack : List ℕ) (o : ℕ) (stack' : List ℕ) (n : ℕ) → IsPushed marks stack o stack' → is_waiting stack n ≡ true → is_waiting stack' n ≡ true
+still_waits marks stack o stack' n is w =
+    elim (cases_Bool (is_marked marks o)) [
+      | inl m ↦ ap (λ l. is_waiting l n) (is ∙ cond-true (is_marked marks o) stack (stack ++ o ∷ []) m) ∙ w
+      | inr m ↦ ap (λ l. is_waiting l n) (is ∙ cond-false (is_marked marks o) stack (stack ++ o ∷ []) m) ∙ waiting-push stack o n ∙ or_left (is_waiting stack n) (eqb o n) w
+    ]
+
+pub pushed_within : (marks : List Bool) (stack : List ℕ) (o n : ℕ) (stack' : List ℕ) → IsPushed marks stack o stack' → o < n → All (λ i. i < n) stack → All (λ i. i < n) stack'
+pushed_within marks stack o n stack' is lt all =
+    let Within : List ℕ → Type 0 = λ xs. All (λ i. i < n) xs in
+    elim (cases_Bool (is_marked marks o)) [
+      | inl m ↦ subst Within (sym (is ∙ cond-true (is_marked marks o) stack (stack ++ o ∷ []) m)) all
+      | inr m ↦ subst Within (sym (is ∙ cond-false (is_marked marks o) stack (stack ++ o ∷ []) m)) (All-push (λ i. i < n) stack o all lt)
+    ]
+
+pub grows_mark : (marks : List Bool) (stack : List ℕ) (o : ℕ) (stack' : List ℕ) → o < length marks → IsPushed marks stack o stack' → Grows marks stack (set marks o true) stack'
+grows_mark marks stack o stack' lt is = record {
+  more = λ i h. marked_more marks o i h;
+  fresh = λ i h quiet.
+      let quiet_before : is_waiting stack i ≡ false = false_from_ne_true (is_waiting stack i) (λ w. both_ways (is_waiting stack' i) quiet (still_waits marks stack o stack' i is w)) in
+      elim (cases_eq i o) [
+        | inr n ↦ (marked_before marks o i n h, quiet_before)
+        | inl e ↦
+            elim (cases_Bool (is_marked marks o)) [
+              | inl m ↦ (ap (is_marked marks) e ∙ m, quiet_before)
+              | inr m ↦
+                  absurd (both_ways (is_waiting stack' i) quiet
+                  (ap (λ l. is_waiting l i) (is ∙ cond-false (is_marked marks o) stack (stack ++ o ∷ []) m)
+                  ∙ waiting-push stack o i ∙ or_right (is_waiting stack i) (eqb o i) (eq-eqb o i (sym e))))
+            ]
+      ];
+  waits = λ waits i h.
+      elim (cases_Bool (is_marked marks o)) [
+        | inl m ↦ marked_more marks o i (waits i (sym (ap (λ l. is_waiting l i) (is ∙ cond-true (is_marked marks o) stack (stack ++ o ∷ []) m)) ∙ h))
+        | inr m ↦
+            elim (or_cases (is_waiting stack i) (eqb o i)
+            (sym (ap (λ l. is_waiting l i) (is ∙ cond-false (is_marked marks o) stack (stack ++ o ∷ []) m) ∙ waiting-push stack o i) ∙ h)) [
+              | inl w ↦ marked_more marks o i (waits i w)
+              | inr e ↦ ap (is_marked (set marks o true)) (sym (eqb-true o i e)) ∙ marked_now marks o lt
+            ]
+      ];
+}
+
+pub grows_none : (marks : List Bool) (stack : List ℕ) → Grows marks stack marks stack
+grows_none marks stack = record { more = λ i h. h; fresh = λ i h w. (h, w); waits = λ waits. waits }
+
+pub grows_more : (marks : List Bool) (stack : List ℕ) (marks' : List Bool) (stack' : List ℕ) (marks'' : List Bool) (stack'' : List ℕ)
+    → Grows marks stack marks' stack' → Grows marks' stack' marks'' stack'' → Grows marks stack marks'' stack''
+grows_more marks stack marks' stack' marks'' stack'' first second = record {
+  more = λ i h. second.more i (first.more i h);
+  fresh = λ i h w. let mid = second.fresh i h w in first.fresh i mid.0 mid.1;
+  waits = λ waits. second.waits (first.waits waits);
+}
+
+-- and those that wait are the marked ones still
+pub seeds_grow : (marks : List Bool) (stack : List ℕ) (marks' : List Bool) (stack' : List ℕ) → Grows marks stack marks' stack' → HasSeeds marks stack → HasSeeds marks' stack'
+seeds_grow marks stack marks' stack' grows seeds light =
+    elim (cases_Bool (is_marked marks' light)) [
+      | inl m ↦
+          elim (cases_Bool (is_waiting stack' light)) [
+            | inl w ↦ m ∙ sym w
+            | inr quiet ↦ let before = grows.fresh light m quiet in absurd (both_ways (is_waiting stack light) before.1 (sym (seeds light) ∙ before.0))
+          ]
+      | inr n ↦
+          n ∙ sym (false_from_ne_true (is_waiting stack' light) (λ w. both_ways (is_marked marks' light) n (grows.waits (λ i h. seeds i ∙ h) light w)))
+    ]
+
+-- what waits below waits, and so does the top
+pub waits_pop : (stack stack' : List ℕ) (o i : ℕ) → stack ≡ stack' ++ o ∷ [] → is_waiting stack' i ≡ true → is_waiting stack i ≡ true
+waits_pop stack stack' o i is h = ap (λ l. is_waiting l i) is ∙ waiting-push stack' o i ∙ or_left (is_waiting stack' i) (eqb o i) h
+
+pub waits_top : (stack stack' : List ℕ) (o : ℕ) → stack ≡ stack' ++ o ∷ [] → is_waiting stack o ≡ true
+waits_top stack stack' o is = ap (λ l. is_waiting l o) is ∙ waiting-push stack' o o ∙ or_right (is_waiting stack' o) (eqb o o) (eq-eqb o o refl)
+
+-- and nothing else
+pub quiet_pop : (stack stack' : List ℕ) (o i : ℕ) → stack ≡ stack' ++ o ∷ [] → (i ≡ o → ⊥) → is_waiting stack' i ≡ false → is_waiting stack i ≡ false
+quiet_pop stack stack' o i is n h =
+    false_from_ne_true (is_waiting stack i) (λ w. elim (or_cases (is_waiting stack' i) (eqb o i) (sym (ap (λ l. is_waiting l i) is ∙ waiting-push stack' o i) ∙ w)) [
+      | inl waits ↦ both_ways (is_waiting stack' i) h waits
+      | inr e ↦ n (sym (eqb-true o i e))
+    ])
+
+-- ---- sets of letters by cell
+
+pub set_has-here : (sets : List ℕ) (cell set_there letter : ℕ) → cell < length sets → set_has (set sets cell set_there) cell letter ≡ has set_there letter
+set_has-here sets cell set_there letter lt = ap (λ s. has s letter) (get_or-set_same sets cell set_there 0 lt)
+
+pub set_has-there : (sets : List ℕ) (cell other set_there letter : ℕ) → (other ≡ cell → ⊥) → set_has (set sets cell set_there) other letter ≡ set_has sets other letter
+set_has-there sets cell other set_there letter n = ap (λ s. has s letter) (get_or-set_other sets cell other set_there 0 n)
+
+filter_same : (f g : ℕ → Bool) → ((n : ℕ) → f n ≡ g n) → (xs : List ℕ) → filter f xs ≡ filter g xs
+filter_same f g same [] = refl
+filter_same f g same (x ∷ xs) = ap (λ b. cond b (x ∷ filter f xs) (filter f xs)) (same x) ∙ ap (λ ys. cond (g x) (x ∷ ys) ys) (filter_same f g same xs)
+
+-- a set that has the letters of another, and no more
+pub same_set : (common may : ℕ) → ((letter : ℕ) → has common letter ≡ has may letter) → bytes_eq (letters_in common) (letters_in may) ≡ true
+same_set common may same = (bytes_eq-Decides (letters_in common) (letters_in may)).1 (filter_same (has common) (has may) same alphabet)
+
+-- ---- the spread
+
+module _ (board : Board) (old : ℕ → ℕ → Bool) where
+  -- more lights are marked
+  pub spread_grows : (new : ℕ → ℕ → Bool) (marks marks' : List Bool) (stack stack' : List ℕ) (coming : ℕ → ℕ → Bool) → Grows marks stack marks' stack'
+      → IsSpread board old new (is_marked marks) (is_waiting stack) coming → IsSpread board old new (is_marked marks') (is_waiting stack') coming
+  spread_grows new marks marks' stack stack' coming grows spread = record {
+    on = λ i q here m quiet later. let before = grows.fresh i m quiet in spread.on i q here before.0 before.1 later;
+    reaches = λ i q l here now not_old. grows.more i (spread.reaches i q l here now not_old);
+    from = spread.from;
+    stay = spread.stay;
+  }
+
+  -- at a cell all letters stand that may, and the lights through it are marked
+  pub spread_raise : (letters : List ℕ) (cell may : ℕ) (marked waiting : ℕ → Bool) (coming : ℕ → ℕ → Bool) → cell < length letters
+      → ((letter : ℕ) → has may letter ≡ may_stand board cell letter)
+      → ((light place : ℕ) → IsPlace board light place → cell_at board light place ≡ cell → marked light ≡ true)
+      → IsSpread board old (set_has letters) marked waiting coming → IsSpread board old (set_has (set letters cell may)) marked waiting coming
+  spread_raise letters cell may marked waiting coming lt is through spread = record {
+    on = λ i q here m quiet later l may_here. keeps (cell_at board i q) l may_here (spread.on i q here m quiet later l may_here);
+    reaches = λ i q l here now not_old.
+        elim (cases_eq (cell_at board i q) cell) [
+          | inl e ↦ through i q here e
+          | inr n ↦ spread.reaches i q l here (sym (set_has-there letters cell (cell_at board i q) may l n) ∙ now) not_old
+        ];
+    from = λ c l now.
+        elim (cases_eq c cell) [
+          | inl e ↦ or_right (old c l) (may_stand board c l) (ap (λ x. may_stand board x l) e ∙ sym (at_cell l) ∙ sym (ap (λ x. set_has (set letters cell may) x l) e) ∙ now)
+          | inr n ↦ spread.from c l (sym (set_has-there letters cell c may l n) ∙ now)
+        ];
+    stay = λ c l may_here was. keeps c l may_here (spread.stay c l may_here was);
+  }
+    where
+      at_cell : (l : ℕ) → set_has (set letters cell may) cell l ≡ may_stand board cell l
+      at_cell l = set_has-here letters cell may l lt ∙ is l
+
+      keeps : (c l : ℕ) → may_stand board c l ≡ true → set_has letters c l ≡ true → set_has (set letters cell may) c l ≡ true
+      keeps c l may_here h =
+          elim (cases_eq c cell) [
+            | inl e ↦ ap (λ x. set_has (set letters cell may) x l) e ∙ at_cell l ∙ ap (λ x. may_stand board x l) (sym e) ∙ may_here
+            | inr n ↦ set_has-there letters cell c may l n ∙ h
+          ]
+
+  -- a light that waits is taken up: all its places are to come
+  pub spread_taken : (new : ℕ → ℕ → Bool) (marked : ℕ → Bool) (stack stack' : List ℕ) (o : ℕ) → stack ≡ stack' ++ o ∷ []
+      → IsSpread board old new marked (is_waiting stack) no_places → IsSpread board old new marked (is_waiting stack') (places_from o 0)
+  spread_taken new marked stack stack' o is spread = record {
+    on = λ i q here m quiet later.
+        elim (cases_eq i o) [
+          | inl e ↦ absurd (both_ways (places_from o 0 i q) later (and_from (eqb i o) (leb 0 q) (eq-eqb i o e) (le-leb 0 q (omega arith))))
+          | inr n ↦ spread.on i q here m (quiet_pop stack stack' o i is n quiet) refl
+        ];
+    reaches = spread.reaches;
+    from = spread.from;
+    stay = spread.stay;
+  }
+
+  -- a place is done
+  pub spread_place : (new : ℕ → ℕ → Bool) (marked waiting : ℕ → Bool) (o p : ℕ) → HasAll board new (cell_at board o p)
+      → IsSpread board old new marked waiting (places_from o p) → IsSpread board old new marked waiting (places_from o (p + 1))
+  spread_place new marked waiting o p done spread = record {
+    on = λ i q here m quiet later.
+        elim (cases_Bool (places_from o p i q)) [
+          | inr before ↦ spread.on i q here m quiet before
+          | inl now ↦
+              let both = and_parts (eqb i o) (leb p q) now in
+              let light = eqb-true i o both.0 in
+              elim (cases_eq q p) [
+                | inl e ↦
+                    let cell : cell_at board o p ≡ cell_at board i q = ap (λ n. cell_at board n p) (sym light) ∙ ap (cell_at board i) (sym e) in
+                    subst (HasAll board new) cell done
+                | inr n ↦ absurd (both_ways (places_from o (p + 1) i q) later (and_from (eqb i o) (leb (p + 1) q) both.0 (le-leb (p + 1) q (omega (arith, leb-true p q both.1, n)))))
+              ]
+        ];
+    reaches = spread.reaches;
+    from = spread.from;
+    stay = spread.stay;
+  }
+
+  -- past the last place of the light nothing is to come
+  pub spread_light : (new : ℕ → ℕ → Bool) (marked waiting : ℕ → Bool) (o p : ℕ) → ((q : ℕ) → IsPlace board o q → q < p)
+      → IsSpread board old new marked waiting (places_from o p) → IsSpread board old new marked waiting no_places
+  spread_light new marked waiting o p short spread = record {
+    on = λ i q here m quiet later.
+        spread.on i q here m quiet
+        (false_from_ne_true (places_from o p i q) (λ h.
+        let both = and_parts (eqb i o) (leb p q) h in
+        let Place : ℕ → Type 0 = λ n. IsPlace board n q in
+        let lt = short q (subst Place (eqb-true i o both.0) here) in
+        absurd (omega (arith, lt, leb-true p q both.1))));
+    reaches = spread.reaches;
+    from = spread.from;
+    stay = spread.stay;
+  }
+
+  -- where a letter is missing that may stand, one comes back
+  pub lacks_old : (new : ℕ → ℕ → Bool) (marked waiting : ℕ → Bool) (coming : ℕ → ℕ → Bool) (cell : ℕ) → IsSpread board old new marked waiting coming
+      → ¬ HasAll board new cell → ¬ HasAll board old cell
+  lacks_old new marked waiting coming cell spread lacks all = lacks (λ l may. spread.stay cell l may (all l may))
+
+-- ---- the first and the last step
+
+module _ (board : Board) where
+  -- at first the marked lights wait
+  pub spread_start : (letters : ℕ → ℕ → Bool) (marked waiting : ℕ → Bool) → ((light : ℕ) → marked light ≡ waiting light) → IsSpread board letters letters marked waiting no_places
+  spread_start letters marked waiting seeds = record {
+    on = λ i q here m quiet later. absurd (both_ways (waiting i) quiet (sym (seeds i) ∙ m));
+    reaches = λ i q l here now not_old. absurd (both_ways (letters (cell_at board i q) l) not_old now);
+    from = λ c l now. or_left (letters c l) (may_stand board c l) now;
+    stay = λ c l may was. was;
+  }
+
+  -- in the end none does
+  pub spread_end : (old new : ℕ → ℕ → Bool) (marked waiting : ℕ → Bool) → ((light : ℕ) → waiting light ≡ false)
+      → IsSpread board old new marked waiting no_places → IsSpread board old new marked none_waits no_places
+  spread_end old new marked waiting none spread = record {
+    on = λ i q here m quiet later. spread.on i q here m (none i) later;
+    reaches = spread.reaches;
+    from = spread.from;
+    stay = spread.stay;
+  }

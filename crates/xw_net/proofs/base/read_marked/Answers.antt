@@ -1,0 +1,76 @@
+use Rattle.std.proofs.Common.{◌≡◌, ℕ, ◌<◌, ◌≤◌, ◌+◌, ◌*◌, length, subst, sym, ap, ◌∙◌, inl, inr, arith}
+use Rattle.std.proofs.lemmas.Bool.{cases_eq, both_ways}
+use Rattle.xw_feas.specs.Board.{light_at}
+use Rattle.xw_net.specs.Base.{base_bits, IsBaseBut}
+use Rattle.xw_net.specs.Begin.{is_read}
+use Rattle.xw_net.specs.Region.{chunks_of}
+use Rattle.xw_net.specs.Spread.{is_marked, bits_in}
+use Rattle.xw_net.proofs.CostLemmas.{cost_here, cost_more, cost_in, cost_all}
+use Rattle.xw_net.proofs.base.read_marked.Goals as goal
+
+pub loop-light-preserved-then-not-is_read : goal.loop-light-preserved-then-not-is_read
+loop-light-preserved-then-not-is_read g c =
+    let inv = c.loop-light.invariant in
+    record {
+      same = inv.same;
+      risen = inv.risen;
+      base = inv.base;
+      later = λ light le. inv.later light (omega (arith, le));
+      on = λ light lt m but. elim (cases_eq light c.loop-light.light) [
+        | inl e ↦ absurd (both_ways (is_read c.args.board.now c.args.word (is_marked c.args.marks.now) light) (ap (is_read c.args.board.now c.args.word (is_marked c.args.marks.now)) e ∙ sym c.is_read.ensures ∙ c.if-not-is_read.true) m)
+        | inr n ↦ inv.on light (omega arith) m but
+      ];
+      row_room = inv.row_room;
+      off = inv.off;
+      spent = λ member has. omega (arith, inv.spent member has, cost_more c.args.board.now (g.R.Rows.entries c.args.rows.now) member c.loop-light.light);
+    }
+
+pub loop-light-preserved : goal.loop-light-preserved
+loop-light-preserved g c =
+    let inv = c.loop-light.invariant in
+    let k = c.read_row in
+    let board = c.args.board.now in
+    let o = c.loop-light.light in
+    let in_board : c.loop-light.light < length c.args.board.now.lights = omega (arith, c.loop-light-test.true, c.light_count-light-end.ensures) in
+    let right : (light : ℕ) → light ≡ c.loop-light.light → IsBaseBut c.args.board.now (light_at c.args.board.now light) (g.R.Rows.entries c.args.rows.now (length (light_at c.args.board.now light))) c.args.word (bits_in c.args.base.now light)
+    → bits_in c.read_row.new.base light ≡ base_bits c.args.board.now (light_at c.args.board.now light) (g.R.Rows.entries c.args.rows.now (length (light_at c.args.board.now light))) =
+    λ light e but. subst (λ n. bits_in c.read_row.new.base n ≡ base_bits c.args.board.now (light_at c.args.board.now n) (g.R.Rows.entries c.args.rows.now (length (light_at c.args.board.now n)))) (sym e)
+    (k.ensures.here (subst (λ d. IsBaseBut c.args.board.now (light_at c.args.board.now c.loop-light.light) (d (length (light_at c.args.board.now c.loop-light.light))) c.args.word (bits_in c.loop-light.base c.loop-light.light)) (sym inv.same)
+    (subst (λ bits. IsBaseBut c.args.board.now (light_at c.args.board.now c.loop-light.light) (g.R.Rows.entries c.args.rows.now (length (light_at c.args.board.now c.loop-light.light))) c.args.word bits) (sym (inv.later c.loop-light.light (omega arith)))
+    (subst (λ n. IsBaseBut c.args.board.now (light_at c.args.board.now n) (g.R.Rows.entries c.args.rows.now (length (light_at c.args.board.now n))) c.args.word (bits_in c.args.base.now n)) e but)))
+    ∙ ap (λ d. base_bits c.args.board.now (light_at c.args.board.now c.loop-light.light) (d (length (light_at c.args.board.now c.loop-light.light)))) inv.same) in
+    record {
+      same = k.ensures.entries ∙ inv.same;
+      risen = omega (arith, inv.risen, k.ensures.risen);
+      base = record {
+        rows = omega (arith, inv.base.rows, c.read_row.ensures.len);
+        bits = λ light lt. elim (cases_eq light c.loop-light.light) [
+          | inl e ↦ ap (λ n. length (bits_in c.read_row.new.base n)) e ∙ k.ensures.bits ∙ ap (λ n. length (bits_in c.loop-light.base n)) (sym e) ∙ inv.base.bits light lt
+          | inr n ↦ ap length (k.ensures.others light n) ∙ inv.base.bits light lt
+        ];
+      };
+      later = λ light le. k.ensures.others light (λ e. omega (arith, le, e)) ∙ inv.later light (omega (arith, le));
+      on = λ light lt m but. elim (cases_eq light c.loop-light.light) [
+        | inl e ↦ right light e but
+        | inr n ↦ k.ensures.others light n ∙ inv.on light (omega arith) m but
+      ];
+      row_room = λ other. omega (arith, inv.row_room other, k.ensures.row_room other);
+      off = λ light m.
+          k.ensures.others light (λ e. both_ways (is_read c.args.board.now c.args.word (is_marked c.args.marks.now) light) m (ap (is_read c.args.board.now c.args.word (is_marked c.args.marks.now)) e ∙ sym c.is_read.ensures ∙ c.if-not-is_read.false))
+          ∙ inv.off light m;
+      spent = λ member has.
+          let same_cost : chunks_of (length (g.R.Rows.entries c.loop-light.rows (length (light_at c.args.board.now c.loop-light.light)))) ≡ chunks_of (length (g.R.Rows.entries c.args.rows.now (length (light_at c.args.board.now c.loop-light.light)))) =
+          ap (λ d. chunks_of (length (d (length (light_at c.args.board.now c.loop-light.light))))) inv.same in
+          let whole : (length (light_at c.args.board.now c.loop-light.light) + 1) * chunks_of (length (g.R.Rows.entries c.loop-light.rows (length (light_at c.args.board.now c.loop-light.light)))) ≡ cost_here c.args.board.now (g.R.Rows.entries c.args.rows.now) member c.loop-light.light =
+          ap (λ n. (length (light_at c.args.board.now c.loop-light.light) + 1) * n) same_cost ∙ sym (cost_in c.args.board.now (g.R.Rows.entries c.args.rows.now) member c.loop-light.light (has c.loop-light.light in_board (sym c.is_read.ensures ∙ c.if-not-is_read.false))) in
+          let more = cost_more c.args.board.now (g.R.Rows.entries c.args.rows.now) member c.loop-light.light in
+          let spent : g.R.Rows.ticks c.read_row.new.rows ≤ g.R.Rows.ticks c.loop-light.rows + cost_here c.args.board.now (g.R.Rows.entries c.args.rows.now) member c.loop-light.light =
+          subst (λ n. g.R.Rows.ticks c.read_row.new.rows ≤ g.R.Rows.ticks c.loop-light.rows + n) whole k.ensures.cost in
+          let before = inv.spent member has in
+          subst (λ n. g.R.Rows.ticks c.read_row.new.rows ≤ g.R.Rows.ticks c.args.rows.now + n) (sym more) (omega (arith, spent, before));
+    }
+
+pub returns-clause-cost : goal.returns-clause-cost
+returns-clause-cost g c member has =
+    let all = cost_all c.args.board.now (g.R.Rows.entries c.args.rows.now) member c.loop-light.light (omega (arith, c.loop-light-test.false, c.loop-light.auto.light-end, c.light_count-light-end.ensures)) in
+    subst (λ n. g.R.Rows.ticks c.loop-light.rows ≤ g.R.Rows.ticks c.args.rows.now + n) all (c.loop-light.invariant.spent member has)

@@ -1,0 +1,115 @@
+use Rattle.std.proofs.Common.{◌≡◌, ℕ, Bool, List, length, refl, sym, ap, subst, ◌∙◌, arith}
+use Rattle.std.proofs.lemmas.Bool.{false_from_ne_true, both_ways}
+use Rattle.std.proofs.lemmas.List.{with_items_is}
+use Rattle.xw_words.specs.Bits.{RowOfBits}
+use Rattle.xw_words.specs.Dictionary.{Entry, row}
+use Rattle.xw_grid.specs.declared.lights.Light.{Light}
+use Rattle.xw_grid.specs.Grid.{Grid}
+use Rattle.xw_grid.specs.Light.{lights_of}
+use Rattle.xw_feas.specs.Board.{Board, board_of, light_at}
+use Rattle.xw_feas.specs.Flags.{set_has}
+use Rattle.xw_feas.proofs.BoardLemmas.{length-lights, length-open_cells}
+use Rattle.xw_net.specs.declared.change.Change.{Change}
+use Rattle.xw_net.specs.Marks.{AreSlotsApart}
+use Rattle.xw_net.specs.Nets.{pending_in, queued_in}
+use Rattle.xw_net.specs.Renumber.{same_before}
+use Rattle.xw_net.specs.Spread.{is_marked}
+use Rattle.xw_net.specs.Forget.{lost_from, Forgets}
+use Rattle.xw_net.specs.Opened.{Arrays, arrays_of, IsOpening}
+use Rattle.xw_net.proofs.Slots.{slots_apart}
+use Rattle.xw_net.proofs.Openings.{waiting_contained, opens}
+use Rattle.xw_net.proofs.net.Net.begin.Goals as goal
+
+abbrev Lost : Change → Board → List Light → (ℕ → List Entry) → List ℕ → List ℕ → List ℕ → List ℕ → Type 0
+Lost change board lights entries held held' pending pending' =
+    Forgets board (λ light. lost_from change.word (same_before change.before.now lights light) (length (light_at board light)) (length (entries (length (light_at board light))))) held held' pending pending'
+
+-- the same of equal boards, lights and words
+opening_of : (grid : Grid) (change : Change) (old new : Arrays) (board board' : Board) (lights lights' : List Light) (entries entries' : ℕ → List Entry) → board ≡ board' → lights ≡ lights' → entries ≡ entries'
+    → IsOpening grid board lights entries change old new → IsOpening grid board' lights' entries' change old new
+opening_of grid change old new board board' lights lights' entries entries' b l e opening =
+    subst (λ es. IsOpening grid board' lights' es change old new) e (subst (λ ls. IsOpening grid board' ls entries change old new) l (subst (λ bs. IsOpening grid bs lights entries change old new) b opening))
+
+opening_by : (grid : Grid) (change : Change) (board : Board) (lights : List Light) (entries : ℕ → List Entry) (old old' new new' : Arrays) → old ≡ old' → new ≡ new' → IsOpening grid board lights entries change old new → IsOpening grid board lights entries change old' new'
+opening_by grid change board lights entries old old' new new' o n opening = subst (λ a. IsOpening grid board lights entries change old' a) n (subst (λ a. IsOpening grid board lights entries change a new) o opening)
+
+lost_of : (change : Change) (held held' pending pending' : List ℕ) (board board' : Board) (lights lights' : List Light) (entries entries' : ℕ → List Entry) → board ≡ board' → lights ≡ lights' → entries ≡ entries'
+    → Lost change board lights entries held held' pending pending' → Lost change board' lights' entries' held held' pending pending'
+lost_of change held held' pending pending' board board' lights lights' entries entries' b l e lost =
+    subst (λ es. Lost change board' lights' es held held' pending pending') e (subst (λ ls. Lost change board' ls entries held held' pending pending') l (subst (λ bs. Lost change bs lights entries held held' pending pending') b lost))
+
+lost_by : (change : Change) (board : Board) (lights : List Light) (entries : ℕ → List Entry) (held held-2 held' held'-2 pending pending-2 pending' pending'-2 : List ℕ) → held ≡ held-2 → held' ≡ held'-2 → pending ≡ pending-2 → pending' ≡ pending'-2
+    → Lost change board lights entries held held' pending pending' → Lost change board lights entries held-2 held'-2 pending-2 pending'-2
+lost_by change board lights entries held held-2 held' held'-2 pending pending-2 pending' pending'-2 a b d e lost =
+    subst (λ x. Lost change board lights entries held-2 held'-2 pending-2 x) e (subst (λ x. Lost change board lights entries held-2 held'-2 x pending') d
+    (subst (λ x. Lost change board lights entries held-2 x pending pending') b (subst (λ x. Lost change board lights entries x held' pending pending') a lost)))
+
+-- equal arrays
+arrays_same : {rows rows' base base' : List RowOfBits} {letters letters' : List ℕ} {is_queued is_queued' : List Bool} {queue : List ℕ} {is_marked is_marked' : List Bool} {stack : List ℕ}
+    → rows ≡ rows' → base ≡ base' → letters ≡ letters' → is_queued ≡ is_queued' → is_marked ≡ is_marked'
+    → ◌≡◌ {A = Arrays} (record { rows = rows; base = base; letters = letters; is_queued = is_queued; queue = queue; is_marked = is_marked; stack = stack })
+    (record { rows = rows'; base = base'; letters = letters'; is_queued = is_queued'; queue = queue; is_marked = is_marked'; stack = stack })
+arrays_same {queue = queue} {stack = stack} a b d e f = λ t. record { rows = a t; base = b t; letters = d t; is_queued = e t; queue = queue; is_marked = f t; stack = stack }
+
+as_many : (grid : Grid) (board : Board) (lights : List Light) → board ≡ board_of grid → lights ≡ lights_of grid → length lights ≡ length board.lights
+as_many grid board lights b l = ap length l ∙ sym (length-lights grid) ∙ sym (ap (λ (of_grid : Board). length of_grid.lights) b)
+
+pub forget_lights-requires-clause-lights : goal.forget_lights-requires-clause-lights
+forget_lights-requires-clause-lights g c = as_many c.args.grid.now c.args.board.now c.args.lights.now c.requires.board c.requires.lights
+
+pub forget_lights-requires-clause-apart : goal.forget_lights-requires-clause-apart
+forget_lights-requires-clause-apart g c = subst AreSlotsApart (sym c.requires.board) (slots_apart c.args.grid.now)
+
+pub begin-requires-clause-cells : goal.begin-requires-clause-cells
+begin-requires-clause-cells g c = sym (length-open_cells c.args.grid.now) ∙ sym (ap (λ (b : Board). length b.open_cells) c.requires.board)
+
+pub begin-requires-clause-lights : goal.begin-requires-clause-lights
+begin-requires-clause-lights g c = as_many c.args.grid.now c.args.board.now c.args.lights.now c.requires.board c.requires.lights
+
+pub returns-clause-queue : goal.returns-clause-queue
+unfolding queued_in is_marked
+returns-clause-queue g c light on =
+    let same = with_items_is c.args.self.now.is_queued c.begin.new.is_queued (omega (arith, c.begin.auto.is_queued, c.deref_mut-6.ensures.len)) in
+    waiting_contained c.begin.new.queue.items light (sym (c.begin.ensures.listed light) ∙ sym (ap (λ q. is_marked q light) same) ∙ on)
+
+pub returns-clause-pending : goal.returns-clause-pending
+unfolding pending_in
+returns-clause-pending g c slot letter gone =
+    let pending = with_items_is c.args.self.now.pending c.forget_lights.new.pending (omega (arith, c.forget_lights.auto.pending, c.deref_mut-2.ensures.len)) in
+    ap (λ ps. set_has ps slot letter) pending
+    ∙ false_from_ne_true (set_has c.forget_lights.new.pending slot letter) (λ pends.
+    both_ways (set_has c.args.self.now.pending.items slot letter) gone (ap (λ ps. set_has ps slot letter) (sym c.deref_mut-2.ensures.value) ∙ c.forget_lights.ensures.less slot letter pends))
+
+pub returns-clause-opened : goal.returns-clause-opened
+returns-clause-opened g c before words action settled read is filled moved =
+    let entries : g.R.Rows.entries c.args.rows.now ≡ row words = λ t. λ count. read count t in
+    let rows = with_items_is c.args.self.now.rows c.begin.new.words (omega (arith, c.begin.auto.words, c.deref_mut-4.ensures.len)) in
+    let base = with_items_is c.args.self.now.base c.begin.new.base (omega (arith, c.begin.auto.base, c.deref_mut-3.ensures.len)) in
+    let letters = with_items_is c.args.self.now.letters c.begin.new.letters (omega (arith, c.begin.auto.letters, c.deref_mut-5.ensures.len)) in
+    let queued = with_items_is c.args.self.now.is_queued c.begin.new.is_queued (omega (arith, c.begin.auto.is_queued, c.deref_mut-6.ensures.len)) in
+    let marked = with_items_is c.args.self.now.is_marked c.begin.new.marks (omega (arith, c.begin.auto.marks, c.deref_mut-7.ensures.len)) in
+    let held = with_items_is c.args.self.now.held c.forget_lights.new.held (omega (arith, c.forget_lights.auto.held, c.deref_mut.ensures.len)) in
+    let pending = with_items_is c.args.self.now.pending c.forget_lights.new.pending (omega (arith, c.forget_lights.auto.pending, c.deref_mut-2.ensures.len)) in
+    let b = c.begin.ensures in
+    let old : Arrays = record { rows = c.deref_mut-4.result.now; base = c.deref_mut-3.result.now; letters = c.deref_mut-5.result.now; is_queued = c.deref_mut-6.result.now; queue = c.args.self.now.queue.items; is_marked = c.deref_mut-7.result.now; stack = c.args.self.now.stack.items } in
+    let new : Arrays = record { rows = c.begin.new.words; base = c.begin.new.base; letters = c.begin.new.letters; is_queued = c.begin.new.is_queued; queue = c.begin.new.queue.items; is_marked = c.begin.new.marks; stack = c.begin.new.stack.items } in
+    let raw : IsOpening c.args.grid.now c.args.board.now c.args.lights.now (g.R.Rows.entries c.args.rows.now) c.args.change.now old new = record {
+      in_queue = b.queue;
+      listed = b.listed;
+      new_queued = b.new_queued;
+      new_marked = b.new_marked;
+      edited = b.edited;
+      spread = b.spread;
+      freed = b.freed;
+      prepared = b.prepared;
+      queued_within = b.queued_within;
+      within = b.within;
+    } in
+    let opening = opening_of c.args.grid.now c.args.change.now _ _ c.args.board.now (board_of c.args.grid.now) c.args.lights.now (lights_of c.args.grid.now) (g.R.Rows.entries c.args.rows.now) (row words) c.requires.board c.requires.lights entries
+    (opening_by c.args.grid.now c.args.change.now c.args.board.now c.args.lights.now (g.R.Rows.entries c.args.rows.now) old (arrays_of c.args.self.now) new _
+    (arrays_same c.deref_mut-4.ensures.value c.deref_mut-3.ensures.value c.deref_mut-5.ensures.value c.deref_mut-6.ensures.value c.deref_mut-7.ensures.value)
+    (arrays_same (sym rows) (sym base) (sym letters) (sym queued) (sym marked)) raw) in
+    let lost = lost_of c.args.change.now _ _ _ _ c.args.board.now (board_of c.args.grid.now) c.args.lights.now (lights_of c.args.grid.now) (g.R.Rows.entries c.args.rows.now) (row words) c.requires.board c.requires.lights entries
+    (lost_by c.args.change.now c.args.board.now c.args.lights.now (g.R.Rows.entries c.args.rows.now) c.deref_mut.result.now c.args.self.now.held.items c.forget_lights.new.held _ c.deref_mut-2.result.now c.args.self.now.pending.items c.forget_lights.new.pending _
+    c.deref_mut.ensures.value (sym held) c.deref_mut-2.ensures.value (sym pending) c.forget_lights.ensures) in
+    opens before (record { grid = c.args.grid.now; words = words }) action c.args.change.now is settled c.args.self.now _ filled filled.holding moved opening lost refl refl c.requires.inside

@@ -1,0 +1,120 @@
+use Rattle.std.proofs.Common.{◌≡◌, ◌+◌, ◌-◌, ℕ, Bool, List, true, false, get_or, refl, sym, ap, ◌∙◌, subst, inl, inr, arith}
+use Rattle.std.proofs.lemmas.Bool.{cases_lt, both_ways}
+use Rattle.std.proofs.lemmas.List.{get_or_default}
+use Rattle.xw_words.specs.LetterSet.{has}
+use Rattle.xw_words.specs.Dictionary.{Dictionary}
+use Rattle.xw_net.specs.Marks.{IsPosition, IsHeld, Stays, cell_at}
+use Rattle.xw_net.specs.Due.{IsUnderway, and_light}
+use Rattle.xw_net.specs.Nets.{HasBits, marks_of, letter_stands, queued_in}
+use Rattle.xw_net.proofs.Striking.{set_letter}
+use Rattle.xw_net.proofs.Left.{left_left, left_same}
+use Rattle.xw_net.specs.declared.net.Net.{Net}
+use Rattle.xw_net.proofs.net.Net.keep_place.Goals as goal
+
+-- a letter that stands at first is one of those that are gone through
+in_set : (net : Net) (cell set letter : ℕ) → set ≡ get_or net.letters.items cell 0 → letter_stands net cell letter ≡ true → has set letter ≡ true
+unfolding letter_stands
+in_set net cell set letter is stands = ap (λ s. has s letter) is ∙ stands
+
+pub keep_letter-requires-clause-bits : goal.keep_letter-requires-clause-bits
+keep_letter-requires-clause-bits g c =
+    subst (λ e. HasBits c.args.board.now e c.loop-number.self) (sym c.loop-number.invariant.same) c.loop-number.invariant.bits
+
+pub keep_letter-requires-clause-stands : goal.keep_letter-requires-clause-stands
+keep_letter-requires-clause-stands g c =
+    c.loop-number.invariant.left c.at.result (omega (arith, c.at.ensures, c.in-Some.ensures.set.0)) (ap (has c.index-alive.result.now) c.at.ensures ∙ c.in-Some.ensures.set.2)
+
+pub keep_letter-requires-clause-open : goal.keep_letter-requires-clause-open
+keep_letter-requires-clause-open g c =
+    ap (λ (flags : List Bool). get_or flags c.place_of-here.result.light false) c.loop-number.invariant.entered ∙ ap (λ n. get_or c.args.self.now.entered.items n false) c.place_of-here.ensures.light ∙ c.requires.open
+
+pub loop-number-preserved : goal.loop-number-preserved
+loop-number-preserved g c =
+    let inv = c.loop-number.invariant in
+    let k = c.keep_letter in
+    let board = c.args.board.now in
+    let here = c.place_of-here.result in
+    let there = c.place_of-here.ensures in
+    let old = c.loop-number.self in
+    let new = k.new.self in
+    let set = c.index-alive.result.now in
+    let set_is : c.index-alive.result.now ≡ get_or c.args.self.now.letters.items (cell_at c.args.board.now c.args.light c.args.place) 0 =
+    c.index-alive.ensures ∙ get_or_default c.args.self.now.letters.items c.place_of-here.result.cell c.index-alive.result.now 0 (omega (arith, c.place_of-here.ensures.in_board, c.requires.shaped.letters))
+    ∙ ap (λ n. get_or c.args.self.now.letters.items n 0) c.place_of-here.ensures.cell in
+    let move = λ (dictionary : Dictionary) (position : IsPosition c.args.board.now (g.R.Rows.entries c.args.rows.now) dictionary). subst (λ e. IsPosition c.args.board.now e dictionary) (sym inv.same) position in
+    let stays : (dictionary : Dictionary) → IsPosition c.args.board.now (g.R.Rows.entries c.args.rows.now) dictionary → Stays c.args.board.now dictionary c.args.light (marks_of c.loop-number.self) (marks_of c.keep_letter.new.self) =
+    λ dictionary position. subst (λ n. Stays c.args.board.now dictionary n (marks_of c.loop-number.self) (marks_of c.keep_letter.new.self)) there.light (k.ensures.stays dictionary (move dictionary position)) in
+    record {
+      within = omega (arith, c.in-Some.ensures.set.1);
+      alive = λ cell letter alive. inv.alive cell letter (k.ensures.alive cell letter alive);
+      entered = k.ensures.entered ∙ inv.entered;
+      left = λ letter past has. k.ensures.others letter (λ e. absurd (omega (arith, e, past, c.at.ensures))) (inv.left letter (omega (arith, past, c.in-Some.ensures.set.0)) has);
+      same = k.ensures.entries ∙ inv.same;
+      risen = omega (arith, inv.risen, k.ensures.risen);
+      rest = left_left inv.rest k.ensures.rest;
+      shaped = k.ensures.shaped;
+      bits = subst (λ e. HasBits c.args.board.now e c.keep_letter.new.self) inv.same k.ensures.bits;
+      fewer = omega (arith, inv.fewer, k.ensures.fewer);
+      waits = λ other w. k.ensures.waits other (inv.waits other w);
+      held = λ dictionary position letter lt alive.
+          elim (cases_lt letter (65 + c.loop-number.from)) [
+            | inl before ↦ stays dictionary position c.args.place letter c.requires.place (inv.held dictionary position letter before) alive
+            | inr from ↦ elim (cases_lt letter (65 + c.in-Some.number)) [
+              | inl passed ↦
+                  let back : 65 + (letter - 65) ≡ letter = omega arith in
+                  absurd (both_ways (has set letter) (ap (has set) (sym back) ∙ c.in-Some.ensures.first (letter - 65) (omega arith) (omega arith))
+                  (in_set c.args.self.now (cell_at c.args.board.now c.args.light c.args.place) set letter set_is (inv.alive (cell_at board c.args.light c.args.place) letter (k.ensures.alive (cell_at board c.args.light c.args.place) letter alive))))
+              | inr on ↦
+                  let is : c.at.result ≡ letter = omega (arith, c.at.ensures, lt, on) in
+                  let cell : here.cell ≡ cell_at board c.args.light c.args.place = there.there.cell ∙ ap (λ n. cell_at board n here.place) there.light ∙ ap (cell_at board c.args.light) there.place in
+                  let alive_there : letter_stands c.keep_letter.new.self c.place_of-here.result.cell c.at.result ≡ true =
+                  ap (λ x. letter_stands new x c.at.result) cell ∙ ap (letter_stands new (cell_at board c.args.light c.args.place)) is ∙ alive in
+                  subst (λ d. IsHeld c.args.board.now dictionary (marks_of c.keep_letter.new.self) c.args.light c.args.place d) is
+                  (subst (λ n. IsHeld c.args.board.now dictionary (marks_of c.keep_letter.new.self) c.args.light n c.at.result) there.place
+                  (subst (λ n. IsHeld c.args.board.now dictionary (marks_of c.keep_letter.new.self) n c.place_of-here.result.place c.at.result) there.light (k.ensures.held dictionary (move dictionary position) alive_there)))
+            ]
+          ];
+      stays = λ dictionary position place letter at stood alive. stays dictionary position place letter at (inv.stays dictionary position place letter at stood) alive;
+      pending = λ slot letter pends. elim (k.ensures.pending slot letter pends) [ inl before ↦ inv.pending slot letter before | inr at ↦ inr at ];
+      holding = λ dictionary position holding. k.ensures.holding dictionary (move dictionary position) (inv.holding dictionary position holding);
+      kept = λ dictionary measure position in_set under.
+          subst (λ n. measure.member n ≡ true → IsUnderway c.args.board.now dictionary measure (marks_of c.loop-number.self) (and_light (queued_in c.loop-number.self) n) (g.R.Rows.ticks c.loop-number.rows)
+          → IsUnderway c.args.board.now dictionary measure (marks_of c.keep_letter.new.self) (and_light (queued_in c.keep_letter.new.self) n) (g.R.Rows.ticks c.keep_letter.new.rows)) there.light
+          (k.ensures.kept dictionary measure (move dictionary position)) in_set (inv.kept dictionary measure position in_set under);
+    }
+
+pub returns-clause-held : goal.returns-clause-held
+returns-clause-held g c dictionary position letter alive =
+    let set = c.index-alive.result.now in
+    let set_is : c.index-alive.result.now ≡ get_or c.args.self.now.letters.items (cell_at c.args.board.now c.args.light c.args.place) 0 =
+    c.index-alive.ensures ∙ get_or_default c.args.self.now.letters.items c.place_of-here.result.cell c.index-alive.result.now 0 (omega (arith, c.place_of-here.ensures.in_board, c.requires.shaped.letters))
+    ∙ ap (λ n. get_or c.args.self.now.letters.items n 0) c.place_of-here.ensures.cell in
+    let cell = cell_at c.args.board.now c.args.light c.args.place in
+    elim (cases_lt letter (65 + c.loop-number.from)) [
+      | inl before ↦ c.loop-number.invariant.held dictionary position letter before alive
+      | inr past ↦
+          let back : 65 + (letter - 65) ≡ letter = omega arith in
+          absurd (both_ways (has set letter) (ap (has set) (sym back) ∙ c.in_default.ensures.none (letter - 65) (omega arith)) (in_set c.args.self.now (cell_at c.args.board.now c.args.light c.args.place) set letter set_is (c.loop-number.invariant.alive cell letter alive)))
+    ]
+
+pub loop-number-init : goal.loop-number-init
+unfolding letter_stands
+loop-number-init g c = record {
+  within = omega arith;
+  alive = λ cell letter alive. alive;
+  entered = refl;
+  left = λ letter past is. ap (λ s. has s letter)
+      (sym (c.index-alive.ensures ∙ get_or_default c.args.self.now.letters.items c.place_of-here.result.cell c.index-alive.result.now 0 (omega (arith, c.place_of-here.ensures.in_board, c.requires.shaped.letters)))) ∙ is;
+  same = refl;
+  risen = omega arith;
+  rest = left_same _;
+  shaped = c.requires.shaped;
+  bits = c.requires.bits;
+  fewer = omega arith;
+  waits = λ other w. w;
+  held = λ dictionary position letter lt alive. absurd (omega (arith, lt, (set_letter (get_or c.args.self.now.letters.items (cell_at c.args.board.now c.args.light c.args.place) 0) letter alive).0));
+  stays = λ dictionary position place letter at stood alive. stood alive;
+  pending = λ slot letter pends. inl pends;
+  holding = λ dictionary position holding. holding;
+  kept = λ dictionary measure position in_set under. under;
+}

@@ -1,0 +1,54 @@
+use Rattle.std.proofs.Common.{◌≡◌, ℕ, ◌≤◌, List, length, refl, sym, ap, subst, ◌∙◌, arith}
+use Rattle.std.specs.Prelude.{vec_len}
+use Rattle.std.proofs.lemmas.List.{with_items_is}
+use Rattle.xw_words.specs.Bits.{RowOfBits}
+use Rattle.xw_words.specs.Dictionary.{Entry, row}
+use Rattle.xw_grid.specs.declared.lights.Light.{Light}
+use Rattle.xw_grid.specs.Light.{lights_of}
+use Rattle.xw_net.specs.Room.{counts_of, row_at}
+use Rattle.xw_net.specs.Fit.{AreFitted, IsTurned}
+use Rattle.xw_net.proofs.Moving.{moved_net}
+use Rattle.xw_net.proofs.net.Net.move_to.Goals as goal
+
+fitted_of : (lights lights' : List Light) (entries entries' : ℕ → List Entry) (old old' new new' : List RowOfBits) → lights ≡ lights' → entries ≡ entries' → old ≡ old' → new ≡ new' → AreFitted lights (counts_of entries) old new → AreFitted lights' (counts_of entries') old' new'
+fitted_of lights lights' entries entries' old old' new new' l e o n is =
+    subst (λ x. AreFitted lights' (counts_of entries') old' x) n (subst (λ x. AreFitted lights' (counts_of entries') x new) o
+    (subst (λ x. AreFitted lights' (counts_of x) old new) e (subst (λ x. AreFitted x (counts_of entries) old new) l is)))
+
+others_of : (lights lights' : List Light) (old old' new new' : List RowOfBits) → lights ≡ lights' → old ≡ old' → new ≡ new'
+    → ((light : ℕ) → length lights ≤ light → row_at new light ≡ row_at old light) → (light : ℕ) → length lights' ≤ light → row_at new' light ≡ row_at old' light
+others_of lights lights' old old' new new' l o n is light past =
+    ap (λ x. row_at x light) (sym n) ∙ is light (subst (λ x. length x ≤ light) (sym l) past) ∙ ap (λ x. row_at x light) o
+
+pub returns-clause-moved : goal.returns-clause-moved
+returns-clause-moved g c was now before lights read filled =
+    let entries : g.R.Rows.entries c.args.words.now ≡ row now.words = λ t. λ count. read count t in
+    let rows = with_items_is c.turn_to.new.self.rows c.fit_rows.new.rows (omega (arith, c.fit_rows.auto.rows, c.deref_mut.ensures.len)) in
+    let base = with_items_is c.turn_to.new.self.base c.fit_rows-2.new.rows (omega (arith, c.fit_rows-2.auto.rows, c.deref_mut-2.ensures.len)) in
+    let rest = c.turn_to.ensures.rest in
+    let turned = subst (λ ls. IsTurned ls (lights_of now.grid) c.args.self.now c.turn_to.new.self) before (subst (λ ls. IsTurned c.args.before.now ls c.args.self.now c.turn_to.new.self) lights c.turn_to.ensures.turned) in
+    let many = ap (λ (ls : List Light). length ls) lights in
+    moved_net was now (vec_len c.args.self.now.letters) c.args.self.now c.turn_to.new.self _ turned
+    (fitted_of c.args.lights.now (lights_of now.grid) (g.R.Rows.entries c.args.words.now) (row now.words) c.deref_mut.result.now c.turn_to.new.self.rows.items c.fit_rows.new.rows _ lights entries c.deref_mut.ensures.value (sym rows) c.fit_rows.ensures.fitted)
+    (others_of c.args.lights.now (lights_of now.grid) c.deref_mut.result.now c.turn_to.new.self.rows.items c.fit_rows.new.rows _ lights c.deref_mut.ensures.value (sym rows) c.fit_rows.ensures.others)
+    (fitted_of c.args.lights.now (lights_of now.grid) (g.R.Rows.entries c.args.words.now) (row now.words) c.deref_mut-2.result.now c.turn_to.new.self.base.items c.fit_rows-2.new.rows _ lights entries c.deref_mut-2.ensures.value (sym base) c.fit_rows-2.ensures.fitted)
+    refl
+    (record {
+      few_cells = rest.few_cells;
+      rows = omega (arith, rest.rows, many, ap length rows, c.fit_rows.auto.rows, c.deref_mut.ensures.len);
+      base = omega (arith, rest.base, many, ap length base, c.fit_rows-2.auto.rows, c.deref_mut-2.ensures.len);
+      entered = omega (arith, rest.entered, many);
+      letters = rest.letters;
+      held = rest.held;
+      restart = rest.restart;
+      pending = rest.pending;
+      queue = rest.queue;
+      queued_long = omega (arith, rest.queued_long, many);
+      is_queued = rest.is_queued;
+      queue_room = rest.queue_room;
+      stack = rest.stack;
+      marked_long = omega (arith, rest.marked_long, many);
+      is_marked = rest.is_marked;
+      stack_room = rest.stack_room;
+    })
+    filled

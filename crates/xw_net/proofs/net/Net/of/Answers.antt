@@ -1,0 +1,45 @@
+use Rattle.std.proofs.Common.{length, sym, ap, subst, ◌∙◌}
+use Rattle.xw_words.specs.Dictionary.{Dictionary, row}
+use Rattle.xw_feas.specs.Board.{Board, board_of}
+use Rattle.xw_feas.specs.WellFormed.{HasLetterEntries}
+use Rattle.xw_feas.proofs.FormedLemmas.{laid_out}
+use Rattle.xw_net.specs.Marks.{IsPosition}
+use Rattle.xw_net.specs.Room.{counts_of, HasRoom}
+use Rattle.xw_net.specs.Net.{HasRoomIn, known_counts}
+use Rattle.xw_net.specs.Blank.{IsBlank}
+use Rattle.xw_net.specs.Filled.{IsFresh, IsFilled}
+use Rattle.xw_net.proofs.Slots.{slots_apart}
+use Rattle.xw_net.proofs.Settled.{filled_settled, filled_room}
+use Rattle.xw_net.proofs.Blanks.{blank_fresh}
+use Rattle.xw_net.proofs.net.Net.of.Goals as goal
+
+pub fill-requires-clause-fresh : goal.fill-requires-clause-fresh
+fill-requires-clause-fresh c =
+    let net = c.in-Ok.net in
+    let words = c.args.bank.now.words in
+    let grid = c.args.grid.now in
+    let is_blank = subst (λ l. IsBlank l (counts_of (row c.args.bank.now.words)) (length c.args.grid.now.squares) c.in-Ok.net) c.requires c.in-Ok.ensures.blank in
+    let room = subst (λ l. HasRoom l (counts_of (row c.args.bank.now.words)) c.in-Ok.net) c.requires c.in-Ok.ensures.room in
+    let fresh = blank_fresh grid c.well_formed-2.ensures words c.known_distinct.ensures net is_blank room in
+    subst (λ (b : Board). IsFresh b (row c.new-rows.result.words) c.in-Ok.net) (sym c.new.ensures)
+    (subst (λ (d : Dictionary). IsFresh (board_of c.args.grid.now) (row d) c.in-Ok.net) (sym c.new-rows.ensures.words) fresh)
+
+pub returns-clause-settled : goal.returns-clause-settled
+returns-clause-settled c =
+    let grid = c.args.grid.now in
+    let letters = subst HasLetterEntries c.new.ensures c.fill.ensures.letters in
+    let position : IsPosition (board_of c.args.grid.now) (row c.new-rows.result.words) c.args.bank.now.words = record {
+      laid_out = laid_out grid c.well_formed-2.ensures letters;
+      apart = slots_apart grid;
+      words = c.known_distinct.ensures;
+      read = λ count. ap (λ (d : Dictionary). row d count) c.new-rows.ensures.words;
+    } in
+    filled_settled grid c.args.bank.now.words c.fill.new.self (subst (λ (b : Board). IsFilled b c.args.bank.now.words c.fill.new.self) c.new.ensures
+    (c.fill.ensures.filled c.args.bank.now.words (subst (λ (b : Board). IsPosition b (row c.new-rows.result.words) c.args.bank.now.words) (sym c.new.ensures) position)))
+
+pub returns-clause-room : goal.returns-clause-room
+returns-clause-room c =
+    let words = c.args.bank.now.words in
+    let room = filled_room c.args.grid.now words c.fill.new.self (returns-clause-settled c).filled in
+    subst (λ o. HasRoomIn c.args.lights.now (known_counts c.args.bank.now.words) c.fill.new.self o) (sym (c.fill.ensures.spare ∙ c.in-Ok.ensures.blank.spare))
+    (subst (λ l. HasRoom l (known_counts c.args.bank.now.words) c.fill.new.self) (sym c.requires) room)

@@ -1,0 +1,168 @@
+use Rattle.std.proofs.Common.{◌≡◌, ◌⊎◌, ◌<◌, ◌+◌, ℕ, suc, true, List, [], ◌∷◌, length, refl, sym, ap, ◌∙◌, subst, inl, inr, arith, rules}
+use Rattle.std.specs.Prelude.{Contains, vec_items}
+use Rattle.std.proofs.lemmas.Bool.{false_from_ne_true, both_ways}
+use Rattle.std.proofs.lemmas.List.Elements.{Contains-push_cases, Contains-append_cases}
+use Rattle.std.proofs.lemmas.List.Sorted.{All-permutation, Contains-permutation, length_permutation}
+use Rattle.xw_words.specs.Dictionary.{row}
+use Rattle.xw_feas.specs.Board.{light_at}
+use Rattle.xw_net.specs.Room.{row_at}
+use Rattle.xw_net.specs.Spread.{is_marked}
+use Rattle.xw_net.specs.Brought.{HasBase, IsBase}
+use Rattle.xw_net.specs.declared.net.Net.{Net}
+use Rattle.xw_net.specs.Marks.{IsPosition, IsSlot}
+use Rattle.xw_net.specs.Due.{Measure, IsUnderway, due, set_cost}
+use Rattle.xw_net.specs.Nets.{IsLeft, HasBits, marks_of, word_stands, letter_stands, held_in, restart_in, pending_in, queued_in}
+use Rattle.xw_net.proofs.Dues.{due-bound}
+use Rattle.xw_net.proofs.Ending.{settled_net, settled_exact}
+use Rattle.xw_net.proofs.Left.{left_left, left_queue, left_chained}
+use Rattle.xw_net.proofs.net.Net.strip_queued.Goals as goal
+
+-- a light that waits is the one whose turn it is, or one of the rest
+of_two : (light : ℕ) (rest : List ℕ) (other : ℕ) → Contains (light ∷ rest) other → (light ≡ other) ⊎ Contains rest other
+of_two light rest other there =
+    elim (Contains-append_cases (light ∷ []) rest other there) [
+      | inl first ↦ elim (Contains-push_cases [] light other first) [ inl none ↦ absurd (omega (arith, none.1)) | inr same ↦ inl same ]
+      | inr later ↦ inr later
+    ]
+
+pub see_to-requires-clause-light : goal.see_to-requires-clause-light
+see_to-requires-clause-light g c =
+    All-permutation (λ light. light < length c.args.board.now.lights) c.loop-light.self.queue.items (c.in-Some.light ∷ c.take_turn.new.queue.items) c.in-Some.ensures.taken c.loop-light.invariant.shaped.queue 0 0 (omega arith)
+
+pub see_to-requires-clause-shaped : goal.see_to-requires-clause-shaped
+see_to-requires-clause-shaped g c =
+    let shaped = c.loop-light.invariant.shaped in
+    let left = c.take_turn.new.queue.items in
+    let long = length_permutation c.loop-light.self.queue.items (c.in-Some.light ∷ left) c.in-Some.ensures.taken in
+    record {
+      few_cells = shaped.few_cells;
+      rows = shaped.rows;
+      entered = shaped.entered;
+      letters = shaped.letters;
+      held = shaped.held;
+      restart = shaped.restart;
+      pending = shaped.pending;
+      is_queued = shaped.is_queued;
+      queue = λ k d lt. All-permutation (λ light. light < length c.args.board.now.lights) c.loop-light.self.queue.items (c.in-Some.light ∷ left) c.in-Some.ensures.taken shaped.queue (suc k) d (omega arith);
+      room = omega (arith, shaped.room, long, c.take_turn.ensures.capacity);
+    }
+
+pub see_to-requires-clause-room : goal.see_to-requires-clause-room
+see_to-requires-clause-room g c =
+    omega (arith, c.loop-light.invariant.shaped.room, length_permutation c.loop-light.self.queue.items (c.in-Some.light ∷ c.take_turn.new.queue.items) c.in-Some.ensures.taken, c.take_turn.ensures.capacity)
+
+pub loop-light-smaller : goal.loop-light-smaller
+loop-light-smaller g c =
+    omega (arith, c.see_to.ensures.fewer, length_permutation c.loop-light.self.queue.items (c.in-Some.light ∷ c.take_turn.new.queue.items) c.in-Some.ensures.taken)
+
+pub loop-light-preserved : goal.loop-light-preserved
+unfolding word_stands letter_stands held_in restart_in pending_in queued_in
+loop-light-preserved g c =
+    let inv = c.loop-light.invariant in
+    let k = c.see_to in
+    record {
+      same = k.ensures.entries ∙ inv.same;
+      risen = omega (arith, inv.risen, k.ensures.risen);
+      rest = left_left inv.rest (left_left (left_queue c.loop-light.self (record c.loop-light.self { queue = c.take_turn.new.queue }) refl (omega (arith, c.take_turn.ensures.capacity))) k.ensures.rest);
+      shaped = k.ensures.shaped;
+      bits = subst (λ e. HasBits c.args.board.now e c.see_to.new.self) inv.same k.ensures.bits;
+      queue = λ light. k.ensures.waits light (λ apart is.
+          elim (of_two c.in-Some.light c.take_turn.new.queue.items light (Contains-permutation c.loop-light.self.queue.items (c.in-Some.light ∷ c.take_turn.new.queue.items) light c.in-Some.ensures.taken (inv.queue light is))) [
+            | inl e ↦ absurd (apart (sym e))
+            | inr there ↦ there
+          ]);
+      pending = λ slot letter pends. elim (k.ensures.pending slot letter pends) [ inl before ↦ inv.pending slot letter before | inr at ↦ inr at ];
+      holding = λ dictionary position holding.
+          k.ensures.holding dictionary (subst (λ e. IsPosition c.args.board.now e dictionary) (sym inv.same) position) (inv.holding dictionary position holding);
+      kept = λ dictionary measure position under.
+          k.ensures.kept dictionary measure (subst (λ e. IsPosition c.args.board.now e dictionary) (sym inv.same) position) (inv.kept dictionary measure position under);
+    }
+
+pub returns-clause-empty : goal.returns-clause-empty
+returns-clause-empty g c = c.in_default.ensures.left
+
+pub returns-clause-none_queued : goal.returns-clause-none_queued
+unfolding queued_in
+returns-clause-none_queued g c light =
+    let long : length c.loop-light.self.queue.items ≡ 0 = ap length c.in_default.ensures.none in
+    false_from_ne_true (queued_in c.loop-light.self light) (λ is.
+    let there = c.loop-light.invariant.queue light is in omega (arith, there.1, long))
+
+pub returns-clause-holding : goal.returns-clause-holding
+unfolding word_stands letter_stands held_in restart_in pending_in queued_in
+returns-clause-holding g c = c.loop-light.invariant.holding
+
+pub returns-clause-settled : goal.returns-clause-settled
+unfolding word_stands letter_stands held_in restart_in pending_in queued_in
+returns-clause-settled g c dictionary position ready =
+    let board = c.args.board.now in
+    let old = c.args.self.now in
+    let ticks = g.R.Rows.ticks c.args.rows.now in
+    let inv = c.loop-light.invariant in
+    let measure : Measure = record { member = λ light. true; letters = letter_stands old; budget = ticks + due board dictionary (λ light. true) (marks_of old) } in
+    let start : IsUnderway board dictionary measure (marks_of old) (queued_in old) ticks = record {
+      kept = ready;
+      paid = record { closed = λ light place other other_place letter here there meets stands lost has. refl; within = omega arith; queued = λ light lt h. refl; fewer = λ cell letter h. h };
+    } in
+    let under = inv.kept dictionary measure position start in
+    let long : length c.loop-light.self.queue.items ≡ 0 = ap length c.in_default.ensures.none in
+    settled_net board dictionary (marks_of c.loop-light.self) under.kept (λ light lt.
+    false_from_ne_true (queued_in c.loop-light.self light) (λ is.
+    let there = inv.queue light is in omega (arith, there.1, long)))
+
+pub returns-clause-none_pending : goal.returns-clause-none_pending
+unfolding word_stands letter_stands held_in restart_in pending_in queued_in
+returns-clause-none_pending g c dictionary position ready placed slot letter =
+    let last = c.loop-light.self in
+    false_from_ne_true (pending_in last slot letter) (λ pends.
+    let at : IsSlot c.args.board.now slot = elim (c.loop-light.invariant.pending slot letter pends) [ inl before ↦ placed slot letter before | inr at ↦ at ] in
+    both_ways (pending_in last slot letter) (ap (λ s. pending_in last s letter) (sym at.3) ∙ (returns-clause-settled g c dictionary position ready).none_pending at.0 at.1 letter at.2) pends)
+
+pub returns-clause-exact : goal.returns-clause-exact
+unfolding word_stands letter_stands held_in restart_in pending_in queued_in
+returns-clause-exact g c dictionary position ready =
+    settled_exact c.args.board.now (g.R.Rows.entries c.args.rows.now) dictionary position (marks_of c.loop-light.self) (returns-clause-settled g c dictionary position ready)
+
+pub returns-clause-filled : goal.returns-clause-filled
+unfolding word_stands letter_stands held_in restart_in pending_in queued_in
+returns-clause-filled g c dictionary position from =
+    let board = c.args.board.now in
+    let old = c.args.self.now in
+    let last : Net = record c.loop-light.self { queue = c.take_turn.new.queue } in
+    let inv = c.loop-light.invariant in
+    let rest : IsLeft c.args.self.now last = left_left inv.rest (left_queue c.loop-light.self last refl (omega (arith, c.take_turn.ensures.capacity))) in
+    let base = ap (λ v. vec_items v) rest.base in
+    record {
+      whole = record {
+        shaped = search rules;
+        chained = left_chained board old last rest from.whole.chained;
+        bits = λ light lt. inv.bits light lt ∙ ap length (position.read (length (light_at board light)));
+        base = subst (HasBase c.args.board.now (row dictionary)) (sym base) from.whole.base;
+        room = λ light lt. omega (arith, from.whole.room light lt, rest.rows light);
+        base_room = λ light lt. omega (arith, from.whole.base_room light lt, ap (λ rows. (row_at rows light).room) base);
+      };
+      is_base = subst (IsBase c.args.board.now dictionary) (sym base) from.is_base;
+      settled = returns-clause-settled g c dictionary position from.ready;
+      holding = returns-clause-holding g c dictionary position from.holding;
+      exact = returns-clause-exact g c dictionary position from.ready;
+      pending = returns-clause-none_pending g c dictionary position from.ready (λ slot letter pends. absurd (both_ways (pending_in old slot letter) (from.pending slot letter) pends));
+      quiet = record {
+        queue = returns-clause-empty g c;
+        queued = returns-clause-none_queued g c;
+        stack = ap (λ v. vec_items v) rest.stack ∙ from.stack;
+        marked = λ light. ap (λ v. is_marked (vec_items v) light) rest.is_marked ∙ from.marked light;
+      };
+    }
+
+pub returns-clause-cost : goal.returns-clause-cost
+returns-clause-cost g c dictionary member position ready closed queued =
+    let board = c.args.board.now in
+    let old = c.args.self.now in
+    let ticks = g.R.Rows.ticks c.args.rows.now in
+    let measure : Measure = record { member = member; letters = letter_stands old; budget = ticks + set_cost board dictionary member } in
+    let start : IsUnderway board dictionary measure (marks_of old) (queued_in old) ticks = record {
+      kept = ready;
+      paid = record { closed = closed; within = omega (arith, due-bound board dictionary (marks_of old) member); queued = queued; fewer = λ cell letter h. h };
+    } in
+    let under = c.loop-light.invariant.kept dictionary measure position start in
+    omega (arith, under.paid.within)

@@ -1,0 +1,65 @@
+-- A net in which nothing stands yet, and one that is settled.
+use Rattle.std.specs.Prelude.{◌≡◌, ℕ, ◌<◌, ◌≤◌, true, false, List, [], length, All}
+use Rattle.xw_words.specs.Bits.{RowOfBits}
+use Rattle.xw_words.specs.Letter.{is_capital}
+use Rattle.xw_words.specs.Dictionary.{Dictionary, Entry, row, most_words}
+use Rattle.xw_feas.specs.Board.{Board, light_at}
+use Rattle.xw_feas.specs.Choices.{IsExact}
+use Rattle.xw_net.specs.Marks.{IsPlace, slot_at, IsHolding, IsReady, IsSettledNet}
+use Rattle.xw_net.specs.Room.{row_at}
+use Rattle.xw_net.specs.Nets.{marks_of, word_stands, letter_stands, held_in, pending_in, queued_in, IsShaped, IsChained, HasBits}
+use Rattle.xw_net.specs.Spread.{is_marked}
+use Rattle.xw_net.specs.Brought.{HasBase, IsBase}
+use Rattle.xw_net.specs.declared.net.Net.{Net}
+
+-- each known word of the light's length is as long
+abbrev pub AreLong : Board → (ℕ → List Entry) → Type 0
+AreLong board entries = (light : ℕ) → light < length board.lights → All (λ (word : Entry). length word.word ≡ length (light_at board light)) (entries (length (light_at board light)))
+
+-- the row of each light has room for a bit for each known word
+abbrev pub HasRowRoom : Board → (ℕ → List Entry) → List RowOfBits → Type 0
+HasRowRoom board entries rows = (light : ℕ) → light < length board.lights → length (entries (length (light_at board light))) ≤ (row_at rows light).room
+
+-- there is a place for everything, with a bit for each known word
+pub record IsWholeNet (board : Board) (entries : ℕ → List Entry) (net : Net) : Type 0 where
+  pub shaped : IsShaped board net
+  pub chained : IsChained board net
+  pub bits : HasBits board entries net
+  pub base : HasBase board entries net.base.items
+  pub room : HasRowRoom board entries net.rows.items
+  pub base_room : HasRowRoom board entries net.base.items
+
+-- no light waits to be seen to, and no chain is under way
+pub record IsQuiet (net : Net) : Type 0 where
+  pub queue : net.queue.items ≡ []
+  pub queued : (light : ℕ) → queued_in net light ≡ false
+  pub stack : net.stack.items ≡ []
+  pub marked : (light : ℕ) → is_marked net.is_marked.items light ≡ false
+
+-- no word stands, no place of a word is held, and nothing is pending
+pub record IsFresh (board : Board) (entries : ℕ → List Entry) (net : Net) : Type 0 where
+  pub whole : IsWholeNet board entries net
+  pub words : (light choice : ℕ) → word_stands net light choice ≡ false
+  pub held : (light place letter : ℕ) → IsPlace board light place → is_capital letter ≡ true → most_words ≤ held_in net (slot_at board light place) letter
+  pub pending : (slot letter : ℕ) → pending_in net slot letter ≡ false
+  pub quiet : IsQuiet net
+
+-- all that is feasible stands, and perhaps more: from here words and letters are taken away
+pub record IsUnstripped (board : Board) (dictionary : Dictionary) (net : Net) : Type 0 where
+  pub whole : IsWholeNet board (row dictionary) net
+  pub is_base : IsBase board dictionary net.base.items
+  pub ready : IsReady board dictionary (marks_of net)
+  pub holding : IsHolding board dictionary (marks_of net)
+  pub pending : (slot letter : ℕ) → pending_in net slot letter ≡ false
+  pub stack : net.stack.items ≡ []
+  pub marked : (light : ℕ) → is_marked net.is_marked.items light ≡ false
+
+-- exactly what is feasible stands, and the net is ready for the next edit
+pub record IsFilled (board : Board) (dictionary : Dictionary) (net : Net) : Type 0 where
+  pub whole : IsWholeNet board (row dictionary) net
+  pub is_base : IsBase board dictionary net.base.items
+  pub settled : IsSettledNet board dictionary (marks_of net)
+  pub holding : IsHolding board dictionary (marks_of net)
+  pub exact : IsExact board dictionary (word_stands net) (letter_stands net)
+  pub pending : (slot letter : ℕ) → pending_in net slot letter ≡ false
+  pub quiet : IsQuiet net

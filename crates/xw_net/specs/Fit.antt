@@ -1,0 +1,58 @@
+-- A net is made to go by the lights and the words after an edit.
+use Rattle.std.specs.Prelude.{◌≡◌, ℕ, ◌+◌, ◌*◌, ◌^◌, ◌<◌, ◌≤◌, Bool, true, false, List, [], ◌∷◌, ◌++◌, length, nat_lt, Option, Some, None, slice_index_or, vec_len, vec_capacity, if◌then◌else◌}
+use Rattle.xw_words.specs.Bits.{RowOfBits}
+use Rattle.xw_grid.specs.declared.lights.Light.{Light}
+use Rattle.xw_net.specs.Room.{size_at, row_at, HasRoom, HasSpare}
+use Rattle.xw_net.specs.Renumber.{same_before}
+use Rattle.xw_net.specs.Nets.{word_stands}
+use Rattle.xw_net.specs.Spread.{is_marked}
+use Rattle.xw_net.specs.declared.net.Net.{Net}
+use Rattle.xw_net.specs.declared.room.Spare.{Spare}
+
+-- a false bit more where one is wanting for so many known words
+abbrev pub fitted : ℕ → List Bool → List Bool
+fitted known bits = if nat_lt (length bits) known then bits ++ false ∷ [] else bits
+
+-- at most one bit is wanting
+abbrev pub IsNear : ℕ → List Bool → Type 0
+IsNear known bits = (length bits ≤ known) × (known ≤ length bits + 1)
+
+module _ (lights : List Light) (counts : ℕ → ℕ) where
+  abbrev pub AreNear : List RowOfBits → Type 0
+  AreNear rows = (light : ℕ) → light < length lights → IsNear (counts (size_at lights light)) (row_at rows light).bits
+
+  -- the rows of the lights have a bit for each known word
+  abbrev pub AreFitted : List RowOfBits → List RowOfBits → Type 0
+  AreFitted old new = (light : ℕ) → light < length lights → (row_at new light).bits ≡ fitted (counts (size_at lights light)) (row_at old light).bits
+
+-- A net between edits has a place for everything, and nothing is to be seen to or marked.
+pub record IsAtRest (lights : List Light) (cells : ℕ) (net : Net) : Type 0 where
+  pub few_cells : cells < 2 ^ 32
+  pub rows : length lights ≤ vec_len net.rows
+  pub base : length lights ≤ vec_len net.base
+  pub entered : length lights ≤ vec_len net.entered
+  pub letters : vec_len net.letters ≡ cells
+  pub held : vec_len net.held ≡ 52 * cells
+  pub restart : vec_len net.restart ≡ 2 * cells
+  pub pending : vec_len net.pending ≡ 2 * cells
+  pub queue : net.queue.items ≡ []
+  pub queued_long : length lights ≤ vec_len net.is_queued
+  pub is_queued : (light : ℕ) → is_marked net.is_queued.items light ≡ false
+  pub queue_room : vec_len net.is_queued ≤ vec_capacity net.queue
+  pub stack : net.stack.items ≡ []
+  pub marked_long : length lights ≤ vec_len net.is_marked
+  pub is_marked : (light : ℕ) → is_marked net.is_marked.items light ≡ false
+  pub stack_room : vec_len net.is_marked ≤ vec_capacity net.stack
+
+-- a net has room for the lights after an edit: its own, if no arrays wait
+abbrev pub HasRoomBetween : List Light → List Light → (ℕ → ℕ) → Net → Option Spare → Type 0
+HasRoomBetween before after counts net None = (after ≡ before) × HasRoom after counts net
+HasRoomBetween before after counts net (Some spare) = HasRoom before counts net × HasSpare after counts net spare
+
+-- A net goes by the lights after an edit. Each one that stays has what it had.
+pub record IsTurned (before after : List Light) (old new : Net) : Type 0 where
+  pub rows : (light other : ℕ) → light < length after → same_before before after light ≡ Some other → (row_at new.rows.items light).bits ≡ (row_at old.rows.items other).bits
+  pub base : (light other : ℕ) → light < length after → same_before before after light ≡ Some other → (row_at new.base.items light).bits ≡ (row_at old.base.items other).bits
+  pub entered : (light other : ℕ) → light < length after → same_before before after light ≡ Some other → slice_index_or new.entered.items light false ≡ slice_index_or old.entered.items other false
+  pub lights : ((light choice : ℕ) → word_stands old light choice ≡ true → light < length before) → (light choice : ℕ) → word_stands new light choice ≡ true → light < length after
+  pub rest : new ≡ record old { rows = new.rows; base = new.base; entered = new.entered; is_queued = new.is_queued; is_marked = new.is_marked; spare = None }

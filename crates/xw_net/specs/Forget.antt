@@ -1,0 +1,33 @@
+-- Words that are held no more.
+use Rattle.std.specs.Prelude.{◌≡◌, ℕ, ◌+◌, ◌-◌, ◌*◌, ◌^◌, ◌<◌, true, false, ◌&&◌, ◌==◌, nat_le, nat_lt, List, length, slice_index, Option, Some, None, if◌then◌else◌}
+use Rattle.xw_words.specs.Letter.{is_capital}
+use Rattle.xw_feas.specs.Board.{Board}
+use Rattle.xw_feas.specs.Flags.{set_has}
+use Rattle.xw_net.specs.Marks.{IsPlace, slot_at}
+
+-- the number that is held where no word is
+abbrev pub nowhere : ℕ
+nowhere = 2 ^ 64 - 1
+
+-- from a number on no word is held
+abbrev pub cut : ℕ → ℕ → ℕ
+cut first held = if nat_le first held then nowhere else held
+
+-- unless that number is none
+abbrev pub lose : ℕ → ℕ → ℕ
+lose first held = if nat_lt first nowhere then cut first held else held
+
+-- the first number that a light may hold no more: any of a new light, and of one as long as a word that is changed that word's, if it is the last one
+abbrev pub lost_from : Option (ℕ × ℕ) → Option ℕ → ℕ → ℕ → ℕ
+lost_from word None size known = 0
+lost_from None (Some other) size known = nowhere
+lost_from (Some word) (Some other) size known = if (word.0 == size) && nat_le known (word.1 + 1) then word.1 else nowhere
+
+-- Each light from a first number on holds no word any more, and one that loses some has nothing pending.
+pub record Forgets (board : Board) (first : ℕ → ℕ) (held held' pending pending' : List ℕ) : Type 0 where
+  pub held_len : length held' ≡ length held
+  pub pending_len : length pending' ≡ length pending
+  pub cuts : (light place letter : ℕ) → IsPlace board light place → is_capital letter ≡ true
+      → slice_index held' (26 * slot_at board light place + (letter - 65)) ≡ lose (first light) (slice_index held (26 * slot_at board light place + (letter - 65)))
+  pub less : (slot letter : ℕ) → set_has pending' slot letter ≡ true → set_has pending slot letter ≡ true
+  pub cleared : (light place letter : ℕ) → IsPlace board light place → first light < nowhere → set_has pending' (slot_at board light place) letter ≡ false

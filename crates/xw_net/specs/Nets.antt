@@ -1,0 +1,96 @@
+-- A net in vectors.
+use Rattle.std.specs.Prelude.{◌≡◌, ℕ, ◌+◌, ◌-◌, ◌*◌, ◌^◌, ◌<◌, ◌≤◌, Bool, true, false, not, List, [], ◌∷◌, ◌++◌, Option, Some, None, length, slice_get, slice_index, slice_index_or, count_by, vec_len, vec_capacity, All, Contains}
+use Rattle.xw_words.specs.Bits.{RowOfBits}
+use Rattle.xw_words.specs.Dictionary.{Entry}
+use Rattle.xw_feas.specs.Board.{Board, light_at}
+use Rattle.xw_feas.specs.Flags.{set_has, set_sum}
+use Rattle.xw_net.specs.Marks.{Marks, IsPlace, cell_at, slot_at}
+use Rattle.xw_net.specs.Room.{row_at}
+use Rattle.xw_net.specs.declared.place.Place.{Place}
+use Rattle.xw_net.specs.declared.net.Net.{Net}
+
+abbrev pub bits_at : Option RowOfBits → List Bool
+bits_at None = []
+bits_at (Some row) = row.bits
+
+-- the bits of the light's row, a flag for each known word
+abbrev pub bits_for : Net → ℕ → List Bool
+bits_for net light = bits_at (slice_get net.rows.items light)
+
+-- the words that stand for a light, by numbers: the known ones, and after these the one that is entered
+unfoldable pub word_stands : Net → ℕ → ℕ → Bool
+word_stands net light choice = slice_index_or (bits_for net light ++ slice_index_or net.entered.items light false ∷ []) choice false
+
+-- the letters that stand at a cell
+unfoldable pub letter_stands : Net → ℕ → ℕ → Bool
+letter_stands net cell letter = set_has net.letters.items cell letter
+
+unfoldable pub held_in : Net → ℕ → ℕ → ℕ
+held_in net slot letter = slice_index net.held.items (26 * slot + (letter - 65))
+
+unfoldable pub restart_in : Net → ℕ → ℕ → Bool
+restart_in net slot letter = set_has net.restart.items slot letter
+
+unfoldable pub pending_in : Net → ℕ → ℕ → Bool
+pending_in net slot letter = set_has net.pending.items slot letter
+
+unfoldable pub queued_in : Net → ℕ → Bool
+queued_in net light = slice_index_or net.is_queued.items light false
+
+abbrev pub marks_of : Net → Marks
+marks_of net = record { words = word_stands net; letters = letter_stands net; held = held_in net; restart = restart_in net; pending = pending_in net; queued = queued_in net }
+
+-- there is a place for everything, and room in the queue for every light that is not in it
+pub record IsShaped (board : Board) (net : Net) : Type 0 where
+  pub few_cells : length board.open_cells < 2 ^ 32
+  pub rows : length board.lights ≤ vec_len net.rows
+  pub entered : length board.lights ≤ vec_len net.entered
+  pub letters : vec_len net.letters ≡ length board.open_cells
+  pub held : vec_len net.held ≡ 52 * length board.open_cells
+  pub restart : vec_len net.restart ≡ 2 * length board.open_cells
+  pub pending : vec_len net.pending ≡ 2 * length board.open_cells
+  pub is_queued : length board.lights ≤ vec_len net.is_queued
+  pub queue : All (λ light. light < length board.lights) net.queue.items
+  pub room : vec_len net.queue + count_by (λ queued. not queued) net.is_queued.items ≤ vec_capacity net.queue
+
+-- what else a chain of lights needs, and room on the stack for every light that is not marked
+pub record IsChained (board : Board) (net : Net) : Type 0 where
+  pub base : length board.lights ≤ vec_len net.base
+  pub is_marked : length board.lights ≤ vec_len net.is_marked
+  pub stack : All (λ light. light < length board.lights) net.stack.items
+  pub room : vec_len net.stack + count_by (λ mark. not mark) net.is_marked.items ≤ vec_capacity net.stack
+
+-- what stripping leaves as it is, and no room is lost
+pub record IsLeft (old new : Net) : Type 0 where
+  pub base : new.base ≡ old.base
+  pub stack : new.stack ≡ old.stack
+  pub is_marked : new.is_marked ≡ old.is_marked
+  pub spare : new.spare ≡ old.spare
+  pub long : length new.rows.items ≡ length old.rows.items
+  pub rows : (light : ℕ) → (row_at old.rows.items light).room ≤ (row_at new.rows.items light).room
+  pub queue : vec_capacity old.queue ≤ vec_capacity new.queue
+
+-- the row of each light has a bit for each known word
+abbrev pub HasBits : Board → (ℕ → List Entry) → Net → Type 0
+HasBits board entries net = (light : ℕ) → light < length board.lights → length (bits_for net light) ≡ length (entries (length (light_at board light)))
+
+-- the place is one of a light of the board
+pub record IsThere (board : Board) (here : Place) : Type 0 where
+  pub place : IsPlace board here.light here.place
+  pub count : here.count ≡ length (light_at board here.light)
+  pub cell : here.cell ≡ cell_at board here.light here.place
+  pub slot : here.slot ≡ slot_at board here.light here.place
+  pub in_board : here.cell < length board.open_cells
+  pub in_slots : here.slot < 2 * length board.open_cells
+
+-- a light that is to be seen to is in the queue
+abbrev pub Waits : Net → ℕ → Type 0
+Waits net light = queued_in net light ≡ true → Contains net.queue.items light
+
+-- each light that is to be seen to is in the queue
+abbrev pub IsQueue : Net → Type 0
+IsQueue net = (light : ℕ) → Waits net light
+
+-- what falls with each step
+abbrev pub left_of : Net → ℕ
+left_of net = 2 * set_sum net.letters.items + vec_len net.queue

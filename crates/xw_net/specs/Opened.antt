@@ -1,0 +1,94 @@
+-- A settling begins: from a net that was settled before an edit to what words and letters come back from.
+use Rattle.std.specs.Prelude.{◌≡◌, ℕ, ◌<◌, Bool, true, false, All, List, [], length, slice_index_or, Option, Some, None, IsTrue, Contains}
+use Rattle.xw_words.specs.Bits.{RowOfBits}
+use Rattle.xw_words.specs.Dictionary.{Entry}
+use Rattle.xw_grid.specs.declared.cell.Cell.{Cell}
+use Rattle.xw_grid.specs.declared.lights.Light.{Light}
+use Rattle.xw_grid.specs.Grid.{Grid, index_of}
+use Rattle.xw_feas.specs.Board.{Board, board_of, light_at}
+use Rattle.xw_feas.specs.Flags.{set_has}
+use Rattle.xw_feas.specs.State.{State, Action}
+use Rattle.xw_net.specs.declared.net.Net.{Net}
+use Rattle.xw_net.specs.declared.change.Change.{Change}
+use Rattle.xw_net.specs.Revival.{same_light}
+use Rattle.xw_net.specs.Region.{IsRegion}
+use Rattle.xw_net.specs.Marks.{IsPlace, cell_at, known}
+use Rattle.xw_net.specs.Nets.{marks_of, word_stands, letter_stands}
+use Rattle.xw_net.specs.Spread.{is_marked, is_waiting, no_places, HasAll, HasSeeds, IsSpread, bits_in}
+use Rattle.xw_net.specs.Renumber.{same_before}
+use Rattle.xw_net.specs.Brought.{IsBase, IsBegun, IsReadyBut}
+use Rattle.xw_net.specs.Begin.{IsEdited, AreBaseBut, IsPrepared}
+use Rattle.xw_net.specs.Gone.{IsFreed}
+
+-- the arrays that the beginning of a settling writes
+pub record Arrays : Type 0 where
+  pub rows : List RowOfBits
+  pub base : List RowOfBits
+  pub letters : List ℕ
+  pub is_queued : List Bool
+  pub queue : List ℕ
+  pub is_marked : List Bool
+  pub stack : List ℕ
+
+abbrev pub arrays_of : Net → Arrays
+arrays_of net = record {
+  rows = net.rows.items;
+  base = net.base.items;
+  letters = net.letters.items;
+  is_queued = net.is_queued.items;
+  queue = net.queue.items;
+  is_marked = net.is_marked.items;
+  stack = net.stack.items;
+}
+
+-- What was written, by what a net is told of an edit.
+pub record IsOpening (grid : Grid) (board : Board) (lights : List Light) (entries : ℕ → List Entry) (change : Change) (old new : Arrays) : Type 0 where
+  pub in_queue : All (λ light. light < length board.lights) new.queue
+  pub listed : HasSeeds new.is_queued new.queue
+  pub new_queued : (light : ℕ) → light < length board.lights → same_before change.before.now lights light ≡ None → is_marked new.is_queued light ≡ true
+  pub new_marked : (light : ℕ) → light < length board.lights → same_before change.before.now lights light ≡ None → is_marked new.is_marked light ≡ true
+  pub edited : (listed : Cell × Option ℕ) → Contains change.cells.now listed → IsEdited board (set_has new.letters) (is_marked new.is_queued) (is_marked new.is_marked) (index_of grid listed.0) listed.1
+  pub spread : IsSpread board (set_has old.letters) (set_has new.letters) (is_marked new.is_marked) (is_waiting new.stack) no_places
+  pub freed : (cell : ℕ) → IsFreed grid change.before.now lights (length change.before.now) cell → HasAll board (set_has new.letters) cell
+  pub prepared : AreBaseBut board entries change.word old.base → IsPrepared board entries change.word old.rows new.rows old.base new.base (is_marked new.is_queued) (is_marked new.is_marked)
+  pub queued_within : (member : ℕ → Bool)
+      → ((light : ℕ) → is_marked old.is_queued light ≡ true → member light ≡ true)
+      → ((light : ℕ) → light < length board.lights → same_before change.before.now lights light ≡ None → member light ≡ true)
+      → ((listed : Cell × Option ℕ) (light place : ℕ) → Contains change.cells.now listed → IsPlace board light place → cell_at board light place ≡ index_of grid listed.0 → member light ≡ true)
+      → ((count place light : ℕ) → change.word ≡ Some (count, place) → light < length board.lights → length (light_at board light) ≡ count → member light ≡ true)
+      → (light : ℕ) → is_marked new.is_queued light ≡ true → member light ≡ true
+  pub within : (member : ℕ → Bool)
+      → ((light : ℕ) → is_marked old.is_queued light ≡ true → member light ≡ true)
+      → ((light : ℕ) → is_marked old.is_marked light ≡ true → member light ≡ true)
+      → ((light : ℕ) → light < length board.lights → same_before change.before.now lights light ≡ None → member light ≡ true)
+      → ((cell light place : ℕ) → IsFreed grid change.before.now lights (length change.before.now) cell → ¬ HasAll board (set_has old.letters) cell → IsPlace board light place → cell_at board light place ≡ cell → member light ≡ true)
+      → ((listed : Cell × Option ℕ) (light place : ℕ) → Contains change.cells.now listed → IsPlace board light place → cell_at board light place ≡ index_of grid listed.0 → member light ≡ true)
+      → ((count place light : ℕ) → change.word ≡ Some (count, place) → light < length board.lights → length (light_at board light) ≡ count → member light ≡ true)
+      → (light : ℕ) → is_marked new.is_marked light ≡ true → member light ≡ true
+
+module _ (before now : State) where
+  -- A net that was settled goes by the lights after an edit. Each light that stays has what it had, but for the bit of a word that is new; nothing is to be seen to, and no light is marked.
+  pub record IsMoved (settled net : Net) : Type 0 where
+    pub rows : (light other : ℕ) → light < length (board_of now.grid).lights → same_light before.grid now.grid light ≡ Some other → known (board_of now.grid) now.words light ≡ known (board_of before.grid) before.words other
+        → bits_in net.rows.items light ≡ bits_in settled.rows.items other
+    pub base : (light other : ℕ) → light < length (board_of now.grid).lights → same_light before.grid now.grid light ≡ Some other → known (board_of now.grid) now.words light ≡ known (board_of before.grid) before.words other
+        → bits_in net.base.items light ≡ bits_in settled.base.items other
+    pub base_at : (light other place : ℕ) → light < length (board_of now.grid).lights → same_light before.grid now.grid light ≡ Some other → slice_index_or (bits_in net.base.items light) place false ≡ slice_index_or (bits_in settled.base.items other) place false
+    pub entered : (light other : ℕ) → light < length (board_of now.grid).lights → same_light before.grid now.grid light ≡ Some other → slice_index_or net.entered.items light false ≡ slice_index_or settled.entered.items other false
+    pub lights : (light choice : ℕ) → word_stands net light choice ≡ true → light < length (board_of now.grid).lights
+    pub letters : net.letters.items ≡ settled.letters.items
+    pub held : net.held.items ≡ settled.held.items
+    pub restart : net.restart.items ≡ settled.restart.items
+    pub pending : net.pending.items ≡ settled.pending.items
+    pub queue : net.queue.items ≡ []
+    pub is_queued : (light : ℕ) → is_marked net.is_queued.items light ≡ false
+    pub stack : net.stack.items ≡ []
+    pub is_marked : (light : ℕ) → is_marked net.is_marked.items light ≡ false
+
+  -- Base words are read where the edit comes to them; the marked lights are seeds, and every other one is ready to be stripped. What is to be seen to or marked lies in the region.
+  pub record IsOpened (action : Action) (settled net : Net) : Type 0 where
+    pub is_base : IsBase (board_of now.grid) now.words net.base.items
+    pub begun : IsBegun (board_of before.grid) (board_of now.grid) before.words now.words (same_light before.grid now.grid) (word_stands settled) (letter_stands settled) (word_stands net) (letter_stands net) (is_marked net.is_marked.items)
+    pub ready : IsReadyBut (board_of now.grid) now.words (marks_of net) (is_marked net.is_marked.items)
+    pub queued_within : (member : List ℕ → Bool) → IsRegion before now action member → (light : ℕ) → is_marked net.is_queued.items light ≡ true → IsTrue (member (light_at (board_of now.grid) light))
+    pub within : (member : List ℕ → Bool) → IsRegion before now action member → (light : ℕ) → is_marked net.is_marked.items light ≡ true → IsTrue (member (light_at (board_of now.grid) light))

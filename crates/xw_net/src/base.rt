@@ -1,0 +1,286 @@
+//! The base words of a light, as a row of bits.
+ghost use Rattle.std.specs.Prelude.{◌≡◌, ℕ, ◌+◌, ◌*◌, ◌<◌, ◌≤◌, ◌&&◌, Bool, true, false, length, slice_index, slice_index_or, All, Some, IfSome, IfNone};
+ghost use Rattle.xw_words.specs.Bits.{has_bit};
+ghost use Rattle.xw_words.specs.Columns.{is_active};
+ghost use Rattle.xw_words.specs.Dictionary.{Entry, entry_at};
+ghost use Rattle.xw_feas.specs.Board.{light_at, entry, agrees, is_wholly_entered};
+ghost use Rattle.xw_net.specs.Base.{base_bits, is_base_word, has_entry, IsBaseBut};
+ghost use Rattle.xw_net.specs.Region.{chunks_of};
+ghost use Rattle.xw_net.specs.Spread.{is_marked, bits_in};
+ghost use Rattle.xw_net.specs.Room.{row_at};
+ghost use Rattle.xw_net.specs.Brought.{HasBase, base_cost};
+ghost use Rattle.xw_net.specs.Begin.{is_long as is_long_of, is_read as is_read_of};
+
+use xw_feas::board::{Board, Cells};
+use xw_feas::standing::has_all_entries;
+use xw_words::bit_row::BitRow;
+use xw_words::letter_set::LetterSet;
+use xw_words::rows::Rows;
+
+/// The words of a chunk that have the letter that is entered at a place of the light.
+fn agreeing_in<R: Rows>(
+    rows: &mut R,
+    board: &Board<'_>,
+    cells: &Cells,
+    place: usize,
+    chunk: usize,
+) -> u64
+    requires { place < length cells.now }
+    ensures entries { R.entries rows.new ≡ R.entries rows.old }
+    ensures risen { R.ticks rows.old ≤ R.ticks rows.new }
+    ensures words { (k : ℕ) → k < 64 → has_bit result k ≡ has_entry (entry board.now (slice_index cells.now place)) (R.entries rows.old (length cells.now)) place (64 * chunk + k) }
+    ensures cost { R.ticks rows.new ≤ R.ticks rows.old + 1 }
+{
+    match board.entry(cells.at(place)) {
+        None => u64::MAX,
+        Some(letter) => rows.column(cells.len(), place, letter, chunk),
+    }
+}
+
+/// The words of a chunk that are active and agree with what is entered.
+fn base_in<R: Rows>(rows: &mut R, board: &Board<'_>, cells: &Cells, chunk: usize) -> u64
+    requires { All (λ (word : Entry). length word.word ≡ length cells.now) (R.entries rows.old (length cells.now)) }
+    ensures entries { R.entries rows.new ≡ R.entries rows.old }
+    ensures risen { R.ticks rows.old ≤ R.ticks rows.new }
+    ensures words { (k : ℕ) → k < 64 → has_bit result k ≡ (entry_at (R.entries rows.old (length cells.now)) (64 * chunk + k)).active && agrees board.now cells.now (entry_at (R.entries rows.old (length cells.now)) (64 * chunk + k)).word }
+    ensures cost { R.ticks rows.new ≤ R.ticks rows.old + (length cells.now + 1) }
+{
+    let mut words = rows.active(cells.len(), chunk);
+    for place in 0..cells.len() {
+        if words == 0 {
+            return 0;
+        }
+        words &= agreeing_in(rows, board, cells, place, chunk);
+    }
+    words
+}
+
+/// The words of a chunk that are base words. Where the light is wholly entered nothing is read.
+fn base_chunk<R: Rows>(
+    rows: &mut R,
+    board: &Board<'_>,
+    cells: &Cells,
+    entered: bool,
+    chunk: usize,
+) -> u64
+    requires long { All (λ (word : Entry). length word.word ≡ length cells.now) (R.entries rows.old (length cells.now)) }
+    requires entered { entered ≡ is_wholly_entered board.now cells.now }
+    ensures entries { R.entries rows.new ≡ R.entries rows.old }
+    ensures risen { R.ticks rows.old ≤ R.ticks rows.new }
+    ensures words { (k : ℕ) → k < 64 → has_bit result k ≡ is_base_word board.now cells.now (entry_at (R.entries rows.old (length cells.now)) (64 * chunk + k)) }
+    ensures cost { R.ticks rows.new ≤ R.ticks rows.old + (length cells.now + 1) }
+    ensures unread { entered ≡ true → R.ticks rows.new ≡ R.ticks rows.old }
+{
+    if entered {
+        0
+    } else {
+        base_in(rows, board, cells, chunk)
+    }
+}
+
+/// Writes which known words of a length are active.
+fn read_active<R: Rows>(rows: &mut R, count: usize, row: &mut BitRow)
+    requires { length row.old.bits ≡ length (R.entries rows.old count) }
+    ensures entries { R.entries rows.new ≡ R.entries rows.old }
+    ensures risen { R.ticks rows.old ≤ R.ticks rows.new }
+    ensures len { length row.new.bits ≡ length row.old.bits }
+    ensures bits { (i : ℕ) → slice_index_or row.new.bits i false ≡ is_active (R.entries rows.old count) i }
+    ensures room { row.new.room ≡ row.old.room }
+    ensures cost { R.ticks rows.new ≤ R.ticks rows.old + chunks_of (length row.old.bits) }
+{
+    for chunk in 0..row.len().div_ceil(64) {
+        let words = rows.active(count, chunk);
+        row.set_chunk(chunk, words);
+    }
+}
+
+/// Keeps the words that agree with what is entered at a place of the light.
+fn keep_agreeing<R: Rows>(
+    rows: &mut R,
+    board: &Board<'_>,
+    cells: &Cells,
+    place: usize,
+    row: &mut BitRow,
+)
+    requires place { place < length cells.now }
+    requires row { length row.old.bits ≡ length (R.entries rows.old (length cells.now)) }
+    ensures entries { R.entries rows.new ≡ R.entries rows.old }
+    ensures risen { R.ticks rows.old ≤ R.ticks rows.new }
+    ensures len { length row.new.bits ≡ length row.old.bits }
+    ensures bits { (i : ℕ) → slice_index_or row.new.bits i false ≡ (slice_index_or row.old.bits i false && has_entry (entry board.now (slice_index cells.now place)) (R.entries rows.old (length cells.now)) place i) }
+    ensures room { row.new.room ≡ row.old.room }
+    ensures cost { R.ticks rows.new ≤ R.ticks rows.old + chunks_of (length row.old.bits) }
+{
+    if let Some(letter) = board.entry(cells.at(place)) {
+        rows.keep_columns(cells.len(), place, LetterSet::only(letter), row);
+    }
+}
+
+/// Writes which known words are active and agree with what is entered.
+fn read_open<R: Rows>(rows: &mut R, board: &Board<'_>, cells: &Cells, row: &mut BitRow)
+    requires long { All (λ (word : Entry). length word.word ≡ length cells.now) (R.entries rows.old (length cells.now)) }
+    requires row { length row.old.bits ≡ length (R.entries rows.old (length cells.now)) }
+    ensures entries { R.entries rows.new ≡ R.entries rows.old }
+    ensures risen { R.ticks rows.old ≤ R.ticks rows.new }
+    ensures len { length row.new.bits ≡ length row.old.bits }
+    ensures bits { (i : ℕ) → slice_index_or row.new.bits i false ≡ ((entry_at (R.entries rows.old (length cells.now)) i).active && agrees board.now cells.now (entry_at (R.entries rows.old (length cells.now)) i).word) }
+    ensures room { row.new.room ≡ row.old.room }
+    ensures cost { R.ticks rows.new ≤ R.ticks rows.old + (length cells.now + 1) * chunks_of (length row.old.bits) }
+{
+    read_active(rows, cells.len(), row);
+    for place in 0..cells.len() {
+        keep_agreeing(rows, board, cells, place, row);
+    }
+}
+
+/// Writes which known words are base words of a light. Where it is wholly entered nothing is read.
+pub fn read_base<R: Rows>(rows: &mut R, board: &Board<'_>, light: usize, row: &mut BitRow)
+    requires light { light < length board.now.lights }
+    requires long { All (λ (word : Entry). length word.word ≡ length (light_at board.now light)) (R.entries rows.old (length (light_at board.now light))) }
+    requires bits { length row.old.bits ≡ length (R.entries rows.old (length (light_at board.now light))) }
+    ensures entries { R.entries rows.new ≡ R.entries rows.old }
+    ensures risen { R.ticks rows.old ≤ R.ticks rows.new }
+    ensures bits { row.new.bits ≡ base_bits board.now (light_at board.now light) (R.entries rows.old (length (light_at board.now light))) }
+    ensures room { row.new.room ≡ row.old.room }
+    ensures cost { R.ticks rows.new ≤ R.ticks rows.old + (length (light_at board.now light) + 1) * chunks_of (length row.old.bits) }
+    ensures unread { is_wholly_entered board.now (light_at board.now light) ≡ true → R.ticks rows.new ≡ R.ticks rows.old }
+{
+    let cells = board.light(light);
+    if has_all_entries(board, &cells) {
+        row.clear();
+    } else {
+        read_open(rows, board, &cells, row);
+    }
+}
+
+/// Reads the chunk of a base row anew in which a known word has its place.
+fn read_chunk<R: Rows>(
+    rows: &mut R,
+    board: &Board<'_>,
+    light: usize,
+    place: usize,
+    row: &mut BitRow,
+)
+    requires light { light < length board.now.lights }
+    requires long { All (λ (word : Entry). length word.word ≡ length (light_at board.now light)) (R.entries rows.old (length (light_at board.now light))) }
+    requires bits { length row.old.bits ≡ length (R.entries rows.old (length (light_at board.now light))) }
+    ensures entries { R.entries rows.new ≡ R.entries rows.old }
+    ensures risen { R.ticks rows.old ≤ R.ticks rows.new }
+    ensures len { length row.new.bits ≡ length row.old.bits }
+    ensures bits { ((k : ℕ) → (k ≡ place → ⊥) → slice_index_or row.old.bits k false ≡ is_base_word board.now (light_at board.now light) (entry_at (R.entries rows.old (length (light_at board.now light))) k)) → row.new.bits ≡ base_bits board.now (light_at board.now light) (R.entries rows.old (length (light_at board.now light))) }
+    ensures room { row.new.room ≡ row.old.room }
+    ensures cost { R.ticks rows.new ≤ R.ticks rows.old + (length (light_at board.now light) + 1) * chunks_of (length row.old.bits) }
+{
+    if place >= row.len() {
+        return;
+    }
+    let cells = board.light(light);
+    let entered = has_all_entries(board, &cells);
+    let words = base_chunk(rows, board, &cells, entered, place / 64);
+    row.set_chunk(place / 64, words);
+}
+
+/// The place of a word that is changed, if it is so long.
+pub(crate) fn place_if_long(word: Option<(usize, usize)>, count: usize) -> Option<usize>
+    ensures found { IfSome result (λ place. word ≡ Some (count, place)) }
+    ensures none { IfNone result ((place : ℕ) → word ≡ Some (count, place) → ⊥) }
+{
+    match word {
+        Some((long, place)) if long == count => Some(place),
+        _ => None,
+    }
+}
+
+/// Reads a base row anew: where a word as long as the light is changed, the chunk with its place.
+fn read_changed<R: Rows>(
+    rows: &mut R,
+    board: &Board<'_>,
+    word: Option<(usize, usize)>,
+    light: usize,
+    row: &mut BitRow,
+)
+    requires light { light < length board.now.lights }
+    requires long { All (λ (entry : Entry). length entry.word ≡ length (light_at board.now light)) (R.entries rows.old (length (light_at board.now light))) }
+    requires bits { length row.old.bits ≡ length (R.entries rows.old (length (light_at board.now light))) }
+    ensures entries { R.entries rows.new ≡ R.entries rows.old }
+    ensures risen { R.ticks rows.old ≤ R.ticks rows.new }
+    ensures len { length row.new.bits ≡ length row.old.bits }
+    ensures bits { IsBaseBut board.now (light_at board.now light) (R.entries rows.old (length (light_at board.now light))) word row.old.bits → row.new.bits ≡ base_bits board.now (light_at board.now light) (R.entries rows.old (length (light_at board.now light))) }
+    ensures room { row.new.room ≡ row.old.room }
+    ensures cost { R.ticks rows.new ≤ R.ticks rows.old + (length (light_at board.now light) + 1) * chunks_of (length row.old.bits) }
+{
+    match place_if_long(word, board.light(light).len()) {
+        Some(place) => read_chunk(rows, board, light, place, row),
+        None => read_base(rows, board, light, row),
+    }
+}
+
+/// The same for a light's row among those of all lights.
+fn read_row<R: Rows>(
+    rows: &mut R,
+    board: &Board<'_>,
+    word: Option<(usize, usize)>,
+    light: usize,
+    base: &mut [BitRow],
+)
+    requires light { light < length board.now.lights }
+    requires long { All (λ (entry : Entry). length entry.word ≡ length (light_at board.now light)) (R.entries rows.old (length (light_at board.now light))) }
+    requires base { HasBase board.now (R.entries rows.old) base.old }
+    ensures entries { R.entries rows.new ≡ R.entries rows.old }
+    ensures risen { R.ticks rows.old ≤ R.ticks rows.new }
+    ensures len { length base.new ≡ length base.old }
+    ensures bits { length (bits_in base.new light) ≡ length (bits_in base.old light) }
+    ensures here { IsBaseBut board.now (light_at board.now light) (R.entries rows.old (length (light_at board.now light))) word (bits_in base.old light) → bits_in base.new light ≡ base_bits board.now (light_at board.now light) (R.entries rows.old (length (light_at board.now light))) }
+    ensures others { (other : ℕ) → (other ≡ light → ⊥) → bits_in base.new other ≡ bits_in base.old other }
+    ensures row_room { (other : ℕ) → (row_at base.old other).room ≤ (row_at base.new other).room }
+    ensures cost { R.ticks rows.new ≤ R.ticks rows.old + (length (light_at board.now light) + 1) * chunks_of (length (R.entries rows.old (length (light_at board.now light)))) }
+{
+    read_changed(rows, board, word, light, &mut base[light]);
+}
+
+/// Whether a word that is changed is as long as the light. A light's length is looked up only where one is.
+fn is_long(board: &Board<'_>, word: Option<(usize, usize)>, light: usize) -> bool
+    requires { light < length board.now.lights }
+    ensures { result ≡ is_long_of word (length (light_at board.now light)) }
+{
+    match word {
+        Some((long, _)) => long == board.light(light).len(),
+        None => false,
+    }
+}
+
+/// Whether the edit can have changed the base row of a light.
+fn is_read(board: &Board<'_>, word: Option<(usize, usize)>, marks: &[bool], light: usize) -> bool
+    requires light { light < length board.now.lights }
+    requires marks { light < length marks.now }
+    ensures { result ≡ is_read_of board.now word (is_marked marks.now) light }
+{
+    marks[light] || is_long(board, word, light)
+}
+
+/// Reads anew the base row of each light that is marked or as long as a word that is changed, as far as the edit can have changed it.
+pub fn read_marked<R: Rows>(
+    rows: &mut R,
+    board: &Board<'_>,
+    word: Option<(usize, usize)>,
+    marks: &[bool],
+    base: &mut [BitRow],
+)
+    requires long { (light : ℕ) → light < length board.now.lights → All (λ (entry : Entry). length entry.word ≡ length (light_at board.now light)) (R.entries rows.old (length (light_at board.now light))) }
+    requires marks { length board.now.lights ≤ length marks.now }
+    requires base { HasBase board.now (R.entries rows.old) base.old }
+    ensures entries { R.entries rows.new ≡ R.entries rows.old }
+    ensures risen { R.ticks rows.old ≤ R.ticks rows.new }
+    ensures base { HasBase board.now (R.entries rows.old) base.new }
+    ensures on { (light : ℕ) → light < length board.now.lights → is_read_of board.now word (is_marked marks.now) light ≡ true → IsBaseBut board.now (light_at board.now light) (R.entries rows.old (length (light_at board.now light))) word (bits_in base.old light) → bits_in base.new light ≡ base_bits board.now (light_at board.now light) (R.entries rows.old (length (light_at board.now light))) }
+    ensures off { (light : ℕ) → is_read_of board.now word (is_marked marks.now) light ≡ false → bits_in base.new light ≡ bits_in base.old light }
+    ensures row_room { (other : ℕ) → (row_at base.old other).room ≤ (row_at base.new other).room }
+    ensures cost { (member : ℕ → Bool) → ((light : ℕ) → light < length board.now.lights → is_read_of board.now word (is_marked marks.now) light ≡ true → member light ≡ true) → R.ticks rows.new ≤ R.ticks rows.old + base_cost board.now (R.entries rows.old) member }
+{
+    for light in 0..board.light_count() {
+        if !is_read(board, word, marks, light) {
+            continue;
+        }
+        read_row(rows, board, word, light, base);
+    }
+}

@@ -1,0 +1,45 @@
+//! A net before anything stands in it.
+use crate::net::Net;
+use crate::room::{make_flags, make_held, make_rows, make_sets};
+use std::alloc::{AllocError, Global};
+use xw_grid::grid::Grid;
+use xw_grid::lights::Lights;
+use xw_words::bank::Bank;
+
+impl Net {
+    ghost use Rattle.std.specs.Prelude.{◌≡◌, length, IfOk};
+    ghost use Rattle.xw_words.specs.Dictionary.{row as words_of};
+    ghost use Rattle.xw_grid.specs.Light.{lights_of};
+    ghost use Rattle.xw_feas.specs.Board.{board_of};
+    ghost use Rattle.xw_net.specs.Blank.{IsBlank};
+    ghost use Rattle.xw_net.specs.Nets.{IsShaped};
+    ghost use Rattle.xw_net.specs.Room.{counts_of, HasRoom};
+
+    /// A net for a grid and a dictionary, in which nothing stands yet.
+    pub(crate) fn blank(
+        alloc: Global,
+        grid: &Grid,
+        lights: &Lights,
+        bank: &Bank,
+    ) -> Result<Net, AllocError>
+        ensures blank { IfOk result (λ net. IsBlank lights.now (counts_of (words_of bank.now.words)) (length grid.now.squares) net) }
+        ensures room { IfOk result (λ net. HasRoom lights.now (counts_of (words_of bank.now.words)) net) }
+    {
+        let (cells, count) = (grid.size(), lights.len());
+        Ok(Net {
+            alloc,
+            rows: make_rows(alloc, lights, bank)?,
+            base: make_rows(alloc, lights, bank)?,
+            entered: make_flags(alloc, count)?,
+            letters: make_sets(alloc, cells)?,
+            held: make_held(alloc, 52 * cells)?,
+            restart: make_sets(alloc, 2 * cells)?,
+            pending: make_sets(alloc, 2 * cells)?,
+            queue: Vec::with_capacity(alloc, count)?,
+            is_queued: make_flags(alloc, count)?,
+            stack: Vec::with_capacity(alloc, count)?,
+            is_marked: make_flags(alloc, count)?,
+            spare: None,
+        })
+    }
+}

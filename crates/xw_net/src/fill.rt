@@ -1,0 +1,80 @@
+//! A net in which all stands that is feasible.
+ghost use Rattle.std.specs.Prelude.{◌≡◌, ℕ, length};
+ghost use Rattle.xw_feas.specs.Feasible.{may_stand};
+ghost use Rattle.xw_feas.specs.Flags.{set_has};
+ghost use Rattle.xw_feas.specs.WellFormed.{HasLetterEntries};
+
+use crate::base::read_marked;
+use crate::net::Net;
+use crate::seeds::mark_all;
+use std::alloc::Global;
+use xw_feas::board::Board;
+use xw_feas::dictionary::known_distinct;
+use xw_feas::edit::Refusal;
+use xw_feas::standing::allowed;
+use xw_grid::fault::GridFault;
+use xw_grid::grid::Grid;
+use xw_grid::lights::Lights;
+use xw_words::bank::Bank;
+use xw_words::counted::Counted;
+use xw_words::letter_set::LetterSet;
+use xw_words::rows::Rows;
+
+/// Lets at each cell the letters stand that may.
+fn fill_letters(board: &Board<'_>, letters: &mut [LetterSet])
+    requires { length letters.old ≡ length board.now.open_cells }
+    ensures len { length letters.new ≡ length letters.old }
+    ensures letters { (cell letter : ℕ) → set_has letters.new cell letter ≡ may_stand board.now cell letter }
+    ensures entries { HasLetterEntries board.now }
+{
+    for cell in 0..board.cell_count() {
+        letters[cell] = allowed(board.is_open(cell), board.entry(cell));
+    }
+}
+
+impl Net {
+    ghost use Rattle.std.specs.Prelude.{◌≡◌, false, is_some, IfOk, IfErr};
+    ghost use Rattle.xw_words.specs.Dictionary.{Dictionary};
+    ghost use Rattle.xw_grid.specs.Light.{lights_of};
+    ghost use Rattle.xw_feas.specs.WellFormed.{HasLetterEntries};
+    ghost use Rattle.xw_net.specs.Marks.{IsPosition};
+    ghost use Rattle.xw_net.specs.Filled.{AreLong, IsFresh, IsFilled};
+    ghost use Rattle.xw_net.specs.Net.{IsSettledFor, HasRoomFor, known_counts};
+
+    /// Lets exactly the feasible words and letters stand in a net in which nothing stands yet.
+    pub(crate) fn fill<R: Rows>(&mut self, rows: &mut R, board: &Board<'_>)
+        requires fresh { IsFresh board.now (R.entries rows.old) self.old }
+        requires long { AreLong board.now (R.entries rows.old) }
+        ensures entries { R.entries rows.new ≡ R.entries rows.old }
+        ensures letters { HasLetterEntries board.now }
+        ensures spare { self.new.spare ≡ self.old.spare }
+        ensures filled { (dictionary : Dictionary) → IsPosition board.now (R.entries rows.old) dictionary → IsFilled board.now dictionary self.new }
+    {
+        fill_letters(board, &mut self.letters);
+        mark_all(board, &mut self.is_marked, &mut self.stack);
+        read_marked(rows, board, None, &self.is_marked, &mut self.base);
+        self.bring_back(board);
+        self.unmark();
+        self.strip_queued(rows, board);
+        self.keep_counts();
+    }
+
+    /// A net with the answers for a grid and a dictionary.
+    pub fn of(alloc: Global, grid: &Grid, lights: &Lights, bank: &Bank) -> Result<Net, Refusal>
+        requires { lights.now ≡ lights_of grid.now }
+        ensures settled { IfOk result (λ net. IsSettledFor (record { grid = grid.now; words = bank.now.words }) net) }
+        ensures room { IfOk result (λ net. HasRoomFor lights.now (known_counts bank.now.words) net) }
+        ensures none_waits { IfOk result (λ net. is_some net.spare ≡ false) }
+        ensures err { IfErr result (λ refusal. refusal ≡ Refusal.Grid GridFault.Memory) }
+    {
+        let mut net = match Net::blank(alloc, grid, lights, bank) {
+            Ok(net) => net,
+            Err(_) => return Err(Refusal::Grid(GridFault::Memory)),
+        };
+        grid.well_formed();
+        known_distinct(bank);
+        let mut rows = Counted::new(bank, 0);
+        net.fill(&mut rows, &Board::new(grid, lights));
+        Ok(net)
+    }
+}

@@ -1,0 +1,87 @@
+//! A net goes by the lights and the words after an edit.
+ghost use Rattle.std.specs.Prelude.{◌≡◌, ℕ, ◌<◌, ◌≤◌, length};
+ghost use Rattle.xw_net.specs.Room.{counts_of, row_at, HaveRoom};
+ghost use Rattle.xw_net.specs.Fit.{fitted, AreFitted};
+
+use crate::net::Net;
+use crate::room::size_at;
+use xw_grid::lights::Lights;
+use xw_words::bit_row::BitRow;
+use xw_words::rows::Rows;
+
+/// Adds a false bit to a row if one is wanting for so many known words.
+fn fit_row(row: &mut BitRow, known: usize)
+    requires { known ≤ row.old.room }
+    ensures bits { row.new.bits ≡ fitted known row.old.bits }
+    ensures room { row.old.room ≤ row.new.room }
+{
+    if row.len() < known {
+        row.push(false);
+    }
+}
+
+/// Adds a false bit to the row of each light where one is wanting.
+pub(crate) fn fit_rows<R: Rows>(words: &R, lights: &Lights, rows: &mut [BitRow])
+    requires lights { length lights.now ≤ length rows.old }
+    requires room { HaveRoom lights.now (counts_of (R.entries words.now)) rows.old }
+    ensures fitted { AreFitted lights.now (counts_of (R.entries words.now)) rows.old rows.new }
+    ensures others { (light : ℕ) → length lights.now ≤ light → row_at rows.new light ≡ row_at rows.old light }
+    ensures room { (light : ℕ) → (row_at rows.old light).room ≤ (row_at rows.new light).room }
+{
+    for light in 0..lights.len() {
+        let known = words.known(size_at(lights, light));
+        let row = &mut rows[light];
+        fit_row(row, known);
+    }
+}
+
+impl Net {
+    ghost use Rattle.std.specs.Prelude.{◌≡◌, None, vec_len};
+    ghost use Rattle.xw_grid.specs.Light.{lights_of};
+    ghost use Rattle.xw_feas.specs.Board.{board_of};
+    ghost use Rattle.xw_feas.specs.State.{State};
+    ghost use Rattle.xw_net.specs.Change.{AreReadsOf};
+    ghost use Rattle.xw_net.specs.Filled.{IsFilled};
+    ghost use Rattle.xw_net.specs.Opened.{IsMoved};
+    ghost use Rattle.xw_net.specs.Room.{counts_of, IsWhole, HasRoom};
+    ghost use Rattle.xw_net.specs.Renumber.{AreLights};
+    ghost use Rattle.xw_net.specs.Fit.{AreNear, IsAtRest, HasRoomBetween, IsTurned};
+
+    /// Takes the arrays that wait for the lights after an edit, if any do.
+    fn turn_to<R: Rows>(&mut self, words: &R, before: &Lights, lights: &Lights)
+        requires lights { AreLights lights.now }
+        requires rest { IsAtRest before.now (vec_len self.old.letters) self.old }
+        requires room { HasRoomBetween before.now lights.now (counts_of (R.entries words.now)) self.old self.old.spare }
+        ensures rest { IsAtRest lights.now (vec_len self.old.letters) self.new }
+        ensures rows { AreNear before.now (counts_of (R.entries words.now)) self.old.rows.items → AreNear lights.now (counts_of (R.entries words.now)) self.new.rows.items }
+        ensures base { AreNear before.now (counts_of (R.entries words.now)) self.old.base.items → AreNear lights.now (counts_of (R.entries words.now)) self.new.base.items }
+        ensures room { HasRoom lights.now (counts_of (R.entries words.now)) self.new }
+        ensures turned { IsTurned before.now lights.now self.old self.new }
+    {
+        if let Some(spare) = self.spare.take() {
+            self.renumber(words, spare, before, lights);
+        }
+    }
+    /// Makes the net go by the lights and the words after an edit.
+    pub(crate) fn move_to<R: Rows>(&mut self, words: &R, before: &Lights, lights: &Lights)
+        requires lights { AreLights lights.now }
+        requires rest { IsAtRest before.now (vec_len self.old.letters) self.old }
+        requires room { HasRoomBetween before.now lights.now (counts_of (R.entries words.now)) self.old self.old.spare }
+        requires rows { AreNear before.now (counts_of (R.entries words.now)) self.old.rows.items }
+        requires base { AreNear before.now (counts_of (R.entries words.now)) self.old.base.items }
+        ensures rest { IsAtRest lights.now (vec_len self.old.letters) self.new }
+        ensures whole { IsWhole lights.now (counts_of (R.entries words.now)) self.new }
+        ensures room { HasRoom lights.now (counts_of (R.entries words.now)) self.new }
+        ensures spare { self.new.spare ≡ None }
+        ensures moved { (was now : State) →
+            before.now ≡ lights_of was.grid →
+            lights.now ≡ lights_of now.grid →
+            AreReadsOf (R.entries words.now) now.words →
+            IsFilled (board_of was.grid) was.words self.old →
+            IsMoved was now self.old self.new }
+    {
+        self.turn_to(words, before, lights);
+        fit_rows(words, lights, &mut self.rows);
+        fit_rows(words, lights, &mut self.base);
+    }
+}

@@ -1,0 +1,149 @@
+//! Words that are held no more.
+ghost use Rattle.std.specs.Prelude.{◌≡◌, ◌⊎◌, ℕ, ◌+◌, ◌-◌, ◌*◌, ◌^◌, ◌<◌, ◌≤◌, false, true, Option, is_some, length, slice_index};
+ghost use Rattle.xw_words.specs.Letter.{is_capital};
+ghost use Rattle.xw_feas.specs.Board.{light_at};
+ghost use Rattle.xw_feas.specs.Flags.{set_has};
+ghost use Rattle.xw_net.specs.Marks.{IsPlace, slot_at, AreSlotsApart};
+ghost use Rattle.xw_net.specs.Renumber.{same_before};
+ghost use Rattle.xw_net.specs.Forget.{cut, lose, lost_from as lost_from_of, nowhere, Forgets};
+
+use crate::change::Change;
+use crate::place::place_of;
+use crate::room::NOWHERE;
+use xw_feas::board::Board;
+use xw_grid::lights::Lights;
+use xw_words::letter_set::LetterSet;
+use xw_words::rows::Rows;
+
+/// Lets a slot hold no word from a number on.
+fn forget_slot(slot: usize, first: usize, held: &mut [usize])
+    requires { 26 * slot + 26 ≤ length held.old }
+    ensures len { length held.new ≡ length held.old }
+    ensures here { (number : ℕ) → number < 26 → slice_index held.new (26 * slot + number) ≡ cut first (slice_index held.old (26 * slot + number)) }
+    ensures others { (at : ℕ) → (at < 26 * slot) ⊎ (26 * slot + 26 ≤ at) → slice_index held.new at ≡ slice_index held.old at }
+{
+    for number in 0..26 {
+        let at = 26 * slot + number;
+        if first <= held[at] {
+            held[at] = NOWHERE;
+        }
+    }
+}
+
+/// Lets a light hold no word from a number on. Nothing is pending there.
+fn forget_light(
+    board: &Board<'_>,
+    light: usize,
+    first: usize,
+    held: &mut [usize],
+    pending: &mut [LetterSet],
+)
+    requires few { length board.now.open_cells < 2 ^ 32 }
+    requires light { light < length board.now.lights }
+    requires apart { AreSlotsApart board.now }
+    requires held { length held.old ≡ 52 * length board.now.open_cells }
+    requires pending { length pending.old ≡ 2 * length board.now.open_cells }
+    ensures held { length held.new ≡ length held.old }
+    ensures pending { length pending.new ≡ length pending.old }
+    ensures cuts { (place letter : ℕ) → place < length (light_at board.now light) → is_capital letter ≡ true → slice_index held.new (26 * slot_at board.now light place + (letter - 65)) ≡ cut first (slice_index held.old (26 * slot_at board.now light place + (letter - 65))) }
+    ensures others { (slot letter : ℕ) → ((place : ℕ) → place < length (light_at board.now light) → slot_at board.now light place ≡ slot → ⊥) → is_capital letter ≡ true → slice_index held.new (26 * slot + (letter - 65)) ≡ slice_index held.old (26 * slot + (letter - 65)) }
+    ensures less { (slot letter : ℕ) → set_has pending.new slot letter ≡ true → set_has pending.old slot letter ≡ true }
+    ensures cleared { (place letter : ℕ) → place < length (light_at board.now light) → set_has pending.new (slot_at board.now light place) letter ≡ false }
+{
+    for place in 0..board.light(light).len() {
+        let slot = place_of(board, light, place).slot;
+        forget_slot(slot, first, held);
+        pending[slot] = LetterSet::new();
+    }
+}
+
+/// The first number that a light may hold no more, which stays or is new.
+fn lost_from(word: Option<(usize, usize)>, has_stayed: bool, size: usize, known: usize) -> usize
+    ensures { (same : Option ℕ) → has_stayed ≡ is_some same → result ≡ lost_from_of word same size known }
+{
+    if !has_stayed {
+        return 0;
+    }
+    match word {
+        Some((count, place)) if count == size && (known <= place || known - 1 == place) => place,
+        _ => NOWHERE,
+    }
+}
+
+/// Whether a light has the cells of one of before.
+fn has_stayed(lights: &Lights, before: &Lights, stays: bool, light: usize) -> bool
+    requires light { light < length lights.now }
+    requires stays { stays ≡ true → lights.now ≡ before.now }
+    ensures { result ≡ is_some (same_before before.now lights.now light) }
+{
+    stays || lights.same(light, before).is_some()
+}
+
+/// The same for the light of a board after an edit.
+fn lost_of<R: Rows>(
+    rows: &R,
+    board: &Board<'_>,
+    lights: &Lights,
+    change: &Change<'_>,
+    stays: bool,
+    light: usize,
+) -> usize
+    requires light { light < length board.now.lights }
+    requires lights { length lights.now ≡ length board.now.lights }
+    requires stays { stays ≡ true → lights.now ≡ change.now.before.now }
+    ensures { result ≡ lost_from_of change.now.word (same_before change.now.before.now lights.now light) (length (light_at board.now light)) (length (R.entries rows.now (length (light_at board.now light)))) }
+{
+    let size = board.light(light).len();
+    let known = rows.known(size);
+    let has_stayed = has_stayed(lights, change.before, stays, light);
+    lost_from(change.word, has_stayed, size, known)
+}
+
+/// Lets a light hold no word that it may not hold after an edit.
+fn forget_lost(
+    board: &Board<'_>,
+    light: usize,
+    first: usize,
+    held: &mut [usize],
+    pending: &mut [LetterSet],
+)
+    requires few { length board.now.open_cells < 2 ^ 32 }
+    requires light { light < length board.now.lights }
+    requires apart { AreSlotsApart board.now }
+    requires held { length held.old ≡ 52 * length board.now.open_cells }
+    requires pending { length pending.old ≡ 2 * length board.now.open_cells }
+    ensures held { length held.new ≡ length held.old }
+    ensures pending { length pending.new ≡ length pending.old }
+    ensures cuts { (place letter : ℕ) → place < length (light_at board.now light) → is_capital letter ≡ true → slice_index held.new (26 * slot_at board.now light place + (letter - 65)) ≡ lose first (slice_index held.old (26 * slot_at board.now light place + (letter - 65))) }
+    ensures others { (slot letter : ℕ) → ((place : ℕ) → place < length (light_at board.now light) → slot_at board.now light place ≡ slot → ⊥) → is_capital letter ≡ true → slice_index held.new (26 * slot + (letter - 65)) ≡ slice_index held.old (26 * slot + (letter - 65)) }
+    ensures less { (slot letter : ℕ) → set_has pending.new slot letter ≡ true → set_has pending.old slot letter ≡ true }
+    ensures cleared { (place letter : ℕ) → first < nowhere → place < length (light_at board.now light) → set_has pending.new (slot_at board.now light place) letter ≡ false }
+{
+    if first < NOWHERE {
+        forget_light(board, light, first, held, pending);
+    }
+}
+
+/// Lets each light after an edit hold no word that it may not hold.
+pub(crate) fn forget_lights<R: Rows>(
+    rows: &R,
+    board: &Board<'_>,
+    lights: &Lights,
+    change: &Change<'_>,
+    stays: bool,
+    held: &mut [usize],
+    pending: &mut [LetterSet],
+)
+    requires lights { length lights.now ≡ length board.now.lights }
+    requires stays { stays ≡ true → lights.now ≡ change.now.before.now }
+    requires few { length board.now.open_cells < 2 ^ 32 }
+    requires apart { AreSlotsApart board.now }
+    requires held { length held.old ≡ 52 * length board.now.open_cells }
+    requires pending { length pending.old ≡ 2 * length board.now.open_cells }
+    ensures { Forgets board.now (λ light. lost_from_of change.now.word (same_before change.now.before.now lights.now light) (length (light_at board.now light)) (length (R.entries rows.now (length (light_at board.now light))))) held.old held.new pending.old pending.new }
+{
+    for light in 0..board.light_count() {
+        let first = lost_of(rows, board, lights, change, stays, light);
+        forget_lost(board, light, first, held, pending);
+    }
+}

@@ -1,0 +1,134 @@
+//! Cells of lights that are gone.
+ghost use Rattle.std.specs.Prelude.{◌≡◌, ℕ, ◌+◌, ◌<◌, ◌≤◌, true, not, All, None, IfSome, length, vec_len, vec_capacity, count_by};
+ghost use Rattle.xw_net.specs.Spread.{HasSeeds};
+ghost use Rattle.xw_net.specs.Gone.{IsAlong, IsAmong, IsFreed, IsFreedAt, Raises};
+
+use crate::seeds::raise_cell;
+use xw_feas::board::Board;
+use xw_grid::grid::Grid;
+use xw_grid::lights::{Light, Lights};
+use xw_words::letter_set::LetterSet;
+
+/// The place in a grid of one of the cells of a light, if the grid has it.
+fn place_along(grid: &Grid, light: &Light, k: u32) -> Option<usize>
+    ensures along { IfSome result (λ cell. IsAlong grid.now light.now k cell) }
+    ensures within { IfSome result (λ cell. cell < length grid.now.squares) }
+    ensures only { result ≡ None → (cell : ℕ) → IsAlong grid.now light.now k cell → ⊥ }
+{
+    grid.well_formed();
+    if light.start.row > 255 || light.start.col > 255 || k > 255 {
+        return None;
+    }
+    grid.index(light.cell(k))
+}
+
+/// Lets all letters stand that may at one of the cells of a light that is gone.
+fn raise_at(
+    grid: &Grid,
+    board: &Board<'_>,
+    light: &Light,
+    k: u32,
+    letters: &mut [LetterSet],
+    marks: &mut [bool],
+    stack: &mut Vec<usize>,
+)
+    requires cells { length grid.now.squares ≡ length board.now.open_cells }
+    requires letters { length letters.old ≡ length board.now.open_cells }
+    requires marks { length board.now.lights ≤ length marks.old }
+    requires room { vec_len stack.old + count_by (λ mark. not mark) marks.old ≤ vec_capacity stack.old }
+    requires waiting { All (λ other. other < length board.now.lights) stack.old.items }
+    requires seeds { HasSeeds marks.old stack.old.items }
+    ensures room { vec_len stack.new + count_by (λ mark. not mark) marks.new ≤ vec_capacity stack.new }
+    ensures capacity { vec_capacity stack.old ≤ vec_capacity stack.new }
+    ensures waiting { All (λ other. other < length board.now.lights) stack.new.items }
+    ensures raises { Raises board.now (IsAlong grid.now light.now k) letters.old letters.new marks.old marks.new stack.old.items stack.new.items }
+{
+    if let Some(cell) = place_along(grid, light, k) {
+        raise_cell(board, cell, letters, marks, stack);
+    }
+}
+
+/// The same at each of its cells.
+fn raise_along(
+    grid: &Grid,
+    board: &Board<'_>,
+    light: &Light,
+    letters: &mut [LetterSet],
+    marks: &mut [bool],
+    stack: &mut Vec<usize>,
+)
+    requires cells { length grid.now.squares ≡ length board.now.open_cells }
+    requires letters { length letters.old ≡ length board.now.open_cells }
+    requires marks { length board.now.lights ≤ length marks.old }
+    requires room { vec_len stack.old + count_by (λ mark. not mark) marks.old ≤ vec_capacity stack.old }
+    requires waiting { All (λ other. other < length board.now.lights) stack.old.items }
+    requires seeds { HasSeeds marks.old stack.old.items }
+    ensures room { vec_len stack.new + count_by (λ mark. not mark) marks.new ≤ vec_capacity stack.new }
+    ensures capacity { vec_capacity stack.old ≤ vec_capacity stack.new }
+    ensures waiting { All (λ other. other < length board.now.lights) stack.new.items }
+    ensures raises { Raises board.now (IsAmong grid.now light.now light.now.size) letters.old letters.new marks.old marks.new stack.old.items stack.new.items }
+{
+    for k in 0..light.size {
+        raise_at(grid, board, light, k, letters, marks, stack);
+    }
+}
+
+/// The same if no light after has the cells of a light of before.
+fn raise_if_gone(
+    grid: &Grid,
+    board: &Board<'_>,
+    lights: &Lights,
+    before: &Lights,
+    other: usize,
+    letters: &mut [LetterSet],
+    marks: &mut [bool],
+    stack: &mut Vec<usize>,
+)
+    requires cells { length grid.now.squares ≡ length board.now.open_cells }
+    requires letters { length letters.old ≡ length board.now.open_cells }
+    requires marks { length board.now.lights ≤ length marks.old }
+    requires room { vec_len stack.old + count_by (λ mark. not mark) marks.old ≤ vec_capacity stack.old }
+    requires waiting { All (λ other. other < length board.now.lights) stack.old.items }
+    requires seeds { HasSeeds marks.old stack.old.items }
+    ensures room { vec_len stack.new + count_by (λ mark. not mark) marks.new ≤ vec_capacity stack.new }
+    ensures capacity { vec_capacity stack.old ≤ vec_capacity stack.new }
+    ensures waiting { All (λ other. other < length board.now.lights) stack.new.items }
+    ensures raises { Raises board.now (IsFreedAt grid.now before.now lights.now other) letters.old letters.new marks.old marks.new stack.old.items stack.new.items }
+{
+    match (before.same(other, lights), before.get(other)) {
+        (None, Some(light)) => raise_along(grid, board, &light, letters, marks, stack),
+        _ => {}
+    }
+}
+
+/// Lets all letters stand that may at the cells of the lights of before that are gone. The lights
+/// through a cell where one comes back are seeds. Where the lights are those of before, none is gone.
+pub(crate) fn raise_gone(
+    grid: &Grid,
+    board: &Board<'_>,
+    lights: &Lights,
+    before: &Lights,
+    stays: bool,
+    letters: &mut [LetterSet],
+    marks: &mut [bool],
+    stack: &mut Vec<usize>,
+)
+    requires stays { stays ≡ true → lights.now ≡ before.now }
+    requires cells { length grid.now.squares ≡ length board.now.open_cells }
+    requires letters { length letters.old ≡ length board.now.open_cells }
+    requires marks { length board.now.lights ≤ length marks.old }
+    requires room { vec_len stack.old + count_by (λ mark. not mark) marks.old ≤ vec_capacity stack.old }
+    requires waiting { All (λ other. other < length board.now.lights) stack.old.items }
+    requires seeds { HasSeeds marks.old stack.old.items }
+    ensures room { vec_len stack.new + count_by (λ mark. not mark) marks.new ≤ vec_capacity stack.new }
+    ensures capacity { vec_capacity stack.old ≤ vec_capacity stack.new }
+    ensures waiting { All (λ other. other < length board.now.lights) stack.new.items }
+    ensures raises { Raises board.now (IsFreed grid.now before.now lights.now (length before.now)) letters.old letters.new marks.old marks.new stack.old.items stack.new.items }
+{
+    if stays {
+        return;
+    }
+    for other in 0..before.len() {
+        raise_if_gone(grid, board, lights, before, other, letters, marks, stack);
+    }
+}

@@ -1,0 +1,62 @@
+//! Of the words that stand for a light, those are left that are base words after an edit.
+ghost use Rattle.std.specs.Prelude.{◌≡◌, ℕ, ◌<◌, ◌≤◌, length, Some};
+ghost use Rattle.xw_feas.specs.Board.{light_at};
+ghost use Rattle.xw_net.specs.Begin.{IsNarrowedRow};
+ghost use Rattle.xw_net.specs.Room.{row_at};
+ghost use Rattle.xw_net.specs.Spread.{bits_in};
+
+use crate::base::place_if_long;
+use xw_feas::board::Board;
+use xw_words::bit_row::BitRow;
+
+/// Of the words in the chunk with a place, leaves the base words.
+fn narrow_at(base: &BitRow, place: usize, row: &mut BitRow)
+    requires { length row.old.bits ≡ length base.now.bits }
+    ensures room { row.new.room ≡ row.old.room }
+    ensures narrowed { (count : ℕ) → IsNarrowedRow (Some (count, place)) count row.old.bits base.now.bits row.new.bits }
+{
+    let chunk = place / 64;
+    if 64 * chunk >= row.len() {
+        return;
+    }
+    let left = row.chunk(chunk) & base.chunk(chunk);
+    row.set_chunk(chunk, left);
+}
+
+/// Of some words as long as a light, leaves the base words. Where one of them is changed, only the chunk with its
+/// place is looked at.
+fn narrow(word: Option<(usize, usize)>, count: usize, base: &BitRow, row: &mut BitRow)
+    requires { length row.old.bits ≡ length base.now.bits }
+    ensures room { row.new.room ≡ row.old.room }
+    ensures narrowed { IsNarrowedRow word count row.old.bits base.now.bits row.new.bits }
+{
+    match place_if_long(word, count) {
+        Some(place) => narrow_at(base, place, row),
+        None => row.and(base),
+    }
+}
+
+/// The same for the words that stand for a light.
+pub(crate) fn narrow_row(
+    board: &Board<'_>,
+    word: Option<(usize, usize)>,
+    base: &[BitRow],
+    light: usize,
+    rows: &mut [BitRow],
+)
+    requires light { light < length board.now.lights }
+    requires base { light < length base.now }
+    requires rows { light < length rows.old }
+    requires bits { length (bits_in rows.old light) ≡ length (bits_in base.now light) }
+    ensures len { length rows.new ≡ length rows.old }
+    ensures row_room { (other : ℕ) → (row_at rows.old other).room ≤ (row_at rows.new other).room }
+    ensures here { IsNarrowedRow word (length (light_at board.now light)) (bits_in rows.old light) (bits_in base.now light) (bits_in rows.new light) }
+    ensures others { (other : ℕ) → (other ≡ light → ⊥) → bits_in rows.new other ≡ bits_in rows.old other }
+{
+    narrow(
+        word,
+        board.light(light).len(),
+        &base[light],
+        &mut rows[light],
+    );
+}

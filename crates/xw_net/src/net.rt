@@ -1,0 +1,319 @@
+//! What stands of the words and letters of a grid, stripped of what has no support.
+ghost use Rattle.std.specs.Prelude.{◌≡◌, ℕ, ◌+◌, ◌<◌, ◌≤◌, true, false, not, ◌++◌, [], ◌∷◌, length, vec_len, vec_capacity, count_by, slice_index_or, slice_set, if◌then◌else◌, All, IfSome, IfNone};
+ghost use Rattle.std.specs.List.Sorted.{IsPermutation};
+ghost use Rattle.xw_words.specs.Letter.{IsLetter};
+ghost use Rattle.xw_words.specs.Dictionary.{Dictionary};
+ghost use Rattle.xw_feas.specs.Board.{light_at};
+
+use crate::place::{Place, place_of, side};
+use crate::room::Spare;
+use crate::support::{find_support, strike_row};
+use std::alloc::Global;
+use xw_feas::board::Board;
+use xw_words::bit_row::BitRow;
+use xw_words::letter::Letter;
+use xw_words::letter_set::LetterSet;
+use xw_words::rows::Rows;
+
+/// The words and letters that stand, and by slot and letter where a word for it was found.
+#[derive(Drop)]
+pub struct Net {
+    pub(crate) alloc: Global,
+    pub(crate) rows: Vec<BitRow>,
+    pub(crate) base: Vec<BitRow>,
+    pub(crate) entered: Vec<bool>,
+    pub(crate) letters: Vec<LetterSet>,
+    pub(crate) held: Vec<usize>,
+    pub(crate) restart: Vec<LetterSet>,
+    pub(crate) pending: Vec<LetterSet>,
+    pub(crate) queue: Vec<usize>,
+    pub(crate) is_queued: Vec<bool>,
+    pub(crate) stack: Vec<usize>,
+    pub(crate) is_marked: Vec<bool>,
+    pub(crate) spare: Option<Spare>,
+}
+
+/// Lets the light wait in the queue, unless it does.
+fn enqueue(is_queued: &mut [bool], queue: &mut Vec<usize>, light: usize)
+    requires light { light < length is_queued.old }
+    requires room { vec_len queue.old + count_by (λ queued. not queued) is_queued.old ≤ vec_capacity queue.old }
+    ensures is_queued { is_queued.new ≡ slice_set is_queued.old light true }
+    ensures queue { queue.new.items ≡ (if slice_index_or is_queued.old light false then queue.old.items else queue.old.items ++ light ∷ []) }
+    ensures room { vec_len queue.new + count_by (λ queued. not queued) is_queued.new ≤ vec_capacity queue.new }
+    ensures capacity { vec_capacity queue.old ≤ vec_capacity queue.new }
+{
+    if !is_queued[light] {
+        is_queued[light] = true;
+        let _ = queue.push(light);
+    }
+}
+
+/// Takes a light from the queue. The turns go round, so that a light that comes anew waits for
+/// those before it.
+fn take_turn(queue: &mut Vec<usize>, turn: &mut usize) -> Option<usize>
+    ensures taken { IfSome result (λ light. IsPermutation queue.old.items (light ∷ queue.new.items)) }
+    ensures none { IfNone result (queue.old.items ≡ []) }
+    ensures left { IfNone result (queue.new.items ≡ []) }
+    ensures capacity { vec_capacity queue.new ≡ vec_capacity queue.old }
+{
+    if queue.is_empty() {
+        return None;
+    }
+    if *turn >= queue.len() {
+        *turn = 0;
+    }
+    let light = queue.swap_remove(*turn);
+    *turn += 1;
+    Some(light)
+}
+
+impl Net {
+    ghost use Rattle.std.specs.Prelude.{◌≡◌, ℕ, ◌+◌, ◌-◌, ◌*◌, ◌<◌, ◌≤◌, ◌⊎◌, Bool, true, false, not, [], ◌||◌, ◌&&◌, ◌==◌, length, slice_index_or, slice_set, vec_len, vec_capacity, count_by, Contains};
+    ghost use Rattle.xw_words.specs.Letter.{IsLetter};
+    ghost use Rattle.xw_words.specs.LetterSet.{has};
+    ghost use Rattle.xw_words.specs.Dictionary.{Dictionary};
+    ghost use Rattle.xw_feas.specs.Board.{light_at};
+    ghost use Rattle.xw_feas.specs.Choices.{IsExact};
+    ghost use Rattle.xw_net.specs.Marks.{side_of, IsPosition, IsPlace, IsSlot, IsReady, IsSettledNet, IsSound, IsHeld, IsHolding, Stays, Drops, cell_at, slot_at};
+    ghost use Rattle.xw_net.specs.Due.{Measure, IsUnderway, IsClosed, HasQueued, and_light, set_cost};
+    ghost use Rattle.xw_net.specs.Nets.{marks_of, word_stands, letter_stands, pending_in, queued_in, IsShaped, IsLeft, HasBits, IsThere, IsQueue, Waits, left_of};
+    ghost use Rattle.xw_net.specs.Filled.{IsUnstripped, IsFilled};
+
+    /// Takes the words with a pending letter at a place out of its light.
+    fn strike_place<R: Rows>(&mut self, rows: &mut R, board: &Board<'_>, light: usize, place: usize)
+        requires shaped { IsShaped board.now self.old }
+        requires bits { HasBits board.now (R.entries rows.old) self.old }
+        requires place { IsPlace board.now light place }
+        ensures entries { R.entries rows.new ≡ R.entries rows.old }
+        ensures risen { R.ticks rows.old ≤ R.ticks rows.new }
+        ensures shaped { IsShaped board.now self.new }
+        ensures rest { IsLeft self.old self.new }
+        ensures bits { HasBits board.now (R.entries rows.old) self.new }
+        ensures letters { self.new.letters ≡ self.old.letters }
+        ensures held { self.new.held ≡ self.old.held }
+        ensures queue { self.new.queue ≡ self.old.queue }
+        ensures is_queued { self.new.is_queued ≡ self.old.is_queued }
+        ensures cleared { (letter : ℕ) → pending_in self.new (slot_at board.now light place) letter ≡ false }
+        ensures less { (slot letter : ℕ) → pending_in self.old slot letter ≡ false → pending_in self.new slot letter ≡ false }
+        ensures kept { (dictionary : Dictionary) (measure : Measure) → IsPosition board.now (R.entries rows.old) dictionary → queued_in self.old light ≡ true → measure.member light ≡ true → IsUnderway board.now dictionary measure (marks_of self.old) (queued_in self.old) (R.ticks rows.old) → IsUnderway board.now dictionary measure (marks_of self.new) (queued_in self.new) (R.ticks rows.new) }
+    {
+        let here = place_of(board, light, place);
+        let pending = self.pending[here.slot];
+        let alive = self.letters[here.cell];
+        self.pending[here.slot] = LetterSet::new();
+        strike_row(
+            rows,
+            &mut self.rows[light],
+            here.count,
+            place,
+            pending,
+            alive,
+        );
+        self.entered[light] &= !pending.has(board.letter(here.cell));
+    }
+
+    /// Whether no letter is pending at a place of a light.
+    fn is_clear(&self, board: &Board<'_>, light: usize, place: usize) -> bool
+        requires shaped { IsShaped board.now self.now }
+        requires place { IsPlace board.now light place }
+        ensures { result ≡ true → (letter : ℕ) → pending_in self.now (slot_at board.now light place) letter ≡ false }
+    {
+        let here = place_of(board, light, place);
+        self.pending[here.slot].is_same(LetterSet::new())
+    }
+
+    /// Takes the words with pending letters out of the light.
+    fn strike_light<R: Rows>(&mut self, rows: &mut R, board: &Board<'_>, light: usize)
+        requires shaped { IsShaped board.now self.old }
+        requires bits { HasBits board.now (R.entries rows.old) self.old }
+        requires light { light < length board.now.lights }
+        ensures entries { R.entries rows.new ≡ R.entries rows.old }
+        ensures risen { R.ticks rows.old ≤ R.ticks rows.new }
+        ensures shaped { IsShaped board.now self.new }
+        ensures rest { IsLeft self.old self.new }
+        ensures bits { HasBits board.now (R.entries rows.old) self.new }
+        ensures letters { self.new.letters ≡ self.old.letters }
+        ensures held { self.new.held ≡ self.old.held }
+        ensures queue { self.new.queue ≡ self.old.queue }
+        ensures is_queued { self.new.is_queued ≡ self.old.is_queued }
+        ensures cleared { (place letter : ℕ) → IsPlace board.now light place → pending_in self.new (slot_at board.now light place) letter ≡ false }
+        ensures less { (slot letter : ℕ) → pending_in self.old slot letter ≡ false → pending_in self.new slot letter ≡ false }
+        ensures kept { (dictionary : Dictionary) (measure : Measure) → IsPosition board.now (R.entries rows.old) dictionary → queued_in self.old light ≡ true → measure.member light ≡ true → IsUnderway board.now dictionary measure (marks_of self.old) (queued_in self.old) (R.ticks rows.old) → IsUnderway board.now dictionary measure (marks_of self.new) (queued_in self.new) (R.ticks rows.new) }
+    {
+        for place in 0..board.light(light).len() {
+            if self.is_clear(board, light, place) {
+                continue;
+            }
+            self.strike_place(rows, board, light, place);
+        }
+    }
+
+    /// Leaves a letter that died at a cell pending for a light there, which is to be seen to.
+    fn leave_pending(&mut self, board: &Board<'_>, light: usize, cell: usize, letter: Letter)
+        requires shaped { IsShaped board.now self.old }
+        requires light { light < length board.now.lights }
+        requires cell { cell < length board.now.open_cells }
+        ensures shaped { IsShaped board.now self.new }
+        ensures rest { IsLeft self.old self.new }
+        ensures same { self.new ≡ record self.old { pending = self.new.pending; queue = self.new.queue; is_queued = self.new.is_queued } }
+        ensures pending { (slot other : ℕ) → pending_in self.new slot other ≡ (pending_in self.old slot other || ((slot == 2 * cell + side_of (light_at board.now light)) && (other == letter))) }
+        ensures queued { (other : ℕ) → queued_in self.new other ≡ (queued_in self.old other || (other == light)) }
+        ensures waits { (other : ℕ) → Waits self.old other → Waits self.new other }
+        ensures longer { vec_len self.new.queue ≤ vec_len self.old.queue + 1 }
+    {
+        let slot = 2 * cell + side(&board.light(light));
+        self.pending[slot].insert(letter);
+        enqueue(&mut self.is_queued, &mut self.queue, light);
+    }
+
+    /// Lets a letter die at a place.
+    fn drop_letter(&mut self, board: &Board<'_>, here: Place, letter: Letter)
+        requires shaped { IsShaped board.now self.old }
+        requires there { IsThere board.now here }
+        requires stood { letter_stands self.old here.cell letter ≡ true }
+        ensures shaped { IsShaped board.now self.new }
+        ensures rest { IsLeft self.old self.new }
+        ensures same { self.new ≡ record self.old { letters = self.new.letters; pending = self.new.pending; queue = self.new.queue; is_queued = self.new.is_queued } }
+        ensures fewer { left_of self.new ≤ left_of self.old }
+        ensures waits { (other : ℕ) → Waits self.old other → Waits self.new other }
+        ensures drops { Drops board.now here.light here.place letter (marks_of self.old) (marks_of self.new) }
+    {
+        self.letters[here.cell].remove(letter);
+        if let Some(other) = board.crossing(here.light, here.place) {
+            self.leave_pending(board, other, here.cell, letter);
+        }
+    }
+
+    /// Sees to one letter that stands at a place: it keeps its word, gets another one, or dies.
+    fn keep_letter<R: Rows>(&mut self, rows: &mut R, board: &Board<'_>, here: Place, letter: Letter)
+        requires letter { IsLetter letter }
+        requires shaped { IsShaped board.now self.old }
+        requires bits { HasBits board.now (R.entries rows.old) self.old }
+        requires there { IsThere board.now here }
+        requires stands { letter_stands self.old here.cell letter ≡ true }
+        requires open { slice_index_or self.old.entered.items here.light false ≡ false }
+        ensures entries { R.entries rows.new ≡ R.entries rows.old }
+        ensures risen { R.ticks rows.old ≤ R.ticks rows.new }
+        ensures shaped { IsShaped board.now self.new }
+        ensures rest { IsLeft self.old self.new }
+        ensures bits { HasBits board.now (R.entries rows.old) self.new }
+        ensures fewer { left_of self.new ≤ left_of self.old }
+        ensures entered { self.new.entered.items ≡ self.old.entered.items }
+        ensures others { (other : ℕ) → (other ≡ letter → ⊥) → letter_stands self.old here.cell other ≡ true → letter_stands self.new here.cell other ≡ true }
+        ensures alive { (cell other : ℕ) → letter_stands self.new cell other ≡ true → letter_stands self.old cell other ≡ true }
+        ensures waits { (other : ℕ) → Waits self.old other → Waits self.new other }
+        ensures held { (dictionary : Dictionary) → IsPosition board.now (R.entries rows.old) dictionary → letter_stands self.new here.cell letter ≡ true → IsHeld board.now dictionary (marks_of self.new) here.light here.place letter }
+        ensures stays { (dictionary : Dictionary) → IsPosition board.now (R.entries rows.old) dictionary → Stays board.now dictionary here.light (marks_of self.old) (marks_of self.new) }
+        ensures holding { (dictionary : Dictionary) → IsPosition board.now (R.entries rows.old) dictionary → IsHolding board.now dictionary (marks_of self.old) → IsHolding board.now dictionary (marks_of self.new) }
+        ensures pending { (slot other : ℕ) → pending_in self.new slot other ≡ true → (pending_in self.old slot other ≡ true) ⊎ IsSlot board.now slot }
+        ensures kept { (dictionary : Dictionary) (measure : Measure) → IsPosition board.now (R.entries rows.old) dictionary → measure.member here.light ≡ true → IsUnderway board.now dictionary measure (marks_of self.old) (and_light (queued_in self.old) here.light) (R.ticks rows.old) → IsUnderway board.now dictionary measure (marks_of self.new) (and_light (queued_in self.new) here.light) (R.ticks rows.new) }
+    {
+        let row = &self.rows[here.light];
+        if !find_support(rows, row, here, letter, &mut self.held, &mut self.restart) {
+            self.drop_letter(board, here, letter);
+        }
+    }
+
+    /// Sees to each letter at a place.
+    fn keep_place<R: Rows>(&mut self, rows: &mut R, board: &Board<'_>, light: usize, place: usize)
+        requires shaped { IsShaped board.now self.old }
+        requires bits { HasBits board.now (R.entries rows.old) self.old }
+        requires place { IsPlace board.now light place }
+        requires open { slice_index_or self.old.entered.items light false ≡ false }
+        ensures entries { R.entries rows.new ≡ R.entries rows.old }
+        ensures risen { R.ticks rows.old ≤ R.ticks rows.new }
+        ensures shaped { IsShaped board.now self.new }
+        ensures rest { IsLeft self.old self.new }
+        ensures bits { HasBits board.now (R.entries rows.old) self.new }
+        ensures fewer { left_of self.new ≤ left_of self.old }
+        ensures entered { self.new.entered.items ≡ self.old.entered.items }
+        ensures waits { (other : ℕ) → Waits self.old other → Waits self.new other }
+        ensures held { (dictionary : Dictionary) → IsPosition board.now (R.entries rows.old) dictionary → (letter : ℕ) → letter_stands self.new (cell_at board.now light place) letter ≡ true → IsHeld board.now dictionary (marks_of self.new) light place letter }
+        ensures stays { (dictionary : Dictionary) → IsPosition board.now (R.entries rows.old) dictionary → Stays board.now dictionary light (marks_of self.old) (marks_of self.new) }
+        ensures holding { (dictionary : Dictionary) → IsPosition board.now (R.entries rows.old) dictionary → IsHolding board.now dictionary (marks_of self.old) → IsHolding board.now dictionary (marks_of self.new) }
+        ensures pending { (slot other : ℕ) → pending_in self.new slot other ≡ true → (pending_in self.old slot other ≡ true) ⊎ IsSlot board.now slot }
+        ensures kept { (dictionary : Dictionary) (measure : Measure) → IsPosition board.now (R.entries rows.old) dictionary → measure.member light ≡ true → IsUnderway board.now dictionary measure (marks_of self.old) (and_light (queued_in self.old) light) (R.ticks rows.old) → IsUnderway board.now dictionary measure (marks_of self.new) (and_light (queued_in self.new) light) (R.ticks rows.new) }
+    {
+        let here = place_of(board, light, place);
+        let alive = self.letters[here.cell];
+        let mut from = 0;
+        while let Some(number) = alive.next_place(from) {
+            self.keep_letter(rows, board, here, Letter::at(number));
+            from = number + 1;
+        }
+    }
+
+    /// Sees to each letter at each place of the light.
+    fn keep_light<R: Rows>(&mut self, rows: &mut R, board: &Board<'_>, light: usize)
+        requires shaped { IsShaped board.now self.old }
+        requires bits { HasBits board.now (R.entries rows.old) self.old }
+        requires light { light < length board.now.lights }
+        ensures entries { R.entries rows.new ≡ R.entries rows.old }
+        ensures risen { R.ticks rows.old ≤ R.ticks rows.new }
+        ensures shaped { IsShaped board.now self.new }
+        ensures rest { IsLeft self.old self.new }
+        ensures bits { HasBits board.now (R.entries rows.old) self.new }
+        ensures fewer { left_of self.new ≤ left_of self.old }
+        ensures waits { (other : ℕ) → Waits self.old other → Waits self.new other }
+        ensures held { (dictionary : Dictionary) → IsPosition board.now (R.entries rows.old) dictionary → (place letter : ℕ) → IsPlace board.now light place → letter_stands self.new (cell_at board.now light place) letter ≡ true → IsHeld board.now dictionary (marks_of self.new) light place letter }
+        ensures holding { (dictionary : Dictionary) → IsPosition board.now (R.entries rows.old) dictionary → IsHolding board.now dictionary (marks_of self.old) → IsHolding board.now dictionary (marks_of self.new) }
+        ensures pending { (slot other : ℕ) → pending_in self.new slot other ≡ true → (pending_in self.old slot other ≡ true) ⊎ IsSlot board.now slot }
+        ensures kept { (dictionary : Dictionary) (measure : Measure) → IsPosition board.now (R.entries rows.old) dictionary → measure.member light ≡ true → IsUnderway board.now dictionary measure (marks_of self.old) (and_light (queued_in self.old) light) (R.ticks rows.old) → IsUnderway board.now dictionary measure (marks_of self.new) (and_light (queued_in self.new) light) (R.ticks rows.new) }
+    {
+        if self.entered[light] {
+            return;
+        }
+        for place in 0..board.light(light).len() {
+            self.keep_place(rows, board, light, place);
+        }
+    }
+
+    /// Sees to a light that was taken from the queue.
+    fn see_to<R: Rows>(&mut self, rows: &mut R, board: &Board<'_>, light: usize)
+        requires shaped { IsShaped board.now self.old }
+        requires bits { HasBits board.now (R.entries rows.old) self.old }
+        requires light { light < length board.now.lights }
+        requires room { vec_len self.old.queue + count_by (λ queued. not queued) self.old.is_queued.items < vec_capacity self.old.queue }
+        ensures entries { R.entries rows.new ≡ R.entries rows.old }
+        ensures risen { R.ticks rows.old ≤ R.ticks rows.new }
+        ensures shaped { IsShaped board.now self.new }
+        ensures rest { IsLeft self.old self.new }
+        ensures bits { HasBits board.now (R.entries rows.old) self.new }
+        ensures fewer { left_of self.new ≤ left_of self.old }
+        ensures waits { (other : ℕ) → ((other ≡ light → ⊥) → Waits self.old other) → Waits self.new other }
+        ensures holding { (dictionary : Dictionary) → IsPosition board.now (R.entries rows.old) dictionary → IsHolding board.now dictionary (marks_of self.old) → IsHolding board.now dictionary (marks_of self.new) }
+        ensures pending { (slot other : ℕ) → pending_in self.new slot other ≡ true → (pending_in self.old slot other ≡ true) ⊎ IsSlot board.now slot }
+        ensures kept { (dictionary : Dictionary) (measure : Measure) → IsPosition board.now (R.entries rows.old) dictionary → IsUnderway board.now dictionary measure (marks_of self.old) (queued_in self.old) (R.ticks rows.old) → IsUnderway board.now dictionary measure (marks_of self.new) (queued_in self.new) (R.ticks rows.new) }
+    {
+        if self.is_queued[light] {
+            self.strike_light(rows, board, light);
+            self.is_queued[light] = false;
+            self.keep_light(rows, board, light);
+        }
+    }
+
+    /// Takes away words and letters until those that are left support one another.
+    pub(crate) fn strip_queued<R: Rows>(&mut self, rows: &mut R, board: &Board<'_>)
+        requires shaped { IsShaped board.now self.old }
+        requires bits { HasBits board.now (R.entries rows.old) self.old }
+        requires queue { IsQueue self.old }
+        ensures entries { R.entries rows.new ≡ R.entries rows.old }
+        ensures risen { R.ticks rows.old ≤ R.ticks rows.new }
+        ensures shaped { IsShaped board.now self.new }
+        ensures rest { IsLeft self.old self.new }
+        ensures bits { HasBits board.now (R.entries rows.old) self.new }
+        ensures holding { (dictionary : Dictionary) → IsPosition board.now (R.entries rows.old) dictionary → IsHolding board.now dictionary (marks_of self.old) → IsHolding board.now dictionary (marks_of self.new) }
+        ensures empty { self.new.queue.items ≡ [] }
+        ensures none_queued { (light : ℕ) → queued_in self.new light ≡ false }
+        ensures none_pending { (dictionary : Dictionary) → IsPosition board.now (R.entries rows.old) dictionary → IsReady board.now dictionary (marks_of self.old) → ((slot letter : ℕ) → pending_in self.old slot letter ≡ true → IsSlot board.now slot) → (slot letter : ℕ) → pending_in self.new slot letter ≡ false }
+        ensures settled { (dictionary : Dictionary) → IsPosition board.now (R.entries rows.old) dictionary → IsReady board.now dictionary (marks_of self.old) → IsSettledNet board.now dictionary (marks_of self.new) }
+        ensures exact { (dictionary : Dictionary) → IsPosition board.now (R.entries rows.old) dictionary → IsReady board.now dictionary (marks_of self.old) → IsExact board.now dictionary (word_stands self.new) (letter_stands self.new) }
+        ensures filled { (dictionary : Dictionary) → IsPosition board.now (R.entries rows.old) dictionary → IsUnstripped board.now dictionary self.old → IsFilled board.now dictionary self.new }
+        ensures cost { (dictionary : Dictionary) (member : ℕ → Bool) → IsPosition board.now (R.entries rows.old) dictionary → IsReady board.now dictionary (marks_of self.old) → IsClosed board.now dictionary member (letter_stands self.old) → HasQueued board.now member (marks_of self.old) → R.ticks rows.new ≤ R.ticks rows.old + set_cost board.now dictionary member }
+    {
+        let mut turn = 0;
+        while let Some(light) = take_turn(&mut self.queue, &mut turn) {
+            self.see_to(rows, board, light);
+        }
+    }
+}

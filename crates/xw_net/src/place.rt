@@ -1,0 +1,56 @@
+//! Places of lights.
+ghost use Rattle.std.specs.Prelude.{◌≡◌, ◌<◌, ◌≤◌, ◌+◌, ◌*◌, ◌^◌, length, slice_index};
+ghost use Rattle.xw_feas.specs.Board.{light_at};
+ghost use Rattle.xw_net.specs.Marks.{side_of, IsPlace, cell_at, slot_at};
+ghost use Rattle.xw_net.specs.Nets.{IsThere};
+
+use xw_feas::board::{Board, Cells};
+
+/// A place of a light.
+#[derive(Clone, Copy)]
+pub(crate) struct Place {
+    pub light: usize,
+    pub place: usize,
+    pub count: usize,
+    pub cell: usize,
+    pub slot: usize,
+}
+
+/// 0 for cells of a light across, and 1 for down.
+pub(crate) fn side(cells: &Cells) -> usize
+    ensures side { result ≡ side_of cells.now }
+    ensures small { result ≤ 1 }
+{
+    if cells.len() < 2 {
+        return 1;
+    }
+    let (first, second) = (cells.at(0), cells.at(1));
+    if first < second && second - first == 1 {
+        0
+    } else {
+        1
+    }
+}
+
+/// A place of a light of a board.
+pub(crate) fn place_of(board: &Board<'_>, light: usize, place: usize) -> Place
+    requires place { IsPlace board.now light place }
+    requires few { length board.now.open_cells < 2 ^ 32 }
+    ensures light { result.light ≡ light }
+    ensures place { result.place ≡ place }
+    ensures there { IsThere board.now result }
+    ensures cell { result.cell ≡ cell_at board.now light place }
+    ensures slot { result.slot ≡ slot_at board.now light place }
+    ensures in_board { result.cell < length board.now.open_cells }
+    ensures in_slots { result.slot < 2 * length board.now.open_cells }
+{
+    let cells = board.light(light);
+    let cell = cells.at(place);
+    Place {
+        light,
+        place,
+        count: cells.len(),
+        cell,
+        slot: 2 * cell + side(&cells),
+    }
+}

@@ -1,0 +1,51 @@
+//! What a net answers.
+use crate::net::Net;
+use xw_grid::lights::Lights;
+use xw_words::letter_set::LetterSet;
+
+impl Net {
+    ghost use Rattle.std.specs.Prelude.{◌≡◌, ◌<◌, length};
+    ghost use Rattle.xw_feas.specs.Flags.{standing_count};
+    ghost use Rattle.xw_net.specs.Net.{sets_of, flags_at, StandsFor, first_from};
+
+    /// How many words of the light at a place stand.
+    pub fn word_count(&self, lights: &Lights, light: usize) -> usize
+        requires light { light < length lights.now }
+        requires settled { StandsFor lights.now self.now }
+        ensures { result ≡ standing_count (flags_at lights.now self.now light) }
+    {
+        let row = &self.rows[light];
+        let _ = row.len();
+        let listed = row.count();
+        if self.entered[light] {
+            listed + 1
+        } else {
+            listed
+        }
+    }
+
+    /// The number of the first word that stands of the light at a place, from a number on.
+    pub fn next_word(&self, lights: &Lights, light: usize, from: usize) -> Option<usize>
+        requires light { light < length lights.now }
+        requires settled { StandsFor lights.now self.now }
+        ensures { result ≡ first_from (flags_at lights.now self.now light) from }
+    {
+        let row = &self.rows[light];
+        if let Some(place) = row.next_one(from) {
+            return Some(place);
+        }
+        if from <= row.len() && self.entered[light] {
+            Some(row.len())
+        } else {
+            None
+        }
+    }
+
+    /// For each cell the letters that stand.
+    #[tactic(auto, unfolding(crate::specs::Net::sets_of))]
+    pub fn letters(&self) -> &[LetterSet]
+        ensures { result.now ≡ sets_of self.now }
+    {
+        &self.letters
+    }
+}

@@ -1,0 +1,125 @@
+//! Room for an edit, made before it.
+use crate::net::Net;
+use crate::room::{Spare, push_bits, reserve_list, reserve_rows};
+use std::alloc::{AllocError, Global};
+use xw_feas::edit::Refusal;
+use xw_grid::fault::GridFault;
+use xw_grid::lights::Lights;
+use xw_words::bank::Bank;
+use xw_words::fault::WordFault;
+
+impl Net {
+    ghost use Rattle.std.specs.Prelude.{◌≡◌, ◌+◌, ◌≤◌, ℕ, length, vec_len, true, false, None, Some, is_some, IfSome, IfOk, IfErr, OnOk, OnErr, if◌then◌else◌};
+    ghost use Rattle.xw_words.specs.Dictionary.{row as words_of};
+    ghost use Rattle.xw_feas.specs.Rows.{grows};
+    ghost use Rattle.xw_net.specs.Net.{known_counts, HasRoomFor, StandsFor, IsAlike};
+    ghost use Rattle.xw_net.specs.Room.{counts_of, with_word, IsRoomier, HaveBitRoom, HaveBitMore, IsWhole, HasRoom, HasSpare};
+
+    /// Makes room for these lights in place of those that the net has.
+    pub(crate) fn reserve_lights(
+        &mut self,
+        alloc: Global,
+        lights: &Lights,
+        bank: &Bank,
+    ) -> Result<Spare, AllocError>
+        ensures spare { IfOk result (λ spare. HasSpare lights.now (counts_of (words_of bank.now.words)) self.new spare) }
+        ensures same { IsRoomier self.old self.new }
+    {
+        reserve_list(&mut self.queue, lights.len())?;
+        reserve_list(&mut self.stack, lights.len())?;
+        Spare::of(alloc, lights, bank)
+    }
+
+    /// Makes room for these lights, which are those that the net has, and for one more word of a length.
+    pub(crate) fn reserve_word(
+        &mut self,
+        lights: &Lights,
+        bank: &Bank,
+        count: usize,
+    ) -> Result<(), AllocError>
+        requires rows { length lights.now ≤ vec_len self.old.rows }
+        requires base { length lights.now ≤ vec_len self.old.base }
+        ensures room { OnOk result (HasRoom lights.now (with_word count (counts_of (words_of bank.now.words))) self.new) }
+        ensures same { IsRoomier self.old self.new }
+    {
+        reserve_list(&mut self.queue, lights.len())?;
+        reserve_list(&mut self.stack, lights.len())?;
+        reserve_rows(&mut self.rows, lights, bank, count)?;
+        reserve_rows(&mut self.base, lights, bank, count)
+    }
+
+    /// Makes room for these lights, to be taken when the net is settled on them.
+    fn reserve_shape(&mut self, lights: &Lights, bank: &Bank) -> Result<(), Refusal>
+        ensures room { OnOk result (HasRoomFor lights.now (known_counts bank.now.words) self.new) }
+        ensures waits { OnOk result (is_some self.new.spare ≡ true) }
+        ensures err { IfErr result (λ refusal. refusal ≡ Refusal.Grid GridFault.Memory) }
+        ensures same { IsAlike self.old self.new }
+        ensures spare { OnErr result (self.new.spare ≡ self.old.spare) }
+    {
+        let alloc = self.alloc;
+        match self.reserve_lights(alloc, lights, bank) {
+            Ok(spare) => {
+                self.spare = Some(spare);
+                Ok(())
+            }
+            Err(_) => Err(Refusal::Grid(GridFault::Memory)),
+        }
+    }
+
+    /// Makes room for one more word of a length. Arrays that wait for other lights are given up.
+    fn reserve_length(&mut self, lights: &Lights, bank: &Bank, count: usize) -> Result<(), Refusal>
+        requires { StandsFor lights.now self.old }
+        ensures room { OnOk result (HasRoomFor lights.now (with_word count (known_counts bank.now.words)) self.new) }
+        ensures none_waits { OnOk result (is_some self.new.spare ≡ false) }
+        ensures err { IfErr result (λ refusal. refusal ≡ Refusal.Word WordFault.Memory) }
+        ensures same { IsAlike self.old self.new }
+        ensures spare { OnErr result (self.new.spare ≡ self.old.spare) }
+    {
+        match self.reserve_word(lights, bank, count) {
+            Ok(()) => {
+                self.spare = None;
+                Ok(())
+            }
+            Err(_) => Err(Refusal::Word(WordFault::Memory)),
+        }
+    }
+
+    /// Makes room for these lights; with a length, also for one more word of it.
+    pub fn reserve(
+        &mut self,
+        lights: &Lights,
+        bank: &Bank,
+        len: Option<usize>,
+    ) -> Result<(), Refusal>
+        requires { IfSome len (λ _. StandsFor lights.now self.old) }
+        ensures room { OnOk result (HasRoomFor lights.now (λ count. known_counts bank.now.words count + (if grows len count then 1 else 0)) self.new) }
+        ensures waits { len ≡ None → OnOk result (is_some self.new.spare ≡ true) }
+        ensures none_waits { (count : ℕ) → len ≡ Some count → OnOk result (is_some self.new.spare ≡ false) }
+        ensures grid_memory { len ≡ None → IfErr result (λ refusal. refusal ≡ Refusal.Grid GridFault.Memory) }
+        ensures word_memory { (count : ℕ) → len ≡ Some count → IfErr result (λ refusal. refusal ≡ Refusal.Word WordFault.Memory) }
+        ensures same { IsAlike self.old self.new }
+        ensures spare { OnErr result (self.new.spare ≡ self.old.spare) }
+    {
+        match len {
+            None => self.reserve_shape(lights, bank),
+            Some(count) => self.reserve_length(lights, bank, count),
+        }
+    }
+
+    /// Adds a false bit to the rows of each light of so many cells, for a word that is new.
+    #[tactic(auto, using(crate::proofs::Rooms::bit_steps))]
+    pub(crate) fn push_word(&mut self, lights: &Lights, count: usize)
+        requires rows { length lights.now ≤ vec_len self.old.rows }
+        requires base { length lights.now ≤ vec_len self.old.base }
+        requires room_rows { HaveBitRoom lights.now count self.old.rows.items }
+        requires room_base { HaveBitRoom lights.now count self.old.base.items }
+        ensures rows { HaveBitMore lights.now count self.old.rows.items self.new.rows.items }
+        ensures base { HaveBitMore lights.now count self.old.base.items self.new.base.items }
+        ensures rest { self.new ≡ record self.old { rows = self.new.rows; base = self.new.base } }
+        ensures whole { (counts : ℕ → ℕ) → IsWhole lights.now counts self.old → IsWhole lights.now (with_word count counts) self.new }
+        ensures room { (counts : ℕ → ℕ) → HasRoom lights.now counts self.old → HasRoom lights.now counts self.new }
+    {
+        push_bits(&mut self.rows, lights, count);
+        push_bits(&mut self.base, lights, count);
+    }
+}

@@ -1,0 +1,214 @@
+//! The room that a net needs for its lights, its cells and its slots.
+ghost use Rattle.std.specs.Prelude.{◌≡◌, ℕ, ◌+◌, ◌-◌, ◌^◌, ◌<◌, ◌≤◌, false, [], length, replicate, vec_capacity, IfOk, OnOk};
+ghost use Rattle.xw_words.specs.Dictionary.{row as words_of};
+ghost use Rattle.xw_net.specs.Room.{counts_of, with_word, size_at as size_of_light, row_at, AreFalse, AreEmpty, AreRoomier, HaveRoom, HaveBitRoom, HaveBitMore};
+
+use std::alloc::{AllocError, Global};
+use xw_grid::lights::Lights;
+use xw_words::bank::Bank;
+use xw_words::bit_row::BitRow;
+use xw_words::letter_set::LetterSet;
+
+/// Where no word is held.
+pub(crate) const NOWHERE: usize = usize::MAX;
+
+/// How many cells the light at a place has.
+#[tactic(auto, using(crate::proofs::Rooms::size_nowhere))]
+pub(crate) fn size_at(lights: &Lights, light: usize) -> usize
+    ensures { result ≡ size_of_light lights.now light }
+{
+    match lights.get(light) {
+        Some(light) => light.size as usize,
+        None => 0,
+    }
+}
+
+/// How many words of a length are known.
+#[tactic(auto, using(crate::proofs::Rooms::known_few))]
+fn known(bank: &Bank, count: usize) -> usize
+    ensures words { result ≡ counts_of (words_of bank.now.words) count }
+    ensures few { result ≤ 1048576 }
+{
+    bank.known(count)
+}
+
+/// How many words of a length are known once there is one more of the length that grows.
+fn known_with(bank: &Bank, grown: usize, count: usize) -> usize
+    ensures words { result ≡ with_word grown (counts_of (words_of bank.now.words)) count }
+    ensures few { result ≤ 1048577 }
+{
+    let known = known(bank, count);
+    if count == grown { known + 1 } else { known }
+}
+
+/// Makes room in a row for so many bits in all.
+fn reserve_row(row: &mut BitRow, room: usize) -> Result<(), AllocError>
+    requires { room < 2 ^ 57 }
+    ensures bits { row.new.bits ≡ row.old.bits }
+    ensures more { row.old.room ≤ row.new.room }
+    ensures room { OnOk result (room ≤ row.new.room) }
+{
+    match row.reserve(room) {
+        Ok(()) => Ok(()),
+        Err(_) => Err(AllocError),
+    }
+}
+
+/// A row of no bits, with room for so many.
+fn make_empty_row(alloc: Global, room: usize) -> Result<BitRow, AllocError>
+    requires { room < 2 ^ 57 }
+    ensures bits { IfOk result (λ row. row.bits ≡ []) }
+    ensures room { IfOk result (λ row. room ≤ row.room) }
+{
+    let mut row = BitRow::new(alloc);
+    reserve_row(&mut row, room)?;
+    Ok(row)
+}
+
+/// Puts so many false bits into an empty row.
+pub(crate) fn fill_row(row: &mut BitRow, bits: usize)
+    requires empty { row.old.bits ≡ [] }
+    requires room { bits ≤ row.old.room }
+    ensures bits { row.new.bits ≡ replicate bits false }
+    ensures room { row.old.room ≤ row.new.room }
+{
+    for _ in 0..bits {
+        row.push(false);
+    }
+}
+
+/// A row of so many false bits.
+fn make_row(alloc: Global, bits: usize) -> Result<BitRow, AllocError>
+    requires { bits < 2 ^ 57 }
+    ensures bits { IfOk result (λ row. row.bits ≡ replicate bits false) }
+    ensures room { IfOk result (λ row. bits ≤ row.room) }
+{
+    let mut row = make_empty_row(alloc, bits)?;
+    fill_row(&mut row, bits);
+    Ok(row)
+}
+
+/// For each light a row with a false bit for each known word of its length.
+pub(crate) fn make_rows(
+    alloc: Global,
+    lights: &Lights,
+    bank: &Bank,
+) -> Result<Vec<BitRow>, AllocError>
+    ensures { IfOk result (λ rows. AreFalse lights.now (counts_of (words_of bank.now.words)) rows.items) }
+{
+    let mut rows = Vec::new(alloc);
+    for light in 0..lights.len() {
+        let bits = known(bank, size_at(lights, light));
+        rows.push(make_row(alloc, bits)?)?;
+    }
+    Ok(rows)
+}
+
+/// For each light a row of no bits, with room for one for each known word of its length.
+fn make_empty_rows(alloc: Global, lights: &Lights, bank: &Bank) -> Result<Vec<BitRow>, AllocError>
+    ensures { IfOk result (λ rows. AreEmpty lights.now (counts_of (words_of bank.now.words)) rows.items) }
+{
+    let mut rows = Vec::new(alloc);
+    for light in 0..lights.len() {
+        let room = known(bank, size_at(lights, light));
+        rows.push(make_empty_row(alloc, room)?)?;
+    }
+    Ok(rows)
+}
+
+/// So many flags, all false.
+pub(crate) fn make_flags(alloc: Global, count: usize) -> Result<Vec<bool>, AllocError>
+    ensures { IfOk result (λ flags. flags.items ≡ replicate count false) }
+{
+    vec![in alloc; false; count]
+}
+
+/// So many sets of no letters.
+pub(crate) fn make_sets(alloc: Global, count: usize) -> Result<Vec<LetterSet>, AllocError>
+    ensures { IfOk result (λ sets. sets.items ≡ replicate count 0) }
+{
+    vec![in alloc; LetterSet::new(); count]
+}
+
+/// So many places of words, none of which is that of a word.
+pub(crate) fn make_held(alloc: Global, count: usize) -> Result<Vec<usize>, AllocError>
+    ensures { IfOk result (λ held. held.items ≡ replicate count (2 ^ 64 - 1)) }
+{
+    vec![in alloc; NOWHERE; count]
+}
+
+/// Makes room for so many lights in all.
+pub(crate) fn reserve_list(list: &mut Vec<usize>, count: usize) -> Result<(), AllocError>
+    ensures items { list.new.items ≡ list.old.items }
+    ensures room { OnOk result (count ≤ vec_capacity list.new) }
+    ensures more { vec_capacity list.old ≤ vec_capacity list.new }
+{
+    if list.len() < count {
+        list.reserve_exact(count - list.len())?;
+    }
+    Ok(())
+}
+
+/// Makes room in the rows for the known words and for one more of a length.
+pub(crate) fn reserve_rows(
+    rows: &mut [BitRow],
+    lights: &Lights,
+    bank: &Bank,
+    grown: usize,
+) -> Result<(), AllocError>
+    requires { length lights.now ≤ length rows.old }
+    ensures roomier { AreRoomier rows.old rows.new }
+    ensures room { OnOk result (HaveRoom lights.now (with_word grown (counts_of (words_of bank.now.words))) rows.new) }
+{
+    for light in 0..lights.len() {
+        let room = known_with(bank, grown, size_at(lights, light));
+        let row = &mut rows[light];
+        reserve_row(row, room)?;
+    }
+    Ok(())
+}
+
+/// Adds a false bit to the row of each light of so many cells.
+pub(crate) fn push_bits(rows: &mut [BitRow], lights: &Lights, count: usize)
+    requires lights { length lights.now ≤ length rows.old }
+    requires room { HaveBitRoom lights.now count rows.old }
+    ensures bits { HaveBitMore lights.now count rows.old rows.new }
+    ensures more { (light : ℕ) → (row_at rows.old light).room ≤ (row_at rows.new light).room }
+{
+    for light in 0..lights.len() {
+        if size_at(lights, light) == count {
+            let row = &mut rows[light];
+            row.push(false);
+        }
+    }
+}
+
+/// The arrays of a net for lights to come.
+#[derive(Drop)]
+pub(crate) struct Spare {
+    pub(crate) rows: Vec<BitRow>,
+    pub(crate) base: Vec<BitRow>,
+    pub(crate) entered: Vec<bool>,
+    pub(crate) is_queued: Vec<bool>,
+    pub(crate) is_marked: Vec<bool>,
+}
+
+impl Spare {
+    ghost use Rattle.std.specs.Prelude.{IfOk};
+    ghost use Rattle.xw_words.specs.Dictionary.{row as words_of};
+    ghost use Rattle.xw_net.specs.Room.{counts_of, IsSpare};
+
+    /// Arrays for these lights.
+    pub(crate) fn of(alloc: Global, lights: &Lights, bank: &Bank) -> Result<Spare, AllocError>
+        ensures { IfOk result (λ spare. IsSpare lights.now (counts_of (words_of bank.now.words)) spare) }
+    {
+        let count = lights.len();
+        Ok(Spare {
+            rows: make_empty_rows(alloc, lights, bank)?,
+            base: make_empty_rows(alloc, lights, bank)?,
+            entered: make_flags(alloc, count)?,
+            is_queued: make_flags(alloc, count)?,
+            is_marked: make_flags(alloc, count)?,
+        })
+    }
+}

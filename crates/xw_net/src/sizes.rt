@@ -1,0 +1,80 @@
+//! How much a net keeps.
+ghost use Rattle.std.specs.Prelude.{◌≡◌};
+ghost use Rattle.xw_net.specs.Sizes.{rows_waiting, lists_waiting, row_lists, other_lists};
+
+use crate::net::Net;
+use crate::room::Spare;
+
+/// How long the lists of a net are.
+#[derive(Clone, Copy, Debug, PartialEq, Eq)]
+pub struct Sizes {
+    /// Those of rows of bits.
+    pub rows: [usize; 4],
+    /// All others.
+    pub lists: [usize; 12],
+}
+
+fn waiting_rows(spare: &Option<Spare>) -> [usize; 2]
+    ensures { result ≡ rows_waiting spare.now }
+{
+    match spare {
+        None => [0; 2],
+        Some(spare) => [spare.rows.len(), spare.base.len()],
+    }
+}
+
+fn waiting_lists(spare: &Option<Spare>) -> [usize; 3]
+    ensures { result ≡ lists_waiting spare.now }
+{
+    match spare {
+        None => [0; 3],
+        Some(spare) => [
+            spare.entered.len(),
+            spare.is_queued.len(),
+            spare.is_marked.len(),
+        ],
+    }
+}
+
+impl Net {
+    /// How long each list is; of those that wait for an edit none is where they do not.
+    pub fn sizes(&self) -> Sizes
+        ensures rows { result.rows ≡ row_lists self.now }
+        ensures lists { result.lists ≡ other_lists self.now }
+    {
+        let Net {
+            alloc: _,
+            rows,
+            base,
+            entered,
+            letters,
+            held,
+            restart,
+            pending,
+            queue,
+            is_queued,
+            stack,
+            is_marked,
+            spare,
+        } = self;
+        let [waiting_rows, waiting_base] = waiting_rows(spare);
+        let [waiting_entered, waiting_queued, waiting_marked] = waiting_lists(spare);
+        Sizes {
+            rows: [rows.len(), base.len(), waiting_rows, waiting_base],
+            lists: [
+                entered.len(),
+                letters.len(),
+                held.len(),
+                restart.len(),
+                pending.len(),
+                queue.len(),
+                is_queued.len(),
+                stack.len(),
+                is_marked.len(),
+                waiting_entered,
+                waiting_queued,
+                waiting_marked,
+            ],
+        }
+    }
+}

@@ -1,0 +1,110 @@
+//! The words that support a letter at a place of a light.
+ghost use Rattle.std.specs.Prelude.{◌≡◌, ℕ, ◌+◌, ◌-◌, ◌*◌, ◌/◌, ◌^◌, ◌<◌, ◌≤◌, true, false, not, ◌&&◌, length, slice_index_or, IfSome, IfNone, MatchOption, if◌then◌else◌};
+ghost use Rattle.xw_words.specs.Columns.{has_letter};
+ghost use Rattle.xw_words.specs.Letter.{IsLetter};
+ghost use Rattle.xw_words.specs.LetterSet.{has};
+ghost use Rattle.xw_feas.specs.Flags.{set_has};
+ghost use Rattle.xw_net.specs.Region.{chunks_of};
+ghost use Rattle.xw_net.specs.Support.{supports, letter_count, Strikes, AreApart, Held, Finds, is_read_in, search_from, place_for};
+
+use crate::place::Place;
+use xw_words::bit_row::BitRow;
+use xw_words::letter::Letter;
+use xw_words::letter_set::LetterSet;
+use xw_words::rows::Rows;
+
+/// The first word of the row, from a chunk on, that has the letter at the position.
+fn first_support<R: Rows>(
+    rows: &mut R,
+    row: &BitRow,
+    count: usize,
+    position: usize,
+    letter: Letter,
+    from: usize,
+) -> Option<usize>
+    ensures entries { R.entries rows.new ≡ R.entries rows.old }
+    ensures risen { R.ticks rows.old ≤ R.ticks rows.new }
+    ensures found { IfSome result (λ word. (64 * from ≤ word) × (supports row.now.bits (R.entries rows.old count) position letter word ≡ true)) }
+    ensures first { IfSome result (λ word. (other : ℕ) → 64 * from ≤ other → other < word → supports row.now.bits (R.entries rows.old count) position letter other ≡ false) }
+    ensures none { IfNone result ((other : ℕ) → 64 * from ≤ other → supports row.now.bits (R.entries rows.old count) position letter other ≡ false) }
+    ensures cost { MatchOption result (R.ticks rows.new ≤ R.ticks rows.old + (chunks_of (length row.now.bits) - from)) (λ word. R.ticks rows.new + from ≤ R.ticks rows.old + (word / 64 + 1)) }
+{
+    rows.next_with(count, position, letter, row, from)
+}
+
+/// Takes the words with a pending letter at the position out of the row. Where fewer letters are left,
+/// the words with one of these stay.
+pub(crate) fn strike_row<R: Rows>(
+    rows: &mut R,
+    row: &mut BitRow,
+    count: usize,
+    position: usize,
+    pending: LetterSet,
+    alive: LetterSet,
+)
+    requires { length row.old.bits ≡ length (R.entries rows.old count) }
+    ensures entries { R.entries rows.new ≡ R.entries rows.old }
+    ensures risen { R.ticks rows.old ≤ R.ticks rows.new }
+    ensures len { length row.new.bits ≡ length row.old.bits }
+    ensures strikes { AreApart pending alive → Strikes (R.entries rows.old count) position pending alive (λ word. slice_index_or row.old.bits word false) (λ word. slice_index_or row.new.bits word false) }
+    ensures room { row.new.room ≡ row.old.room }
+    ensures cost { R.ticks rows.new ≤ R.ticks rows.old + chunks_of (length row.old.bits) * letter_count pending }
+{
+    if alive.len() < pending.len() {
+        rows.keep_columns(count, position, alive, row);
+    } else {
+        rows.strike_columns(count, position, pending, row);
+    }
+}
+
+/// Where the search for another word begins, unless the one that is held still stands.
+fn search_start(row: &BitRow, held: usize, is_new: bool) -> Option<usize>
+    ensures stands { IfNone result ((held < length row.now.bits) × (slice_index_or row.now.bits held false ≡ true)) }
+    ensures gone { IfSome result (λ _. held < length row.now.bits → slice_index_or row.now.bits held false ≡ false) }
+    ensures known { IfSome result (λ from. held < length row.now.bits → is_new ≡ false → from ≡ held / 64) }
+    ensures past { IfSome result (λ from. length row.now.bits ≤ held → from ≡ 0) }
+    ensures start { IfSome result (λ from. is_new ≡ true → from ≡ 0) }
+{
+    if held >= row.len() {
+        Some(0)
+    } else if row.has(held) {
+        None
+    } else if is_new {
+        Some(0)
+    } else {
+        Some(held / 64)
+    }
+}
+
+/// Whether the letter has a word of the row. The first one is held for it.
+pub(crate) fn find_support<R: Rows>(
+    rows: &mut R,
+    row: &BitRow,
+    here: Place,
+    letter: Letter,
+    held: &mut [usize],
+    restart: &mut [LetterSet],
+) -> bool
+    requires letter { IsLetter letter }
+    requires held { 26 * here.slot + (letter - 65) < length held.old }
+    requires restart { here.slot < length restart.old }
+    requires small { length held.old < 2 ^ 63 }
+    ensures entries { R.entries rows.new ≡ R.entries rows.old }
+    ensures risen { R.ticks rows.old ≤ R.ticks rows.new }
+    ensures held { length held.new ≡ length held.old }
+    ensures restart { length restart.new ≡ length restart.old }
+    ensures finds { Finds row.now.bits (R.entries rows.old here.count) here.place here.slot letter record { places = held.old; restart = restart.old } record { places = held.new; restart = restart.new } result (R.ticks rows.new - R.ticks rows.old) }
+{
+    let at = 26 * here.slot + (letter.byte() - b'A') as usize;
+    let Some(from) = search_start(row, held[at], restart[here.slot].has(letter)) else {
+        return true;
+    };
+    match first_support(rows, row, here.count, here.place, letter, from) {
+        Some(word) => {
+            held[at] = word;
+            restart[here.slot].remove(letter);
+            true
+        }
+        None => false,
+    }
+}
