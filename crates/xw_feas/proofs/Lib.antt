@@ -1,9 +1,7 @@
 pub mod Examples
 pub mod Support
-pub mod FlagsLemmas
 pub mod BoardLemmas
 pub mod ChoicesLemmas
-pub mod Strip
 pub mod AnswersLemmas
 pub mod ChangesLemmas
 pub mod EditsLemmas

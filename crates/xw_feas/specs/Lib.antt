@@ -19,4 +19,3 @@ pub mod Spelled
 pub mod WellFormed
 pub mod Laws
 pub mod Passes
-pub mod Plain

@@ -1,52 +1,10 @@
-//! The arrays that an engine keeps its answers in.
-ghost use Rattle.std.specs.Prelude.{◌≡◌, length, None, Some, IfOk, IsOkUnless};
-ghost use Rattle.xw_grid.specs.Light.{lights_of};
-ghost use Rattle.xw_feas.specs.Board.{board_of};
-ghost use Rattle.xw_feas.specs.Rows.{HasWordRows, row_len};
+//! The sets of letters that an engine keeps for the cells.
+ghost use Rattle.std.specs.Prelude.{◌≡◌, length, IfOk, IsOkUnless};
 
-use crate::board::Board;
-use crate::flags::Flags;
 use std::alloc::{AllocError, Global};
 use xw_grid::fault::GridFault;
 use xw_grid::grid::Grid;
-use xw_grid::lights::Lights;
-use xw_words::bank::Bank;
-use xw_words::fault::WordFault;
 use xw_words::letter_set::LetterSet;
-
-/// A row of flags for the choices of a light of some length, and one more where a word of a length is to be known.
-fn make_row(
-    alloc: Global,
-    bank: &Bank,
-    len: usize,
-    grown: Option<usize>,
-) -> Result<Flags, AllocError>
-    ensures { IfOk result (λ row. length row ≡ row_len bank.now.words grown len) }
-{
-    let mut row = Flags::new(alloc, bank.known(len))?;
-    row.push(false)?;
-    if grown == Some(len) {
-        row.push(false)?;
-    }
-    Ok(row)
-}
-
-/// A row for each light.
-fn make_rows(
-    alloc: Global,
-    board: &Board<'_>,
-    bank: &Bank,
-    grown: Option<usize>,
-) -> Result<Vec<Flags>, AllocError>
-    ensures { IfOk result (λ rows. HasWordRows board.now bank.now.words grown rows.items) }
-{
-    let mut rows = Vec::new(alloc);
-    for light in 0..board.light_count() {
-        let len = board.light(light).len();
-        rows.push(make_row(alloc, bank, len, grown)?)?;
-    }
-    Ok(rows)
-}
 
 /// A set of letters for each cell.
 fn make_sets(alloc: Global, count: usize) -> Result<Vec<LetterSet>, AllocError>
@@ -59,37 +17,10 @@ fn make_sets(alloc: Global, count: usize) -> Result<Vec<LetterSet>, AllocError>
     Ok(sets)
 }
 
-/// A row for each light of a grid.
-pub fn make_grid_rows(
-    alloc: Global,
-    grid: &Grid,
-    lights: &Lights,
-    bank: &Bank,
-) -> Result<Vec<Flags>, GridFault>
-    requires { lights.now ≡ lights_of grid.now }
-    ensures ok { IfOk result (λ rows. HasWordRows (board_of grid.now) bank.now.words None rows.items) }
-    ensures memory { IsOkUnless result GridFault.Memory }
-{
-    Ok(make_rows(alloc, &Board::new(grid, lights), bank, None)?)
-}
-
 /// A set of letters for each cell of a grid.
 pub fn make_grid_sets(alloc: Global, grid: &Grid) -> Result<Vec<LetterSet>, GridFault>
     ensures ok { IfOk result (λ sets. length sets.items ≡ length grid.now.squares) }
     ensures memory { IsOkUnless result GridFault.Memory }
 {
     Ok(make_sets(alloc, grid.squares().len())?)
-}
-
-/// A row for each light of a board, with room for one word more of a length.
-pub fn make_grown_rows(
-    alloc: Global,
-    board: &Board<'_>,
-    bank: &Bank,
-    count: usize,
-) -> Result<Vec<Flags>, WordFault>
-    ensures ok { IfOk result (λ rows. HasWordRows board.now bank.now.words (Some count) rows.items) }
-    ensures memory { IsOkUnless result WordFault.Memory }
-{
-    Ok(make_rows(alloc, board, bank, Some(count))?)
 }

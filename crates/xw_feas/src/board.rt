@@ -1,9 +1,10 @@
 //! What feasibility sees of a grid.
-ghost use Rattle.std.specs.Prelude.{◌≡◌, ◌⊎◌, ◌<◌, ◌≤◌, ℕ, Some, length, slice_index, slice_get, All, unwrap_or, IfSome};
-ghost use Rattle.xw_words.specs.Letter.{IsLetter};
+ghost use Rattle.std.specs.Prelude.{◌≡◌, ◌⊎◌, ◌<◌, ◌≤◌, ◌&&◌, ℕ, Some, length, slice_index, slice_get, All, unwrap_or, IfSome};
+ghost use Rattle.xw_words.specs.Letter.{IsLetter, is_capital};
+ghost use Rattle.xw_words.specs.LetterSet.{has};
 ghost use Rattle.xw_grid.specs.Grid.{is_open_square as is_open_in, letter_in as letter_of};
 ghost use Rattle.xw_grid.specs.Light.{lights_of};
-ghost use Rattle.xw_feas.specs.Board.{board_of, places_of, light_at, is_open as is_open_place, entry as entry_at, IsCrossing, other_than as other_than_light};
+ghost use Rattle.xw_feas.specs.Board.{board_of, places_of, light_at, is_open as is_open_place, entry as entry_at, IsCrossing, other_than as other_than_light, allows, is_wholly_entered};
 ghost use Rattle.xw_feas.specs.Fits.{Fits, stride_of};
 ghost use Rattle.xw_feas.specs.Passes.{Passes};
 
@@ -12,6 +13,7 @@ use xw_grid::cell::{Direction, Square};
 use xw_grid::grid::Grid;
 use xw_grid::lights::{Light, Lights};
 use xw_words::letter::Letter;
+use xw_words::letter_set::LetterSet;
 
 /// The places of a light's cells, in reading order of the grid.
 #[derive(Drop)]
@@ -213,5 +215,33 @@ fn stride(grid: &Grid, direction: Direction) -> usize
     match direction {
         Direction::Across => 1,
         Direction::Down => grid.width() as usize,
+    }
+}
+
+/// Whether each of the cells has a letter.
+#[tactic(auto, using(crate::proofs::BoardLemmas::entered_steps))]
+pub fn has_all_entries(board: &Board<'_>, cells: &Cells) -> bool
+    ensures { result ≡ is_wholly_entered board.now cells.now }
+{
+    for place in 0..cells.len() {
+        if board.entry(cells.at(place)).is_none() {
+            return false;
+        }
+    }
+    true
+}
+
+/// The letters that may be at a cell.
+#[tactic(auto, using(crate::proofs::BoardLemmas::allowed_steps))]
+pub fn allowed(is_open: bool, entry: Option<Letter>) -> LetterSet
+    ensures { (letter : ℕ) →
+        has result letter ≡ (is_open && is_capital letter && allows entry letter) }
+{
+    if !is_open {
+        return LetterSet::new();
+    }
+    match entry {
+        None => LetterSet::all(),
+        Some(letter) => LetterSet::only(letter),
     }
 }

@@ -11,10 +11,9 @@ ghost use Rattle.xw_fill.specs.Search.{is_entered, spelling, spell_same, first_s
 ghost use Rattle.xw_fill.specs.Noted.{has_note, AreEntered};
 ghost use Rattle.xw_fill.specs.Filling.{scanned};
 
-use xw_feas::board::{Board, Cells};
+use xw_feas::board::{Board, Cells, has_all_entries};
 use xw_feas::edit::Found;
 use xw_feas::feasible::Feasible;
-use xw_feas::standing::has_all_entries;
 use xw_grid::cell::LightName;
 use xw_grid::lights::Light;
 

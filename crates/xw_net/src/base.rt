@@ -11,8 +11,7 @@ ghost use Rattle.xw_net.specs.Room.{row_at};
 ghost use Rattle.xw_net.specs.Brought.{HasBase, base_cost};
 ghost use Rattle.xw_net.specs.Begin.{is_long as is_long_of, is_read as is_read_of};
 
-use xw_feas::board::{Board, Cells};
-use xw_feas::standing::has_all_entries;
+use xw_feas::board::{Board, Cells, has_all_entries};
 use xw_words::bit_row::BitRow;
 use xw_words::letter_set::LetterSet;
 use xw_words::rows::Rows;

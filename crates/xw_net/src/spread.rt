@@ -12,8 +12,7 @@ ghost use Rattle.xw_net.specs.Spread.{is_marked, is_waiting, Grows, places_from,
 use crate::net::Net;
 use crate::place::place_of;
 use crate::seeds::clear_marks;
-use xw_feas::board::Board;
-use xw_feas::standing::{allowed, has_all_entries};
+use xw_feas::board::{Board, allowed, has_all_entries};
 use xw_words::bit_row::BitRow;
 use xw_words::letter_set::LetterSet;
 

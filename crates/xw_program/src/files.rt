@@ -1,11 +1,4 @@
 //! The files of the program: word lists and puzzles.
-ghost use Rattle.std.specs.Prelude.{◌≡◌, IfOk};
-ghost use Rattle.xw_session.specs.Record.{record_lines};
-ghost use Rattle.xw_program.specs.Names.{IsKindNamed, read_fault, write_fault};
-
-use crate::failure::Failure;
-use crate::gathered::Gathered;
-use crate::place::{self, Place};
 use crate::replacing::replace;
 use std::alloc::Global;
 use std::os::unix::fs::MetadataExt;
@@ -17,6 +10,10 @@ use xw_files::fault::{ReadFault, WriteFault};
 use xw_files::puzzle::Puzzle;
 use xw_files::{Kind, kind_of, read_puz, read_text, write_puz, write_text};
 use xw_lines::device;
+use xw_outcome::failure::Failure;
+use xw_outcome::names::{kind_by_name, read_fault_name, write_fault_name};
+use xw_outcome::place::{self, Place};
+use xw_outcome::recording::record;
 use xw_session::refusal::{self, Refusal};
 use xw_session::{Session, Sink};
 use xw_words::{Bank, Loaded, WordFault};
@@ -130,17 +127,6 @@ pub fn write_puzzle<R: Files + AllocGlobal>(
     write_file(rt, file, bytes.as_slice())
 }
 
-/// The record of a session.
-fn record<F: Feasible>(alloc: Global, session: &Session<F>) -> Result<Vec<u8>, Failure>
-    ensures { IfOk result (λ bytes. bytes.items ≡ record_lines session.now) }
-{
-    let mut gathered = Gathered::new(alloc);
-    match session.write_record(&mut gathered) {
-        Ok(()) => Ok(gathered.into_bytes()),
-        Err(_) => Err(Failure::Memory),
-    }
-}
-
 /// Writes the record of a session into a file, which is not opened before all its bytes are made.
 pub fn write_record<R: Files + AllocGlobal, F: Feasible>(
     rt: &R,
@@ -197,58 +183,5 @@ fn is_one_file<R: Files>(rt: &R, one: &str, other: &str) -> bool {
     match (fs::metadata(rt, one), fs::metadata(rt, other)) {
         (Ok(one), Ok(other)) => one.dev() == other.dev() && one.ino() == other.ino(),
         _ => one == other,
-    }
-}
-
-/// The format in which a file of this name is written.
-fn kind_by_name(name: &str) -> Kind
-    ensures { IsKindNamed name.now result }
-{
-    let name = name.as_bytes();
-    let ending = &name[name.len().saturating_sub(4)..];
-    if ending.eq_ignore_ascii_case(b".puz") {
-        Kind::Puz
-    } else {
-        Kind::Text
-    }
-}
-
-/// The name of a fault of a file that was read, without its place.
-fn read_fault_name(fault: ReadFault) -> &'static str
-    ensures { result.now ≡ read_fault fault }
-{
-    match fault {
-        ReadFault::Short(_) => "Short",
-        ReadFault::Magic => "Magic",
-        ReadFault::Version => "Version",
-        ReadFault::Scrambled => "Scrambled",
-        ReadFault::Size => "Size",
-        ReadFault::NoNul(_) => "NoNul",
-        ReadFault::BadSum(_) => "BadSum",
-        ReadFault::BadCell(_) => "BadCell",
-        ReadFault::ClueCount => "ClueCount",
-        ReadFault::Memory => "Memory",
-        ReadFault::Header => "Header",
-        ReadFault::Tag(_) => "Tag",
-        ReadFault::SizeLine => "SizeLine",
-        ReadFault::GridLine(_) => "GridLine",
-        ReadFault::AcrossCount => "AcrossCount",
-        ReadFault::DownCount => "DownCount",
-        ReadFault::NulByte(_) => "NulByte",
-        ReadFault::GextSize => "GextSize",
-        ReadFault::GextSum => "GextSum",
-    }
-}
-
-/// The name of a fault of a puzzle that is to be written, without its place.
-fn write_fault_name(fault: WriteFault) -> &'static str
-    ensures { result.now ≡ write_fault fault }
-{
-    match fault {
-        WriteFault::Barred => "Barred",
-        WriteFault::NotFilled(_) => "NotFilled",
-        WriteFault::Field(_) => "Field",
-        WriteFault::Memory => "Memory",
-        WriteFault::Circled(_) => "Circled",
     }
 }

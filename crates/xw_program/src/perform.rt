@@ -1,21 +1,16 @@
 //! Doing what a call asks for.
-ghost use Rattle.std.specs.Prelude.{◌≡◌, [], ◌∷◌, ◌++◌};
-ghost use Rattle.xw_lines.specs.Device.{flushed};
-ghost use Rattle.xw_lines.specs.Sends.{Sends};
-ghost use Rattle.xw_program.specs.Status.{run_ended};
-ghost use Rattle.xw_program.specs.Explained.{IsExplained};
-
-use crate::failure::{Failure, Status};
-use crate::{files, resuming};
+use crate::files;
 use std::alloc::Global;
 use std::rt::Files;
-use xw_arguments::arguments::{Call, SessionFiles, Usage};
+use xw_arguments::arguments::{Call, SessionFiles};
 use xw_feas::feasible::Feasible;
 use xw_files::Kind;
 use xw_grid::{Grid, Lights};
-use xw_lines::device;
 use xw_live::live::Live;
-use xw_session::{RunEnd, Session, Sink, Source};
+use xw_outcome::explaining::{show, tell};
+use xw_outcome::failure::{Failure, Status, run_status};
+use xw_outcome::resuming;
+use xw_session::{Session, Sink, Source};
 use xw_words::Bank;
 
 /// What works out the feasible words and letters.
@@ -37,50 +32,6 @@ pub fn perform<R: Files + AllocGlobal, I: Source, O: Sink, E: Sink>(
         Err(failure) => {
             tell(rt.alloc(), errors, &failure);
             failure.status()
-        }
-    }
-}
-
-/// Shows how the program is called, and answers how that went.
-pub fn explain<O: Sink, E: Sink>(usage: &Usage, output: &mut O, errors: &mut E) -> Status
-    ensures { IsExplained O.told O.failures usage.now output.old output.new result }
-{
-    match usage {
-        Usage::Help(text) => match show(output, text.as_bytes()) {
-            Ok(()) => Status::Accepted,
-            Err(_) => {
-                let _ = device::write_all(errors, b"xw: output fault\n");
-                Status::Failed
-            }
-        },
-        Usage::Wrong(text) => {
-            let _ = device::write_all(errors, text.as_bytes());
-            Status::Usage
-        }
-        Usage::Memory => {
-            let _ = device::write_all(errors, b"xw: memory\n");
-            Status::Failed
-        }
-    }
-}
-
-/// Writes a text, and passes it on.
-fn show<O: Sink>(output: &mut O, text: &[u8]) -> Result<(), Failure>
-    ensures { Sends O.told O.failures output.old output.new result (text.now ++ flushed ∷ []) }
-{
-    device::write_all(output, text).map_err(|_| Failure::Output)?;
-    output.flush().map_err(|_| Failure::Output)
-}
-
-/// Says why a run ended. A fault of the writer is passed over.
-fn tell<E: Sink>(alloc: Global, errors: &mut E, failure: &Failure) {
-    match failure.to_string(alloc) {
-        Ok(text) => {
-            let _ = device::write_all(errors, text.as_bytes());
-            let _ = device::write_all(errors, b"\n");
-        }
-        Err(_) => {
-            let _ = device::write_all(errors, b"xw: memory\n");
         }
     }
 }
@@ -222,19 +173,6 @@ fn save<F: Feasible, R: Files + AllocGlobal>(
     match named {
         Some(file) => files::write_record(rt, file, session),
         None => Ok(()),
-    }
-}
-
-/// How a run went, by how many lines were refused before it and how it ended.
-fn run_status(end: RunEnd, before: usize) -> Result<Status, Failure>
-    ensures { result ≡ run_ended before end }
-{
-    match end {
-        RunEnd::Done { refused: 0 } if before == 0 => Ok(Status::Accepted),
-        RunEnd::Done { .. } => Ok(Status::Refused),
-        RunEnd::ReadFailed | RunEnd::Endless => Err(Failure::Input),
-        RunEnd::WriteFailed => Err(Failure::Output),
-        RunEnd::Memory => Err(Failure::Memory),
     }
 }
 

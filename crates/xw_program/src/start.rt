@@ -1,8 +1,9 @@
 //! The program over the words of its command line and the standard streams.
-use crate::failure::Status;
-use crate::perform::{explain, perform};
+use crate::perform::perform;
 use std::io::{self, BufWriter, ErrorKind};
 use xw_arguments::arguments::{Usage, arguments};
+use xw_outcome::explaining::explain;
+use xw_outcome::failure::Status;
 use xw_session::{FromRead, Sink, ToWrite};
 
 /// How many bytes of answers are gathered before they go out together.

@@ -1,0 +1,113 @@
+//! What ends a run, and the statuses that a run may have.
+ghost use Rattle.std.specs.Prelude.{◌≡◌};
+ghost use Rattle.xw_outcome.specs.Status.{code_of, status_of, run_ended};
+
+use crate::place::Place;
+use std::alloc::AllocError;
+use std::process::ExitCode;
+use thiserror::Error;
+use xw_session::RunEnd;
+
+/// How a run went, as the program's exit status tells it.
+#[derive(Clone, Copy, Debug, PartialEq, Eq)]
+pub enum Status {
+    /// Everything was accepted, or help was asked for.
+    Accepted,
+    /// A command was refused.
+    Refused,
+    /// The program was called in a wrong way.
+    Usage,
+    /// A file is not of its format, or too much for it.
+    Format,
+    /// Memory was wanting, or a device failed.
+    Failed,
+}
+
+impl Status {
+    pub fn code(self) -> u8
+        ensures { result ≡ code_of self }
+    {
+        match self {
+            Status::Accepted => 0,
+            Status::Refused => 1,
+            Status::Usage => 2,
+            Status::Format => 3,
+            Status::Failed => 4,
+        }
+    }
+
+    pub fn exit_code(self) -> ExitCode {
+        ExitCode::from(self.code())
+    }
+}
+
+/// What ends a run before its time.
+#[derive(Debug, Drop, Error)]
+pub enum Failure {
+    #[error("xw: input fault")]
+    Input,
+    #[error("xw: output fault")]
+    Output,
+    #[error("xw: memory")]
+    Memory,
+    #[error("xw: {file}: cannot read")]
+    CannotRead {
+        file: String,
+    },
+    #[error("xw: {file}: cannot write")]
+    CannotWrite {
+        file: String,
+    },
+    #[error("xw: {file}: {name}")]
+    File {
+        file: String,
+        name: &'static str,
+    },
+    #[error("xw: {file}: {name}\nxw: {place}")]
+    Placed {
+        file: String,
+        name: &'static str,
+        place: Place,
+    },
+    #[error("xw: {file}: the word list cannot be the file to write")]
+    OneFile {
+        file: String,
+    },
+    #[error("xw: {file}: the puzzle and the session cannot be written into one file")]
+    TwoTexts {
+        file: String,
+    },
+}
+
+impl Failure {
+    pub fn status(&self) -> Status
+        ensures { result ≡ status_of self.now }
+    {
+        match self {
+            Failure::File { .. } => Status::Format,
+            Failure::Placed { .. } => Status::Format,
+            Failure::OneFile { .. } => Status::Usage,
+            Failure::TwoTexts { .. } => Status::Usage,
+            _ => Status::Failed,
+        }
+    }
+}
+
+impl From<AllocError> for Failure {
+    fn from(_error: AllocError) -> Failure {
+        Failure::Memory
+    }
+}
+
+/// How a run went, by how many lines were refused before it and how it ended.
+pub fn run_status(end: RunEnd, before: usize) -> Result<Status, Failure>
+    ensures { result ≡ run_ended before end }
+{
+    match end {
+        RunEnd::Done { refused: 0 } if before == 0 => Ok(Status::Accepted),
+        RunEnd::Done { .. } => Ok(Status::Refused),
+        RunEnd::ReadFailed | RunEnd::Endless => Err(Failure::Input),
+        RunEnd::WriteFailed => Err(Failure::Output),
+        RunEnd::Memory => Err(Failure::Memory),
+    }
+}

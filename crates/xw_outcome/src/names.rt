@@ -1,0 +1,59 @@
+//! What names of files ask for, and the names of the faults of files.
+ghost use Rattle.std.specs.Prelude.{◌≡◌};
+ghost use Rattle.xw_outcome.specs.Names.{IsKindNamed, read_fault, write_fault};
+
+use xw_files::Kind;
+use xw_files::fault::{ReadFault, WriteFault};
+
+/// The format in which a file of this name is written.
+pub fn kind_by_name(name: &str) -> Kind
+    ensures { IsKindNamed name.now result }
+{
+    let name = name.as_bytes();
+    let ending = &name[name.len().saturating_sub(4)..];
+    if ending.eq_ignore_ascii_case(b".puz") {
+        Kind::Puz
+    } else {
+        Kind::Text
+    }
+}
+
+/// The name of a fault of a file that was read, without its place.
+pub fn read_fault_name(fault: ReadFault) -> &'static str
+    ensures { result.now ≡ read_fault fault }
+{
+    match fault {
+        ReadFault::Short(_) => "Short",
+        ReadFault::Magic => "Magic",
+        ReadFault::Version => "Version",
+        ReadFault::Scrambled => "Scrambled",
+        ReadFault::Size => "Size",
+        ReadFault::NoNul(_) => "NoNul",
+        ReadFault::BadSum(_) => "BadSum",
+        ReadFault::BadCell(_) => "BadCell",
+        ReadFault::ClueCount => "ClueCount",
+        ReadFault::Memory => "Memory",
+        ReadFault::Header => "Header",
+        ReadFault::Tag(_) => "Tag",
+        ReadFault::SizeLine => "SizeLine",
+        ReadFault::GridLine(_) => "GridLine",
+        ReadFault::AcrossCount => "AcrossCount",
+        ReadFault::DownCount => "DownCount",
+        ReadFault::NulByte(_) => "NulByte",
+        ReadFault::GextSize => "GextSize",
+        ReadFault::GextSum => "GextSum",
+    }
+}
+
+/// The name of a fault of a puzzle that is to be written, without its place.
+pub fn write_fault_name(fault: WriteFault) -> &'static str
+    ensures { result.now ≡ write_fault fault }
+{
+    match fault {
+        WriteFault::Barred => "Barred",
+        WriteFault::NotFilled(_) => "NotFilled",
+        WriteFault::Field(_) => "Field",
+        WriteFault::Memory => "Memory",
+        WriteFault::Circled(_) => "Circled",
+    }
+}

@@ -1,0 +1,20 @@
+//! What is saved of a session.
+ghost use Rattle.std.specs.Prelude.{◌≡◌, IfOk};
+ghost use Rattle.xw_session.specs.Record.{record_lines};
+
+use crate::failure::Failure;
+use crate::gathered::Gathered;
+use std::alloc::Global;
+use xw_feas::feasible::Feasible;
+use xw_session::Session;
+
+/// The record of a session.
+pub fn record<F: Feasible>(alloc: Global, session: &Session<F>) -> Result<Vec<u8>, Failure>
+    ensures { IfOk result (λ bytes. bytes.items ≡ record_lines session.now) }
+{
+    let mut gathered = Gathered::new(alloc);
+    match session.write_record(&mut gathered) {
+        Ok(()) => Ok(gathered.into_bytes()),
+        Err(_) => Err(Failure::Memory),
+    }
+}

@@ -1,0 +1,2 @@
+pub mod FlagsLemmas
+pub mod Strip
