@@ -2,14 +2,16 @@
 ghost use Rattle.std.specs.Prelude.{◌≡◌, ◌≤◌, take, false};
 
 use crate::runs::samples::PLAIN;
-use std::fs::{self, File};
+use crate::runs::steps::Step::{Absent, Differs, Remove, Write};
+use crate::runs::steps::pass;
+use std::fs::File;
 use std::process::Abort;
 use std::rt::Files;
 use std::test::Fail;
 use xw_arguments::arguments::{Call, SessionFiles};
 use xw_program::failure::Status;
 use xw_program::perform::perform;
-use xw_session::{DeviceFault, FromRead, Sink, ToWrite};
+use xw_session::{DeviceFault, FromRead, Sink, Source, ToWrite};
 
 /// A session that ends by writing a file.
 const TO_FILE: Call<'static> = Call::Edit {
@@ -35,66 +37,72 @@ const SAVED: Call<'static> = Call::Edit {
     explain: false,
 };
 
+/// The check of a file.
+const CHECK: Call<'static> = Call::Check {
+    file: "checked",
+    explain: false,
+};
+
+/// Does a call of which a device fails, and compares what is told of that.
+fn fails<I: Source, O: Sink>(
+    rt: &(impl Abort + AllocGlobal + Files),
+    (call, fault): (Call<'_>, &[u8]),
+    input: &mut I,
+    output: &mut O,
+) {
+    let mut faults = Vec::new(rt.alloc());
+    let status = perform(rt, call, input, output, &mut ToWrite::new(&mut faults));
+    assert_eq!(rt; faults.as_slice(), fault, "{call:?}");
+    assert_eq!(rt; status, Status::Failed, "{call:?}");
+}
+
 /// A reader that fails: a file that is open for writing alone.
 #[test]
 fn input_fault(rt: HostRuntime) -> Result<(), Fail> {
     let mut told = Vec::new(rt.alloc());
-    let mut faults = Vec::new(rt.alloc());
     let file = File::create(&rt, "input")?;
-    let status = perform(
+    fails(
         &rt,
-        TO_FILE,
+        (TO_FILE, b"xw: input fault\n"),
         &mut FromRead::new(file),
         &mut ToWrite::new(&mut told),
-        &mut ToWrite::new(&mut faults),
     );
-    fs::remove_file(&rt, "input")?;
     assert_eq!(&rt; told.as_slice(), b"".as_slice());
-    assert_eq!(&rt; faults.as_slice(), b"xw: input fault\n".as_slice());
-    assert_eq!(&rt; status, Status::Failed);
-    assert!(&rt; fs::read(&rt, "unwritten.puz").is_err());
+    pass(
+        &rt,
+        "input_fault",
+        &[Remove("input"), Absent("unwritten.puz")],
+    );
     Ok(())
 }
 
 /// A writer that takes one byte, and then none.
 #[test]
-fn output_fault(rt: HostRuntime) -> Result<(), Fail> {
+fn output_fault(rt: HostRuntime) {
     let mut buffer = [b'?'; 1];
-    let mut faults = Vec::new(rt.alloc());
-    let status = perform(
+    fails(
         &rt,
-        TO_FILE,
+        (TO_FILE, b"xw: output fault\n"),
         &mut FromRead::new(b"add CAT\nadd DOG\n".as_slice()),
         &mut ToWrite::new(buffer.as_mut_slice()),
-        &mut ToWrite::new(&mut faults),
     );
     assert_eq!(&rt; buffer, [b'o']);
-    assert_eq!(&rt; faults.as_slice(), b"xw: output fault\n".as_slice());
-    assert_eq!(&rt; status, Status::Failed);
-    assert!(&rt; fs::read(&rt, "unwritten.puz").is_err());
-    Ok(())
+    pass(&rt, "output_fault", &[Absent("unwritten.puz")]);
 }
 
 /// The line of a check that does not go out.
 #[test]
-fn output_fault_of_a_check(rt: HostRuntime) -> Result<(), Fail> {
+fn output_fault_of_a_check(rt: HostRuntime) {
     let mut buffer = [b'?'; 4];
-    let mut faults = Vec::new(rt.alloc());
-    fs::write(&rt, "told", PLAIN)?;
-    let status = perform(
+    let name = "output_fault_of_a_check";
+    pass(&rt, name, &[Write("checked", PLAIN)]);
+    fails(
         &rt,
-        Call::Check {
-            file: "told",
-            explain: false,
-        },
+        (CHECK, b"xw: output fault\n"),
         &mut FromRead::new(b"".as_slice()),
         &mut ToWrite::new(buffer.as_mut_slice()),
-        &mut ToWrite::new(&mut faults),
     );
-    fs::remove_file(&rt, "told")?;
-    assert_eq!(&rt; faults.as_slice(), b"xw: output fault\n".as_slice());
-    assert_eq!(&rt; status, Status::Failed);
-    Ok(())
+    pass(&rt, name, &[Remove("checked")]);
 }
 
 /// A writer that takes all that it has room for, and never passes it on.
@@ -127,50 +135,50 @@ impl Sink for Unflushed {
     }
 }
 
-/// What a writer took that never passes it on, and how the call went.
-fn run_unflushed(
+/// Does a call over such a writer, and compares what it took.
+fn is_unflushed(
     rt: &(impl Abort + AllocGlobal + Files),
     call: Call<'_>,
     input: &[u8],
     output: &[u8],
-) -> Status {
+) {
     let mut sink = Unflushed {
         bytes: [0; 64],
         taken: 0,
         failures: 0,
     };
-    let mut faults = Vec::new(rt.alloc());
-    let status = perform(
+    fails(
         rt,
-        call,
+        (call, b"xw: output fault\n"),
         &mut FromRead::new(input),
         &mut sink,
-        &mut ToWrite::new(&mut faults),
     );
     let taken = sink.taken;
-    assert_eq!(rt; &sink.bytes[..taken], output);
-    assert_eq!(rt; faults.as_slice(), b"xw: output fault\n".as_slice());
-    status
+    assert_eq!(rt; &sink.bytes[..taken], output, "{call:?}");
 }
 
 /// Nothing is read after an answer that was not passed on, and no puzzle is written. The session is
 /// saved.
 #[test]
-fn output_fault_of_a_flush(rt: HostRuntime) -> Result<(), Fail> {
-    for call in [TO_FILE, SAVED] {
-        let status = run_unflushed(&rt, call, b"add CAT\nadd DOG\n", b"ok\n");
-        assert_eq!(&rt; status, Status::Failed);
+fn output_fault_of_a_flush(rt: HostRuntime) {
+    let name = "output_fault_of_a_flush";
+    pass(&rt, name, &[Write("checked", PLAIN)]);
+    for (call, input, output) in [
+        (
+            TO_FILE,
+            b"add CAT\nadd DOG\n".as_slice(),
+            b"ok\n".as_slice(),
+        ),
+        (SAVED, b"add CAT\nadd DOG\n", b"ok\n"),
+        (CHECK, b"", b"puz 2x2 4 lights\n"),
+    ] {
+        is_unflushed(&rt, call, input, output);
     }
-    assert!(&rt; fs::read(&rt, "unwritten.puz").is_err());
-    assert!(&rt; !fs::read(&rt, "saved.xw")?.is_empty());
-    fs::remove_file(&rt, "saved.xw")?;
-    fs::write(&rt, "checked", PLAIN)?;
-    let check = Call::Check {
-        file: "checked",
-        explain: false,
-    };
-    let status = run_unflushed(&rt, check, b"", b"puz 2x2 4 lights\n");
-    fs::remove_file(&rt, "checked")?;
-    assert_eq!(&rt; status, Status::Failed);
-    Ok(())
+    let steps = [
+        Absent("unwritten.puz"),
+        Differs("saved.xw", b""),
+        Remove("saved.xw"),
+        Remove("checked"),
+    ];
+    pass(&rt, name, &steps);
 }

@@ -1,169 +1,212 @@
 //! Runs that tell the place of a fault too.
-use crate::runs::puzzles::QUIET;
-use crate::runs::samples::{CIRCLED, PLAIN, TEXT};
-use crate::runs::{Run, runs};
-use std::fs;
+use crate::runs::samples::{CIRCLED, PLAIN, TEXT, WRONG_SUM};
+use crate::runs::steps::Step::{Remove, Run, Write, WritePart};
+use crate::runs::steps::{Outcome, QUIET, Step, pass};
 use std::process::Abort;
 use std::rt::Files;
-use std::test::Fail;
 use xw_program::failure::Status;
 
-/// Checks a file of these bytes, with and without its place, and compares what is told.
-fn tells(
-    rt: &(impl Abort + AllocGlobal + Files),
-    bytes: &[u8],
-    name: &[u8],
-    explained: &[u8],
-) -> Result<(), Fail> {
-    let wanted = Run {
+/// What is told where a file is not of its format.
+fn told(errors: &[u8]) -> Outcome<'_> {
+    Outcome {
         status: Status::Format,
-        ..QUIET
+        output: b"",
+        errors,
+    }
+}
+
+/// A file that is not read: so many bytes of a sample at most, and what is told of it, without its place and with it.
+struct Fault {
+    name: &'static str,
+    bytes: &'static [u8],
+    count: usize,
+    errors: &'static [u8],
+    explained: &'static [u8],
+}
+
+const NO_HEADER: &[u8] = b"\n\n";
+
+const NUL_IN_LINE_3: &[u8] = b"<ACROSS PUZZLE>\n\n<\0";
+
+const NO_LETTER: &[u8] =
+    b"<ACROSS PUZZLE>\n<TITLE>\n<AUTHOR>\n<COPYRIGHT>\n<SIZE>\n2x2\n<GRID>\nAT\nS?\n";
+
+const FAULTS: &[Fault] = &[
+    // File plain, cut at several places.
+    Fault {
+        name: "puz_faults_told, notes",
+        bytes: PLAIN,
+        count: 71,
+        errors: b"xw: told: NoNul\n",
+        explained: b"xw: told: NoNul\nxw: notes\n",
+    },
+    Fault {
+        name: "puz_faults_told, clue",
+        bytes: PLAIN,
+        count: 66,
+        errors: b"xw: told: NoNul\n",
+        explained: b"xw: told: NoNul\nxw: clue 2 (1 down)\n",
+    },
+    Fault {
+        name: "puz_faults_told, header",
+        bytes: PLAIN,
+        count: 51,
+        errors: b"xw: told: Short\n",
+        explained: b"xw: told: Short\nxw: header\n",
+    },
+    Fault {
+        name: "puz_faults_told, boards",
+        bytes: PLAIN,
+        count: 59,
+        errors: b"xw: told: Short\n",
+        explained: b"xw: told: Short\nxw: boards\n",
+    },
+    Fault {
+        name: "wrong_sum_told",
+        bytes: WRONG_SUM,
+        count: WRONG_SUM.len(),
+        errors: b"xw: told: BadSum\n",
+        explained: b"xw: told: BadSum\nxw: file checksum\n",
+    },
+    // The line at which a text file leaves its shape, and its end.
+    Fault {
+        name: "text_faults_told, line",
+        bytes: TEXT,
+        count: 20,
+        errors: b"xw: told: Tag\n",
+        explained: b"xw: told: Tag\nxw: line 2\n",
+    },
+    Fault {
+        name: "text_faults_told, end",
+        bytes: NO_HEADER,
+        count: NO_HEADER.len(),
+        errors: b"xw: told: Header\n",
+        explained: b"xw: told: Header\nxw: end of file\n",
+    },
+    Fault {
+        name: "text_faults_told, byte",
+        bytes: NUL_IN_LINE_3,
+        count: NUL_IN_LINE_3.len(),
+        errors: b"xw: told: NulByte\n",
+        explained: b"xw: told: NulByte\nxw: line 3\n",
+    },
+    // A cell of a text file is told by its row and column.
+    Fault {
+        name: "bad_cell_told",
+        bytes: NO_LETTER,
+        count: NO_LETTER.len(),
+        errors: b"xw: told: BadCell\n",
+        explained: b"xw: told: BadCell\nxw: row 2, column 2\n",
+    },
+];
+
+/// Checks a file, with and without the place of its fault.
+fn tells(rt: &(impl Abort + AllocGlobal + Files), fault: &Fault) {
+    let steps = [
+        WritePart("told", fault.bytes, 0, fault.count),
+        Run(&["xw", "check", "told"], b"", told(fault.errors)),
+        Run(
+            &["xw", "check", "--explain", "told"],
+            b"",
+            told(fault.explained),
+        ),
+        Remove("told"),
+    ];
+    pass(rt, fault.name, &steps);
+}
+
+#[test]
+fn faults_told(rt: HostRuntime) {
+    for fault in FAULTS {
+        tells(&rt, fault);
+    }
+}
+
+/// A session that ends by writing a puzzle that the file cannot hold.
+struct Refusal {
+    name: &'static str,
+    file: &'static str,
+    input: &'static [u8],
+    output: &'static [u8],
+    errors: &'static [u8],
+}
+
+const REFUSALS: &[Refusal] = &[
+    Refusal {
+        name: "empty_cell_told",
+        file: "empty.puz",
+        input: b"clear 2 1\nclear 2 2\n",
+        output: b"ok\nok\n",
+        errors: b"xw: empty.puz: NotFilled\nxw: row 2, column 1\n",
+    },
+    Refusal {
+        name: "unspelled_clue_told",
+        file: "clue.txt",
+        input: b"clue 2 down\n",
+        output: b"ok\n",
+        errors: b"xw: clue.txt: Field\nxw: clue 3 (2 down)\n",
+    },
+    Refusal {
+        name: "unspelled_title_told",
+        file: "title.txt",
+        input: b"title <x>\n",
+        output: b"ok\n",
+        errors: b"xw: title.txt: Field\nxw: title\n",
+    },
+    // A bar has no place in the fault.
+    Refusal {
+        name: "barred_told",
+        file: "barred.txt",
+        input: b"bar 1 1 right\n",
+        output: b"ok\n",
+        errors: b"xw: barred.txt: Barred\n",
+    },
+];
+
+fn refuses(rt: &(impl Abort + AllocGlobal + Files), refusal: &Refusal) {
+    let wanted = Outcome {
+        output: refusal.output,
+        ..told(refusal.errors)
     };
-    fs::write(rt, "told", bytes)?;
-    let errors = name;
-    runs(rt, &["xw", "check", "told"], b"", Run { errors, ..wanted });
-    let errors = explained;
-    runs(
-        rt,
-        &["xw", "check", "--explain", "told"],
-        b"",
-        Run { errors, ..wanted },
-    );
-    fs::remove_file(rt, "told")?;
-    Ok(())
-}
-
-/// Ends a session by writing a puzzle that the file cannot hold, and compares what is told.
-fn refuses(
-    rt: &(impl Abort + AllocGlobal + Files),
-    file: &str,
-    input: &[u8],
-    output: &[u8],
-    errors: &[u8],
-) -> Result<(), Fail> {
-    fs::write(rt, "refused", PLAIN)?;
-    runs(
-        rt,
-        &["xw", "edit", "--explain", "--from", "refused", "--to", file],
-        input,
-        Run {
-            status: Status::Format,
-            output,
-            errors,
-        },
-    );
-    fs::remove_file(rt, "refused")?;
-    Ok(())
+    let words = [
+        "xw",
+        "edit",
+        "--explain",
+        "--from",
+        "refused",
+        "--to",
+        refusal.file,
+    ];
+    let steps = [
+        Write("refused", PLAIN),
+        Run(&words, refusal.input, wanted),
+        Remove("refused"),
+    ];
+    pass(rt, refusal.name, &steps);
 }
 
 #[test]
-fn empty_cell_told(rt: HostRuntime) -> Result<(), Fail> {
-    refuses(
-        &rt,
-        "empty.puz",
-        b"clear 2 1\nclear 2 2\n",
-        b"ok\nok\n",
-        b"xw: empty.puz: NotFilled\nxw: row 2, column 1\n",
-    )
+fn refusals_told(rt: HostRuntime) {
+    for refusal in REFUSALS {
+        refuses(&rt, refusal);
+    }
 }
 
-#[test]
-fn unspelled_clue_told(rt: HostRuntime) -> Result<(), Fail> {
-    refuses(
-        &rt,
-        "clue.txt",
-        b"clue 2 down\n",
-        b"ok\n",
-        b"xw: clue.txt: Field\nxw: clue 3 (2 down)\n",
-    )
-}
-
-#[test]
-fn unspelled_title_told(rt: HostRuntime) -> Result<(), Fail> {
-    refuses(
-        &rt,
-        "title.txt",
-        b"title <x>\n",
-        b"ok\n",
-        b"xw: title.txt: Field\nxw: title\n",
-    )
-}
-
-/// A bar has no place in the fault.
-#[test]
-fn barred_told(rt: HostRuntime) -> Result<(), Fail> {
-    refuses(
-        &rt,
-        "barred.txt",
-        b"bar 1 1 right\n",
-        b"ok\n",
-        b"xw: barred.txt: Barred\n",
-    )
-}
-
-#[test]
-fn circle_told(rt: HostRuntime) -> Result<(), Fail> {
-    fs::write(&rt, "circled", CIRCLED)?;
-    runs(
-        &rt,
+const CIRCLE: &[Step<'static>] = &[
+    Write("circled", CIRCLED),
+    Run(
         &["xw", "convert", "circled", "--explain", "circled.txt"],
         b"",
-        Run {
+        Outcome {
             status: Status::Format,
             errors: b"xw: circled.txt: Circled\nxw: row 1, column 1\n",
             ..QUIET
         },
-    );
-    fs::remove_file(&rt, "circled")?;
-    Ok(())
-}
+    ),
+    Remove("circled"),
+];
 
-/// File plain, cut at several places.
 #[test]
-fn puz_faults_told(rt: HostRuntime) -> Result<(), Fail> {
-    let name = b"xw: told: NoNul\n";
-    let explained = b"xw: told: NoNul\nxw: notes\n";
-    tells(&rt, &PLAIN[..71], name, explained)?;
-    let explained = b"xw: told: NoNul\nxw: clue 2 (1 down)\n";
-    tells(&rt, &PLAIN[..66], name, explained)?;
-    let name = b"xw: told: Short\n";
-    let explained = b"xw: told: Short\nxw: header\n";
-    tells(&rt, &PLAIN[..51], name, explained)?;
-    let explained = b"xw: told: Short\nxw: boards\n";
-    tells(&rt, &PLAIN[..59], name, explained)
-}
-
-/// File plain with its first byte changed, which is one of a sum.
-#[test]
-fn wrong_sum_told(rt: HostRuntime) -> Result<(), Fail> {
-    let mut bytes = Vec::from_slice(rt.alloc(), PLAIN)?;
-    if let Some(byte) = bytes.first_mut() {
-        *byte = 0;
-    }
-    let name = b"xw: told: BadSum\n";
-    let explained = b"xw: told: BadSum\nxw: file checksum\n";
-    tells(&rt, &bytes, name, explained)
-}
-
-/// The line at which a text file leaves its shape, and its end.
-#[test]
-fn text_faults_told(rt: HostRuntime) -> Result<(), Fail> {
-    let name = b"xw: told: Tag\n";
-    let explained = b"xw: told: Tag\nxw: line 2\n";
-    tells(&rt, &TEXT[..20], name, explained)?;
-    let name = b"xw: told: Header\n";
-    let explained = b"xw: told: Header\nxw: end of file\n";
-    tells(&rt, b"\n\n", name, explained)?;
-    let name = b"xw: told: NulByte\n";
-    let explained = b"xw: told: NulByte\nxw: line 3\n";
-    tells(&rt, b"<ACROSS PUZZLE>\n\n<\0", name, explained)
-}
-
-/// A cell of a text file is told by its row and column.
-#[test]
-fn bad_cell_told(rt: HostRuntime) -> Result<(), Fail> {
-    let text = b"<ACROSS PUZZLE>\n<TITLE>\n<AUTHOR>\n<COPYRIGHT>\n<SIZE>\n2x2\n<GRID>\nAT\nS?\n";
-    let name = b"xw: told: BadCell\n";
-    let explained = b"xw: told: BadCell\nxw: row 2, column 2\n";
-    tells(&rt, text, name, explained)
+fn circle_told(rt: HostRuntime) {
+    pass(&rt, "circle_told", CIRCLE);
 }

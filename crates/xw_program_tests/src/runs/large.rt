@@ -1,9 +1,11 @@
 //! Runs on what is large: no call gives up for memory where there is memory.
-use crate::runs::puzzles::{QUIET, holds};
-use crate::runs::{Run, runs};
-use std::alloc::{AllocError, Global};
-use std::fs;
+use crate::runs::steps::Step::{Holds, Remove, Run, Write};
+use crate::runs::steps::{Outcome, QUIET, pass};
+use crate::runs::texts::Part::{Bytes, Cells, Letters, Numbers, Times, Words};
+use crate::runs::texts::{Part, text_of};
+use std::alloc::Global;
 use std::process::Abort;
+use std::rt::Files;
 use std::test::Fail;
 use xw_feas::feasible::Feasible;
 use xw_feas::plain::Plain;
@@ -13,26 +15,13 @@ use xw_program::failure::Status;
 use xw_session::{FromRead, RunEnd, Session, ToWrite};
 use xw_words::Bank;
 
-/// A letter for each number from 0 to 25, and round again.
-fn letter(number: u32) -> u8 {
-    b'A' + (number % 26) as u8
-}
-
-/// A list of so many words of five letters, at most 17,576.
-fn word_list(alloc: Global, count: u32) -> Result<Vec<u8>, AllocError> {
-    let mut list = Vec::new(alloc);
-    for place in 0..count {
-        let word = [
-            b'A',
-            b'B',
-            letter(place / 676),
-            letter(place / 26),
-            letter(place),
-            b'\n',
-        ];
-        list.extend_from_slice(&word)?;
-    }
-    Ok(list)
+/// A session over an engine: the width and height of its grid, its list of words, its lines and their answers.
+#[derive(Clone, Copy)]
+struct Script<'a> {
+    size: (u32, u32),
+    words: &'a [Part<'a>],
+    lines: &'a [Part<'a>],
+    answers: &'a [Part<'a>],
 }
 
 /// An engine on an empty grid of this width and height, with the words of a list.
@@ -50,7 +39,7 @@ fn says<E: Feasible>(rt: &(impl Abort + AllocGlobal), engine: E, lines: &[u8], a
     assert_eq!(rt; end, RunEnd::Done { refused: 0 });
 }
 
-/// The same over each engine.
+/// Opens both engines, and has each say the same.
 fn both_say(
     rt: &(impl Abort + AllocGlobal),
     (size, list): ((u32, u32), &[u8]),
@@ -64,262 +53,202 @@ fn both_say(
     Ok(())
 }
 
-/// So many answers without lines.
-fn put_oks(text: &mut Vec<u8>, count: u32) -> Result<(), AllocError> {
-    for _ in 0..count {
-        text.extend_from_slice(b"ok\n")?;
-    }
-    Ok(())
-}
-
-/// A block in these columns of a row.
-fn put_blocks_of(
-    alloc: Global,
-    text: &mut Vec<u8>,
-    row: u32,
-    cols: &[u32],
-) -> Result<(), AllocError> {
-    for col in cols {
-        let line = format!(in alloc; "block {row} {col}\n")?;
-        text.extend_from_slice(line.as_bytes())?;
-    }
-    Ok(())
-}
-
-/// A block in each of these rows and columns.
-fn put_blocks(
-    alloc: Global,
-    text: &mut Vec<u8>,
-    rows: &[u32],
-    cols: &[u32],
-) -> Result<(), AllocError> {
-    for row in rows {
-        put_blocks_of(alloc, text, *row, cols)?;
-    }
-    Ok(())
-}
-
-/// Commands for a grid of 21 by 21 whose blocks leave 102 lights, four in a row and one in each open
-/// column; a bar set and taken away, a search, and another grid.
-fn commands(alloc: Global) -> Result<Vec<u8>, AllocError> {
-    let mut text = Vec::from_slice(alloc, b"size 21 21\n")?;
-    for row in 1..22u32 {
-        for col in [6u32, 12, 18] {
-            let line = format!(in alloc; "block {row} {col}\n")?;
-            text.extend_from_slice(line.as_bytes())?;
-        }
-    }
-    text.extend_from_slice(b"bar 1 1 right\nbar 1 1 right\nfill 0\nsize 21 21\n")?;
-    Ok(text)
-}
-
-/// The answers of these commands: no word is known, so the grid has no fill.
-fn answers(alloc: Global) -> Result<Vec<u8>, AllocError> {
-    let mut text = Vec::new(alloc);
-    for _ in 0..66 {
-        text.extend_from_slice(b"ok\n")?;
-    }
-    text.extend_from_slice(b"nofill\nok\nok\n")?;
-    Ok(text)
-}
-
-#[test]
-fn many_lights(rt: HostRuntime) -> Result<(), Fail> {
-    let output = answers(rt.alloc())?;
-    runs(
-        &rt,
-        &["xw", "edit"],
-        commands(rt.alloc())?.as_slice(),
-        Run {
-            output: output.as_slice(),
-            ..QUIET
-        },
-    );
-    Ok(())
-}
-
-/// Five columns with fifteen lights that cross none, and 1,100 words: each light gets the first word that none before it
-/// has, and one of them a late word, so that more than a hundred placements are tried.
-#[test]
-fn many_choices(rt: HostRuntime) -> Result<(), Fail> {
-    let list = word_list(rt.alloc(), 1100)?;
-    let mut lines = Vec::new(rt.alloc());
-    let rows = [2, 4, 6, 8, 10, 12, 14, 16, 18, 20, 22, 24, 26, 28];
-    put_blocks(rt.alloc(), &mut lines, &rows, &[1, 2, 3, 4, 5])?;
-    lines.extend_from_slice(b"add zzzzz\nstrike ZZZZZ\nadd fghij\nadd zzzzz\nset 1 3 B\n")?;
-    lines.extend_from_slice(b"fill 999999999999999999\ndups\nunlisted\nmatch fgh..\n")?;
-    let mut answers = Vec::new(rt.alloc());
-    put_oks(&mut answers, 75)?;
-    answers.extend_from_slice(b"filled\nok\nok\nok\nFGHIJ\nok\n")?;
+/// Does a session over each engine.
+fn passes(rt: &(impl Abort + AllocGlobal), script: Script<'_>) -> Result<(), Fail> {
+    let list = text_of(rt.alloc(), script.words)?;
+    let lines = text_of(rt.alloc(), script.lines)?;
+    let answers = text_of(rt.alloc(), script.answers)?;
     both_say(
-        &rt,
-        ((5, 29), list.as_slice()),
+        rt,
+        (script.size, list.as_slice()),
         lines.as_slice(),
         answers.as_slice(),
     )
 }
 
+/// Commands for a grid of 21 by 21 whose blocks leave 102 lights, four in a row and one in each open
+/// column; a bar set and taken away, a search, and another grid.
+const COMMANDS: &[Part<'static>] = &[
+    Bytes(b"size 21 21\n"),
+    Cells(
+        "block",
+        &[
+            1, 2, 3, 4, 5, 6, 7, 8, 9, 10, 11, 12, 13, 14, 15, 16, 17, 18, 19, 20, 21,
+        ],
+        &[6, 12, 18],
+    ),
+    Bytes(b"bar 1 1 right\nbar 1 1 right\nfill 0\nsize 21 21\n"),
+];
+
+/// The answers of these commands: no word is known, so the grid has no fill.
+const ANSWERS: &[Part<'static>] = &[Times(66, b"ok\n"), Bytes(b"nofill\nok\nok\n")];
+
 #[test]
-fn many_words(rt: HostRuntime) -> Result<(), Fail> {
-    let list = word_list(rt.alloc(), 5000)?;
-    fs::write(&rt, "many.txt", list.as_slice())?;
-    runs(
-        &rt,
-        &["xw", "edit", "--dict", "many.txt"],
-        b"add zzzzz\nstrike ZZZZZ\nadd fghij\nmatch fgh..\n",
-        Run {
-            status: Status::Accepted,
-            output: b"ok\nok\nok\nFGHIJ\nok\n",
-            errors: b"xw: many.txt: 5000 added, 0 skipped\n",
-        },
-    );
-    fs::remove_file(&rt, "many.txt")?;
+fn many_lights(rt: HostRuntime) -> Result<(), Fail> {
+    let commands = text_of(rt.alloc(), COMMANDS)?;
+    let answers = text_of(rt.alloc(), ANSWERS)?;
+    let wanted = Outcome {
+        output: answers.as_slice(),
+        ..QUIET
+    };
+    let steps = [Run(&["xw", "edit"], commands.as_slice(), wanted)];
+    pass(&rt, "many_lights", &steps);
     Ok(())
 }
 
-/// A line for each light across that begins below the first of 120 rows.
-fn put_rows(
-    alloc: Global,
-    text: &mut Vec<u8>,
-    before: &str,
-    after: &str,
-) -> Result<(), AllocError> {
-    for number in 3..122u32 {
-        let line = format!(in alloc; "{before}{number} across {after}\n")?;
-        text.extend_from_slice(line.as_bytes())?;
-    }
-    Ok(())
+/// Five columns with fifteen lights that cross none, and 1,100 words: each light gets the first word that none before it
+/// has, and one of them a late word, so that more than a hundred placements are tried.
+const MANY_CHOICES: Script<'static> = Script {
+    size: (5, 29),
+    words: &[Words(1100)],
+    lines: &[
+        Cells(
+            "block",
+            &[2, 4, 6, 8, 10, 12, 14, 16, 18, 20, 22, 24, 26, 28],
+            &[1, 2, 3, 4, 5],
+        ),
+        Bytes(b"add zzzzz\nstrike ZZZZZ\nadd fghij\nadd zzzzz\nset 1 3 B\n"),
+        Bytes(b"fill 999999999999999999\ndups\nunlisted\nmatch fgh..\n"),
+    ],
+    answers: &[
+        Times(75, b"ok\n"),
+        Bytes(b"filled\nok\nok\nok\nFGHIJ\nok\n"),
+    ],
+};
+
+#[test]
+fn many_choices(rt: HostRuntime) -> Result<(), Fail> {
+    passes(&rt, MANY_CHOICES)
 }
 
-/// A light down through 120 rows, and what is said of it.
-fn put_column(text: &mut Vec<u8>, said: &[u8]) -> Result<(), AllocError> {
-    text.extend_from_slice(said)?;
-    text.extend_from_slice(&[b'A'; 120])?;
-    text.push(b'\n')?;
-    Ok(())
-}
+/// 120 rows of two cells: 122 lights. Then each cell has an A, and the lights repeat two words that are not known: of
+/// each row, and of each column of 120 cells.
+const MANY_ENTRIES: Script<'static> = Script {
+    size: (2, 120),
+    words: &[],
+    lines: &[
+        Bytes(b"size 2 120\nblock 1 1\nblock 1 1\n"),
+        Bytes(b"bar 2 1 right\nbar 2 1 right\nfill 0\nplace 1 across AA\n"),
+        Numbers(3, 121, "place ", " across AA"),
+        Bytes(b"dups\nunlisted\n"),
+    ],
+    answers: &[
+        Times(5, b"ok\n"),
+        Bytes(b"nofill\n"),
+        Times(121, b"ok\n"),
+        Bytes(b"2 down 1 down "),
+        Times(120, b"A"),
+        Bytes(b"\n"),
+        Numbers(3, 121, "", " across 1 across AA"),
+        Bytes(b"ok\n1 across AA\n1 down "),
+        Times(120, b"A"),
+        Bytes(b"\n2 down "),
+        Times(120, b"A"),
+        Bytes(b"\n"),
+        Numbers(3, 121, "", " across AA"),
+        Bytes(b"ok\n"),
+    ],
+};
 
-/// 120 rows of two cells: 122 lights. Then each cell has an A, and the lights repeat two words that are not known.
 #[test]
 fn many_entries(rt: HostRuntime) -> Result<(), Fail> {
-    let mut lines = Vec::from_slice(rt.alloc(), b"size 2 120\nblock 1 1\nblock 1 1\n")?;
-    lines.extend_from_slice(b"bar 2 1 right\nbar 2 1 right\nfill 0\nplace 1 across AA\n")?;
-    put_rows(rt.alloc(), &mut lines, "place ", "AA")?;
-    lines.extend_from_slice(b"dups\nunlisted\n")?;
-    let mut answers = Vec::new(rt.alloc());
-    put_oks(&mut answers, 5)?;
-    answers.extend_from_slice(b"nofill\n")?;
-    put_oks(&mut answers, 121)?;
-    put_column(&mut answers, b"2 down 1 down ")?;
-    put_rows(rt.alloc(), &mut answers, "", "1 across AA")?;
-    answers.extend_from_slice(b"ok\n1 across AA\n")?;
-    put_column(&mut answers, b"1 down ")?;
-    put_column(&mut answers, b"2 down ")?;
-    put_rows(rt.alloc(), &mut answers, "", "AA")?;
-    put_oks(&mut answers, 1)?;
-    both_say(&rt, ((2, 120), b""), lines.as_slice(), answers.as_slice())
+    passes(&rt, MANY_ENTRIES)
 }
 
-/// So many lines, each of a tab and so many letters.
-fn put_lines(text: &mut Vec<u8>, lines: u32, letters: u32) -> Result<(), AllocError> {
-    for line in 0..lines {
-        text.push(b'\t')?;
-        for place in 0..letters {
-            text.push(letter(line % 26 + place % 26))?;
-        }
-        text.push(b'\n')?;
-    }
-    Ok(())
-}
-
-/// A line for each cell of the first row of 255 columns.
-fn put_cells(alloc: Global, text: &mut Vec<u8>, before: &str) -> Result<(), AllocError> {
-    for col in 1..256u32 {
-        let line = format!(in alloc; "{before}1 {col}\n")?;
-        text.extend_from_slice(line.as_bytes())?;
-    }
+#[test]
+fn many_words(rt: HostRuntime) -> Result<(), Fail> {
+    let list = text_of(rt.alloc(), &[Words(5000)])?;
+    let wanted = Outcome {
+        status: Status::Accepted,
+        output: b"ok\nok\nok\nFGHIJ\nok\n",
+        errors: b"xw: many.txt: 5000 added, 0 skipped\n",
+    };
+    let steps = [
+        Write("many.txt", list.as_slice()),
+        Run(
+            &["xw", "edit", "--dict", "many.txt"],
+            b"add zzzzz\nstrike ZZZZZ\nadd fghij\nmatch fgh..\n",
+            wanted,
+        ),
+        Remove("many.txt"),
+    ];
+    pass(&rt, "many_words", &steps);
     Ok(())
 }
 
 /// A text file of 255 by 255 letters with 510 clues and long texts.
-fn text_file(alloc: Global) -> Result<Vec<u8>, AllocError> {
-    let mut text = Vec::from_slice(alloc, b"<ACROSS PUZZLE>\n<TITLE>\n")?;
-    put_lines(&mut text, 1, 5000)?;
-    text.extend_from_slice(b"<AUTHOR>\n")?;
-    put_lines(&mut text, 1, 5000)?;
-    text.extend_from_slice(b"<COPYRIGHT>\n\t\n<SIZE>\n\t255x255\n<GRID>\n")?;
-    put_lines(&mut text, 255, 255)?;
-    text.extend_from_slice(b"<ACROSS>\n")?;
-    put_lines(&mut text, 255, 200)?;
-    text.extend_from_slice(b"<DOWN>\n")?;
-    put_lines(&mut text, 255, 300)?;
-    text.extend_from_slice(b"<NOTEPAD>\n")?;
-    put_lines(&mut text, 100, 100)?;
-    Ok(text)
-}
+const LARGE: &[Part<'static>] = &[
+    Bytes(b"<ACROSS PUZZLE>\n<TITLE>\n"),
+    Letters(1, 5000),
+    Bytes(b"<AUTHOR>\n"),
+    Letters(1, 5000),
+    Bytes(b"<COPYRIGHT>\n\t\n<SIZE>\n\t255x255\n<GRID>\n"),
+    Letters(255, 255),
+    Bytes(b"<ACROSS>\n"),
+    Letters(255, 200),
+    Bytes(b"<DOWN>\n"),
+    Letters(255, 300),
+    Bytes(b"<NOTEPAD>\n"),
+    Letters(100, 100),
+];
 
 #[test]
 fn large_files(rt: HostRuntime) -> Result<(), Fail> {
-    let text = text_file(rt.alloc())?;
-    fs::write(&rt, "large.txt", text.as_slice())?;
-    runs(
-        &rt,
-        &["xw", "convert", "large.txt", "large.puz"],
-        b"",
-        QUIET,
-    );
-    runs(
-        &rt,
-        &["xw", "check", "large.puz"],
-        b"",
-        Run {
-            output: b"puz 255x255 510 lights\n",
-            ..QUIET
-        },
-    );
-    runs(
-        &rt,
-        &["xw", "edit", "--from", "large.puz", "--to", "again.txt"],
-        b"",
-        QUIET,
-    );
-    holds(&rt, "again.txt", text.as_slice())?;
-    for file in ["large.txt", "large.puz", "again.txt"] {
-        fs::remove_file(&rt, file)?;
-    }
+    let text = text_of(rt.alloc(), LARGE)?;
+    let counted = Outcome {
+        output: b"puz 255x255 510 lights\n",
+        ..QUIET
+    };
+    let steps = [
+        Write("large.txt", text.as_slice()),
+        Run(&["xw", "convert", "large.txt", "large.puz"], b"", QUIET),
+        Run(&["xw", "check", "large.puz"], b"", counted),
+        Run(
+            &["xw", "edit", "--from", "large.puz", "--to", "again.txt"],
+            b"",
+            QUIET,
+        ),
+        Holds("again.txt", text.as_slice()),
+        Remove("large.txt"),
+        Remove("large.puz"),
+        Remove("again.txt"),
+    ];
+    pass(&rt, "large_files", &steps);
+    Ok(())
+}
+
+/// Writes a puzzle of that text with circles in the whole first row.
+fn circles_set(rt: &(impl Abort + AllocGlobal + Files)) -> Result<(), Fail> {
+    let text = text_of(rt.alloc(), LARGE)?;
+    let lines = text_of(rt.alloc(), &[Numbers(1, 255, "circle 1 ", "")])?;
+    let answers = text_of(rt.alloc(), &[Times(255, b"ok\n")])?;
+    let wanted = Outcome {
+        output: answers.as_slice(),
+        ..QUIET
+    };
+    let words = ["xw", "edit", "--from", "round.txt", "--to", "round.puz"];
+    let steps = [
+        Write("round.txt", text.as_slice()),
+        Run(&words, lines.as_slice(), wanted),
+        Remove("round.txt"),
+    ];
+    pass(rt, "large_circles, set", &steps);
     Ok(())
 }
 
 /// Circles in the whole first row.
 #[test]
 fn large_circles(rt: HostRuntime) -> Result<(), Fail> {
-    let text = text_file(rt.alloc())?;
-    fs::write(&rt, "round.txt", text.as_slice())?;
-    let mut lines = Vec::new(rt.alloc());
-    put_cells(rt.alloc(), &mut lines, "circle ")?;
-    let mut answers = Vec::new(rt.alloc());
-    put_oks(&mut answers, 255)?;
-    let circled = Run {
-        output: answers.as_slice(),
-        ..QUIET
-    };
-    let words = ["xw", "edit", "--from", "round.txt", "--to", "round.puz"];
-    runs(&rt, &words, lines.as_slice(), circled);
-    let mut listed = Vec::new(rt.alloc());
-    put_cells(rt.alloc(), &mut listed, "")?;
-    put_oks(&mut listed, 1)?;
-    let circles = Run {
+    circles_set(&rt)?;
+    let listed = text_of(rt.alloc(), &[Numbers(1, 255, "1 ", ""), Bytes(b"ok\n")])?;
+    let wanted = Outcome {
         output: listed.as_slice(),
         ..QUIET
     };
-    runs(
-        &rt,
-        &["xw", "edit", "--from", "round.puz"],
-        b"circles\n",
-        circles,
-    );
-    for file in ["round.txt", "round.puz"] {
-        fs::remove_file(&rt, file)?;
-    }
+    let steps = [
+        Run(&["xw", "edit", "--from", "round.puz"], b"circles\n", wanted),
+        Remove("round.puz"),
+    ];
+    pass(&rt, "large_circles, listed", &steps);
     Ok(())
 }
