@@ -1,4 +1,5 @@
 //! Worked examples of files.
+mod cases;
 mod puz;
-pub mod puzzles;
+mod puzzles;
 mod text;

@@ -1,13 +1,15 @@
 //! Scripts answered over memory, and over devices that fail.
 mod devices;
 mod examples;
+mod forms;
 mod points;
 mod puzzles;
 mod record;
 mod scripts;
+mod square;
 mod whole;
 
-use std::alloc::Global;
+use std::alloc::{AllocError, Global};
 use std::process::Abort;
 use std::test::Fail;
 use xw_feas::feasible::Feasible;
@@ -18,6 +20,21 @@ use xw_words::Bank;
 
 /// Lines, each with its answer.
 type Script = &'static [(&'static str, &'static str)];
+
+/// A script by its name.
+struct Case {
+    name: &'static str,
+    script: Script,
+}
+
+/// Lines as a reader gives them, what is to be written, and how many of them are refused.
+#[derive(Clone, Copy)]
+struct Exchange<'a> {
+    name: &'a str,
+    lines: &'a [u8],
+    answers: &'a [u8],
+    refused: u64,
+}
 
 /// A session that begins as the program's does: 15 by 15 cells, and no words.
 fn session(alloc: Global) -> Result<Session<Plain>, Fail> {
@@ -31,27 +48,76 @@ fn engine_of(alloc: Global, rows: u32) -> Result<Plain, Fail> {
 }
 
 /// Runs lines in a session, and compares what is written and how the run ends.
-fn says(
-    rt: &(impl Abort + AllocGlobal),
-    session: &mut Session<Plain>,
-    lines: &[u8],
-    answers: &[u8],
-    refused: u64,
-) {
+fn says(rt: &(impl Abort + AllocGlobal), session: &mut Session<Plain>, exchange: &Exchange<'_>) {
+    let name = exchange.name;
     let mut told = Vec::new(rt.alloc());
-    let end = session.run_lines(&mut FromRead::new(lines), &mut ToWrite::new(&mut told));
-    assert_eq!(rt; told.as_slice(), answers);
-    assert_eq!(rt; end, RunEnd::Done { refused });
+    let end = session.run_lines(
+        &mut FromRead::new(exchange.lines),
+        &mut ToWrite::new(&mut told),
+    );
+    assert_eq!(rt; told.as_slice(), exchange.answers, "in {name}");
+    let refused = exchange.refused;
+    assert_eq!(rt; end, RunEnd::Done { refused }, "in {name}");
 }
 
 /// The same in a session of no words.
-fn runs(
-    rt: &(impl Abort + AllocGlobal),
-    lines: &[u8],
-    answers: &[u8],
-    refused: u64,
-) -> Result<(), Fail> {
+fn runs(rt: &(impl Abort + AllocGlobal), exchange: &Exchange<'_>) -> Result<(), Fail> {
     let mut session = session(rt.alloc())?;
-    says(rt, &mut session, lines, answers, refused);
+    says(rt, &mut session, exchange);
+    Ok(())
+}
+
+/// Puts one letter many times behind a beginning.
+fn push_long(
+    lines: &mut Vec<u8>,
+    beginning: &[u8],
+    letter: u8,
+    count: usize,
+) -> Result<(), AllocError> {
+    lines.extend_from_slice(beginning)?;
+    for _ in 0..count {
+        lines.push(letter)?;
+    }
+    Ok(())
+}
+
+/// Puts the lines of a script into one text and its answers into another, and tells how many are refused.
+fn gather(lines: &mut Vec<u8>, answers: &mut Vec<u8>, script: Script) -> Result<u64, AllocError> {
+    let mut refused = 0;
+    for (line, answer) in script {
+        lines.extend_from_slice(line.as_bytes())?;
+        lines.push(b'\n')?;
+        answers.extend_from_slice(answer.as_bytes())?;
+        if answer.as_bytes().starts_with(b"no ") {
+            refused = u64::saturating_add(refused, 1);
+        }
+    }
+    Ok(refused)
+}
+
+/// Runs a script after other lines in a new session.
+fn answers(rt: &(impl Abort + AllocGlobal), beginning: Script, case: &Case) -> Result<(), Fail> {
+    let mut lines = Vec::new(rt.alloc());
+    let mut answers = Vec::new(rt.alloc());
+    let before = gather(&mut lines, &mut answers, beginning)?;
+    let after = gather(&mut lines, &mut answers, case.script)?;
+    let exchange = Exchange {
+        name: case.name,
+        lines: lines.as_slice(),
+        answers: answers.as_slice(),
+        refused: before.saturating_add(after),
+    };
+    runs(rt, &exchange)
+}
+
+/// Runs each script in a new session of its own, after the lines that all of them begin with.
+fn answers_each(
+    rt: &(impl Abort + AllocGlobal),
+    beginning: Script,
+    cases: &[Case],
+) -> Result<(), Fail> {
+    for case in cases {
+        answers(rt, beginning, case)?;
+    }
     Ok(())
 }

@@ -1,12 +1,8 @@
-//! Puzzles by their parts: made, asked for what they have, and written.
+//! Puzzles by their parts: made, and asked for what they have.
 use std::alloc::Global;
 use std::process::Abort;
 use std::test::Fail;
-use xw_files::fault::WriteFault;
-use xw_files::kind::Kind;
-use xw_files::puz::write_puz;
 use xw_files::puzzle::{Puzzle, Texts};
-use xw_files::text::write_text;
 use xw_grid::cell::{Cell, Direction, Side, Symmetry};
 use xw_grid::circles::Circles;
 use xw_grid::clues::Clues;
@@ -95,7 +91,8 @@ pub fn put(alloc: Global, puzzle: &mut Puzzle, part: Part) -> Result<(), Fail> {
     Ok(())
 }
 
-fn put_all(alloc: Global, puzzle: &mut Puzzle, parts: &[Part]) -> Result<(), Fail> {
+/// Lets a puzzle have all of these parts.
+pub fn put_all(alloc: Global, puzzle: &mut Puzzle, parts: &[Part]) -> Result<(), Fail> {
     for part in parts {
         put(alloc, puzzle, *part)?;
     }
@@ -150,49 +147,16 @@ fn has(puzzle: &Puzzle, part: Part) -> bool {
     }
 }
 
-fn has_all(rt: &impl Abort, puzzle: &Puzzle, parts: &[Part]) {
+fn has_all(rt: &impl Abort, name: &str, puzzle: &Puzzle, parts: &[Part]) {
     for (place, part) in parts.iter().enumerate() {
-        assert!(rt; has(puzzle, *part), "part {place}");
+        assert!(rt; has(puzzle, *part), "part {place} in {name}");
     }
 }
 
 /// Looks for the parts of each table in a puzzle that was read.
-pub fn is_read_as(rt: &impl Abort, puzzle: &Puzzle, tables: &[&[Part]]) {
-    assert_eq!(rt; puzzle.grid.symmetry(), Symmetry::None);
+pub fn is_read_as(rt: &impl Abort, name: &str, puzzle: &Puzzle, tables: &[&[Part]]) {
+    assert_eq!(rt; puzzle.grid.symmetry(), Symmetry::None, "in {name}");
     for parts in tables {
-        has_all(rt, puzzle, *parts);
+        has_all(rt, name, puzzle, *parts);
     }
-}
-
-/// A file, or why none is written.
-pub type Wanted = Result<&'static [u8], WriteFault>;
-
-/// Parts to put into a puzzle, and what is written of it then.
-pub type Row = (&'static [Part], Wanted);
-
-fn written(alloc: Global, kind: Kind, puzzle: &Puzzle) -> Result<Vec<u8>, WriteFault> {
-    match kind {
-        Kind::Puz => write_puz(alloc, puzzle),
-        Kind::Text => write_text(alloc, puzzle),
-    }
-}
-
-/// Whether a puzzle is written so, or so refused.
-fn gives(alloc: Global, kind: Kind, puzzle: &Puzzle, wanted: Wanted) -> bool {
-    match (written(alloc, kind, puzzle), wanted) {
-        (Ok(bytes), Ok(file)) => bytes.as_slice() == file,
-        (Err(fault), Err(refusal)) => fault == refusal,
-        _ => false,
-    }
-}
-
-/// Puts parts into the plain puzzle, row by row, and compares what each time is written.
-pub fn writes_each(rt: &(impl Abort + AllocGlobal), kind: Kind, rows: &[Row]) -> Result<(), Fail> {
-    let mut puzzle = puzzle_with(rt.alloc(), PLAIN_PUZZLE)?;
-    for (place, row) in rows.iter().enumerate() {
-        let (parts, wanted) = *row;
-        put_all(rt.alloc(), &mut puzzle, parts)?;
-        assert!(rt; gives(rt.alloc(), kind, &puzzle, wanted), "at row {place}");
-    }
-    Ok(())
 }

@@ -1,7 +1,7 @@
 //! Runs over readers and writers that fail.
 ghost use Rattle.std.specs.Prelude.{◌≡◌, ◌≤◌, ◌<◌, length, take, true, false};
 
-use crate::session::{engine_of, session};
+use crate::session::{Exchange, engine_of};
 use std::process::Abort;
 use std::test::Fail;
 use xw_feas::plain::Plain;
@@ -88,262 +88,383 @@ impl Sink for Buffer {
     }
 }
 
-const LINES: &[u8] = b"add CAT\nadd COT\n\nmatch C.T\nadd CAT";
-
-const ANSWERS: &[u8] = b"ok\nok\nCAT\nCOT\nok\nno Known\n";
-
-/// How a run over devices is to end: after so many reads and writes, with so many bytes written.
-#[derive(Clone, Copy)]
-struct Case {
-    piece: usize,
-    reads: u64,
-    writes: u64,
-    end: RunEnd,
-    written: usize,
-}
-
-/// Runs the lines, compares, and gives back the session.
-fn runs(rt: &(impl Abort + AllocGlobal), lines: &[u8], case: Case) -> Result<Session<Plain>, Fail> {
-    let mut session = session(rt.alloc())?;
-    let mut source = Script {
-        bytes: lines,
+fn reader(bytes: &[u8], piece: usize, calls_left: u64) -> Script<'_> {
+    Script {
+        bytes,
         given: 0,
-        piece: case.piece,
-        calls_left: case.reads,
+        piece,
+        calls_left,
         failures: 0,
         is_at_end: false,
-    };
-    let mut sink = Buffer {
+    }
+}
+
+fn writer(piece: usize, calls_left: u64) -> Buffer {
+    Buffer {
         bytes: [0; 512],
         taken: 0,
-        piece: case.piece,
-        calls_left: case.writes,
+        piece,
+        calls_left,
         failures: 0,
         told: History::new(),
-    };
-    let end = session.run_lines(&mut source, &mut sink);
-    assert_eq!(rt; end, case.end);
-    assert!(rt; case.written <= ANSWERS.len());
-    assert_eq!(rt; &sink.bytes[..sink.taken], &ANSWERS[..case.written]);
-    Ok(session)
+    }
+}
+
+/// The device that fails after some calls.
+#[derive(Clone, Copy)]
+enum Failing {
+    Reader,
+    Writer,
+}
+
+/// How many bytes a call gives or takes at most, and which of the two devices fails.
+#[derive(Clone, Copy)]
+struct Devices {
+    given: usize,
+    taken: usize,
+    failing: Failing,
+}
+
+/// How a run over devices ended: how many bytes went out, how often the writer failed, and whether the session has the
+/// word CAT after it.
+#[derive(Clone, Copy)]
+struct Ended {
+    end: RunEnd,
+    written: usize,
+    failures: u64,
+    has_cat: bool,
 }
 
 /// Whether a session has the word CAT: adding it is then refused.
-fn has_cat(mut session: Session<Plain>) -> bool {
-    let mut told = Buffer {
-        bytes: [0; 512],
-        taken: 0,
-        piece: 512,
-        calls_left: 9,
-        failures: 0,
-        told: History::new(),
+fn has_cat(session: &mut Session<Plain>) -> bool {
+    session.step(b"add CAT", &mut writer(512, 9)) == Ok(Step::Refused)
+}
+
+/// Runs lines in a new session over devices one of which answers so many calls: what goes out is a beginning of the answers.
+fn runs_over(
+    rt: &(impl Abort + AllocGlobal),
+    exchange: &Exchange<'_>,
+    devices: Devices,
+    calls: u64,
+) -> Result<Ended, Fail> {
+    let (reads, writes) = match devices.failing {
+        Failing::Reader => (calls, 1000),
+        Failing::Writer => (100, calls),
     };
-    session.step(b"add CAT", &mut told) == Ok(Step::Refused)
-}
-
-#[test]
-fn answers_in_any_pieces(rt: HostRuntime) -> Result<(), Fail> {
-    for piece in [1, 2, 7, 100] {
-        let case = Case {
-            piece,
-            reads: 100,
-            writes: 100,
-            end: RunEnd::Done { refused: 1 },
-            written: 26,
-        };
-        assert!(rt; has_cat(runs(&rt, LINES, case)?));
-    }
-    Ok(())
-}
-
-/// The reader fails at each of its calls in turn: the complete lines before that are answered.
-#[test]
-fn reader_fails(rt: HostRuntime) -> Result<(), Fail> {
-    for (reads, written) in [
-        (0, 0),
-        (1, 0),
-        (2, 3),
-        (3, 3),
-        (4, 6),
-        (5, 6),
-        (6, 6),
-        (7, 17),
-        (8, 17),
-        (9, 17),
-    ] {
-        let case = Case {
-            piece: 4,
-            reads,
-            writes: 1000,
-            end: RunEnd::ReadFailed,
-            written,
-        };
-        assert_eq!(rt;
-            has_cat(runs(&rt, LINES, case)?),
-            written > 0,
-            "after {reads} reads"
-        );
-    }
-    Ok(())
-}
-
-/// The writer takes a byte at a time and fails at each of its calls in turn: what went out is a beginning.
-#[test]
-fn writer_fails(rt: HostRuntime) -> Result<(), Fail> {
-    // A flush after each of the five answers takes a call, too.
-    for (writes, written) in [
-        (0, 0),
-        (1, 1),
-        (2, 2),
-        (3, 3),
-        (4, 3),
-        (5, 4),
-        (7, 6),
-        (8, 6),
-        (9, 7),
-        (19, 17),
-        (20, 17),
-        (29, 26),
-    ] {
-        let case = Case {
-            piece: 1,
-            reads: 100,
-            writes,
-            end: RunEnd::WriteFailed,
-            written,
-        };
-        assert!(rt; has_cat(runs(&rt, LINES, case)?), "after {writes} writes");
-    }
-    Ok(())
-}
-
-#[test]
-fn writer_takes_none(rt: HostRuntime) -> Result<(), Fail> {
-    let mut session = session(rt.alloc())?;
-    let mut source = Script {
-        bytes: LINES,
-        given: 0,
-        piece: 100,
-        calls_left: 100,
-        failures: 0,
-        is_at_end: false,
-    };
-    let mut sink = Buffer {
-        bytes: [0; 512],
-        taken: 0,
-        piece: 0,
-        calls_left: 100,
-        failures: 0,
-        told: History::new(),
-    };
-    assert_eq!(rt;
-        session.run_lines(&mut source, &mut sink),
-        RunEnd::WriteFailed
+    let mut session = Session::new(rt.alloc(), engine_of(rt.alloc(), 1)?);
+    let mut sink = writer(devices.taken, writes);
+    let end = session.run_lines(&mut reader(exchange.lines, devices.given, reads), &mut sink);
+    let name = exchange.name;
+    assert!(rt;
+        exchange.answers.starts_with(&sink.bytes[..sink.taken]),
+        "in {name} at {calls} calls"
     );
-    assert_eq!(rt; sink.failures, 1);
-    assert!(rt; has_cat(session));
-    Ok(())
+    Ok(Ended {
+        end,
+        written: sink.taken,
+        failures: sink.failures,
+        has_cat: has_cat(&mut session),
+    })
 }
 
-/// The two cases of a line that is cut off and of a writer that takes one byte and then fails.
-#[test]
-fn cut_off(rt: HostRuntime) -> Result<(), Fail> {
-    let reader = Case {
-        piece: 100,
-        reads: 1,
-        writes: 100,
+/// Runs that end alike.
+#[derive(Clone, Copy)]
+struct Case {
+    exchange: Exchange<'static>,
+    devices: Devices,
+    end: RunEnd,
+    failures: u64,
+    /// After so many calls: how many bytes are written, and whether the session has the word CAT.
+    runs: &'static [(u64, usize, bool)],
+}
+
+const THREE_WORDS: Exchange<'static> = Exchange {
+    name: "three words",
+    lines: b"add CAT\nadd COT\n\nmatch C.T\nadd CAT",
+    answers: b"ok\nok\nCAT\nCOT\nok\nno Known\n",
+    refused: 1,
+};
+
+const CASES: &[Case] = &[
+    Case {
+        exchange: Exchange {
+            name: "answers_in_any_pieces: 1",
+            ..THREE_WORDS
+        },
+        devices: Devices {
+            given: 1,
+            taken: 1,
+            failing: Failing::Writer,
+        },
+        end: RunEnd::Done { refused: 1 },
+        failures: 0,
+        runs: &[(100, 26, true)],
+    },
+    Case {
+        exchange: Exchange {
+            name: "answers_in_any_pieces: 2",
+            ..THREE_WORDS
+        },
+        devices: Devices {
+            given: 2,
+            taken: 2,
+            failing: Failing::Writer,
+        },
+        end: RunEnd::Done { refused: 1 },
+        failures: 0,
+        runs: &[(100, 26, true)],
+    },
+    Case {
+        exchange: Exchange {
+            name: "answers_in_any_pieces: 7",
+            ..THREE_WORDS
+        },
+        devices: Devices {
+            given: 7,
+            taken: 7,
+            failing: Failing::Writer,
+        },
+        end: RunEnd::Done { refused: 1 },
+        failures: 0,
+        runs: &[(100, 26, true)],
+    },
+    Case {
+        exchange: Exchange {
+            name: "answers_in_any_pieces: 100",
+            ..THREE_WORDS
+        },
+        devices: Devices {
+            given: 100,
+            taken: 100,
+            failing: Failing::Writer,
+        },
+        end: RunEnd::Done { refused: 1 },
+        failures: 0,
+        runs: &[(100, 26, true)],
+    },
+    // At each of its calls in turn: the complete lines before that are answered.
+    Case {
+        exchange: Exchange {
+            name: "reader_fails",
+            ..THREE_WORDS
+        },
+        devices: Devices {
+            given: 4,
+            taken: 4,
+            failing: Failing::Reader,
+        },
         end: RunEnd::ReadFailed,
-        written: 3,
-    };
-    assert!(rt; has_cat(runs(&rt, b"add CAT\nmat", reader)?));
-    let writer = Case {
-        piece: 1,
-        reads: 100,
-        writes: 1,
+        failures: 0,
+        runs: &[
+            (0, 0, false),
+            (1, 0, false),
+            (2, 3, true),
+            (3, 3, true),
+            (4, 6, true),
+            (5, 6, true),
+            (6, 6, true),
+            (7, 17, true),
+            (8, 17, true),
+            (9, 17, true),
+        ],
+    },
+    // At each of its calls in turn, a byte at a time: what went out is a beginning. A flush after each of the five answers
+    // takes a call, too.
+    Case {
+        exchange: Exchange {
+            name: "writer_fails",
+            ..THREE_WORDS
+        },
+        devices: Devices {
+            given: 1,
+            taken: 1,
+            failing: Failing::Writer,
+        },
         end: RunEnd::WriteFailed,
-        written: 1,
-    };
-    assert!(rt; has_cat(runs(&rt, b"add CAT\n", writer)?));
+        failures: 1,
+        runs: &[
+            (0, 0, true),
+            (1, 1, true),
+            (2, 2, true),
+            (3, 3, true),
+            (4, 3, true),
+            (5, 4, true),
+            (7, 6, true),
+            (8, 6, true),
+            (9, 7, true),
+            (19, 17, true),
+            (20, 17, true),
+            (29, 26, true),
+        ],
+    },
+    Case {
+        exchange: Exchange {
+            name: "writer_takes_none",
+            ..THREE_WORDS
+        },
+        devices: Devices {
+            given: 100,
+            taken: 0,
+            failing: Failing::Writer,
+        },
+        end: RunEnd::WriteFailed,
+        failures: 1,
+        runs: &[(100, 0, true)],
+    },
+    Case {
+        exchange: Exchange {
+            name: "cut_off: a line",
+            lines: b"add CAT\nmat",
+            answers: b"ok\n",
+            refused: 0,
+        },
+        devices: Devices {
+            given: 100,
+            taken: 100,
+            failing: Failing::Reader,
+        },
+        end: RunEnd::ReadFailed,
+        failures: 0,
+        runs: &[(1, 3, true)],
+    },
+    // The writer takes one byte and then fails.
+    Case {
+        exchange: Exchange {
+            name: "cut_off: an answer",
+            lines: b"add CAT\n",
+            answers: b"ok\n",
+            refused: 0,
+        },
+        devices: Devices {
+            given: 1,
+            taken: 1,
+            failing: Failing::Writer,
+        },
+        end: RunEnd::WriteFailed,
+        failures: 1,
+        runs: &[(1, 1, true)],
+    },
+];
+
+/// Compares how the runs of a case end.
+fn ends_so(rt: &(impl Abort + AllocGlobal), case: &Case) -> Result<(), Fail> {
+    let name = case.exchange.name;
+    for (calls, written, has_cat) in case.runs {
+        let found = runs_over(rt, &case.exchange, case.devices, *calls)?;
+        assert_eq!(rt; found.end, case.end, "in {name} at {calls} calls");
+        assert_eq!(rt; found.written, *written, "in {name} at {calls} calls");
+        assert_eq!(rt; found.failures, case.failures, "in {name} at {calls} calls");
+        assert_eq!(rt; found.has_cat, *has_cat, "in {name} at {calls} calls");
+    }
     Ok(())
 }
 
-/// The square of AS, AT, SO, TO and IN: asked, with one entry, emptied and restored, filled, and with repeats; lines and answers.
-const SQUARES: [(&[u8], &[u8]); 5] = [
+#[test]
+fn devices_that_fail(rt: HostRuntime) -> Result<(), Fail> {
+    for case in CASES {
+        ends_so(&rt, case)?;
+    }
+    Ok(())
+}
+
+/// The square of AS, AT, SO, TO and IN.
+const SQUARES: &[Exchange<'static>] = &[
+    Exchange {
+        name: "squares_broken_off: asked",
+        lines: b"size 2 2\nadd AS\nadd AT\nadd SO\nadd TO\nadd IN\nlights\nwords 1 across\nwords 1 down\nwords 2 down\nwords 3 across\nletters 1 1\nletters 1 2\nletters 2 1\nletters 2 2\nsuggest\n",
+        answers: b"ok\nok\nok\nok\nok\nok\n1 across 1 1 ..\n1 down 1 1 ..\n2 down 1 2 ..\n3 across 2 1 ..\nok\n2\nAS\nAT\nok\n2\nAS\nAT\nok\n2\nSO\nTO\nok\n2\nSO\nTO\nok\nA\nok\nST\nok\nST\nok\nO\nok\ntry 1 across AS\nok\n",
+        refused: 0,
+    },
+    Exchange {
+        name: "squares_broken_off: with one entry",
+        lines: b"size 2 2\nadd AS\nadd AT\nadd SO\nadd TO\nadd IN\nwatch on\nset 1 2 T\nwords 1 across\nwords 2 down\nwords 1 down\nwords 3 across\nset 1 2 S\nwords 1 across\nwords 2 down\n",
+        answers: b"ok\nok\nok\nok\nok\nok\nok\ncell 1 2 T\nok\n1\nAT\nok\n1\nTO\nok\n2\nAS\nAT\nok\n2\nSO\nTO\nok\ncell 1 2 S\nok\n1\nAS\nok\n1\nSO\nok\n",
+        refused: 0,
+    },
+    Exchange {
+        name: "squares_broken_off: emptied and restored",
+        lines: b"size 2 2\nadd AS\nadd AT\nadd SO\nadd TO\nadd IN\nwatch on\nset 1 1 X\nwords 1 across\nwords 1 down\nwords 2 down\nwords 3 across\nsuggest\nclear 1 1\nwords 1 across\nwords 1 down\nwords 2 down\nwords 3 across\nsuggest\n",
+        answers: b"ok\nok\nok\nok\nok\nok\nok\ncell 1 1 -\ncell 1 2 -\ncell 2 1 -\ncell 2 2 -\nok\n0\nok\n0\nok\n0\nok\n0\nok\ndead 1 across\nok\ncell 1 1 A\ncell 1 2 ST\ncell 2 1 ST\ncell 2 2 O\nok\n2\nAS\nAT\nok\n2\nAS\nAT\nok\n2\nSO\nTO\nok\n2\nSO\nTO\nok\ntry 1 across AS\nok\n",
+        refused: 0,
+    },
+    Exchange {
+        name: "squares_broken_off: filled",
+        lines: b"size 2 2\nadd AS\nadd AT\nadd SO\nadd TO\nadd IN\nfill 3\nshow\nfill 4\nshow\n",
+        answers: b"ok\nok\nok\nok\nok\nok\nlimit\nok\n- -\n- -\nok\nfilled\nok\nA S\nT O\nok\n",
+        refused: 0,
+    },
+    Exchange {
+        name: "squares_broken_off: with repeats",
+        lines: b"size 2 2\nadd AS\nadd AT\nadd SO\nadd TO\nadd IN\nstrike SO\nfill 100\nshow\nplace 1 across AT\nplace 3 across TO\ndups\nunlisted\n",
+        answers: b"ok\nok\nok\nok\nok\nok\nok\nnofill\nok\n- -\n- -\nok\nok\nok\n1 down 1 across AT\n3 across 2 down TO\nok\nok\n",
+        refused: 0,
+    },
+];
+
+/// Devices, how a run ends when one of them fails, and how many calls are surely enough.
+const BREAKS: &[(Devices, RunEnd, u64)] = &[
     (
-        b"size 2 2\nadd AS\nadd AT\nadd SO\nadd TO\nadd IN\nlights\nwords 1 across\nwords 1 down\nwords 2 down\nwords 3 across\nletters 1 1\nletters 1 2\nletters 2 1\nletters 2 2\nsuggest\n",
-        b"ok\nok\nok\nok\nok\nok\n1 across 1 1 ..\n1 down 1 1 ..\n2 down 1 2 ..\n3 across 2 1 ..\nok\n2\nAS\nAT\nok\n2\nAS\nAT\nok\n2\nSO\nTO\nok\n2\nSO\nTO\nok\nA\nok\nST\nok\nST\nok\nO\nok\ntry 1 across AS\nok\n",
+        Devices {
+            given: 16,
+            taken: 1,
+            failing: Failing::Writer,
+        },
+        RunEnd::WriteFailed,
+        400,
     ),
     (
-        b"size 2 2\nadd AS\nadd AT\nadd SO\nadd TO\nadd IN\nwatch on\nset 1 2 T\nwords 1 across\nwords 2 down\nwords 1 down\nwords 3 across\nset 1 2 S\nwords 1 across\nwords 2 down\n",
-        b"ok\nok\nok\nok\nok\nok\nok\ncell 1 2 T\nok\n1\nAT\nok\n1\nTO\nok\n2\nAS\nAT\nok\n2\nSO\nTO\nok\ncell 1 2 S\nok\n1\nAS\nok\n1\nSO\nok\n",
+        Devices {
+            given: 16,
+            taken: 512,
+            failing: Failing::Writer,
+        },
+        RunEnd::WriteFailed,
+        400,
     ),
     (
-        b"size 2 2\nadd AS\nadd AT\nadd SO\nadd TO\nadd IN\nwatch on\nset 1 1 X\nwords 1 across\nwords 1 down\nwords 2 down\nwords 3 across\nsuggest\nclear 1 1\nwords 1 across\nwords 1 down\nwords 2 down\nwords 3 across\nsuggest\n",
-        b"ok\nok\nok\nok\nok\nok\nok\ncell 1 1 -\ncell 1 2 -\ncell 2 1 -\ncell 2 2 -\nok\n0\nok\n0\nok\n0\nok\n0\nok\ndead 1 across\nok\ncell 1 1 A\ncell 1 2 ST\ncell 2 1 ST\ncell 2 2 O\nok\n2\nAS\nAT\nok\n2\nAS\nAT\nok\n2\nSO\nTO\nok\n2\nSO\nTO\nok\ntry 1 across AS\nok\n",
-    ),
-    (
-        b"size 2 2\nadd AS\nadd AT\nadd SO\nadd TO\nadd IN\nfill 3\nshow\nfill 4\nshow\n",
-        b"ok\nok\nok\nok\nok\nok\nlimit\nok\n- -\n- -\nok\nfilled\nok\nA S\nT O\nok\n",
-    ),
-    (
-        b"size 2 2\nadd AS\nadd AT\nadd SO\nadd TO\nadd IN\nstrike SO\nfill 100\nshow\nplace 1 across AT\nplace 3 across TO\ndups\nunlisted\n",
-        b"ok\nok\nok\nok\nok\nok\nok\nnofill\nok\n- -\n- -\nok\nok\nok\n1 down 1 across AT\n3 across 2 down TO\nok\nok\n",
+        Devices {
+            given: 16,
+            taken: 512,
+            failing: Failing::Reader,
+        },
+        RunEnd::ReadFailed,
+        100,
     ),
 ];
 
-/// Runs lines over devices that give so many calls, the writer so many bytes each, and compares: what went out is a
-/// beginning of the answers.
-fn begins(
+/// A device fails at each of its calls in turn, until it has enough of them.
+fn breaks_off(
     rt: &(impl Abort + AllocGlobal),
-    (lines, answers): (&[u8], &[u8]),
-    (reads, writes, written): (u64, u64, usize),
-) -> Result<(RunEnd, usize), Fail> {
-    let mut session = Session::new(rt.alloc(), engine_of(rt.alloc(), 1)?);
-    let mut source = Script {
-        bytes: lines,
-        given: 0,
-        piece: 16,
-        calls_left: reads,
-        failures: 0,
-        is_at_end: false,
-    };
-    let mut sink = Buffer {
-        bytes: [0; 512],
-        taken: 0,
-        piece: written,
-        calls_left: writes,
-        failures: 0,
-        told: History::new(),
-    };
-    let end = session.run_lines(&mut source, &mut sink);
-    assert!(rt; answers.starts_with(&sink.bytes[..sink.taken]));
-    Ok((end, sink.taken))
+    exchange: &Exchange<'_>,
+    (devices, broken, most): (Devices, RunEnd, u64),
+) -> Result<(), Fail> {
+    let name = exchange.name;
+    for calls in 0..most {
+        let found = runs_over(rt, exchange, devices, calls)?;
+        if found.end == (RunEnd::Done { refused: 0 }) {
+            assert_eq!(rt;
+                found.written,
+                exchange.answers.len(),
+                "in {name} at {calls} calls"
+            );
+            return Ok(());
+        }
+        assert_eq!(rt; found.end, broken, "in {name} at {calls} calls");
+    }
+    panic!(rt; "{name} has no end in {most} calls")
 }
 
-/// The writer, or the reader, fails at each of its calls in turn, until it has enough of them.
+fn breaks_off_each(rt: &(impl Abort + AllocGlobal), exchange: &Exchange<'_>) -> Result<(), Fail> {
+    for breaks in BREAKS {
+        breaks_off(rt, exchange, *breaks)?;
+    }
+    Ok(())
+}
+
 #[test]
 fn squares_broken_off(rt: HostRuntime) -> Result<(), Fail> {
-    for (lines, answers) in SQUARES {
-        for piece in [1, 512] {
-            for calls in 0..400 {
-                let (end, written) = begins(&rt, (lines, answers), (100, calls, piece))?;
-                if end == (RunEnd::Done { refused: 0 }) {
-                    assert_eq!(&rt; written, answers.len());
-                    break;
-                }
-                assert_eq!(&rt; end, RunEnd::WriteFailed);
-                assert!(&rt; calls < 399);
-            }
-        }
-        for calls in 0..100 {
-            let (end, written) = begins(&rt, (lines, answers), (calls, 1000, 512))?;
-            if end == (RunEnd::Done { refused: 0 }) {
-                assert_eq!(&rt; written, answers.len());
-                break;
-            }
-            assert_eq!(&rt; end, RunEnd::ReadFailed);
-            assert!(&rt; calls < 99);
-        }
+    for exchange in SQUARES {
+        breaks_off_each(&rt, exchange)?;
     }
     Ok(())
 }

@@ -1,69 +1,77 @@
 //! Points that are easy to get wrong, as scripts.
-use crate::session::runs;
-use std::process::Abort;
+use crate::session::{Case, answers_each};
 use std::test::Fail;
 
-/// A NUL, a digit of another script and a missing word are faults of form.
-#[test]
-fn words_of_no_form(rt: HostRuntime) -> Result<(), Fail> {
-    runs(
-        &rt,
-        b"clue\nclue 1\nsize 2\0 2\nsize \xD9\xA2 2\nsym half\0\nwatch \0\nset 1 1 \0\nadd A\0\nshow\0\n",
-        b"no Arguments\nno Arguments\nno Arguments\nno Arguments\nno Arguments\nno Arguments\nno BadLetter\nno BadLetter\nno Command\n",
-        9,
-    )
-}
+/// Each in a session of no words.
+const POINTS: &[Case] = &[
+    // A NUL, a digit of another script and a missing word are faults of form.
+    Case {
+        name: "words_of_no_form",
+        script: &[
+            ("clue", "no Arguments\n"),
+            ("clue 1", "no Arguments\n"),
+            ("size 2\0 2", "no Arguments\n"),
+            ("size \u{662} 2", "no Arguments\n"),
+            ("sym half\0", "no Arguments\n"),
+            ("watch \0", "no Arguments\n"),
+            ("set 1 1 \0", "no BadLetter\n"),
+            ("add A\0", "no BadLetter\n"),
+            ("show\0", "no Command\n"),
+        ],
+    },
+    // Placing finds no light, then a bad letter, then another length, and never names a length as such.
+    Case {
+        name: "refusals_of_placing",
+        script: &[
+            ("size 3 1", "ok\n"),
+            ("place 2 across A", "no NoLight\n"),
+            ("place 1 across A4", "no BadLetter\n"),
+            ("place 1 across A", "no PlaceLength\n"),
+            ("place 1 across CATS", "no PlaceLength\n"),
+            ("place 1 across Cat", "ok\n"),
+            ("show", "C A T\nok\n"),
+        ],
+    },
+    // Opening is never refused, and leaves the letters of the orbit that stood open.
+    Case {
+        name: "orbit_opened_over_a_letter",
+        script: &[
+            ("size 3 3", "ok\n"),
+            ("block 1 1", "ok\n"),
+            ("sym half", "ok\n"),
+            ("set 3 3 A", "ok\n"),
+            ("block 1 1", "ok\n"),
+            ("show", "- - -\n- - -\n- - A\nok\n"),
+        ],
+    },
+    Case {
+        name: "bar_between_blocks",
+        script: &[
+            ("size 2 1", "ok\n"),
+            ("block 1 1", "ok\n"),
+            ("block 1 2", "ok\n"),
+            ("bar 1 1 right", "ok\n"),
+            ("show", "#|#\nok\n"),
+            ("bar 3 1 right", "no OutOfGrid\n"),
+            ("bar 1 2 right", "no Border\n"),
+        ],
+    },
+    // A cell that is opened is reported only where some letter may go there.
+    Case {
+        name: "block_opened_under_the_watch",
+        script: &[
+            ("size 2 1", "ok\n"),
+            ("watch on", "ok\n"),
+            ("block 1 1", "cell 1 2 ABCDEFGHIJKLMNOPQRSTUVWXYZ\nok\n"),
+            ("block 1 1", "cell 1 2 -\nok\n"),
+            ("add OX", "cell 1 1 O\ncell 1 2 X\nok\n"),
+            ("block 1 1", "cell 1 2 ABCDEFGHIJKLMNOPQRSTUVWXYZ\nok\n"),
+            ("block 1 1", "cell 1 1 O\ncell 1 2 X\nok\n"),
+        ],
+    },
+];
 
-/// A blank line may be too long as well.
 #[test]
-fn long_blank_line(rt: HostRuntime) -> Result<(), Fail> {
-    let mut spaces = Vec::new(rt.alloc());
-    for _ in 0..4097 {
-        spaces.push(b' ')?;
-    }
-    runs(&rt, spaces.as_slice(), b"no LineTooLong\n", 1)?;
-    runs(&rt, &spaces[..spaces.len().min(4096)], b"", 0)
-}
-
-/// Placing finds no light, then a bad letter, then another length, and never names a length as such.
-#[test]
-fn refusals_of_placing(rt: HostRuntime) -> Result<(), Fail> {
-    runs(
-        &rt,
-        b"size 3 1\nplace 2 across A\nplace 1 across A4\nplace 1 across A\nplace 1 across CATS\nplace 1 across Cat\nshow\n",
-        b"ok\nno NoLight\nno BadLetter\nno PlaceLength\nno PlaceLength\nok\nC A T\nok\n",
-        4,
-    )
-}
-
-/// Opening is never refused, and leaves the letters of the orbit that stood open.
-#[test]
-fn orbit_opened_over_a_letter(rt: HostRuntime) -> Result<(), Fail> {
-    runs(
-        &rt,
-        b"size 3 3\nblock 1 1\nsym half\nset 3 3 A\nblock 1 1\nshow\n",
-        b"ok\nok\nok\nok\nok\n- - -\n- - -\n- - A\nok\n",
-        0,
-    )
-}
-
-#[test]
-fn bar_between_blocks(rt: HostRuntime) -> Result<(), Fail> {
-    runs(
-        &rt,
-        b"size 2 1\nblock 1 1\nblock 1 2\nbar 1 1 right\nshow\nbar 3 1 right\nbar 1 2 right\n",
-        b"ok\nok\nok\nok\n#|#\nok\nno OutOfGrid\nno Border\n",
-        2,
-    )
-}
-
-/// A cell that is opened is reported only where some letter may go there.
-#[test]
-fn block_opened_under_the_watch(rt: HostRuntime) -> Result<(), Fail> {
-    runs(
-        &rt,
-        b"size 2 1\nwatch on\nblock 1 1\nblock 1 1\nadd OX\nblock 1 1\nblock 1 1\n",
-        b"ok\nok\ncell 1 2 ABCDEFGHIJKLMNOPQRSTUVWXYZ\nok\ncell 1 2 -\nok\ncell 1 1 O\ncell 1 2 X\nok\ncell 1 2 ABCDEFGHIJKLMNOPQRSTUVWXYZ\nok\ncell 1 1 O\ncell 1 2 X\nok\n",
-        0,
-    )
+fn points(rt: HostRuntime) -> Result<(), Fail> {
+    answers_each(&rt, &[], POINTS)
 }

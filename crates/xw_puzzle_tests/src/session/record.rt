@@ -1,5 +1,4 @@
 //! Records of sessions, and sessions that are made again from them.
-use crate::session::examples::says;
 use std::alloc::Global;
 use std::process::Abort;
 use std::test::Fail;
@@ -8,39 +7,6 @@ use xw_feas::plain::Plain;
 use xw_grid::Grid;
 use xw_session::{FromRead, RunEnd, Session, ToWrite};
 use xw_words::Bank;
-
-#[test]
-fn record_of_a_session(rt: HostRuntime) -> Result<(), Fail> {
-    says(
-        &rt,
-        &[
-            ("add AS", "ok\n"),
-            ("add AT", "ok\n"),
-            ("add SO", "ok\n"),
-            ("strike AS", "ok\n"),
-            ("add as", "ok\n"),
-            ("strike SO", "ok\n"),
-            ("size 3 2", "ok\n"),
-            ("sym half", "ok\n"),
-            ("circle 1 2", "ok\n"),
-            ("block 1 2", "ok\n"),
-            ("bar 1 1 below", "ok\n"),
-            ("set 1 1 a", "ok\n"),
-            ("text clue 2 2 across Hidden\\n", "ok\n"),
-            ("title One\\Two", "ok\n"),
-            ("watch on", "ok\n"),
-        ],
-        &[
-            (
-                "record",
-                "add AS\nadd AT\nadd SO\nstrike SO\nsize 3 2\ncircle 1 2\nbar 1 1 below\nbar 1 3 below\n\
-                  block 1 2\nblock 2 2\nsym half\nset 1 1 A\ntext title One\\\\Two\ntext author \n\
-                  text copyright \ntext notes \ntext clue 2 2 across Hidden\\n\nwatch on\nok\n",
-            ),
-            ("record 1", "no Arguments\n"),
-        ],
-    )
-}
 
 /// A session that begins with four words, on a square of so many rows.
 fn begun(alloc: Global, rows: u32) -> Result<Session<Plain>, Fail> {
@@ -102,29 +68,46 @@ fn told_elsewhere(rt: &(impl Abort + AllocGlobal), record: &[u8]) -> Result<Vec<
 }
 
 /// The lines that a session's record has make another one the same.
-fn is_made_again(rt: &(impl Abort + AllocGlobal), lines: &[u8]) -> Result<(), Fail> {
+fn is_made_again(rt: &(impl Abort + AllocGlobal), name: &str, lines: &[u8]) -> Result<(), Fail> {
     let record = recorded(rt, lines)?;
     let wanted = told(rt, lines)?;
     let found = told_elsewhere(rt, record.as_slice())?;
-    assert_eq!(rt; found.as_slice(), wanted.as_slice());
+    assert_eq!(rt; found.as_slice(), wanted.as_slice(), "after {name}");
     Ok(())
 }
 
-#[test]
-fn sessions_made_again(rt: HostRuntime) -> Result<(), Fail> {
-    for lines in [
-        b"".as_slice(),
-        // Words that came later, words that were struck, and one that came back.
+/// Lines of a session, by a name.
+type Past = (&'static str, &'static [u8]);
+
+const PASTS: &[Past] = &[
+    ("sessions_made_again: nothing", b""),
+    (
+        "sessions_made_again: words that came later, words that were struck, and one that came back",
         b"add it\nstrike at\nadd tee\nstrike it\nadd on\nstrike tea\nadd tea\nadd it\nstrike so\n",
-        // Circles and clues that are hidden, and bars beside blocks.
+    ),
+    (
+        "sessions_made_again: circles and clues that are hidden, and bars beside blocks",
         b"size 5 4\ncircle 1 1\ncircle 2 5\nsym half\nblock 1 1\nbar 1 1 right\nbar 2 2 below\nset 2 2 z\n\
           text clue 1 1 down Under a block\ntext clue 4 4 across  a \\\\ b\\s\nclue 1 across Seen\ncircle 3 3\n",
-        // A quarter turn over blocks that have no symmetry.
+    ),
+    (
+        "sessions_made_again: a quarter turn over blocks that have no symmetry",
         b"size 3 3\nblock 1 2\nset 3 3 q\nset 1 1 a\nsym quarter\nwatch on\nbar 2 1 right\n",
+    ),
+    (
+        "sessions_made_again: one cell",
         b"size 1 1\ncircle 1 1\nblock 1 1\nsym updown\ntext notes \\sone\\n\\ntwo\\t\n",
+    ),
+    (
+        "sessions_made_again: one long row",
         b"size 255 1\nblock 1 255\nbar 1 1 right\nset 1 254 e\n",
-    ] {
-        is_made_again(&rt, lines)?;
+    ),
+];
+
+#[test]
+fn sessions_made_again(rt: HostRuntime) -> Result<(), Fail> {
+    for (name, lines) in PASTS {
+        is_made_again(&rt, *name, *lines)?;
     }
     Ok(())
 }
@@ -148,5 +131,5 @@ fn long_texts_made_again(rt: HostRuntime) -> Result<(), Fail> {
         push_more(&mut lines, b"more notes \\s", count)?;
         push_more(&mut lines, b"more clue 2 2 across \\n", count)?;
     }
-    is_made_again(&rt, lines.as_slice())
+    is_made_again(&rt, "long_texts_made_again", lines.as_slice())
 }

@@ -1,63 +1,13 @@
-//! Scripts on what is told of a whole puzzle, and on texts with escapes.
-use crate::session::examples::{SQUARE, says};
-use std::process::Abort;
+//! Scripts on what is told of a whole puzzle, on records, and on texts with escapes.
+use crate::session::{Case, answers_each};
 use std::test::Fail;
 
-#[test]
-fn cells_of_a_square(rt: HostRuntime) -> Result<(), Fail> {
-    says(
-        &rt,
-        SQUARE,
-        &[
-            (
-                "cells",
-                "cell 1 1 A\ncell 1 2 ST\ncell 2 1 ST\ncell 2 2 O\nok\n",
-            ),
-            ("set 1 1 X", "ok\n"),
-            (
-                "cells",
-                "cell 1 1 -\ncell 1 2 -\ncell 2 1 -\ncell 2 2 -\nok\n",
-            ),
-            ("clear 1 1", "ok\n"),
-            ("sym half", "ok\n"),
-            ("block 1 1", "ok\n"),
-            (
-                "cells",
-                "cell 1 2 ABCDEFGHIJKLMNOPQRSTUVWXYZ\ncell 2 1 ABCDEFGHIJKLMNOPQRSTUVWXYZ\nok\n",
-            ),
-            ("cells 1", "no Arguments\n"),
-        ],
-    )
-}
-
-#[test]
-fn counts_of_a_square(rt: HostRuntime) -> Result<(), Fail> {
-    says(
-        &rt,
-        SQUARE,
-        &[
-            ("counts", "1 across 2\n1 down 2\n2 down 2\n3 across 2\nok\n"),
-            ("set 1 2 T", "ok\n"),
-            ("counts", "1 across 1\n1 down 2\n2 down 1\n3 across 2\nok\n"),
-            ("set 1 1 X", "ok\n"),
-            ("counts", "1 across 0\n1 down 0\n2 down 0\n3 across 0\nok\n"),
-            ("set 2 1 S", "ok\n"),
-            ("counts", "1 across 1\n1 down 1\n2 down 1\n3 across 1\nok\n"),
-            ("size 1 1", "ok\n"),
-            ("counts", "ok\n"),
-            ("cells", "cell 1 1 ABCDEFGHIJKLMNOPQRSTUVWXYZ\nok\n"),
-            ("counts 1", "no Arguments\n"),
-        ],
-    )
-}
-
-/// Only texts that are not empty are told, and only clues of lights that there are.
-#[test]
-fn texts_told(rt: HostRuntime) -> Result<(), Fail> {
-    says(
-        &rt,
-        &[],
-        &[
+/// Each in a session of no words.
+const WHOLE: &[Case] = &[
+    // Only texts that are not empty are told, and only clues of lights that there are.
+    Case {
+        name: "texts_told",
+        script: &[
             ("size 3 1", "ok\n"),
             ("texts", "ok\n"),
             ("notes  two  words ", "ok\n"),
@@ -76,15 +26,10 @@ fn texts_told(rt: HostRuntime) -> Result<(), Fail> {
             ),
             ("texts x", "no Arguments\n"),
         ],
-    )
-}
-
-#[test]
-fn texts_put(rt: HostRuntime) -> Result<(), Fail> {
-    says(
-        &rt,
-        &[],
-        &[
+    },
+    Case {
+        name: "texts_put",
+        script: &[
             ("text title \\sA\\tB\\n\\r\\\\\\t", "ok\n"),
             ("texts", "title \\sA\tB\\n\\r\\\\\\t\nok\n"),
             ("text title \\", "no Escape\n"),
@@ -101,16 +46,11 @@ fn texts_put(rt: HostRuntime) -> Result<(), Fail> {
             ("more copyright c", "ok\n"),
             ("texts", "author \\n\ncopyright c\nnotes \\s\nok\n"),
         ],
-    )
-}
-
-/// A clue goes by its start cell, whether a light begins there or not.
-#[test]
-fn clues_put(rt: HostRuntime) -> Result<(), Fail> {
-    says(
-        &rt,
-        &[],
-        &[
+    },
+    // A clue goes by its start cell, whether a light begins there or not.
+    Case {
+        name: "clues_put",
+        script: &[
             ("size 2 2", "ok\n"),
             ("text clue 2 1 across Low", "ok\n"),
             ("text clue 2 2 down hidden", "ok\n"),
@@ -121,15 +61,10 @@ fn clues_put(rt: HostRuntime) -> Result<(), Fail> {
             ("text clue 1 1 down", "ok\n"),
             ("texts", "ok\n"),
         ],
-    )
-}
-
-#[test]
-fn refusals_of_putting(rt: HostRuntime) -> Result<(), Fail> {
-    says(
-        &rt,
-        &[],
-        &[
+    },
+    Case {
+        name: "refusals_of_putting",
+        script: &[
             ("size 2 1", "ok\n"),
             ("text clue 0 1 across \\x", "no Escape\n"),
             ("text clue 0 1 across a\0", "no OutOfGrid\n"),
@@ -148,16 +83,11 @@ fn refusals_of_putting(rt: HostRuntime) -> Result<(), Fail> {
             ("text tittle x", "no Arguments\n"),
             ("texts", "ok\n"),
         ],
-    )
-}
-
-/// Three lights of 2, 2 and 3 cells have a mean of 2.333.., four of 3 and one of 2 have 2.80.
-#[test]
-fn counts_over_grids(rt: HostRuntime) -> Result<(), Fail> {
-    says(
-        &rt,
-        &[],
-        &[
+    },
+    // Three lights of 2, 2 and 3 cells have a mean of 2.333.., four of 3 and one of 2 have 2.80.
+    Case {
+        name: "counts_over_grids",
+        script: &[
             ("size 1 1", "ok\n"),
             (
                 "stats",
@@ -182,16 +112,11 @@ fn counts_over_grids(rt: HostRuntime) -> Result<(), Fail> {
             ),
             ("stats 1", "no Arguments\n"),
         ],
-    )
-}
-
-/// Eight lights of 21 cells together have a mean of 2.625, which is told as 2.63.
-#[test]
-fn half_a_hundredth_goes_up(rt: HostRuntime) -> Result<(), Fail> {
-    says(
-        &rt,
-        &[],
-        &[
+    },
+    // Eight lights of 21 cells together have a mean of 2.625, which is told as 2.63.
+    Case {
+        name: "half_a_hundredth_goes_up",
+        script: &[
             ("size 21 1", "ok\n"),
             ("bar 1 2 right", "ok\n"),
             ("bar 1 4 right", "ok\n"),
@@ -205,5 +130,35 @@ fn half_a_hundredth_goes_up(rt: HostRuntime) -> Result<(), Fail> {
                 "cells 21\nblocks 0\nbars 7\nentered 0\nlights 8\nlight 2 3\nlight 3 5\nunchecked 21\nmean 2.63\nok\n",
             ),
         ],
-    )
+    },
+    Case {
+        name: "record_of_a_session",
+        script: &[
+            ("add AS", "ok\n"),
+            ("add AT", "ok\n"),
+            ("add SO", "ok\n"),
+            ("strike AS", "ok\n"),
+            ("add as", "ok\n"),
+            ("strike SO", "ok\n"),
+            ("size 3 2", "ok\n"),
+            ("sym half", "ok\n"),
+            ("circle 1 2", "ok\n"),
+            ("block 1 2", "ok\n"),
+            ("bar 1 1 below", "ok\n"),
+            ("set 1 1 a", "ok\n"),
+            ("text clue 2 2 across Hidden\\n", "ok\n"),
+            ("title One\\Two", "ok\n"),
+            ("watch on", "ok\n"),
+            (
+                "record",
+                "add AS\nadd AT\nadd SO\nstrike SO\nsize 3 2\ncircle 1 2\nbar 1 1 below\nbar 1 3 below\nblock 1 2\nblock 2 2\nsym half\nset 1 1 A\ntext title One\\\\Two\ntext author \ntext copyright \ntext notes \ntext clue 2 2 across Hidden\\n\nwatch on\nok\n",
+            ),
+            ("record 1", "no Arguments\n"),
+        ],
+    },
+];
+
+#[test]
+fn whole(rt: HostRuntime) -> Result<(), Fail> {
+    answers_each(&rt, &[], WHOLE)
 }

@@ -1,9 +1,12 @@
 //! What is read, and which fault is told first.
+use crate::files::cases::{
+    Reading, Refusals, Rewriting, Spans, fault_at, fault_of, reads_each, refuses_cuts,
+    refuses_each, rewrites, rewrites_each,
+};
 use crate::files::puz::files::{
     ALL_TEXTS, BAD_CELL, BAD_CELL_AND_COUNT, CIRCLED, CLUE_COUNT, CORNERS, EMPTY_CELL, LOWER_CASE,
     MORE_CLUES, NO_CLUE, ONE_CELL, PLAIN, STARTED, TITLED, UNUSUAL, WIDE, WITH_NOTES,
 };
-use crate::files::puz::{fault_of, reads, writes};
 use crate::files::puzzles::Part::{Author, Circle, Clue, Copyright, Notes, Size, Square, Title};
 use crate::files::puzzles::{NO_TEXTS, PLAIN_PUZZLE, Part};
 use std::alloc::AllocError;
@@ -12,13 +15,6 @@ use xw_files::fault::{Piece, ReadFault, SumName, TextName};
 use xw_files::kind::{Kind, kind_of};
 use xw_files::puz::grid_of_puz;
 use xw_grid::cell::{Cell, Direction};
-
-#[test]
-fn reads_the_plain_puzzle(rt: HostRuntime) {
-    for file in [PLAIN, STARTED, LOWER_CASE, UNUSUAL] {
-        reads(&rt, file, &[PLAIN_PUZZLE, NO_TEXTS]);
-    }
-}
 
 const TEXTS: &[Part] = &[
     Title(b"T"),
@@ -46,60 +42,155 @@ const MORE_COLUMNS: &[Part] = &[
     Circle(2, 3, true),
 ];
 
-/// Files, and what is read of them.
-const READ: &[(&[u8], &[Part])] = &[
-    (ALL_TEXTS, TEXTS),
-    (TITLED, &[Title(b"T")]),
-    (WITH_NOTES, &[Notes(b"n")]),
-    (CORNERS, IN_CORNERS),
-    (EMPTY_CELL, &[Square(1, 2, b'-')]),
-    (ONE_CELL, &[Square(1, 1, b'Z')]),
-    (WIDE, MORE_COLUMNS),
+const READINGS: &[Reading] = &[
+    Reading {
+        name: "reads_the_plain_puzzle: PLAIN",
+        pieces: &[PLAIN],
+        parts: &[PLAIN_PUZZLE, NO_TEXTS],
+    },
+    Reading {
+        name: "reads_the_plain_puzzle: STARTED",
+        pieces: &[STARTED],
+        parts: &[PLAIN_PUZZLE, NO_TEXTS],
+    },
+    Reading {
+        name: "reads_the_plain_puzzle: LOWER_CASE",
+        pieces: &[LOWER_CASE],
+        parts: &[PLAIN_PUZZLE, NO_TEXTS],
+    },
+    Reading {
+        name: "reads_the_plain_puzzle: UNUSUAL",
+        pieces: &[UNUSUAL],
+        parts: &[PLAIN_PUZZLE, NO_TEXTS],
+    },
+    Reading {
+        name: "reads_other_puzzles: ALL_TEXTS",
+        pieces: &[ALL_TEXTS],
+        parts: &[TEXTS],
+    },
+    Reading {
+        name: "reads_other_puzzles: TITLED",
+        pieces: &[TITLED],
+        parts: &[&[Title(b"T")]],
+    },
+    Reading {
+        name: "reads_other_puzzles: WITH_NOTES",
+        pieces: &[WITH_NOTES],
+        parts: &[&[Notes(b"n")]],
+    },
+    Reading {
+        name: "reads_other_puzzles: CORNERS",
+        pieces: &[CORNERS],
+        parts: &[IN_CORNERS],
+    },
+    Reading {
+        name: "reads_other_puzzles: EMPTY_CELL",
+        pieces: &[EMPTY_CELL],
+        parts: &[&[Square(1, 2, b'-')]],
+    },
+    Reading {
+        name: "reads_other_puzzles: ONE_CELL",
+        pieces: &[ONE_CELL],
+        parts: &[&[Square(1, 1, b'Z')]],
+    },
+    Reading {
+        name: "reads_other_puzzles: WIDE",
+        pieces: &[WIDE],
+        parts: &[MORE_COLUMNS],
+    },
 ];
 
 #[test]
-fn reads_other_puzzles(rt: HostRuntime) {
-    for (file, parts) in READ {
-        reads(&rt, *file, &[*parts]);
-    }
+fn readings(rt: HostRuntime) -> Result<(), AllocError> {
+    reads_each(&rt, Kind::Puz, READINGS)
 }
+
+const REWRITINGS: &[Rewriting] = &[
+    Rewriting {
+        name: "writes_what_was_read: PLAIN",
+        pieces: &[PLAIN],
+        written: PLAIN,
+    },
+    Rewriting {
+        name: "writes_what_was_read: TITLED",
+        pieces: &[TITLED],
+        written: TITLED,
+    },
+    Rewriting {
+        name: "writes_what_was_read: WITH_NOTES",
+        pieces: &[WITH_NOTES],
+        written: WITH_NOTES,
+    },
+    Rewriting {
+        name: "writes_what_was_read: CIRCLED",
+        pieces: &[CIRCLED],
+        written: CIRCLED,
+    },
+    Rewriting {
+        name: "writes_what_was_read: CORNERS",
+        pieces: &[CORNERS],
+        written: CORNERS,
+    },
+    Rewriting {
+        name: "writes_what_was_read: NO_CLUE",
+        pieces: &[NO_CLUE],
+        written: NO_CLUE,
+    },
+    Rewriting {
+        name: "writes_what_was_read: ONE_CELL",
+        pieces: &[ONE_CELL],
+        written: ONE_CELL,
+    },
+    Rewriting {
+        name: "writes_what_was_read: ALL_TEXTS",
+        pieces: &[ALL_TEXTS],
+        written: ALL_TEXTS,
+    },
+    Rewriting {
+        name: "writes_what_was_read: WIDE",
+        pieces: &[WIDE],
+        written: WIDE,
+    },
+    Rewriting {
+        name: "writes_what_was_read: STARTED",
+        pieces: &[STARTED],
+        written: PLAIN,
+    },
+    Rewriting {
+        name: "writes_what_was_read: LOWER_CASE",
+        pieces: &[LOWER_CASE],
+        written: PLAIN,
+    },
+    Rewriting {
+        name: "writes_what_was_read: UNUSUAL",
+        pieces: &[UNUSUAL],
+        written: PLAIN,
+    },
+];
 
 #[test]
-fn writes_what_was_read(rt: HostRuntime) {
-    for bytes in [
-        PLAIN, TITLED, WITH_NOTES, CIRCLED, CORNERS, NO_CLUE, ONE_CELL, ALL_TEXTS, WIDE,
-    ] {
-        writes(&rt, bytes, bytes);
-    }
-    for bytes in [STARTED, LOWER_CASE, UNUSUAL] {
-        writes(&rt, bytes, PLAIN);
-    }
+fn writes_what_was_read(rt: HostRuntime) -> Result<(), AllocError> {
+    rewrites_each(&rt, Kind::Puz, REWRITINGS)
 }
 
-fn fault_of_cut(length: usize) -> ReadFault {
-    match length {
-        0..=51 => ReadFault::Short(Piece::Header),
-        52..=59 => ReadFault::Short(Piece::Boards),
-        60 => ReadFault::NoNul(TextName::Title),
-        61 => ReadFault::NoNul(TextName::Author),
-        62 => ReadFault::NoNul(TextName::Copyright),
-        63 | 64 => ReadFault::NoNul(TextName::Clue(1)),
-        65 | 66 => ReadFault::NoNul(TextName::Clue(2)),
-        67 | 68 => ReadFault::NoNul(TextName::Clue(3)),
-        69 | 70 => ReadFault::NoNul(TextName::Clue(4)),
-        _ => ReadFault::NoNul(TextName::Notes),
-    }
-}
+/// What is wrong with the plain file when it is cut at a length up to this.
+const CUTS: Spans = &[
+    (51, Some(ReadFault::Short(Piece::Header))),
+    (59, Some(ReadFault::Short(Piece::Boards))),
+    (60, Some(ReadFault::NoNul(TextName::Title))),
+    (61, Some(ReadFault::NoNul(TextName::Author))),
+    (62, Some(ReadFault::NoNul(TextName::Copyright))),
+    (64, Some(ReadFault::NoNul(TextName::Clue(1)))),
+    (66, Some(ReadFault::NoNul(TextName::Clue(2)))),
+    (68, Some(ReadFault::NoNul(TextName::Clue(3)))),
+    (70, Some(ReadFault::NoNul(TextName::Clue(4)))),
+    (71, Some(ReadFault::NoNul(TextName::Notes))),
+    (72, None),
+];
 
 #[test]
 fn refuses_cut_files(rt: HostRuntime) {
-    for length in 0..72 {
-        assert_eq!(rt;
-            fault_of(&rt, &PLAIN[..length]),
-            Some(fault_of_cut(length)),
-            "at {length}"
-        );
-    }
+    refuses_cuts(&rt, Kind::Puz, PLAIN, CUTS);
 }
 
 /// Turns bits of the byte at an offset.
@@ -116,35 +207,56 @@ fn changed(rt: &(impl Abort + AllocGlobal), offset: usize, bits: u8) -> Vec<u8> 
     bytes
 }
 
-fn fault_of_altered(offset: usize) -> Option<ReadFault> {
-    match offset {
-        0x00..=0x01 => Some(ReadFault::BadSum(SumName::File)),
-        0x02..=0x0D => Some(ReadFault::Magic),
-        0x0E..=0x0F => Some(ReadFault::BadSum(SumName::Cib)),
-        0x10..=0x17 => Some(ReadFault::BadSum(SumName::Masked(offset - 0x0F))),
-        0x18..=0x1B => Some(ReadFault::Version),
-        0x1C..=0x2B => None,
-        0x2C..=0x2D => Some(ReadFault::Short(Piece::Boards)),
-        0x2E..=0x2F => Some(ReadFault::NoNul(TextName::Clue(6))),
-        0x30..=0x31 => Some(ReadFault::BadSum(SumName::Cib)),
-        0x32..=0x33 => Some(ReadFault::Scrambled),
-        0x34..=0x3B | 0x3F | 0x41 | 0x43 | 0x45 => Some(ReadFault::BadSum(SumName::File)),
-        _ => Some(ReadFault::NoNul(TextName::Notes)),
+/// What is wrong with the plain file when all bits of one byte are turned, at an offset up to this.
+const ALTERED: Spans = &[
+    (0x01, Some(ReadFault::BadSum(SumName::File))),
+    (0x0D, Some(ReadFault::Magic)),
+    (0x0F, Some(ReadFault::BadSum(SumName::Cib))),
+    (0x10, Some(ReadFault::BadSum(SumName::Masked(1)))),
+    (0x11, Some(ReadFault::BadSum(SumName::Masked(2)))),
+    (0x12, Some(ReadFault::BadSum(SumName::Masked(3)))),
+    (0x13, Some(ReadFault::BadSum(SumName::Masked(4)))),
+    (0x14, Some(ReadFault::BadSum(SumName::Masked(5)))),
+    (0x15, Some(ReadFault::BadSum(SumName::Masked(6)))),
+    (0x16, Some(ReadFault::BadSum(SumName::Masked(7)))),
+    (0x17, Some(ReadFault::BadSum(SumName::Masked(8)))),
+    (0x1B, Some(ReadFault::Version)),
+    (0x2B, None),
+    (0x2D, Some(ReadFault::Short(Piece::Boards))),
+    (0x2F, Some(ReadFault::NoNul(TextName::Clue(6)))),
+    (0x31, Some(ReadFault::BadSum(SumName::Cib))),
+    (0x33, Some(ReadFault::Scrambled)),
+    (0x3B, Some(ReadFault::BadSum(SumName::File))),
+    (0x3E, Some(ReadFault::NoNul(TextName::Notes))),
+    (0x3F, Some(ReadFault::BadSum(SumName::File))),
+    (0x40, Some(ReadFault::NoNul(TextName::Notes))),
+    (0x41, Some(ReadFault::BadSum(SumName::File))),
+    (0x42, Some(ReadFault::NoNul(TextName::Notes))),
+    (0x43, Some(ReadFault::BadSum(SumName::File))),
+    (0x44, Some(ReadFault::NoNul(TextName::Notes))),
+    (0x45, Some(ReadFault::BadSum(SumName::File))),
+    (0x47, Some(ReadFault::NoNul(TextName::Notes))),
+];
+
+/// Turns bits of one byte, and compares the fault; a file without one is written as the plain one.
+fn refuses_turned(
+    rt: &(impl Abort + AllocGlobal),
+    offset: usize,
+    bits: u8,
+    fault: Option<ReadFault>,
+) {
+    let bytes = changed(rt, offset, bits);
+    let found = fault_of(rt.alloc(), Kind::Puz, &bytes);
+    assert_eq!(rt; found, fault, "at {offset}");
+    if fault.is_none() {
+        rewrites(rt, Kind::Puz, "refuses_altered_files", &bytes, PLAIN);
     }
 }
 
 #[test]
 fn refuses_altered_files(rt: HostRuntime) {
     for offset in 0..72 {
-        let bytes = changed(&rt, offset, 0xFF);
-        assert_eq!(rt;
-            fault_of(&rt, &bytes),
-            fault_of_altered(offset),
-            "at {offset}"
-        );
-        if fault_of_altered(offset).is_none() {
-            writes(&rt, &bytes, PLAIN);
-        }
+        refuses_turned(&rt, offset, 0xFF, fault_at(ALTERED, offset));
     }
 }
 
@@ -163,26 +275,28 @@ const ONE_TURNED: Turns = &[
 #[test]
 fn refuses_turned_bits(rt: HostRuntime) {
     for (offset, bits, fault) in ONE_TURNED {
-        let bytes = changed(&rt, *offset, *bits);
-        assert_eq!(rt; fault_of(&rt, &bytes), Some(*fault), "at {offset}");
+        refuses_turned(&rt, *offset, *bits, Some(*fault));
     }
 }
 
 const BAD_CELL_FOUND: ReadFault = ReadFault::BadCell(Cell { row: 2, col: 1 });
 
 /// Files with their first fault.
-const FIRST_FAULTS: &[(&[u8], ReadFault)] = &[
-    (CLUE_COUNT, ReadFault::ClueCount),
-    (MORE_CLUES, ReadFault::ClueCount),
-    (BAD_CELL, BAD_CELL_FOUND),
-    (BAD_CELL_AND_COUNT, BAD_CELL_FOUND),
-];
+const FIRST_FAULTS: &[Refusals] = &[Refusals {
+    name: "tells_the_first_fault",
+    before: &[],
+    after: &[],
+    faults: &[
+        (CLUE_COUNT, ReadFault::ClueCount),
+        (MORE_CLUES, ReadFault::ClueCount),
+        (BAD_CELL, BAD_CELL_FOUND),
+        (BAD_CELL_AND_COUNT, BAD_CELL_FOUND),
+    ],
+}];
 
 #[test]
-fn tells_the_first_fault(rt: HostRuntime) {
-    for (file, fault) in FIRST_FAULTS {
-        assert_eq!(rt; fault_of(&rt, *file), Some(*fault));
-    }
+fn tells_the_first_fault(rt: HostRuntime) -> Result<(), AllocError> {
+    refuses_each(&rt, Kind::Puz, FIRST_FAULTS)
 }
 
 /// Each fault before those that are left when its bits are turned back.
@@ -205,27 +319,41 @@ fn tells_the_first_fault_that_is_left(rt: HostRuntime) -> Result<(), AllocError>
     let mut bytes = Vec::from_slice(rt.alloc(), PLAIN)?;
     turn_all(&mut bytes, ALL_TURNED);
     for (offset, bits, fault) in ALL_TURNED {
-        assert_eq!(rt; fault_of(&rt, &bytes), Some(*fault), "at {offset}");
+        let found = fault_of(rt.alloc(), Kind::Puz, &bytes);
+        assert_eq!(rt; found, Some(*fault), "at {offset}");
         turn(&mut bytes, *offset, *bits);
     }
-    writes(&rt, &bytes, PLAIN);
+    rewrites(
+        &rt,
+        Kind::Puz,
+        "tells_the_first_fault_that_is_left",
+        &bytes,
+        PLAIN,
+    );
     Ok(())
 }
 
+/// Beginnings of files, and their kinds.
+const KINDS: &[(&str, &[u8], Kind)] = &[
+    ("the plain file", PLAIN, Kind::Puz),
+    ("14 bytes of it", b"d\xBCACROSS&DOWN\0", Kind::Puz),
+    ("13 bytes of it", b"d\xBCACROSS&DOWN", Kind::Text),
+    (
+        "all but its first two bytes",
+        b"ACROSS&DOWN\0\0LI\xD6\x1C\xFF\x0D\xF4%d1.3\0\0\0\0\0\0\0\0\0\0\0\0\0\0\0\0\0\x02\x02\x04\0\x01\0\0\0ATSO----\0\0\0a\0b\0c\0d\0\0",
+        Kind::Text,
+    ),
+    ("nothing", b"", Kind::Text),
+    ("a header of a text", b"<ACROSS PUZZLE>", Kind::Text),
+    ("another sum", b"??ACROSS&DOWN\0", Kind::Puz),
+    ("no NUL", b"??ACROSS&DOWN\n", Kind::Text),
+    ("lower case", b"??Across&Down\0", Kind::Text),
+];
+
 #[test]
 fn tells_kinds(rt: HostRuntime) {
-    for (bytes, kind) in [
-        (PLAIN, Kind::Puz),
-        (&PLAIN[..14], Kind::Puz),
-        (&PLAIN[..13], Kind::Text),
-        (&PLAIN[2..], Kind::Text),
-        (b"", Kind::Text),
-        (b"<ACROSS PUZZLE>", Kind::Text),
-        (b"??ACROSS&DOWN\0", Kind::Puz),
-        (b"??ACROSS&DOWN\n", Kind::Text),
-        (b"??Across&Down\0", Kind::Text),
-    ] {
-        assert_eq!(rt; kind_of(bytes), kind);
+    for (name, bytes, kind) in KINDS {
+        assert_eq!(rt; kind_of(*bytes), *kind, "of {name}");
     }
 }
 

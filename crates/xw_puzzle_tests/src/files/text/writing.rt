@@ -1,31 +1,20 @@
 //! What is written of a puzzle, and why it is not.
-use super::*;
+use crate::files::cases::{Rewriting, Wanted, Writing, rewrites_each, writes_each};
 use crate::files::puzzles::Part::{
     Author, Bar, Circle, Clue, Copyright, Notes, Size, Square, Title,
 };
-use crate::files::puzzles::{PLAIN_PUZZLE, Row, Wanted, put, puzzle_with, writes_each};
+use crate::files::puzzles::{PLAIN_PUZZLE, Part, put, puzzle_with};
+use crate::files::text::PLAIN;
+use std::alloc::{AllocError, Global};
+use std::process::Abort;
 use std::test::Fail;
 use xw_files::fault::{TextName, WriteFault};
 use xw_files::kind::Kind;
 use xw_files::text::write_text;
 use xw_grid::cell::{Cell, Direction, Side};
 
-/// Reads a text, and compares it with what is written of the puzzle.
-fn keeps(rt: &(impl Abort + AllocGlobal), text: &[u8]) -> Result<(), Fail> {
-    let puzzle = read_text(rt.alloc(), text)?;
-    let again = write_text(rt.alloc(), &puzzle)?;
-    assert_eq!(rt; again.as_slice(), text);
-    Ok(())
-}
-
-#[test]
-fn text_plain(rt: HostRuntime) -> Result<(), Fail> {
-    writes_each(&rt, Kind::Text, &[(&[], Ok(PLAIN))])?;
-    keeps(&rt, PLAIN)
-}
-
 /// Texts with bytes of any kind inside, and notes of several lines.
-const TEXTS: &[Part] = &[
+pub const TEXTS: &[Part] = &[
     Title(b"A \t\xE9 <B"),
     Author(b"\x0Bme\x0C"),
     Copyright(b"\xC2\xA0"),
@@ -33,59 +22,25 @@ const TEXTS: &[Part] = &[
     Clue(1, 2, Direction::Down, b"two words"),
 ];
 
-const WITH_TEXTS: &[u8] =
+pub const WITH_TEXTS: &[u8] =
     b"<ACROSS PUZZLE>\n<TITLE>\n\tA \t\xE9 <B\n<AUTHOR>\n\t\x0Bme\x0C\n<COPYRIGHT>\n\t\xC2\xA0\n<SIZE>\n\t2x2\n<GRID>\n\tAT\n\tSO\n<ACROSS>\n\ta\n\td\n<DOWN>\n\tb\n\ttwo words\n<NOTEPAD>\n\tp\n\tq q\n\tr\n";
 
-#[test]
-fn all_texts(rt: HostRuntime) -> Result<(), Fail> {
-    writes_each(&rt, Kind::Text, &[(TEXTS, Ok(WITH_TEXTS))])?;
-    Ok(reads(&rt, &[WITH_TEXTS], &[TEXTS])?)
-}
-
 /// More rows than columns, and a light down before the first one across.
-const TALL: &[u8] =
+pub const TALL: &[u8] =
     b"<ACROSS PUZZLE>\n<TITLE>\n\t\n<AUTHOR>\n\t\n<COPYRIGHT>\n\t\n<SIZE>\n\t2x3\n<GRID>\n\t.A\n\tBC\n\tDE\n<ACROSS>\n\tbc\n\tde\n<DOWN>\n\tace\n\tbd\n";
 
-const TALL_PARTS: &[Part] = &[
+pub const TALL_PARTS: &[Part] = &[
     Size(2, 3),
     Square(3, 2, b'E'),
     Clue(1, 2, Direction::Down, b"ace"),
     Clue(2, 1, Direction::Down, b"bd"),
 ];
 
-#[test]
-fn tall_grid(rt: HostRuntime) -> Result<(), Fail> {
-    reads(&rt, &[TALL], &[TALL_PARTS])?;
-    keeps(&rt, TALL)
-}
-
 const ONE_CELL: &[u8] =
     b"<ACROSS PUZZLE>\n<TITLE>\n\t\n<AUTHOR>\n\t\n<COPYRIGHT>\n\t\n<SIZE>\n\t1x1\n<GRID>\n\tZ\n<ACROSS>\n<DOWN>\n";
 
-/// A grid without lights; its one cell is filled.
-const ONE_CELL_FILLED: &[Row] = &[
-    (
-        &[Size(1, 1)],
-        Err(WriteFault::NotFilled(Cell { row: 1, col: 1 })),
-    ),
-    (&[Square(1, 1, b'Z')], Ok(ONE_CELL)),
-];
-
-#[test]
-fn one_cell(rt: HostRuntime) -> Result<(), Fail> {
-    writes_each(&rt, Kind::Text, ONE_CELL_FILLED)
-}
-
 const BLOCKED: &[u8] =
     b"<ACROSS PUZZLE>\n<TITLE>\n\t\n<AUTHOR>\n\t\n<COPYRIGHT>\n\t\n<SIZE>\n\t2x2\n<GRID>\n\t.T\n\tSO\n<ACROSS>\n\td\n<DOWN>\n\tc\n";
-
-/// A circle and a clue under a block are not written, and refuse nothing.
-const HIDDEN: &[Part] = &[Square(1, 1, b'.'), Circle(1, 1, true), Circle(3, 3, true)];
-
-#[test]
-fn hidden_parts(rt: HostRuntime) -> Result<(), Fail> {
-    writes_each(&rt, Kind::Text, &[(HIDDEN, Ok(BLOCKED))])
-}
 
 const BARRED: Wanted = Err(WriteFault::Barred);
 
@@ -112,57 +67,108 @@ const MANY_FAULTS: &[Part] = &[
     Circle(2, 1, true),
 ];
 
-/// Each fault before those after it: all hold at first, and one after another is mended.
-const FAULTS: &[Row] = &[
-    (MANY_FAULTS, BARRED),
-    (
-        &[Bar(1, 1, Side::Below, false)],
-        Err(WriteFault::NotFilled(Cell { row: 1, col: 2 })),
-    ),
-    (
-        &[Square(1, 2, b'T')],
-        Err(WriteFault::NotFilled(Cell { row: 2, col: 1 })),
-    ),
-    (&[Square(2, 1, b'S')], TITLE),
-    (&[Title(b"")], AUTHOR),
-    (&[Author(b"")], COPYRIGHT),
-    (&[Copyright(b"")], Err(WriteFault::Field(TextName::Clue(4)))),
-    (
-        &[Clue(2, 1, Direction::Across, b"d")],
-        Err(WriteFault::Field(TextName::Clue(2))),
-    ),
-    (
-        &[Clue(1, 1, Direction::Down, b"b")],
-        Err(WriteFault::Field(TextName::Clue(3))),
-    ),
-    (&[Clue(1, 2, Direction::Down, b"c")], NOTES),
-    (
-        &[Notes(b"")],
-        Err(WriteFault::Circled(Cell { row: 2, col: 1 })),
-    ),
-    (
-        &[Circle(2, 1, false)],
-        Err(WriteFault::Circled(Cell { row: 2, col: 2 })),
-    ),
-    (&[Circle(2, 2, false)], Ok(PLAIN)),
+const WRITINGS: &[Writing] = &[
+    Writing {
+        name: "text_plain",
+        rows: &[(&[], Ok(PLAIN))],
+    },
+    Writing {
+        name: "all_texts",
+        rows: &[(TEXTS, Ok(WITH_TEXTS))],
+    },
+    // A grid without lights; its one cell is filled.
+    Writing {
+        name: "one_cell",
+        rows: &[
+            (
+                &[Size(1, 1)],
+                Err(WriteFault::NotFilled(Cell { row: 1, col: 1 })),
+            ),
+            (&[Square(1, 1, b'Z')], Ok(ONE_CELL)),
+        ],
+    },
+    // A circle and a clue under a block are not written, and refuse nothing.
+    Writing {
+        name: "hidden_parts",
+        rows: &[(
+            &[Square(1, 1, b'.'), Circle(1, 1, true), Circle(3, 3, true)],
+            Ok(BLOCKED),
+        )],
+    },
+    // Each fault before those after it: all hold at first, and one after another is mended.
+    Writing {
+        name: "faults_in_their_order",
+        rows: &[
+            (MANY_FAULTS, BARRED),
+            (
+                &[Bar(1, 1, Side::Below, false)],
+                Err(WriteFault::NotFilled(Cell { row: 1, col: 2 })),
+            ),
+            (
+                &[Square(1, 2, b'T')],
+                Err(WriteFault::NotFilled(Cell { row: 2, col: 1 })),
+            ),
+            (&[Square(2, 1, b'S')], TITLE),
+            (&[Title(b"")], AUTHOR),
+            (&[Author(b"")], COPYRIGHT),
+            (&[Copyright(b"")], Err(WriteFault::Field(TextName::Clue(4)))),
+            (
+                &[Clue(2, 1, Direction::Across, b"d")],
+                Err(WriteFault::Field(TextName::Clue(2))),
+            ),
+            (
+                &[Clue(1, 1, Direction::Down, b"b")],
+                Err(WriteFault::Field(TextName::Clue(3))),
+            ),
+            (&[Clue(1, 2, Direction::Down, b"c")], NOTES),
+            (
+                &[Notes(b"")],
+                Err(WriteFault::Circled(Cell { row: 2, col: 1 })),
+            ),
+            (
+                &[Circle(2, 1, false)],
+                Err(WriteFault::Circled(Cell { row: 2, col: 2 })),
+            ),
+            (&[Circle(2, 2, false)], Ok(PLAIN)),
+        ],
+    },
+    // A bar refuses beside blocks too.
+    Writing {
+        name: "bar_beside_blocks",
+        rows: &[(
+            &[
+                Size(2, 1),
+                Square(1, 1, b'.'),
+                Square(1, 2, b'.'),
+                Bar(1, 1, Side::Right, true),
+            ],
+            BARRED,
+        )],
+    },
 ];
 
 #[test]
-fn faults_in_their_order(rt: HostRuntime) -> Result<(), Fail> {
-    writes_each(&rt, Kind::Text, FAULTS)
+fn writings(rt: HostRuntime) -> Result<(), Fail> {
+    writes_each(&rt, Kind::Text, WRITINGS)
 }
 
-/// A bar refuses beside blocks too.
-const BAR_BESIDE_BLOCKS: &[Part] = &[
-    Size(2, 1),
-    Square(1, 1, b'.'),
-    Square(1, 2, b'.'),
-    Bar(1, 1, Side::Right, true),
+/// Texts that are written as they were read.
+const REWRITINGS: &[Rewriting] = &[
+    Rewriting {
+        name: "text_plain",
+        pieces: &[PLAIN],
+        written: PLAIN,
+    },
+    Rewriting {
+        name: "tall_grid",
+        pieces: &[TALL],
+        written: TALL,
+    },
 ];
 
 #[test]
-fn bar_beside_blocks(rt: HostRuntime) -> Result<(), Fail> {
-    writes_each(&rt, Kind::Text, &[(BAR_BESIDE_BLOCKS, BARRED)])
+fn rewritings(rt: HostRuntime) -> Result<(), AllocError> {
+    rewrites_each(&rt, Kind::Text, REWRITINGS)
 }
 
 /// Why the puzzle of text plain has no text once it has this part.
@@ -182,41 +188,76 @@ const NOT_SPELLED: &[&[u8]] = &[
 ];
 
 /// Texts, and whether they refuse as a title, a clue and notes.
-const TEXTS_SPELLED: &[(&[&[u8]], bool, bool, bool)] = &[
-    (SPELLED, false, false, false),
-    (&[b""], false, true, false),
-    (&[b"a\nb"], true, true, false),
-    (NOT_SPELLED, true, true, true),
+struct Spelling {
+    texts: &'static [&'static [u8]],
+    as_title: bool,
+    as_clue: bool,
+    as_notes: bool,
+}
+
+const SPELLINGS: &[Spelling] = &[
+    Spelling {
+        texts: SPELLED,
+        as_title: false,
+        as_clue: false,
+        as_notes: false,
+    },
+    Spelling {
+        texts: &[b""],
+        as_title: false,
+        as_clue: true,
+        as_notes: false,
+    },
+    Spelling {
+        texts: &[b"a\nb"],
+        as_title: true,
+        as_clue: true,
+        as_notes: false,
+    },
+    Spelling {
+        texts: NOT_SPELLED,
+        as_title: true,
+        as_clue: true,
+        as_notes: true,
+    },
 ];
 
-fn field_where(refused: bool, name: TextName) -> Option<WriteFault> {
-    if refused {
+/// Puts a text into the puzzle of text plain, and compares whether that refuses it.
+fn refuses_where(
+    rt: &(impl Abort + AllocGlobal),
+    text: &[u8],
+    part: Part,
+    refused: bool,
+    name: TextName,
+) -> Result<(), Fail> {
+    let wanted = if refused {
         Some(WriteFault::Field(name))
     } else {
         None
+    };
+    assert_eq!(rt;
+        refusal_with(rt.alloc(), part)?,
+        wanted,
+        "{name:?} of {text:?}"
+    );
+    Ok(())
+}
+
+fn is_spelled(rt: &(impl Abort + AllocGlobal), spelling: &Spelling) -> Result<(), Fail> {
+    for text in spelling.texts {
+        let text = *text;
+        refuses_where(rt, text, Title(text), spelling.as_title, TextName::Title)?;
+        let clue = Clue(1, 1, Direction::Across, text);
+        refuses_where(rt, text, clue, spelling.as_clue, TextName::Clue(1))?;
+        refuses_where(rt, text, Notes(text), spelling.as_notes, TextName::Notes)?;
     }
+    Ok(())
 }
 
 #[test]
 fn texts_that_can_be_spelled(rt: HostRuntime) -> Result<(), Fail> {
-    for (texts, as_title, as_clue, as_notes) in TEXTS_SPELLED {
-        for text in *texts {
-            for (part, refused, name) in [
-                (Title(*text), *as_title, TextName::Title),
-                (
-                    Clue(1, 1, Direction::Across, *text),
-                    *as_clue,
-                    TextName::Clue(1),
-                ),
-                (Notes(*text), *as_notes, TextName::Notes),
-            ] {
-                assert_eq!(rt;
-                    refusal_with(rt.alloc(), part)?,
-                    field_where(refused, name),
-                    "{name:?} of {text:?}"
-                );
-            }
-        }
+    for spelling in SPELLINGS {
+        is_spelled(&rt, spelling)?;
     }
     Ok(())
 }

@@ -1,0 +1,228 @@
+//! Cases of files of either kind: what is read of them, why they are refused, and what is written.
+use crate::files::puzzles::{PLAIN_PUZZLE, Part, is_read_as, put_all, puzzle_with};
+use std::alloc::{AllocError, Global};
+use std::process::Abort;
+use std::test::Fail;
+use xw_files::fault::{ReadFault, WriteFault};
+use xw_files::kind::Kind;
+use xw_files::puz::{read_puz, write_puz};
+use xw_files::puzzle::Puzzle;
+use xw_files::text::{read_text, write_text};
+
+/// Pieces that stand in a file one after another.
+pub type Pieces = &'static [&'static [u8]];
+
+/// Pieces one after another.
+pub fn joined(alloc: Global, pieces: &[&[u8]]) -> Result<Vec<u8>, AllocError> {
+    let mut bytes = Vec::new(alloc);
+    for piece in pieces {
+        bytes.extend_from_slice(piece)?;
+    }
+    Ok(bytes)
+}
+
+fn read(alloc: Global, kind: Kind, bytes: &[u8]) -> Result<Puzzle, ReadFault> {
+    match kind {
+        Kind::Puz => read_puz(alloc, bytes),
+        Kind::Text => read_text(alloc, bytes),
+    }
+}
+
+fn written(alloc: Global, kind: Kind, puzzle: &Puzzle) -> Result<Vec<u8>, WriteFault> {
+    match kind {
+        Kind::Puz => write_puz(alloc, puzzle),
+        Kind::Text => write_text(alloc, puzzle),
+    }
+}
+
+/// Why a file is refused.
+pub fn fault_of(alloc: Global, kind: Kind, bytes: &[u8]) -> Option<ReadFault> {
+    read(alloc, kind, bytes).err()
+}
+
+/// A file in pieces, and tables of what its puzzle has.
+pub struct Reading {
+    pub name: &'static str,
+    pub pieces: Pieces,
+    pub parts: &'static [&'static [Part]],
+}
+
+/// Reads a file, and looks for the parts of each table in its puzzle.
+pub fn reads(
+    rt: &(impl Abort + AllocGlobal),
+    kind: Kind,
+    name: &str,
+    file: &[u8],
+    parts: &[&[Part]],
+) {
+    match read(rt.alloc(), kind, file) {
+        Ok(puzzle) => is_read_as(rt, name, &puzzle, parts),
+        Err(fault) => panic!(rt; "{name} is refused: {fault:?}"),
+    }
+}
+
+pub fn reads_each(
+    rt: &(impl Abort + AllocGlobal),
+    kind: Kind,
+    readings: &[Reading],
+) -> Result<(), AllocError> {
+    for reading in readings {
+        let file = joined(rt.alloc(), reading.pieces)?;
+        reads(rt, kind, reading.name, &file, reading.parts);
+    }
+    Ok(())
+}
+
+/// Files, each between the same pieces, and why they are refused.
+pub struct Refusals {
+    pub name: &'static str,
+    pub before: Pieces,
+    pub after: Pieces,
+    pub faults: &'static [(&'static [u8], ReadFault)],
+}
+
+fn refuses(
+    rt: &(impl Abort + AllocGlobal),
+    kind: Kind,
+    refusals: &Refusals,
+    middle: &[u8],
+    fault: ReadFault,
+) -> Result<(), AllocError> {
+    let mut bytes = joined(rt.alloc(), refusals.before)?;
+    bytes.extend_from_slice(middle)?;
+    for piece in refusals.after {
+        bytes.extend_from_slice(piece)?;
+    }
+    let name = refusals.name;
+    assert_eq!(rt;
+        fault_of(rt.alloc(), kind, &bytes),
+        Some(fault),
+        "in {name} of {middle:?}"
+    );
+    Ok(())
+}
+
+fn refuses_all(
+    rt: &(impl Abort + AllocGlobal),
+    kind: Kind,
+    refusals: &Refusals,
+) -> Result<(), AllocError> {
+    for (middle, fault) in refusals.faults {
+        refuses(rt, kind, refusals, *middle, *fault)?;
+    }
+    Ok(())
+}
+
+pub fn refuses_each(
+    rt: &(impl Abort + AllocGlobal),
+    kind: Kind,
+    cases: &[Refusals],
+) -> Result<(), AllocError> {
+    for refusals in cases {
+        refuses_all(rt, kind, refusals)?;
+    }
+    Ok(())
+}
+
+/// What is wrong at the places of a file, for each the last of those that it holds for.
+pub type Spans = &'static [(usize, Option<ReadFault>)];
+
+/// What is wrong at a place, by the first span that reaches it.
+pub fn fault_at(spans: Spans, place: usize) -> Option<ReadFault> {
+    for (last, fault) in spans {
+        if place <= *last {
+            return *fault;
+        }
+    }
+    None
+}
+
+/// Cuts a file at each length, and the last time not at all.
+pub fn refuses_cuts(rt: &(impl Abort + AllocGlobal), kind: Kind, file: &[u8], spans: Spans) {
+    for length in 0..=file.len() {
+        assert_eq!(rt;
+            fault_of(rt.alloc(), kind, &file[..length]),
+            fault_at(spans, length),
+            "at {length}"
+        );
+    }
+}
+
+/// A file in pieces, and what is written of its puzzle.
+pub struct Rewriting {
+    pub name: &'static str,
+    pub pieces: Pieces,
+    pub written: &'static [u8],
+}
+
+/// Reads a file, and compares what is written of its puzzle.
+pub fn rewrites(
+    rt: &(impl Abort + AllocGlobal),
+    kind: Kind,
+    name: &str,
+    file: &[u8],
+    wanted: &[u8],
+) {
+    match read(rt.alloc(), kind, file) {
+        Ok(puzzle) => match written(rt.alloc(), kind, &puzzle) {
+            Ok(found) => assert_eq!(rt; found.as_slice(), wanted, "in {name}"),
+            Err(fault) => panic!(rt; "{name} is not written: {fault:?}"),
+        },
+        Err(fault) => panic!(rt; "{name} is refused: {fault:?}"),
+    }
+}
+
+pub fn rewrites_each(
+    rt: &(impl Abort + AllocGlobal),
+    kind: Kind,
+    rewritings: &[Rewriting],
+) -> Result<(), AllocError> {
+    for rewriting in rewritings {
+        let file = joined(rt.alloc(), rewriting.pieces)?;
+        rewrites(rt, kind, rewriting.name, &file, rewriting.written);
+    }
+    Ok(())
+}
+
+/// A file, or why none is written.
+pub type Wanted = Result<&'static [u8], WriteFault>;
+
+/// Parts that are put into the plain puzzle, row by row, and what each time is written.
+pub struct Writing {
+    pub name: &'static str,
+    pub rows: &'static [(&'static [Part], Wanted)],
+}
+
+/// Whether a puzzle is written so, or so refused.
+fn gives(alloc: Global, kind: Kind, puzzle: &Puzzle, wanted: Wanted) -> bool {
+    match (written(alloc, kind, puzzle), wanted) {
+        (Ok(bytes), Ok(file)) => bytes.as_slice() == file,
+        (Err(fault), Err(refusal)) => fault == refusal,
+        _ => false,
+    }
+}
+
+fn writes(rt: &(impl Abort + AllocGlobal), kind: Kind, writing: &Writing) -> Result<(), Fail> {
+    let name = writing.name;
+    let mut puzzle = puzzle_with(rt.alloc(), PLAIN_PUZZLE)?;
+    for (place, row) in writing.rows.iter().enumerate() {
+        let (parts, wanted) = *row;
+        put_all(rt.alloc(), &mut puzzle, parts)?;
+        assert!(rt;
+            gives(rt.alloc(), kind, &puzzle, wanted),
+            "in {name} at row {place}"
+        );
+    }
+    Ok(())
+}
+
+pub fn writes_each(
+    rt: &(impl Abort + AllocGlobal),
+    kind: Kind,
+    writings: &[Writing],
+) -> Result<(), Fail> {
+    for writing in writings {
+        writes(rt, kind, writing)?;
+    }
+    Ok(())
+}
