@@ -1,9 +1,9 @@
 //! What the calls that take memory do where there is memory, and examples from end to end.
+mod notes;
+
 use std::process::Abort;
 use std::test::Fail;
 use xw_grid::cell::{Cell, Direction, LightName, Side, Square, Symmetry};
-use xw_grid::circles::Circles;
-use xw_grid::clues::Clues;
 use xw_grid::fault::GridFault;
 use xw_grid::grid::Grid;
 use xw_grid::lights::{Light, Lights};
@@ -304,21 +304,34 @@ fn find_each(rt: &impl Abort, lights: &Lights, others: &Lights, table: &[Same], 
     }
 }
 
-fn reshape(rt: &(impl Abort + AllocGlobal), case: &Reshaping) -> Result<(), GridFault> {
+/// Reshapes a grid that had these lights.
+fn reshape(
+    rt: &(impl Abort + AllocGlobal),
+    grid: &mut Grid,
+    before: &Lights,
+    case: &Reshaping,
+) -> Result<(), GridFault> {
+    let after = lights_of(rt, grid, case.after, case.name)?;
+    find_each(rt, before, &after, case.stay, case.name);
+    find_each(rt, &after, before, case.were, case.name);
+    Ok(())
+}
+
+fn pass_reshaping(rt: &(impl Abort + AllocGlobal), case: &Reshaping) -> Result<(), GridFault> {
     let (width, height) = case.size;
     let mut grid = Grid::new(rt.alloc(), width, height)?;
     let before = lights_of(rt, &mut grid, case.before, case.name)?;
-    let after = lights_of(rt, &mut grid, case.after, case.name)?;
-    find_each(rt, &before, &after, case.stay, case.name);
-    find_each(rt, &after, &before, case.were, case.name);
-    Ok(())
+    reshape(rt, &mut grid, &before, case)
 }
 
 #[test]
 fn grids_reshaped(rt: HostRuntime) {
     for case in RESHAPINGS {
         let name = case.name;
-        assert!(rt; reshape(&rt, case) == Ok(()), "{name}, for want of memory");
+        assert!(rt;
+            pass_reshaping(&rt, case) == Ok(()),
+            "{name}, for want of memory"
+        );
     }
 }
 
@@ -456,61 +469,12 @@ fn sizes_of_no_grid(rt: HostRuntime) {
     }
 }
 
+const OF_SQUARES: &[Step] = &[Step::Block(2, 1, true), Step::Block(1, 1, false)];
+
 #[test]
 fn grid_of_squares(rt: HostRuntime) -> Result<(), Fail> {
     let squares = vec![in rt.alloc(); Square::Open(None), Square::Block]?;
-    let grid = Grid::of_squares(rt.alloc(), 1, 2, squares)?;
-    assert_eq!(rt; grid.is_block(cell(2, 1)), true);
-    assert_eq!(rt; grid.is_block(cell(1, 1)), false);
-    Ok(())
-}
-
-/// Clues of lights that start in one cell.
-type Texts = &'static [(Direction, &'static [u8])];
-
-const WRITTEN: Texts = &[
-    (Direction::Across, b"one"),
-    (Direction::Down, b"two words"),
-    (Direction::Across, b"again"),
-];
-
-fn write(clues: &mut Clues, texts: &[(Direction, &[u8])]) -> Result<(), GridFault> {
-    for (direction, text) in texts {
-        clues.set(cell(1, 1), *direction, *text)?;
-    }
-    Ok(())
-}
-
-fn read(rt: &impl Abort, clues: &Clues, texts: &[(Direction, &[u8])]) {
-    for (direction, text) in texts {
-        assert!(rt; clues.get(cell(1, 1), *direction) == *text, "of {text:?}");
-    }
-}
-
-#[test]
-fn clues_by_start_and_direction(rt: HostRuntime) -> Result<(), GridFault> {
-    let mut clues = Clues::new(rt.alloc());
-    write(&mut clues, WRITTEN)?;
-    let copy = clues.copy()?;
-    write(&mut clues, &[(Direction::Across, b"")])?;
-    read(
-        &rt,
-        &clues,
-        &[(Direction::Across, b""), (Direction::Down, b"two words")],
-    );
-    read(&rt, &copy, &[(Direction::Across, b"again")]);
-    Ok(())
-}
-
-#[test]
-fn circles_on_and_off(rt: HostRuntime) -> Result<(), Fail> {
-    let mut circles = Circles::new(rt.alloc());
-    circles.set(cell(1, 2), true)?;
-    circles.set(cell(2, 1), true)?;
-    let copy = circles.copy()?;
-    circles.set(cell(1, 2), false)?;
-    assert_eq!(rt; circles.has(cell(1, 2)), false);
-    assert_eq!(rt; circles.has(cell(2, 1)), true);
-    assert_eq!(rt; copy.has(cell(1, 2)), true);
+    let mut grid = Grid::of_squares(rt.alloc(), 1, 2, squares)?;
+    pass(&rt, &mut grid, OF_SQUARES, "grid_of_squares");
     Ok(())
 }
