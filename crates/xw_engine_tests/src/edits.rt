@@ -10,15 +10,15 @@ use xw_words::letter::Letter;
 
 /// An edit as a table spells it: a letter by its byte, and a cell by row and column.
 #[derive(Clone, Copy)]
-pub enum Do<'a> {
+pub enum Do {
     Set(u32, u32, u8),
     Clear(u32, u32),
-    Place(LightName, &'a [u8]),
+    Place(LightName, &'static [u8]),
     Block(u32, u32),
     Bar(u32, u32, Side),
     Choose(Symmetry),
-    Add(&'a [u8]),
-    Strike(&'a [u8]),
+    Add(&'static [u8]),
+    Strike(&'static [u8]),
 }
 
 pub const ACROSS_1: LightName = LightName {
@@ -46,17 +46,32 @@ pub const ACROSS_3: LightName = LightName {
     direction: Direction::Across,
 };
 
-/// A grid of so many columns and rows, and words for it.
-pub type Start = (u32, u32, &'static [&'static [u8]]);
+/// An empty grid of so many columns and rows, and words for it.
+#[derive(Clone, Copy)]
+pub struct Start {
+    pub width: u32,
+    pub height: u32,
+    pub words: &'static [&'static [u8]],
+}
 
-pub const SQUARE: Start = (2, 2, &[b"AS", b"AT", b"SO", b"TO", b"IN"]);
+pub const SQUARE: Start = Start {
+    width: 2,
+    height: 2,
+    words: &[b"AS", b"AT", b"SO", b"TO", b"IN"],
+};
+
+pub const ROW_OF_THREE: Start = Start {
+    width: 3,
+    height: 1,
+    words: &[b"CAT"],
+};
 
 pub fn at(row: u32, col: u32) -> Cell {
     Cell { row, col }
 }
 
 /// An edit as the engine takes it, if its byte is a letter.
-pub fn edit_of(spelled: Do<'_>) -> Option<Edit<'_>> {
+pub fn edit_of(spelled: Do) -> Option<Edit<'static>> {
     Some(match spelled {
         Do::Set(row, col, byte) => Edit::Set(at(row, col), Letter::of(byte)?),
         Do::Clear(row, col) => Edit::Clear(at(row, col)),
@@ -69,20 +84,16 @@ pub fn edit_of(spelled: Do<'_>) -> Option<Edit<'_>> {
     })
 }
 
-pub fn engine(alloc: Global, width: u32, height: u32) -> Result<Plain, Refusal> {
-    Plain::open(alloc, Grid::new(alloc, width, height)?, Bank::new(alloc)?)
-}
-
-pub fn add(engine: &mut Plain, text: &[u8]) -> Result<(), Refusal> {
-    if let Some(edit) = edit_of(Do::Add(text)) {
-        let _ = engine.edit(&edit)?;
+fn add_all(engine: &mut Plain, words: &[&[u8]]) -> Result<(), Refusal> {
+    for word in words {
+        let _ = engine.edit(&Edit::Add(*word))?;
     }
     Ok(())
 }
 
-pub fn add_all(engine: &mut Plain, texts: &[&[u8]]) -> Result<(), Refusal> {
-    for text in texts {
-        add(engine, *text)?;
-    }
-    Ok(())
+pub fn engine(alloc: Global, start: Start) -> Result<Plain, Refusal> {
+    let grid = Grid::new(alloc, start.width, start.height)?;
+    let mut engine = Plain::open(alloc, grid, Bank::new(alloc)?)?;
+    add_all(&mut engine, start.words)?;
+    Ok(engine)
 }

@@ -4,7 +4,7 @@ mod queries;
 mod refusals;
 mod writing;
 
-use crate::edits::{ACROSS_1, ACROSS_3, DOWN_1, DOWN_2, Do, Start, add_all, at, edit_of, engine};
+use crate::edits::{ACROSS_1, ACROSS_3, DOWN_1, DOWN_2, Do, Start, at, edit_of, engine};
 use std::alloc::Global;
 use std::process::Abort;
 use xw_feas::changed::Changed;
@@ -26,8 +26,8 @@ type Cells = &'static [(u32, u32, &'static [u8])];
 #[derive(Clone, Copy)]
 enum Step {
     /// An edit, and the cells that it tells.
-    Told(Do<'static>, Cells),
-    Refused(Do<'static>, Refusal),
+    Told(Do, Cells),
+    Refused(Do, Refusal),
     /// Another grid of so many columns and rows.
     Regrid(u32, u32),
     /// How many columns and rows the grid has.
@@ -136,7 +136,7 @@ fn answers(engine: &mut Plain, edit: &Edit<'_>, wanted: Result<Cells, Refusal>) 
     }
 }
 
-fn answers_spelled(engine: &mut Plain, spelled: Do<'_>, wanted: Result<Cells, Refusal>) -> bool {
+fn answers_spelled(engine: &mut Plain, spelled: Do, wanted: Result<Cells, Refusal>) -> bool {
     match edit_of(spelled) {
         Some(edit) => answers(engine, &edit, wanted),
         None => false,
@@ -179,37 +179,39 @@ fn goes(alloc: Global, engine: &mut Plain, step: Step) -> Result<bool, Refusal> 
     })
 }
 
-/// Makes the calls of a table, and compares what they answer.
-fn pass(
-    rt: &(impl Abort + AllocGlobal),
-    engine: &mut Plain,
-    steps: &[Step],
-) -> Result<(), Refusal> {
-    for (place, step) in steps.iter().enumerate() {
-        assert!(rt; goes(rt.alloc(), engine, *step)?, "at step {place}");
-    }
-    Ok(())
-}
-
-fn pass_all(
-    rt: &(impl Abort + AllocGlobal),
-    engine: &mut Plain,
-    tables: &[&[Step]],
-) -> Result<(), Refusal> {
-    for steps in tables {
-        pass(rt, engine, *steps)?;
-    }
-    Ok(())
-}
-
-/// Makes the calls of each table, in turn, of one engine.
-fn pass_from(
-    rt: &(impl Abort + AllocGlobal),
+/// Tables of calls, made in turn of one engine.
+struct Case {
+    /// By which a failure tells the case.
+    name: &'static str,
     start: Start,
-    tables: &[&[Step]],
-) -> Result<(), Refusal> {
-    let (width, height, texts) = start;
-    let mut engine = engine(rt.alloc(), width, height)?;
-    add_all(&mut engine, texts)?;
-    pass_all(rt, &mut engine, tables)
+    tables: &'static [&'static [Step]],
+}
+
+/// Makes the calls of a table, and compares what they answer.
+fn pass(rt: &(impl Abort + AllocGlobal), engine: &mut Plain, steps: &[Step], name: &str) {
+    for (place, step) in steps.iter().enumerate() {
+        assert!(rt;
+            goes(rt.alloc(), engine, *step) == Ok(true),
+            "{name}, at step {place}"
+        );
+    }
+}
+
+fn pass_all(rt: &(impl Abort + AllocGlobal), engine: &mut Plain, case: &Case) {
+    for steps in case.tables {
+        pass(rt, engine, *steps, case.name);
+    }
+}
+
+fn pass_case(rt: &(impl Abort + AllocGlobal), case: &Case) -> Result<(), Refusal> {
+    let mut engine = engine(rt.alloc(), case.start)?;
+    pass_all(rt, &mut engine, case);
+    Ok(())
+}
+
+fn pass_each(rt: &(impl Abort + AllocGlobal), cases: &[Case]) {
+    for case in cases {
+        let name = case.name;
+        assert!(rt; pass_case(rt, case) == Ok(()), "{name}, at its start");
+    }
 }

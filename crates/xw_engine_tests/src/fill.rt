@@ -1,6 +1,6 @@
 //! Worked examples of repeats, proposals and fills, by calls over `Plain`: tables of calls, each with its answer.
 use crate::edits::{
-    ACROSS_1, ACROSS_2, ACROSS_3, DOWN_1, DOWN_2, Do, SQUARE, Start, add_all, edit_of, engine,
+    ACROSS_1, ACROSS_2, ACROSS_3, DOWN_1, DOWN_2, Do, ROW_OF_THREE, SQUARE, Start, edit_of, engine,
 };
 use std::alloc::Global;
 use std::process::Abort;
@@ -15,7 +15,7 @@ use xw_grid::cell::{LightName, Square, Symmetry};
 /// A call and its answer.
 #[derive(Clone, Copy)]
 enum Step {
-    Done(Do<'static>),
+    Done(Do),
     /// The squares in reading order, a dot for an empty cell.
     Squares(&'static [u8]),
     Fill(u64, Filling),
@@ -77,24 +77,29 @@ fn goes(alloc: Global, engine: &mut Plain, step: Step) -> Result<bool, Refusal> 
     }
 }
 
-/// Makes the calls of a table, and compares what they answer.
-fn pass(
-    rt: &(impl Abort + AllocGlobal),
-    engine: &mut Plain,
-    steps: &[Step],
-) -> Result<(), Refusal> {
-    for (place, step) in steps.iter().enumerate() {
-        assert!(rt; goes(rt.alloc(), engine, *step)?, "at step {place}");
-    }
-    Ok(())
+/// Calls of one engine.
+struct Case {
+    /// By which a failure tells the case.
+    name: &'static str,
+    start: Start,
+    steps: &'static [Step],
 }
 
-/// Makes the calls of a table of a new engine.
-fn pass_from(rt: &(impl Abort + AllocGlobal), start: Start, steps: &[Step]) -> Result<(), Refusal> {
-    let (width, height, texts) = start;
-    let mut engine = engine(rt.alloc(), width, height)?;
-    add_all(&mut engine, texts)?;
-    pass(rt, &mut engine, steps)
+/// Makes the calls of a case, and compares what they answer.
+fn pass(rt: &(impl Abort + AllocGlobal), engine: &mut Plain, case: &Case) {
+    let name = case.name;
+    for (place, step) in case.steps.iter().enumerate() {
+        assert!(rt;
+            goes(rt.alloc(), engine, *step) == Ok(true),
+            "{name}, at step {place}"
+        );
+    }
+}
+
+fn pass_case(rt: &(impl Abort + AllocGlobal), case: &Case) -> Result<(), Refusal> {
+    let mut engine = engine(rt.alloc(), case.start)?;
+    pass(rt, &mut engine, case);
+    Ok(())
 }
 
 const WITHIN_A_LIMIT: &[Step] = &[
@@ -104,11 +109,6 @@ const WITHIN_A_LIMIT: &[Step] = &[
     Step::Fill(4, Filling::Filled),
     Step::Squares(b"ASTO"),
 ];
-
-#[test]
-fn square_filled_within_a_limit(rt: HostRuntime) -> Result<(), Refusal> {
-    pass_from(&rt, SQUARE, WITHIN_A_LIMIT)
-}
 
 const REPEATS_ALONE: &[Step] = &[
     Step::Done(Do::Strike(b"SO")),
@@ -128,11 +128,6 @@ const REPEATS_ALONE: &[Step] = &[
     ]),
     Step::Unlisted(&[]),
 ];
-
-#[test]
-fn square_with_only_repeats_left(rt: HostRuntime) -> Result<(), Refusal> {
-    pass_from(&rt, SQUARE, REPEATS_ALONE)
-}
 
 const THREE_TIMES: &[Step] = &[
     Step::Done(Do::Block(2, 1)),
@@ -159,21 +154,11 @@ const THREE_TIMES: &[Step] = &[
     Step::Squares(b"AS##AS##AS"),
 ];
 
-#[test]
-fn one_word_three_times(rt: HostRuntime) -> Result<(), Refusal> {
-    pass_from(&rt, (2, 5, &[b"AS"]), THREE_TIMES)
-}
-
 const NOTHING_TO_ENTER: &[Step] = &[
     Step::Suggest(Suggestion::Done),
     Step::Fill(0, Filling::Filled),
     Step::Squares(b"."),
 ];
-
-#[test]
-fn grid_without_lights(rt: HostRuntime) -> Result<(), Refusal> {
-    pass_from(&rt, (1, 1, &[]), NOTHING_TO_ENTER)
-}
 
 const LIMIT_NOUGHT: &[Step] = &[
     Step::Fill(0, Filling::Limit),
@@ -181,11 +166,6 @@ const LIMIT_NOUGHT: &[Step] = &[
     Step::Fill(0, Filling::NoFill),
     Step::Squares(b"X..."),
 ];
-
-#[test]
-fn fill_with_limit_nought(rt: HostRuntime) -> Result<(), Refusal> {
-    pass_from(&rt, SQUARE, LIMIT_NOUGHT)
-}
 
 /// To try TO in 2 down.
 const TO_DOWN: Suggestion = Suggestion::Try {
@@ -205,11 +185,6 @@ const EMPTIED: &[Step] = &[
     Step::Squares(b"AT.."),
 ];
 
-#[test]
-fn square_emptied_and_proposed(rt: HostRuntime) -> Result<(), Refusal> {
-    pass_from(&rt, SQUARE, EMPTIED)
-}
-
 const UNLISTED_ENTRIES: &[Step] = &[
     Step::Done(Do::Set(1, 1, b'X')),
     Step::Done(Do::Set(1, 2, b'T')),
@@ -220,11 +195,6 @@ const UNLISTED_ENTRIES: &[Step] = &[
     Step::Fill(1, Filling::Filled),
     Step::Squares(b"XTSO"),
 ];
-
-#[test]
-fn unlisted_entries_complete_a_square(rt: HostRuntime) -> Result<(), Refusal> {
-    pass_from(&rt, SQUARE, UNLISTED_ENTRIES)
-}
 
 const OUTSIDE_THE_DICTIONARY: &[Step] = &[
     Step::Done(Do::Place(ACROSS_1, b"xyz")),
@@ -239,7 +209,61 @@ const OUTSIDE_THE_DICTIONARY: &[Step] = &[
     Step::Fill(0, Filling::Filled),
 ];
 
+const CASES: &[Case] = &[
+    Case {
+        name: "square_filled_within_a_limit",
+        start: SQUARE,
+        steps: WITHIN_A_LIMIT,
+    },
+    Case {
+        name: "square_with_only_repeats_left",
+        start: SQUARE,
+        steps: REPEATS_ALONE,
+    },
+    Case {
+        name: "one_word_three_times",
+        start: Start {
+            width: 2,
+            height: 5,
+            words: &[b"AS"],
+        },
+        steps: THREE_TIMES,
+    },
+    Case {
+        name: "grid_without_lights",
+        start: Start {
+            width: 1,
+            height: 1,
+            words: &[],
+        },
+        steps: NOTHING_TO_ENTER,
+    },
+    Case {
+        name: "fill_with_limit_nought",
+        start: SQUARE,
+        steps: LIMIT_NOUGHT,
+    },
+    Case {
+        name: "square_emptied_and_proposed",
+        start: SQUARE,
+        steps: EMPTIED,
+    },
+    Case {
+        name: "unlisted_entries_complete_a_square",
+        start: SQUARE,
+        steps: UNLISTED_ENTRIES,
+    },
+    Case {
+        name: "entered_word_outside_the_dictionary",
+        start: ROW_OF_THREE,
+        steps: OUTSIDE_THE_DICTIONARY,
+    },
+];
+
 #[test]
-fn entered_word_outside_the_dictionary(rt: HostRuntime) -> Result<(), Refusal> {
-    pass_from(&rt, (3, 1, &[b"CAT"]), OUTSIDE_THE_DICTIONARY)
+fn fills(rt: HostRuntime) {
+    for case in CASES {
+        let name = case.name;
+        assert!(rt; pass_case(&rt, case) == Ok(()), "{name}, at its start");
+    }
 }

@@ -1,9 +1,9 @@
 //! What the calls that take memory do where there is memory, and examples from end to end.
+mod notes;
+
 use std::process::Abort;
 use std::test::Fail;
 use xw_grid::cell::{Cell, Direction, LightName, Side, Square, Symmetry};
-use xw_grid::circles::Circles;
-use xw_grid::clues::Clues;
 use xw_grid::fault::GridFault;
 use xw_grid::grid::Grid;
 use xw_grid::lights::{Light, Lights};
@@ -44,6 +44,11 @@ enum Step {
     Barred(u32, u32, Side, bool),
     /// How many columns and rows there are.
     Size(u32, u32),
+    Symmetry(Symmetry),
+    /// The cells of an orbit, in order.
+    Orbit(u32, u32, &'static [(u32, u32)]),
+    /// What follows is asked of a copy.
+    Copied,
 }
 
 fn set(grid: &mut Grid, cell: Cell, byte: u8) -> Result<(), GridFault> {
@@ -70,6 +75,22 @@ fn edit(grid: &mut Grid, spelled: Do) -> Result<(), GridFault> {
     }
 }
 
+/// Whether these are the cells of an orbit, in this order.
+fn is_orbit(mut orbit: Orbit, cells: &[(u32, u32)]) -> bool {
+    for (row, col) in cells {
+        if orbit.next() != Some(cell(*row, *col)) {
+            return false;
+        }
+    }
+    orbit.next().is_none()
+}
+
+fn copied(grid: &mut Grid) -> Result<(), GridFault> {
+    let copy = grid.copy()?;
+    *grid = copy;
+    Ok(())
+}
+
 /// Whether an edit or a question is answered as the table says.
 fn goes(grid: &mut Grid, step: Step) -> bool {
     match step {
@@ -79,13 +100,16 @@ fn goes(grid: &mut Grid, step: Step) -> bool {
         Step::Entry(row, col, entry) => has_entry(grid, cell(row, col), entry),
         Step::Barred(row, col, side, barred) => grid.is_barred(cell(row, col), side) == barred,
         Step::Size(width, height) => grid.width() == width && grid.height() == height,
+        Step::Symmetry(symmetry) => grid.symmetry() == symmetry,
+        Step::Orbit(row, col, cells) => is_orbit(grid.orbit(cell(row, col)), cells),
+        Step::Copied => copied(grid) == Ok(()),
     }
 }
 
 /// Makes the edits of a table and asks its questions, in order.
-fn pass(rt: &impl Abort, grid: &mut Grid, steps: &[Step]) {
+fn pass(rt: &impl Abort, grid: &mut Grid, steps: &[Step], name: &str) {
     for (place, step) in steps.iter().enumerate() {
-        assert!(rt; goes(grid, *step), "at step {place}");
+        assert!(rt; goes(grid, *step), "{name}, at step {place}");
     }
 }
 
@@ -124,52 +148,45 @@ fn answers(lights: &Lights, ask: Ask) -> bool {
 }
 
 /// Asks each question of a table.
-fn ask_each(rt: &impl Abort, lights: &Lights, table: &[Ask]) {
+fn ask_each(rt: &impl Abort, lights: &Lights, table: &[Ask], name: &str) {
     for (place, ask) in table.iter().enumerate() {
-        assert!(rt; answers(lights, *ask), "at question {place}");
+        assert!(rt; answers(lights, *ask), "{name}, at question {place}");
     }
 }
 
-/// The lights of a grid, once they answered the questions of a table.
+/// Edits and questions, and then questions about the lights.
+#[derive(Clone, Copy)]
+struct Stage {
+    steps: &'static [Step],
+    lights: &'static [Ask],
+}
+
+/// The lights of a grid after a stage, once they answered its questions.
 fn lights_of(
     rt: &(impl Abort + AllocGlobal),
-    grid: &Grid,
-    table: &[Ask],
+    grid: &mut Grid,
+    stage: Stage,
+    name: &str,
 ) -> Result<Lights, GridFault> {
+    pass(rt, grid, stage.steps, name);
     let lights = Lights::of(rt.alloc(), grid)?;
-    ask_each(rt, &lights, table);
+    ask_each(rt, &lights, stage.lights, name);
     Ok(lights)
 }
 
-/// Makes the edits of a table of a new grid, and asks about its lights.
-fn pass_from(
-    rt: &(impl Abort + AllocGlobal),
+/// A new grid of so many columns and rows, and what is done with it.
+struct Case {
+    /// By which a failure tells the case.
+    name: &'static str,
     size: (u32, u32),
-    steps: &[Step],
-    table: &[Ask],
-) -> Result<(), GridFault> {
-    let (width, height) = size;
+    stage: Stage,
+}
+
+fn pass_case(rt: &(impl Abort + AllocGlobal), case: &Case) -> Result<(), GridFault> {
+    let (width, height) = case.size;
     let mut grid = Grid::new(rt.alloc(), width, height)?;
-    pass(rt, &mut grid, steps);
-    lights_of(rt, &grid, table)?;
+    lights_of(rt, &mut grid, case.stage, case.name)?;
     Ok(())
-}
-
-/// Looks which of the lights stay in another grid, and where they are there: a table of places.
-fn stay(rt: &impl Abort, lights: &Lights, later: &Lights, table: &[(usize, Option<usize>)]) {
-    for (light, place) in table {
-        assert_eq!(rt; lights.same(*light, later), *place);
-    }
-}
-
-#[test]
-fn one_cell(rt: HostRuntime) -> Result<(), GridFault> {
-    pass_from(
-        &rt,
-        (1, 1),
-        &[Step::Block(1, 1, false), Step::Entry(1, 1, None)],
-        &[Ask::Count(0), Ask::Number(1, 1, None)],
-    )
 }
 
 const CORNERS_BLOCKED: &[Step] = &[
@@ -200,19 +217,6 @@ const CENTRE: &[Ask] = &[
     Ask::Light(2, Some((3, Direction::Down, 2, 1, 2))),
 ];
 
-const STAYING: &[(usize, Option<usize>)] = &[(4, Some(2)), (3, None), (6, None)];
-
-#[test]
-fn three_by_three_under_half_turn(rt: HostRuntime) -> Result<(), GridFault> {
-    let mut grid = Grid::new(rt.alloc(), 3, 3)?;
-    pass(&rt, &mut grid, CORNERS_BLOCKED);
-    let corners = lights_of(&rt, &grid, CORNERS)?;
-    grid.toggle_block(cell(2, 2))?;
-    let lights = lights_of(&rt, &grid, CENTRE)?;
-    stay(&rt, &corners, &lights, STAYING);
-    Ok(())
-}
-
 const SECOND: LightName = LightName {
     number: 2,
     direction: Direction::Across,
@@ -229,25 +233,106 @@ const PARTED: &[Ask] = &[
     Ask::Index(SECOND, Some(1)),
 ];
 
-/// The lights after a bar is toggled between the second and the third of four cells.
-fn barred(
+const BAR: Step = Step::Done(Do::Bar(1, 2, Side::Right));
+
+/// The place of a light among others, if it is one of them.
+type Same = (usize, Option<usize>);
+
+/// A grid whose lights are not those that it had: which of them stay, and which were there before.
+struct Reshaping {
+    /// By which a failure tells the case.
+    name: &'static str,
+    size: (u32, u32),
+    before: Stage,
+    after: Stage,
+    stay: &'static [Same],
+    were: &'static [Same],
+}
+
+const RESHAPINGS: &[Reshaping] = &[
+    Reshaping {
+        name: "three_by_three_under_half_turn",
+        size: (3, 3),
+        before: Stage {
+            steps: CORNERS_BLOCKED,
+            lights: CORNERS,
+        },
+        after: Stage {
+            steps: &[Step::Done(Do::Block(2, 2))],
+            lights: CENTRE,
+        },
+        stay: &[(4, Some(2)), (3, None), (6, None)],
+        were: &[],
+    },
+    Reshaping {
+        name: "bar_parts_a_row",
+        size: (4, 1),
+        before: Stage {
+            steps: &[],
+            lights: WHOLE,
+        },
+        after: Stage {
+            steps: &[BAR],
+            lights: PARTED,
+        },
+        stay: &[],
+        were: &[(1, None)],
+    },
+    Reshaping {
+        name: "bar_parts_a_row, and no more",
+        size: (4, 1),
+        before: Stage {
+            steps: &[],
+            lights: WHOLE,
+        },
+        after: Stage {
+            steps: &[BAR, BAR],
+            lights: &[Ask::Count(1)],
+        },
+        stay: &[(0, Some(0))],
+        were: &[],
+    },
+];
+
+/// Looks which of some lights are among others, and where: a table of places.
+fn find_each(rt: &impl Abort, lights: &Lights, others: &Lights, table: &[Same], name: &str) {
+    for (light, place) in table {
+        assert!(rt;
+            lights.same(*light, others) == *place,
+            "{name}, of light {light}"
+        );
+    }
+}
+
+/// Reshapes a grid that had these lights.
+fn reshape(
     rt: &(impl Abort + AllocGlobal),
     grid: &mut Grid,
-    table: &[Ask],
-) -> Result<Lights, GridFault> {
-    grid.toggle_bar(cell(1, 2), Side::Right)?;
-    lights_of(rt, grid, table)
+    before: &Lights,
+    case: &Reshaping,
+) -> Result<(), GridFault> {
+    let after = lights_of(rt, grid, case.after, case.name)?;
+    find_each(rt, before, &after, case.stay, case.name);
+    find_each(rt, &after, before, case.were, case.name);
+    Ok(())
+}
+
+fn pass_reshaping(rt: &(impl Abort + AllocGlobal), case: &Reshaping) -> Result<(), GridFault> {
+    let (width, height) = case.size;
+    let mut grid = Grid::new(rt.alloc(), width, height)?;
+    let before = lights_of(rt, &mut grid, case.before, case.name)?;
+    reshape(rt, &mut grid, &before, case)
 }
 
 #[test]
-fn bar_parts_a_row(rt: HostRuntime) -> Result<(), GridFault> {
-    let mut grid = Grid::new(rt.alloc(), 4, 1)?;
-    let whole = lights_of(&rt, &grid, WHOLE)?;
-    let parted = barred(&rt, &mut grid, PARTED)?;
-    stay(&rt, &parted, &whole, &[(1, None)]);
-    let again = barred(&rt, &mut grid, &[Ask::Count(1)])?;
-    stay(&rt, &whole, &again, &[(0, Some(0))]);
-    Ok(())
+fn grids_reshaped(rt: HostRuntime) {
+    for case in RESHAPINGS {
+        let name = case.name;
+        assert!(rt;
+            pass_reshaping(&rt, case) == Ok(()),
+            "{name}, for want of memory"
+        );
+    }
 }
 
 const IN_A_SQUARE: &[Step] = &[
@@ -269,12 +354,6 @@ const IN_AN_OBLONG: &[Step] = &[
     Step::Refused(Do::Set(5, 1, b'A'), GridFault::OutOfGrid),
 ];
 
-#[test]
-fn refused_edits(rt: HostRuntime) -> Result<(), GridFault> {
-    pass_from(&rt, (3, 3), IN_A_SQUARE, &[])?;
-    pass_from(&rt, (4, 3), IN_AN_OBLONG, &[])
-}
-
 const TURNED: &[Step] = &[
     Step::Done(Do::Choose(Symmetry::Quarter)),
     Step::Done(Do::Bar(1, 1, Side::Right)),
@@ -283,62 +362,29 @@ const TURNED: &[Step] = &[
     Step::Barred(2, 1, Side::Below, true),
     Step::Barred(3, 2, Side::Right, true),
     Step::Barred(1, 2, Side::Right, false),
+    Step::Orbit(1, 2, &[(1, 2), (2, 1), (2, 3), (3, 2)]),
+    Step::Orbit(2, 2, &[(2, 2)]),
+    Step::Orbit(4, 1, &[]),
+    Step::Done(Do::Block(1, 2)),
+    Step::Orbit(3, 2, &[(1, 2), (2, 1), (2, 3), (3, 2)]),
+    Step::Copied,
+    Step::Block(1, 2, true),
+    Step::Block(2, 1, true),
+    Step::Block(2, 3, true),
+    Step::Block(3, 2, true),
+    Step::Symmetry(Symmetry::Quarter),
 ];
 
-/// Whether these are the cells of an orbit, in this order.
-fn is_orbit(mut orbit: Orbit, cells: &[(u32, u32)]) -> bool {
-    for (row, col) in cells {
-        if orbit.next() != Some(cell(*row, *col)) {
-            return false;
-        }
-    }
-    orbit.next().is_none()
-}
+const BARRED: &[Step] = &[
+    Step::Done(Do::Bar(1, 1, Side::Below)),
+    Step::Done(Do::Block(1, 1)),
+    Step::Barred(1, 1, Side::Below, true),
+];
 
-fn turn(rt: &impl Abort, grid: &Grid) {
-    assert!(rt; is_orbit(grid.orbit(cell(1, 2)), &[(1, 2), (2, 1), (2, 3), (3, 2)]));
-    assert!(rt; is_orbit(grid.orbit(cell(2, 2)), &[(2, 2)]));
-    assert!(rt; is_orbit(grid.orbit(cell(4, 1)), &[]));
-}
-
-/// Whether a grid has a block at each cell of an orbit.
-fn is_blocked(grid: &Grid, orbit: Orbit) -> bool {
-    for member in orbit {
-        if !grid.is_block(member) {
-            return false;
-        }
-    }
-    true
-}
-
-#[test]
-fn quarter_turns(rt: HostRuntime) -> Result<(), GridFault> {
-    let mut grid = Grid::new(rt.alloc(), 3, 3)?;
-    pass(&rt, &mut grid, TURNED);
-    turn(&rt, &grid);
-    grid.toggle_block(cell(1, 2))?;
-    let copy = grid.copy()?;
-    assert!(rt; is_blocked(&copy, grid.orbit(cell(3, 2))));
-    assert!(rt; copy.symmetry() == Symmetry::Quarter);
-    Ok(())
-}
-
-#[test]
-fn bar_beside_a_block(rt: HostRuntime) -> Result<(), GridFault> {
-    pass_from(
-        &rt,
-        (3, 3),
-        &[
-            Step::Done(Do::Bar(1, 1, Side::Below)),
-            Step::Done(Do::Block(1, 1)),
-            Step::Barred(1, 1, Side::Below, true),
-        ],
-        &[
-            Ask::Count(6),
-            Ask::Light(4, Some((3, Direction::Down, 2, 1, 2))),
-        ],
-    )
-}
+const UNDER_A_BLOCK: &[Ask] = &[
+    Ask::Count(6),
+    Ask::Light(4, Some((3, Direction::Down, 2, 1, 2))),
+];
 
 const LARGEST: &[Ask] = &[
     Ask::Count(510),
@@ -347,70 +393,88 @@ const LARGEST: &[Ask] = &[
     Ask::Number(1, 255, Some(255)),
 ];
 
+/// Sizes that no grid has.
+const NO_SIZES: &[(u32, u32)] = &[(0, 3), (3, 256)];
+
+const CASES: &[Case] = &[
+    Case {
+        name: "one_cell",
+        size: (1, 1),
+        stage: Stage {
+            steps: &[Step::Block(1, 1, false), Step::Entry(1, 1, None)],
+            lights: &[Ask::Count(0), Ask::Number(1, 1, None)],
+        },
+    },
+    Case {
+        name: "refused_edits",
+        size: (3, 3),
+        stage: Stage {
+            steps: IN_A_SQUARE,
+            lights: &[],
+        },
+    },
+    Case {
+        name: "refused_edits, in an oblong",
+        size: (4, 3),
+        stage: Stage {
+            steps: IN_AN_OBLONG,
+            lights: &[],
+        },
+    },
+    Case {
+        name: "quarter_turns",
+        size: (3, 3),
+        stage: Stage {
+            steps: TURNED,
+            lights: &[],
+        },
+    },
+    Case {
+        name: "bar_beside_a_block",
+        size: (3, 3),
+        stage: Stage {
+            steps: BARRED,
+            lights: UNDER_A_BLOCK,
+        },
+    },
+    Case {
+        name: "smallest_and_largest",
+        size: (255, 255),
+        stage: Stage {
+            steps: &[Step::Size(255, 255)],
+            lights: LARGEST,
+        },
+    },
+];
+
 #[test]
-fn smallest_and_largest(rt: HostRuntime) -> Result<(), GridFault> {
-    for (width, height) in [(0, 3), (3, 256)] {
-        let fault = Grid::new(rt.alloc(), width, height).err();
-        assert!(rt; fault == Some(GridFault::Size), "of {width} by {height}");
+fn grids(rt: HostRuntime) {
+    for case in CASES {
+        let name = case.name;
+        assert!(rt;
+            pass_case(&rt, case) == Ok(()),
+            "{name}, for want of memory"
+        );
     }
-    pass_from(&rt, (255, 255), &[Step::Size(255, 255)], LARGEST)
 }
+
+#[test]
+fn sizes_of_no_grid(rt: HostRuntime) {
+    for (width, height) in NO_SIZES {
+        let fault = Grid::new(rt.alloc(), *width, *height).err();
+        assert!(rt;
+            fault == Some(GridFault::Size),
+            "smallest_and_largest, of {width} by {height}"
+        );
+    }
+}
+
+const OF_SQUARES: &[Step] = &[Step::Block(2, 1, true), Step::Block(1, 1, false)];
 
 #[test]
 fn grid_of_squares(rt: HostRuntime) -> Result<(), Fail> {
     let squares = vec![in rt.alloc(); Square::Open(None), Square::Block]?;
-    let grid = Grid::of_squares(rt.alloc(), 1, 2, squares)?;
-    assert_eq!(rt; grid.is_block(cell(2, 1)), true);
-    assert_eq!(rt; grid.is_block(cell(1, 1)), false);
-    Ok(())
-}
-
-/// Clues of lights that start in one cell.
-type Texts = &'static [(Direction, &'static [u8])];
-
-const WRITTEN: Texts = &[
-    (Direction::Across, b"one"),
-    (Direction::Down, b"two words"),
-    (Direction::Across, b"again"),
-];
-
-fn write(clues: &mut Clues, texts: &[(Direction, &[u8])]) -> Result<(), GridFault> {
-    for (direction, text) in texts {
-        clues.set(cell(1, 1), *direction, *text)?;
-    }
-    Ok(())
-}
-
-fn read(rt: &impl Abort, clues: &Clues, texts: &[(Direction, &[u8])]) {
-    for (direction, text) in texts {
-        assert!(rt; clues.get(cell(1, 1), *direction) == *text, "of {text:?}");
-    }
-}
-
-#[test]
-fn clues_by_start_and_direction(rt: HostRuntime) -> Result<(), GridFault> {
-    let mut clues = Clues::new(rt.alloc());
-    write(&mut clues, WRITTEN)?;
-    let copy = clues.copy()?;
-    write(&mut clues, &[(Direction::Across, b"")])?;
-    read(
-        &rt,
-        &clues,
-        &[(Direction::Across, b""), (Direction::Down, b"two words")],
-    );
-    read(&rt, &copy, &[(Direction::Across, b"again")]);
-    Ok(())
-}
-
-#[test]
-fn circles_on_and_off(rt: HostRuntime) -> Result<(), Fail> {
-    let mut circles = Circles::new(rt.alloc());
-    circles.set(cell(1, 2), true)?;
-    circles.set(cell(2, 1), true)?;
-    let copy = circles.copy()?;
-    circles.set(cell(1, 2), false)?;
-    assert_eq!(rt; circles.has(cell(1, 2)), false);
-    assert_eq!(rt; circles.has(cell(2, 1)), true);
-    assert_eq!(rt; copy.has(cell(1, 2)), true);
+    let mut grid = Grid::of_squares(rt.alloc(), 1, 2, squares)?;
+    pass(&rt, &mut grid, OF_SQUARES, "grid_of_squares");
     Ok(())
 }

@@ -1,21 +1,19 @@
-//! Worked examples, by calls on `Live`: tables of calls, each with its answer.
+//! Worked examples, by calls on `Live`: tables of calls, each with its answer. Each edit is watched besides (`watched`).
 mod beside;
 mod bounds;
 mod edits;
-mod parts;
-mod recount;
+mod sizes;
+mod watched;
 mod writing;
 
 use crate::live::Live;
-use std::alloc::Global;
+use crate::tests::watched::{ANYTHING, Place, Wanted, Watched, does, open, watch};
 use std::process::Abort;
 use xw_feas::changed::Changed;
 use xw_feas::edit::{Edit, Found, Refusal};
 use xw_feas::feasible::Feasible;
 use xw_feas::words::{Spelled, words};
 use xw_grid::cell::{Cell, Direction, LightName, Side, Symmetry};
-use xw_grid::grid::Grid;
-use xw_words::bank::Bank;
 use xw_words::letter::Letter;
 use xw_words::letter_set::LetterSet;
 
@@ -41,6 +39,8 @@ enum Step {
     Told(Do, Cells),
     /// The same, with the least and the most ticks of the edit.
     Spends(Do, Cells, u64, u64),
+    /// An edit that leaves an entry as it is: it tells and spends nothing, and no net is settled for it.
+    Idle(Do),
     /// An edit that is refused, and spends nothing.
     Refused(Do, Refusal),
     /// The feasible words of a light, in order, by each query.
@@ -79,20 +79,21 @@ const ACROSS_3: LightName = LightName {
     direction: Direction::Across,
 };
 
-/// A grid of so many columns and rows, and edits that are made before the table.
-type Start = (u32, u32, &'static [Do]);
+/// A grid of so many columns and rows with blocks in it, and words for it.
+#[derive(Clone, Copy)]
+struct Start {
+    width: u32,
+    height: u32,
+    blocks: &'static [(u32, u32)],
+    words: &'static [&'static [u8]],
+}
 
-const SQUARE: Start = (
-    2,
-    2,
-    &[
-        Do::Add(b"AS"),
-        Do::Add(b"AT"),
-        Do::Add(b"SO"),
-        Do::Add(b"TO"),
-        Do::Add(b"IN"),
-    ],
-);
+const SQUARE: Start = Start {
+    width: 2,
+    height: 2,
+    blocks: &[],
+    words: &[b"AS", b"AT", b"SO", b"TO", b"IN"],
+};
 
 /// What is feasible in the square while nothing is entered.
 const WHOLE_SQUARE: &[Step] = &[
@@ -121,25 +122,6 @@ fn edit_of(spelled: Do) -> Option<Edit<'static>> {
         Do::Add(text) => Edit::Add(text),
         Do::Strike(text) => Edit::Strike(text),
     })
-}
-
-fn engine(alloc: Global, width: u32, height: u32) -> Result<Live, Refusal> {
-    Live::open(alloc, Grid::new(alloc, width, height)?, Bank::new(alloc)?)
-}
-
-/// Makes an edit, whatever it tells.
-fn make(engine: &mut Live, spelled: Do) -> Result<(), Refusal> {
-    match edit_of(spelled) {
-        Some(edit) => engine.edit_counted(&edit),
-        None => Ok(()),
-    }
-}
-
-fn make_all(engine: &mut Live, edits: &[Do]) -> Result<(), Refusal> {
-    for edit in edits {
-        make(engine, *edit)?;
-    }
-    Ok(())
 }
 
 /// Whether a word that is lent has these letters.
@@ -203,79 +185,140 @@ fn tells(mut changed: Changed<'_>, cells: &[(u32, u32, &[u8])]) -> bool {
     changed.next().is_none()
 }
 
-/// Whether an edit tells these cells, or is so refused.
-fn answers(engine: &mut Live, edit: &Edit<'_>, wanted: Result<Cells, Refusal>) -> bool {
-    match engine.edit(edit) {
-        Ok(changed) => match wanted {
-            Ok(cells) => tells(changed, cells),
-            Err(_) => false,
-        },
-        Err(refusal) => wanted == Err(refusal),
-    }
-}
-
-fn answers_spelled(engine: &mut Live, spelled: Do, wanted: Result<Cells, Refusal>) -> bool {
-    match edit_of(spelled) {
-        Some(edit) => answers(engine, &edit, wanted),
-        None => false,
-    }
-}
-
-/// Whether an edit tells these cells, in no fewer and no more ticks.
-fn spends(engine: &mut Live, spelled: Do, cells: Cells, least: u64, most: u64) -> bool {
-    let spent = engine.spent();
-    if !answers_spelled(engine, spelled, Ok(cells)) {
-        return false;
-    }
-    match engine.spent().checked_sub(spent) {
-        Some(risen) => least <= risen && risen <= most,
-        None => false,
-    }
-}
-
 /// Whether an edit is so refused, with no tick.
 fn refuses(engine: &mut Live, spelled: Do, refusal: Refusal) -> bool {
     let spent = engine.spent();
-    answers_spelled(engine, spelled, Err(refusal)) && engine.spent() == spent
+    match edit_of(spelled) {
+        Some(edit) => engine.edit(&edit).err() == Some(refusal) && engine.spent() == spent,
+        None => false,
+    }
 }
 
-/// Whether a call answers as the table says.
-fn goes(engine: &mut Live, step: Step) -> Result<bool, Refusal> {
+/// Whether an edit tells nothing, with no tick.
+fn is_idle(engine: &mut Live, spelled: Do) -> bool {
+    let spent = engine.spent();
+    match edit_of(spelled) {
+        Some(edit) => does(engine, &edit, Some(&[])) && engine.spent() == spent,
+        None => false,
+    }
+}
+
+/// Whether a query answers as the table says.
+fn answers(engine: &Live, step: Step) -> Result<bool, Refusal> {
     Ok(match step {
-        Step::Told(edit, cells) => answers_spelled(engine, edit, Ok(cells)),
-        Step::Spends(edit, cells, least, most) => spends(engine, edit, cells, least, most),
-        Step::Refused(edit, refusal) => refuses(engine, edit, refusal),
         Step::Words(name, texts) => lends(engine, name, texts)?,
         Step::Count(name, count) => engine.word_count(name) == Ok(count),
         Step::Next(name, from, found) => engine.next_word(name, from) == Ok(found),
         Step::NoLight(name) => lacks(engine, name),
         Step::Letters(row, col, text) => is_set_of(engine.letters(at(row, col))?, text),
+        _ => false,
     })
 }
 
+/// Has an edit watched, if its byte is a letter.
+fn watch_spelled(
+    rt: &impl Abort,
+    watched: &mut Watched,
+    spelled: Do,
+    wanted: Wanted,
+    place: Place,
+) -> bool {
+    match edit_of(spelled) {
+        Some(edit) => {
+            watch(rt, watched, &edit, wanted, place);
+            true
+        }
+        None => false,
+    }
+}
+
+/// Whether a call answers as the table says.
+fn goes(rt: &impl Abort, watched: &mut Watched, step: Step, place: Place) -> bool {
+    match step {
+        Step::Told(edit, cells) => {
+            let wanted = Wanted {
+                cells: Some(cells),
+                ..ANYTHING
+            };
+            watch_spelled(rt, watched, edit, wanted, place)
+        }
+        Step::Spends(edit, cells, least, most) => {
+            let wanted = Wanted {
+                cells: Some(cells),
+                least,
+                most,
+            };
+            watch_spelled(rt, watched, edit, wanted, place)
+        }
+        Step::Idle(edit) => is_idle(&mut watched.engine, edit),
+        Step::Refused(edit, refusal) => refuses(&mut watched.engine, edit, refusal),
+        _ => answers(&watched.engine, step) == Ok(true),
+    }
+}
+
+/// Tables of calls, made in turn of one engine.
+struct Case {
+    /// By which a failure tells the case.
+    name: &'static str,
+    start: Start,
+    tables: &'static [&'static [Step]],
+}
+
 /// Makes the calls of a table, and compares what they answer.
-fn pass(rt: &impl Abort, engine: &mut Live, steps: &[Step]) -> Result<(), Refusal> {
-    for (place, step) in steps.iter().enumerate() {
-        assert!(rt; goes(engine, *step)?, "at step {place}");
+fn pass(rt: &impl Abort, watched: &mut Watched, steps: &[Step], name: &'static str) {
+    for (at, step) in steps.iter().enumerate() {
+        let list = "step";
+        let place = Place { name, list, at };
+        assert!(rt; goes(rt, watched, *step, place), "{name}, step {at}");
     }
-    Ok(())
 }
 
-fn pass_all(rt: &impl Abort, engine: &mut Live, tables: &[&[Step]]) -> Result<(), Refusal> {
-    for steps in tables {
-        pass(rt, engine, *steps)?;
+fn pass_all(rt: &impl Abort, watched: &mut Watched, case: &Case) {
+    for steps in case.tables {
+        pass(rt, watched, *steps, case.name);
     }
-    Ok(())
 }
 
-/// Makes the calls of each table, in turn, of one engine.
-fn pass_from(
+fn block_all(rt: &impl Abort, watched: &mut Watched, start: Start, name: &'static str) {
+    let list = "block";
+    for (at, (row, col)) in start.blocks.iter().enumerate() {
+        let edit = Edit::Block(Cell {
+            row: *row,
+            col: *col,
+        });
+        watch(rt, watched, &edit, ANYTHING, Place { name, list, at });
+    }
+}
+
+fn add_all(rt: &impl Abort, watched: &mut Watched, start: Start, name: &'static str) {
+    let list = "word";
+    for (at, word) in start.words.iter().enumerate() {
+        let edit = Edit::Add(*word);
+        watch(rt, watched, &edit, ANYTHING, Place { name, list, at });
+    }
+}
+
+/// A watched engine of a start, made by edits of an empty grid.
+fn begin(
     rt: &(impl Abort + AllocGlobal),
     start: Start,
-    tables: &[&[Step]],
-) -> Result<(), Refusal> {
-    let (width, height, edits) = start;
-    let mut engine = engine(rt.alloc(), width, height)?;
-    make_all(&mut engine, edits)?;
-    pass_all(rt, &mut engine, tables)
+    name: &'static str,
+) -> Result<Watched, Refusal> {
+    let mut watched = open(rt.alloc(), start.width, start.height)?;
+    block_all(rt, &mut watched, start, name);
+    add_all(rt, &mut watched, start, name);
+    Ok(watched)
+}
+
+fn pass_case(rt: &(impl Abort + AllocGlobal), case: &Case) -> Result<(), Refusal> {
+    let mut watched = begin(rt, case.start, case.name)?;
+    pass_all(rt, &mut watched, case);
+    Ok(())
+}
+
+fn pass_each(rt: &(impl Abort + AllocGlobal), cases: &[Case]) {
+    for case in cases {
+        let name = case.name;
+        assert!(rt; pass_case(rt, case) == Ok(()), "{name}, for want of memory");
+    }
 }

@@ -1,11 +1,12 @@
 //! What edits tell, and what is feasible after them.
 use crate::edits::Do::{Add, Bar, Block, Choose, Clear, Place, Set, Strike};
-use crate::edits::{ACROSS_1, ACROSS_2, ACROSS_3, DOWN_1, DOWN_2, SQUARE, add, at, engine};
+use crate::edits::{
+    ACROSS_1, ACROSS_2, ACROSS_3, DOWN_1, DOWN_2, ROW_OF_THREE, SQUARE, Start, at, engine,
+};
 use crate::feas::Step::{Count, Letters, Lights, Next, NoLight, Regrid, Told, Words};
-use crate::feas::{ALL, Step, WHOLE_SQUARE, pass, pass_from};
+use crate::feas::{ALL, Case, Step, WHOLE_SQUARE, pass, pass_each};
 use xw_feas::edit::{Edit, Found, Refusal};
-use xw_feas::feasible::{Feasible, run};
-use xw_feas::plain::Plain;
+use xw_feas::feasible::run;
 use xw_grid::cell::{Side, Symmetry};
 use xw_words::letter::Letter;
 
@@ -19,11 +20,6 @@ const ONE_ENTRY: &[Step] = &[
     Words(ACROSS_1, &[b"AS"]),
     Words(DOWN_2, &[b"SO"]),
 ];
-
-#[test]
-fn square_with_one_entry(rt: HostRuntime) -> Result<(), Refusal> {
-    pass_from(&rt, SQUARE, &[ONE_ENTRY])
-}
 
 const EMPTIED: &[Step] = &[
     Told(
@@ -41,21 +37,11 @@ const RESTORED: &[Step] = &[Told(
     &[(1, 1, b"A"), (1, 2, b"ST"), (2, 1, b"ST"), (2, 2, b"O")],
 )];
 
-#[test]
-fn square_emptied_and_restored(rt: HostRuntime) -> Result<(), Refusal> {
-    pass_from(&rt, SQUARE, &[EMPTIED, RESTORED, WHOLE_SQUARE])
-}
-
 const CORNERS_BLOCKED: &[Step] = &[
     Told(Choose(Symmetry::Half), &[]),
     Told(Block(1, 1), &[(1, 2, ALL), (2, 1, ALL)]),
     Lights(0),
 ];
-
-#[test]
-fn square_blocked_under_the_watch(rt: HostRuntime) -> Result<(), Refusal> {
-    pass_from(&rt, SQUARE, &[CORNERS_BLOCKED])
-}
 
 const UNKNOWN_WORD: &[Step] = &[
     Told(
@@ -67,11 +53,6 @@ const UNKNOWN_WORD: &[Step] = &[
     Next(ACROSS_1, 1, None),
 ];
 
-#[test]
-fn unknown_word_placed(rt: HostRuntime) -> Result<(), Refusal> {
-    pass_from(&rt, (3, 1, &[b"CAT"]), &[UNKNOWN_WORD])
-}
-
 const KNOWN_WORD: &[Step] = &[
     Told(Place(ACROSS_1, b"CAT"), &[]),
     Next(ACROSS_1, 0, Some(Found::Entered)),
@@ -79,11 +60,6 @@ const KNOWN_WORD: &[Step] = &[
     Words(ACROSS_1, &[b"CAT"]),
     Next(ACROSS_1, 0, Some(Found::Entered)),
 ];
-
-#[test]
-fn known_word_placed_and_struck(rt: HostRuntime) -> Result<(), Refusal> {
-    pass_from(&rt, (3, 1, &[b"CAT"]), &[KNOWN_WORD])
-}
 
 const UNLISTED_ENTRIES: &[Step] = &[
     Told(
@@ -101,11 +77,6 @@ const UNLISTED_ENTRIES: &[Step] = &[
     Words(ACROSS_3, &[b"SO"]),
 ];
 
-#[test]
-fn unlisted_entries_complete_a_square(rt: HostRuntime) -> Result<(), Refusal> {
-    pass_from(&rt, SQUARE, &[UNLISTED_ENTRIES])
-}
-
 const PARTED: &[Step] = &[
     Words(ACROSS_1, &[b"OVER"]),
     Told(
@@ -122,11 +93,6 @@ const PARTED: &[Step] = &[
     NoLight(ACROSS_2),
 ];
 
-#[test]
-fn bar_parts_a_row(rt: HostRuntime) -> Result<(), Refusal> {
-    pass_from(&rt, (4, 1, &[b"OVER", b"ON"]), &[PARTED])
-}
-
 const ONE_MORE: &[Step] = &[
     Count(ACROSS_1, 64),
     Told(Add(b"ACM"), &[]),
@@ -139,24 +105,15 @@ const ONE_MORE: &[Step] = &[
     Next(ACROSS_1, 0, Some(Found::Listed(0))),
 ];
 
-/// Adds AAA to AAZ, ABA to ABZ, and ACA to ACL.
-fn add_sixty_four(row: &mut Plain) -> Result<(), Refusal> {
-    for second in *b"ABC" {
-        for third in b'A'..=b'Z' {
-            if second < b'C' || third <= b'L' {
-                add(row, &[b'A', second, third])?;
-            }
-        }
-    }
-    Ok(())
-}
-
-#[test]
-fn sixty_four_words_and_one_more(rt: HostRuntime) -> Result<(), Refusal> {
-    let mut row = engine(rt.alloc(), 3, 1)?;
-    add_sixty_four(&mut row)?;
-    pass(&rt, &mut row, ONE_MORE)
-}
+/// AAA to AAZ, ABA to ABZ, and ACA to ACL.
+const SIXTY_FOUR: &[&[u8]] = &[
+    b"AAA", b"AAB", b"AAC", b"AAD", b"AAE", b"AAF", b"AAG", b"AAH", b"AAI", b"AAJ", b"AAK", b"AAL",
+    b"AAM", b"AAN", b"AAO", b"AAP", b"AAQ", b"AAR", b"AAS", b"AAT", b"AAU", b"AAV", b"AAW", b"AAX",
+    b"AAY", b"AAZ", b"ABA", b"ABB", b"ABC", b"ABD", b"ABE", b"ABF", b"ABG", b"ABH", b"ABI", b"ABJ",
+    b"ABK", b"ABL", b"ABM", b"ABN", b"ABO", b"ABP", b"ABQ", b"ABR", b"ABS", b"ABT", b"ABU", b"ABV",
+    b"ABW", b"ABX", b"ABY", b"ABZ", b"ACA", b"ACB", b"ACC", b"ACD", b"ACE", b"ACF", b"ACG", b"ACH",
+    b"ACI", b"ACJ", b"ACK", b"ACL",
+];
 
 const ONE_ROW: &[Step] = &[
     Regrid(2, 1),
@@ -166,14 +123,76 @@ const ONE_ROW: &[Step] = &[
     Regrid(2, 2),
 ];
 
+const CASES: &[Case] = &[
+    Case {
+        name: "square_with_one_entry",
+        start: SQUARE,
+        tables: &[ONE_ENTRY],
+    },
+    Case {
+        name: "square_emptied_and_restored",
+        start: SQUARE,
+        tables: &[EMPTIED, RESTORED, WHOLE_SQUARE],
+    },
+    Case {
+        name: "square_blocked_under_the_watch",
+        start: SQUARE,
+        tables: &[CORNERS_BLOCKED],
+    },
+    Case {
+        name: "unknown_word_placed",
+        start: ROW_OF_THREE,
+        tables: &[UNKNOWN_WORD],
+    },
+    Case {
+        name: "known_word_placed_and_struck",
+        start: ROW_OF_THREE,
+        tables: &[KNOWN_WORD],
+    },
+    Case {
+        name: "unlisted_entries_complete_a_square",
+        start: SQUARE,
+        tables: &[UNLISTED_ENTRIES],
+    },
+    Case {
+        name: "bar_parts_a_row",
+        start: Start {
+            width: 4,
+            height: 1,
+            words: &[b"OVER", b"ON"],
+        },
+        tables: &[PARTED],
+    },
+    Case {
+        name: "sixty_four_words_and_one_more",
+        start: Start {
+            width: 3,
+            height: 1,
+            words: SIXTY_FOUR,
+        },
+        tables: &[ONE_MORE],
+    },
+    Case {
+        name: "another_grid_for_the_square",
+        start: SQUARE,
+        tables: &[ONE_ROW, WHOLE_SQUARE],
+    },
+];
+
 #[test]
-fn another_grid_for_the_square(rt: HostRuntime) -> Result<(), Refusal> {
-    pass_from(&rt, SQUARE, &[ONE_ROW, WHOLE_SQUARE])
+fn edits(rt: HostRuntime) {
+    pass_each(&rt, CASES);
 }
+
+const EMPTY_SQUARE: Start = Start {
+    width: 2,
+    height: 2,
+    words: &[],
+};
 
 #[test]
 fn refused_edits_are_passed_over(rt: HostRuntime) -> Result<(), Refusal> {
-    let mut square = engine(rt.alloc(), 2, 2)?;
+    let mut square = engine(rt.alloc(), EMPTY_SQUARE)?;
     let edits = [
         Edit::Add(b"AS"),
         Edit::Add(b"4"),
@@ -185,5 +204,11 @@ fn refused_edits_are_passed_over(rt: HostRuntime) -> Result<(), Refusal> {
         Edit::Add(b"IN"),
     ];
     assert_eq!(rt; run(&mut square, &edits), 3);
-    pass(&rt, &mut square, WHOLE_SQUARE)
+    pass(
+        &rt,
+        &mut square,
+        WHOLE_SQUARE,
+        "refused_edits_are_passed_over",
+    );
+    Ok(())
 }

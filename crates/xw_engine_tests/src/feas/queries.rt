@@ -1,9 +1,9 @@
 //! What is asked where nothing, or little, is entered.
 use crate::edits::Do::Block;
-use crate::edits::{ACROSS_1, ACROSS_3, DOWN_1, DOWN_2, SQUARE};
+use crate::edits::{ACROSS_1, ACROSS_3, DOWN_1, DOWN_2, SQUARE, Start};
 use crate::feas::Step::{Known, Letters, Light, Lights, Next, NoLetters, NoLight, Size, Told};
-use crate::feas::{ALL, Step, WHOLE_SQUARE, pass_from};
-use xw_feas::edit::{Found, Refusal};
+use crate::feas::{ALL, Case, Step, WHOLE_SQUARE, pass_each};
+use xw_feas::edit::Found;
 use xw_grid::fault::GridFault;
 
 const LIGHTS: &[Step] = &[
@@ -16,11 +16,6 @@ const LIGHTS: &[Step] = &[
     Light(3, ACROSS_3, 2, 1, 2),
 ];
 
-#[test]
-fn square_of_five_words(rt: HostRuntime) -> Result<(), Refusal> {
-    pass_from(&rt, SQUARE, &[LIGHTS, WHOLE_SQUARE])
-}
-
 const PLACES: &[Step] = &[
     Next(ACROSS_1, 0, Some(Found::Listed(0))),
     Next(ACROSS_1, 1, Some(Found::Listed(1))),
@@ -29,11 +24,6 @@ const PLACES: &[Step] = &[
     Next(DOWN_2, 3, Some(Found::Listed(3))),
     Next(DOWN_2, 5, None),
 ];
-
-#[test]
-fn places_of_feasible_words(rt: HostRuntime) -> Result<(), Refusal> {
-    pass_from(&rt, SQUARE, &[PLACES])
-}
 
 const CORNER_BLOCKED: &[Step] = &[
     Told(
@@ -46,14 +36,36 @@ const CORNER_BLOCKED: &[Step] = &[
     NoLetters(2, 2, GridFault::OnBlock),
 ];
 
-#[test]
-fn queries_of_what_is_not_there(rt: HostRuntime) -> Result<(), Refusal> {
-    pass_from(&rt, SQUARE, &[CORNER_BLOCKED])
-}
-
 const ONE_CELL: &[Step] = &[Letters(1, 1, ALL), Lights(0)];
 
+const CASES: &[Case] = &[
+    Case {
+        name: "square_of_five_words",
+        start: SQUARE,
+        tables: &[LIGHTS, WHOLE_SQUARE],
+    },
+    Case {
+        name: "places_of_feasible_words",
+        start: SQUARE,
+        tables: &[PLACES],
+    },
+    Case {
+        name: "queries_of_what_is_not_there",
+        start: SQUARE,
+        tables: &[CORNER_BLOCKED],
+    },
+    Case {
+        name: "one_cell",
+        start: Start {
+            width: 1,
+            height: 1,
+            words: &[],
+        },
+        tables: &[ONE_CELL],
+    },
+];
+
 #[test]
-fn one_cell(rt: HostRuntime) -> Result<(), Refusal> {
-    pass_from(&rt, (1, 1, &[]), &[ONE_CELL])
+fn queries(rt: HostRuntime) {
+    pass_each(&rt, CASES);
 }

@@ -1,8 +1,8 @@
 //! Edits that are refused.
 use crate::edits::Do::{Add, Bar, Block, Choose, Clear, Place, Set, Strike};
-use crate::edits::{ACROSS_1, ACROSS_2, SQUARE};
+use crate::edits::{ACROSS_1, ACROSS_2, ROW_OF_THREE, SQUARE, Start};
 use crate::feas::Step::{Refused, Told, Words};
-use crate::feas::{Step, pass_from};
+use crate::feas::{Case, Step, pass_each};
 use xw_feas::edit::Refusal;
 use xw_grid::cell::{Side, Symmetry};
 use xw_grid::fault::GridFault;
@@ -37,12 +37,6 @@ const IN_A_SQUARE: &[Step] = &[
 
 const IN_A_ROW: &[Step] = &[Refused(Choose(Symmetry::Quarter), NOT_SQUARE)];
 
-#[test]
-fn edits_of_cells_refused(rt: HostRuntime) -> Result<(), Refusal> {
-    pass_from(&rt, SQUARE, &[IN_A_SQUARE])?;
-    pass_from(&rt, (2, 1, &[]), &[IN_A_ROW])
-}
-
 const BAD_FIRST: Refusal = Refusal::Word(WordFault::BadLetter(1));
 
 const BAD_SECOND: Refusal = Refusal::Word(WordFault::BadLetter(2));
@@ -69,7 +63,29 @@ const WITH_WORDS: &[Step] = &[
     Refused(Strike(b"CAT"), UNKNOWN),
 ];
 
+const CASES: &[Case] = &[
+    Case {
+        name: "edits_of_cells_refused",
+        start: SQUARE,
+        tables: &[IN_A_SQUARE],
+    },
+    Case {
+        name: "edits_of_cells_refused, in a row",
+        start: Start {
+            width: 2,
+            height: 1,
+            words: &[],
+        },
+        tables: &[IN_A_ROW],
+    },
+    Case {
+        name: "edits_with_words_refused",
+        start: ROW_OF_THREE,
+        tables: &[WITH_WORDS],
+    },
+];
+
 #[test]
-fn edits_with_words_refused(rt: HostRuntime) -> Result<(), Refusal> {
-    pass_from(&rt, (3, 1, &[b"CAT"]), &[WITH_WORDS])
+fn refusals(rt: HostRuntime) {
+    pass_each(&rt, CASES);
 }

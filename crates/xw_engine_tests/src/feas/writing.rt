@@ -1,5 +1,5 @@
 //! Lists of cells that are written, and the same cells one after another in a second engine.
-use crate::edits::{Do, SQUARE, add_all, at, engine};
+use crate::edits::{Do, SQUARE, at, engine};
 use crate::feas::{Step, pass};
 use std::alloc::Global;
 use std::process::Abort;
@@ -12,6 +12,21 @@ use xw_words::letter::Letter;
 
 /// Cells by row and column, each with a letter by its byte, or with none.
 type List = &'static [(u32, u32, Option<u8>)];
+
+/// What an engine does with a list.
+#[derive(Clone, Copy)]
+enum Listed {
+    Written(List),
+    Refused(List, GridFault),
+}
+
+/// Lists for the square after some calls, one after another.
+struct Case {
+    /// By which a failure tells the case.
+    name: &'static str,
+    calls: &'static [Step],
+    lists: &'static [Listed],
+}
 
 fn list_of(alloc: Global, spelled: List) -> Result<Vec<(Cell, Option<Letter>)>, Refusal> {
     let mut list = Vec::new(alloc);
@@ -37,6 +52,31 @@ fn write_in_turn(engine: &mut Plain, list: &[(Cell, Option<Letter>)]) -> Result<
         let _ = engine.edit(&edit)?;
     }
     Ok(())
+}
+
+/// Why an engine does not write a list, if it does not.
+fn refusal_of(engine: &mut Plain, list: &[(Cell, Option<Letter>)]) -> Option<Refusal> {
+    engine.edit(&Edit::Write(list)).err()
+}
+
+/// Whether one engine writes a list at once, or refuses it, as the table says. What it writes is written in turn in another.
+fn goes(
+    alloc: Global,
+    one: &mut Plain,
+    other: &mut Plain,
+    listed: Listed,
+) -> Result<bool, Refusal> {
+    match listed {
+        Listed::Written(spelled) => {
+            let list = list_of(alloc, spelled)?;
+            write_in_turn(other, list.as_slice())?;
+            Ok(refusal_of(one, list.as_slice()).is_none())
+        }
+        Listed::Refused(spelled, fault) => {
+            let list = list_of(alloc, spelled)?;
+            Ok(refusal_of(one, list.as_slice()) == Some(Refusal::Grid(fault)))
+        }
+    }
 }
 
 /// Whether two engines have the same entries and answer the same letters for each cell.
@@ -66,112 +106,78 @@ fn have_same_words(one: &Plain, other: &Plain) -> bool {
     true
 }
 
-/// Writes a list at once in one engine and in turn in another.
-fn write_twice(
-    alloc: Global,
-    one: &mut Plain,
-    other: &mut Plain,
-    spelled: List,
-) -> Result<(), Refusal> {
-    let list = list_of(alloc, spelled)?;
-    let _ = one.edit(&Edit::Write(list.as_slice()))?;
-    write_in_turn(other, list.as_slice())
-}
-
-/// Writes each list in both ways, and compares the two engines after it.
-fn write_each(
-    rt: &(impl Abort + AllocGlobal),
-    one: &mut Plain,
-    other: &mut Plain,
-    lists: &[List],
-) -> Result<(), Refusal> {
-    for (place, spelled) in lists.iter().enumerate() {
-        write_twice(rt.alloc(), one, other, *spelled)?;
-        assert!(rt; have_same_cells(one, other), "the cells after list {place}");
-        assert!(rt; have_same_words(one, other), "the words after list {place}");
-    }
-    Ok(())
-}
-
-fn square(alloc: Global) -> Result<Plain, Refusal> {
-    let (width, height, texts) = SQUARE;
-    let mut square = engine(alloc, width, height)?;
-    add_all(&mut square, texts)?;
-    Ok(square)
-}
-
-const LISTS: &[List] = &[
-    &[],
-    &[(1, 2, Some(b't'))],
-    &[(1, 2, Some(b'S')), (2, 1, Some(b'T'))],
-    &[(1, 1, Some(b'A')), (1, 2, None), (2, 2, Some(b'O'))],
-    &[(1, 1, None), (2, 1, None), (2, 2, None), (1, 2, None)],
-    &[(2, 2, Some(b'X')), (1, 1, Some(b'I')), (2, 2, None)],
-    &[(1, 1, Some(b'X')), (1, 2, Some(b'T')), (2, 1, Some(b'S'))],
-    &[(1, 1, None), (1, 1, Some(b'A')), (1, 2, Some(b'T'))],
-];
-
-#[test]
-fn lists_written_at_once_and_in_turn(rt: HostRuntime) -> Result<(), Refusal> {
-    let mut one = square(rt.alloc())?;
-    let mut other = square(rt.alloc())?;
-    write_each(&rt, &mut one, &mut other, LISTS)
-}
-
-/// Lists for a square with its last cell blocked, each with the fault that refuses it.
-const REFUSED: &[(List, GridFault)] = &[
-    (
-        &[(1, 1, Some(b'A')), (2, 2, Some(b'O'))],
-        GridFault::OnBlock,
-    ),
-    (&[(1, 1, None), (1, 3, Some(b'A'))], GridFault::OutOfGrid),
-    (&[(0, 1, None), (2, 2, None)], GridFault::OutOfGrid),
-    (&[(2, 2, None), (0, 1, None)], GridFault::OnBlock),
-];
-
-/// Why an engine does not write a list.
-fn refusal_of(
-    alloc: Global,
-    engine: &mut Plain,
-    spelled: List,
-) -> Result<Option<Refusal>, Refusal> {
-    let list = list_of(alloc, spelled)?;
-    Ok(engine.edit(&Edit::Write(list.as_slice())).err())
-}
-
-/// Has each list refused by one engine, and compares it with another that no list was given.
-fn refuse_each(
-    rt: &(impl Abort + AllocGlobal),
-    one: &mut Plain,
-    other: &Plain,
-    lists: &[(List, GridFault)],
-) -> Result<(), Refusal> {
-    for (place, refused) in lists.iter().enumerate() {
-        let (spelled, fault) = *refused;
-        let refusal = refusal_of(rt.alloc(), one, spelled)?;
+/// Gives each list of a case to one engine, and compares it with the other after it.
+fn pass_lists(rt: &(impl Abort + AllocGlobal), one: &mut Plain, other: &mut Plain, case: &Case) {
+    let name = case.name;
+    for (place, listed) in case.lists.iter().enumerate() {
         assert!(rt;
-            refusal == Some(Refusal::Grid(fault)),
-            "the refusal of list {place}"
+            goes(rt.alloc(), one, other, *listed) == Ok(true),
+            "{name}, at list {place}"
         );
-        assert!(rt; have_same_cells(one, other), "the cells after list {place}");
+        assert!(rt;
+            have_same_cells(one, other),
+            "{name}, the cells after list {place}"
+        );
+        assert!(rt;
+            have_same_words(one, other),
+            "{name}, the words after list {place}"
+        );
     }
-    Ok(())
 }
+
+const LISTS: &[Listed] = &[
+    Listed::Written(&[]),
+    Listed::Written(&[(1, 2, Some(b't'))]),
+    Listed::Written(&[(1, 2, Some(b'S')), (2, 1, Some(b'T'))]),
+    Listed::Written(&[(1, 1, Some(b'A')), (1, 2, None), (2, 2, Some(b'O'))]),
+    Listed::Written(&[(1, 1, None), (2, 1, None), (2, 2, None), (1, 2, None)]),
+    Listed::Written(&[(2, 2, Some(b'X')), (1, 1, Some(b'I')), (2, 2, None)]),
+    Listed::Written(&[(1, 1, Some(b'X')), (1, 2, Some(b'T')), (2, 1, Some(b'S'))]),
+    Listed::Written(&[(1, 1, None), (1, 1, Some(b'A')), (1, 2, Some(b'T'))]),
+];
 
 const CORNER_BLOCKED: &[Step] = &[Step::Told(
     Do::Block(2, 2),
     &[(1, 1, b"AIST"), (1, 2, b"NOST"), (2, 1, b"NOST")],
 )];
 
-fn blocked_square(rt: &(impl Abort + AllocGlobal)) -> Result<Plain, Refusal> {
-    let mut blocked = square(rt.alloc())?;
-    pass(rt, &mut blocked, CORNER_BLOCKED)?;
-    Ok(blocked)
+/// Lists for the square with its last cell blocked.
+const REFUSED: &[Listed] = &[
+    Listed::Refused(
+        &[(1, 1, Some(b'A')), (2, 2, Some(b'O'))],
+        GridFault::OnBlock,
+    ),
+    Listed::Refused(&[(1, 1, None), (1, 3, Some(b'A'))], GridFault::OutOfGrid),
+    Listed::Refused(&[(0, 1, None), (2, 2, None)], GridFault::OutOfGrid),
+    Listed::Refused(&[(2, 2, None), (0, 1, None)], GridFault::OnBlock),
+];
+
+const CASES: &[Case] = &[
+    Case {
+        name: "lists_written_at_once_and_in_turn",
+        calls: &[],
+        lists: LISTS,
+    },
+    Case {
+        name: "lists_refused_as_a_whole",
+        calls: CORNER_BLOCKED,
+        lists: REFUSED,
+    },
+];
+
+fn pass_case(rt: &(impl Abort + AllocGlobal), case: &Case) -> Result<(), Refusal> {
+    let mut one = engine(rt.alloc(), SQUARE)?;
+    let mut other = engine(rt.alloc(), SQUARE)?;
+    pass(rt, &mut one, case.calls, case.name);
+    pass(rt, &mut other, case.calls, case.name);
+    pass_lists(rt, &mut one, &mut other, case);
+    Ok(())
 }
 
 #[test]
-fn lists_refused_as_a_whole(rt: HostRuntime) -> Result<(), Refusal> {
-    let mut one = blocked_square(&rt)?;
-    let other = blocked_square(&rt)?;
-    refuse_each(&rt, &mut one, &other, REFUSED)
+fn lists_of_cells(rt: HostRuntime) {
+    for case in CASES {
+        let name = case.name;
+        assert!(rt; pass_case(&rt, case) == Ok(()), "{name}, at its start");
+    }
 }

@@ -1,20 +1,14 @@
 //! What edits tell, and what is feasible after them.
-use crate::live::Live;
 use crate::tests::Do::{Add, Bar, Block, Clear, Set, Strike};
 use crate::tests::Step::{Count, Next, NoLight, Told, Words};
 use crate::tests::{
-    ACROSS_1, ACROSS_2, ACROSS_3, DOWN_1, DOWN_2, SQUARE, Step, WHOLE_SQUARE, engine, pass,
-    pass_from,
+    ACROSS_1, ACROSS_2, ACROSS_3, Case, DOWN_1, DOWN_2, SQUARE, Start, Step, WHOLE_SQUARE,
+    pass_each,
 };
-use xw_feas::edit::{Edit, Found, Refusal};
+use xw_feas::edit::Found;
 use xw_grid::cell::Side;
 
-#[test]
-fn square_of_five_words(rt: HostRuntime) -> Result<(), Refusal> {
-    pass_from(&rt, SQUARE, &[WHOLE_SQUARE])
-}
-
-pub const ONE_ENTRY: &[Step] = &[
+const ONE_ENTRY: &[Step] = &[
     Told(Set(1, 2, b'T'), &[(1, 2, b"T")]),
     Words(ACROSS_1, &[b"AT"]),
     Words(DOWN_2, &[b"TO"]),
@@ -25,22 +19,12 @@ pub const ONE_ENTRY: &[Step] = &[
     Words(DOWN_2, &[b"SO"]),
 ];
 
-#[test]
-fn square_with_one_entry(rt: HostRuntime) -> Result<(), Refusal> {
-    pass_from(&rt, SQUARE, &[ONE_ENTRY])
-}
-
-pub const ENTRY_CLEARED: &[Step] = &[
+const ENTRY_CLEARED: &[Step] = &[
     Told(Set(1, 2, b'T'), &[(1, 2, b"T")]),
     Told(Clear(1, 2), &[(1, 2, b"ST")]),
 ];
 
-#[test]
-fn square_entered_and_cleared(rt: HostRuntime) -> Result<(), Refusal> {
-    pass_from(&rt, SQUARE, &[ENTRY_CLEARED, WHOLE_SQUARE])
-}
-
-pub const EMPTIED: &[Step] = &[
+const EMPTIED: &[Step] = &[
     Told(
         Set(1, 1, b'X'),
         &[(1, 1, b""), (1, 2, b""), (2, 1, b""), (2, 2, b"")],
@@ -51,17 +35,12 @@ pub const EMPTIED: &[Step] = &[
     Words(ACROSS_3, &[]),
 ];
 
-pub const RESTORED: &[Step] = &[Told(
+const RESTORED: &[Step] = &[Told(
     Clear(1, 1),
     &[(1, 1, b"A"), (1, 2, b"ST"), (2, 1, b"ST"), (2, 2, b"O")],
 )];
 
-#[test]
-fn square_emptied_and_restored(rt: HostRuntime) -> Result<(), Refusal> {
-    pass_from(&rt, SQUARE, &[EMPTIED, RESTORED, WHOLE_SQUARE])
-}
-
-pub const CORNER_BLOCKED: &[Step] = &[
+const CORNER_BLOCKED: &[Step] = &[
     Told(
         Block(2, 2),
         &[(1, 1, b"AIST"), (1, 2, b"NOST"), (2, 1, b"NOST")],
@@ -74,22 +53,13 @@ pub const CORNER_BLOCKED: &[Step] = &[
     ),
 ];
 
-pub const WORD_STRUCK: &[Step] = &[
+const WORD_STRUCK: &[Step] = &[
     Told(Strike(b"SO"), &[(1, 2, b"T"), (2, 1, b"T")]),
     Words(ACROSS_1, &[b"AT"]),
     Told(Add(b"SO"), &[(1, 2, b"ST"), (2, 1, b"ST")]),
 ];
 
-#[test]
-fn square_reshaped_and_reworded(rt: HostRuntime) -> Result<(), Refusal> {
-    pass_from(
-        &rt,
-        SQUARE,
-        &[CORNER_BLOCKED, WHOLE_SQUARE, WORD_STRUCK, WHOLE_SQUARE],
-    )
-}
-
-pub const PARTED: &[Step] = &[
+const PARTED: &[Step] = &[
     Words(ACROSS_1, &[b"OVER"]),
     Told(
         Bar(1, 2, Side::Right),
@@ -105,12 +75,7 @@ pub const PARTED: &[Step] = &[
     NoLight(ACROSS_2),
 ];
 
-#[test]
-fn bar_parts_a_row(rt: HostRuntime) -> Result<(), Refusal> {
-    pass_from(&rt, (4, 1, &[Add(b"OVER"), Add(b"ON")]), &[PARTED])
-}
-
-pub const ONE_MORE: &[Step] = &[
+const ONE_MORE: &[Step] = &[
     Count(ACROSS_1, 64),
     Told(Add(b"ACM"), &[]),
     Count(ACROSS_1, 65),
@@ -122,21 +87,65 @@ pub const ONE_MORE: &[Step] = &[
     Next(ACROSS_1, 0, Some(Found::Listed(0))),
 ];
 
-/// Adds AAA to AAZ, ABA to ABZ, and ACA to ACL.
-pub fn add_sixty_four(row: &mut Live) -> Result<(), Refusal> {
-    for second in *b"ABC" {
-        for third in b'A'..=b'Z' {
-            if second < b'C' || third <= b'L' {
-                row.edit_counted(&Edit::Add(&[b'A', second, third]))?;
-            }
-        }
-    }
-    Ok(())
-}
+/// AAA to AAZ, ABA to ABZ, and ACA to ACL.
+const SIXTY_FOUR: &[&[u8]] = &[
+    b"AAA", b"AAB", b"AAC", b"AAD", b"AAE", b"AAF", b"AAG", b"AAH", b"AAI", b"AAJ", b"AAK", b"AAL",
+    b"AAM", b"AAN", b"AAO", b"AAP", b"AAQ", b"AAR", b"AAS", b"AAT", b"AAU", b"AAV", b"AAW", b"AAX",
+    b"AAY", b"AAZ", b"ABA", b"ABB", b"ABC", b"ABD", b"ABE", b"ABF", b"ABG", b"ABH", b"ABI", b"ABJ",
+    b"ABK", b"ABL", b"ABM", b"ABN", b"ABO", b"ABP", b"ABQ", b"ABR", b"ABS", b"ABT", b"ABU", b"ABV",
+    b"ABW", b"ABX", b"ABY", b"ABZ", b"ACA", b"ACB", b"ACC", b"ACD", b"ACE", b"ACF", b"ACG", b"ACH",
+    b"ACI", b"ACJ", b"ACK", b"ACL",
+];
+
+const CASES: &[Case] = &[
+    Case {
+        name: "square_of_five_words",
+        start: SQUARE,
+        tables: &[WHOLE_SQUARE],
+    },
+    Case {
+        name: "square_with_one_entry",
+        start: SQUARE,
+        tables: &[ONE_ENTRY],
+    },
+    Case {
+        name: "square_entered_and_cleared",
+        start: SQUARE,
+        tables: &[ENTRY_CLEARED, WHOLE_SQUARE],
+    },
+    Case {
+        name: "square_emptied_and_restored",
+        start: SQUARE,
+        tables: &[EMPTIED, RESTORED, WHOLE_SQUARE],
+    },
+    Case {
+        name: "square_reshaped_and_reworded",
+        start: SQUARE,
+        tables: &[CORNER_BLOCKED, WHOLE_SQUARE, WORD_STRUCK, WHOLE_SQUARE],
+    },
+    Case {
+        name: "bar_parts_a_row",
+        start: Start {
+            width: 4,
+            height: 1,
+            blocks: &[],
+            words: &[b"OVER", b"ON"],
+        },
+        tables: &[PARTED],
+    },
+    Case {
+        name: "sixty_four_words_and_one_more",
+        start: Start {
+            width: 3,
+            height: 1,
+            blocks: &[],
+            words: SIXTY_FOUR,
+        },
+        tables: &[ONE_MORE],
+    },
+];
 
 #[test]
-fn sixty_four_words_and_one_more(rt: HostRuntime) -> Result<(), Refusal> {
-    let mut row = engine(rt.alloc(), 3, 1)?;
-    add_sixty_four(&mut row)?;
-    pass(&rt, &mut row, ONE_MORE)
+fn edits(rt: HostRuntime) {
+    pass_each(&rt, CASES);
 }

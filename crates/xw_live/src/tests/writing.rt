@@ -1,8 +1,7 @@
 //! Lists of cells that are written, and the same cells one after another in a second engine.
 use crate::live::Live;
-use crate::tests::beside::Beside;
-use crate::tests::recount::is_recounted;
-use crate::tests::{SQUARE, Start, at, edit_of, engine, make_all};
+use crate::tests::watched::{ANYTHING, Place, Wanted, Watched, watch};
+use crate::tests::{Do, SQUARE, Step, at, begin, pass};
 use std::alloc::Global;
 use std::process::Abort;
 use xw_feas::edit::{Edit, Refusal};
@@ -13,6 +12,24 @@ use xw_words::letter::Letter;
 
 /// Cells by row and column, each with a letter by its byte, or with none.
 type List = &'static [(u32, u32, Option<u8>)];
+
+/// What an engine does with a list.
+#[derive(Clone, Copy)]
+enum Listed {
+    Written(List),
+    /// Each entry is left as it was, and nothing is spent.
+    Idle(List),
+    /// Nothing is spent.
+    Refused(List, GridFault),
+}
+
+/// Lists for the square after some calls, one after another.
+struct Case {
+    /// By which a failure tells the case.
+    name: &'static str,
+    calls: &'static [Step],
+    lists: &'static [Listed],
+}
 
 fn list_of(alloc: Global, spelled: List) -> Result<Vec<(Cell, Option<Letter>)>, Refusal> {
     let mut list = Vec::new(alloc);
@@ -38,6 +55,41 @@ fn write_in_turn(engine: &mut Live, list: &[(Cell, Option<Letter>)]) -> Result<(
         engine.edit_counted(&edit)?;
     }
     Ok(())
+}
+
+/// Whether a list is so refused, with no tick.
+fn refuses(engine: &mut Live, list: &[(Cell, Option<Letter>)], fault: GridFault) -> bool {
+    let spent = engine.spent();
+    let refusal = engine.edit_counted(&Edit::Write(list)).err();
+    refusal == Some(Refusal::Grid(fault)) && engine.spent() == spent
+}
+
+const IDLE: Wanted = Wanted {
+    cells: Some(&[]),
+    least: 0,
+    most: 0,
+};
+
+/// Gives a list to one engine at once, and writes it in turn in another unless it is refused.
+fn write_twice(
+    rt: &(impl Abort + AllocGlobal),
+    one: &mut Watched,
+    other: &mut Live,
+    listed: Listed,
+    place: Place,
+) -> Result<bool, Refusal> {
+    let (spelled, wanted) = match listed {
+        Listed::Written(spelled) => (spelled, ANYTHING),
+        Listed::Idle(spelled) => (spelled, IDLE),
+        Listed::Refused(spelled, fault) => {
+            let list = list_of(rt.alloc(), spelled)?;
+            return Ok(refuses(&mut one.engine, list.as_slice(), fault));
+        }
+    };
+    let list = list_of(rt.alloc(), spelled)?;
+    watch(rt, one, &Edit::Write(list.as_slice()), wanted, place);
+    write_in_turn(other, list.as_slice())?;
+    Ok(true)
 }
 
 /// Whether two engines have the same entries and answer the same letters for each cell.
@@ -67,109 +119,94 @@ fn have_same_words(one: &Live, other: &Live) -> bool {
     true
 }
 
-/// Writes each list at once in one engine, with as many ticks as a net that is settled beside it, and in turn in another, and compares the two.
-fn write_both_ways(
-    rt: &(impl Abort + AllocGlobal),
-    start: Start,
-    lists: &[List],
-) -> Result<(), Refusal> {
-    let (width, height, edits) = start;
-    let mut one = engine(rt.alloc(), width, height)?;
-    let mut other = engine(rt.alloc(), width, height)?;
-    let mut beside = Beside::open(rt.alloc(), width, height)?;
-    make_all(&mut one, edits)?;
-    make_all(&mut other, edits)?;
-    for edit in edits {
-        if let Some(edit) = edit_of(*edit) {
-            let _ = beside.edit(&edit)?;
-        }
-    }
-    for (place, spelled) in lists.iter().enumerate() {
-        let list = list_of(rt.alloc(), *spelled)?;
-        let edit = Edit::Write(list.as_slice());
+/// Gives each list of a case to one engine, and compares it with the other after it.
+fn pass_lists(rt: &(impl Abort + AllocGlobal), one: &mut Watched, other: &mut Live, case: &Case) {
+    let name = case.name;
+    let list = "list";
+    for (at, listed) in case.lists.iter().enumerate() {
+        let place = Place { name, list, at };
         assert!(rt;
-            is_recounted(&mut one, &mut beside, &edit, 0)?,
-            "the ticks of list {place}"
-        );
-        write_in_turn(&mut other, list.as_slice())?;
-        assert!(rt;
-            have_same_cells(&one, &other),
-            "the cells after list {place}"
+            write_twice(rt, one, other, *listed, place) == Ok(true),
+            "{name}, list {at}"
         );
         assert!(rt;
-            have_same_words(&one, &other),
-            "the words after list {place}"
+            have_same_cells(&one.engine, other),
+            "{name}, the cells after list {at}"
+        );
+        assert!(rt;
+            have_same_words(&one.engine, other),
+            "{name}, the words after list {at}"
         );
     }
-    Ok(())
 }
 
-const LISTS: &[List] = &[
-    &[],
-    &[(1, 2, Some(b't'))],
-    &[(1, 2, Some(b'S')), (2, 1, Some(b'T'))],
-    &[(1, 1, Some(b'A')), (1, 2, None), (2, 2, Some(b'O'))],
-    &[(1, 1, None), (2, 1, None), (2, 2, None), (1, 2, None)],
-    &[(2, 2, Some(b'X')), (1, 1, Some(b'I')), (2, 2, None)],
-    &[(1, 1, Some(b'X')), (1, 2, Some(b'T')), (2, 1, Some(b'S'))],
-    &[(1, 1, None), (1, 1, Some(b'A')), (1, 2, Some(b'T'))],
+const LISTS: &[Listed] = &[
+    Listed::Written(&[]),
+    Listed::Written(&[(1, 2, Some(b't'))]),
+    Listed::Written(&[(1, 2, Some(b'S')), (2, 1, Some(b'T'))]),
+    Listed::Written(&[(1, 1, Some(b'A')), (1, 2, None), (2, 2, Some(b'O'))]),
+    Listed::Written(&[(1, 1, None), (2, 1, None), (2, 2, None), (1, 2, None)]),
+    Listed::Written(&[(2, 2, Some(b'X')), (1, 1, Some(b'I')), (2, 2, None)]),
+    Listed::Written(&[(1, 1, Some(b'X')), (1, 2, Some(b'T')), (2, 1, Some(b'S'))]),
+    Listed::Written(&[(1, 1, None), (1, 1, Some(b'A')), (1, 2, Some(b'T'))]),
 ];
 
-#[test]
-fn lists_written_at_once_and_in_turn(rt: HostRuntime) -> Result<(), Refusal> {
-    write_both_ways(&rt, SQUARE, LISTS)
-}
+const NOTHING_CHANGED: &[Listed] = &[Listed::Idle(&[
+    (1, 1, Some(b'A')),
+    (1, 1, None),
+    (2, 2, None),
+])];
 
-/// A list that leaves each entry as it was spends nothing.
-#[test]
-fn list_that_changes_nothing(rt: HostRuntime) -> Result<(), Refusal> {
-    let (width, height, edits) = SQUARE;
-    let mut one = engine(rt.alloc(), width, height)?;
-    make_all(&mut one, edits)?;
-    let list = list_of(
-        rt.alloc(),
-        &[(1, 1, Some(b'A')), (1, 1, None), (2, 2, None)],
-    )?;
-    let spent = one.spent();
-    one.edit_counted(&Edit::Write(list.as_slice()))?;
-    assert!(rt; one.spent() == spent);
-    Ok(())
-}
+const CORNER_BLOCKED: &[Step] = &[Step::Told(
+    Do::Block(2, 2),
+    &[(1, 1, b"AIST"), (1, 2, b"NOST"), (2, 1, b"NOST")],
+)];
 
-/// Lists for a square with its last cell blocked, each with the fault that refuses it.
-const REFUSED: &[(List, GridFault)] = &[
-    (
+/// Lists for the square with its last cell blocked.
+const REFUSED: &[Listed] = &[
+    Listed::Refused(
         &[(1, 1, Some(b'A')), (2, 2, Some(b'O'))],
         GridFault::OnBlock,
     ),
-    (&[(1, 1, None), (1, 3, Some(b'A'))], GridFault::OutOfGrid),
-    (&[(0, 1, None), (2, 2, None)], GridFault::OutOfGrid),
-    (&[(2, 2, None), (0, 1, None)], GridFault::OnBlock),
+    Listed::Refused(&[(1, 1, None), (1, 3, Some(b'A'))], GridFault::OutOfGrid),
+    Listed::Refused(&[(0, 1, None), (2, 2, None)], GridFault::OutOfGrid),
+    Listed::Refused(&[(2, 2, None), (0, 1, None)], GridFault::OnBlock),
 ];
 
+const CASES: &[Case] = &[
+    Case {
+        name: "lists_written_at_once_and_in_turn",
+        calls: &[],
+        lists: LISTS,
+    },
+    Case {
+        name: "list_that_changes_nothing",
+        calls: &[],
+        lists: NOTHING_CHANGED,
+    },
+    Case {
+        name: "lists_refused_as_a_whole",
+        calls: CORNER_BLOCKED,
+        lists: REFUSED,
+    },
+];
+
+fn pass_case(rt: &(impl Abort + AllocGlobal), case: &Case) -> Result<(), Refusal> {
+    let mut one = begin(rt, SQUARE, case.name)?;
+    let mut other = begin(rt, SQUARE, case.name)?;
+    pass(rt, &mut one, case.calls, case.name);
+    pass(rt, &mut other, case.calls, case.name);
+    pass_lists(rt, &mut one, &mut other.engine, case);
+    Ok(())
+}
+
 #[test]
-fn lists_refused_as_a_whole(rt: HostRuntime) -> Result<(), Refusal> {
-    let (width, height, edits) = SQUARE;
-    let mut one = engine(rt.alloc(), width, height)?;
-    let mut other = engine(rt.alloc(), width, height)?;
-    make_all(&mut one, edits)?;
-    make_all(&mut other, edits)?;
-    one.edit_counted(&Edit::Block(at(2, 2)))?;
-    other.edit_counted(&Edit::Block(at(2, 2)))?;
-    for (place, refused) in REFUSED.iter().enumerate() {
-        let (spelled, fault) = *refused;
-        let list = list_of(rt.alloc(), spelled)?;
-        let spent = one.spent();
-        let refusal = one.edit_counted(&Edit::Write(list.as_slice())).err();
+fn lists_of_cells(rt: HostRuntime) {
+    for case in CASES {
+        let name = case.name;
         assert!(rt;
-            refusal == Some(Refusal::Grid(fault)),
-            "the refusal of list {place}"
-        );
-        assert!(rt; one.spent() == spent, "the ticks of list {place}");
-        assert!(rt;
-            have_same_cells(&one, &other),
-            "the cells after list {place}"
+            pass_case(&rt, case) == Ok(()),
+            "{name}, for want of memory"
         );
     }
-    Ok(())
 }

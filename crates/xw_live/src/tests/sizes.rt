@@ -1,0 +1,62 @@
+//! How many bit rows an engine has, and how long its other lists are.
+use crate::live::Live;
+use xw_feas::edit::Edit;
+use xw_grid::grid::Grid;
+
+/// How many bit rows there are, and how long each other list is.
+#[derive(Clone, Copy)]
+pub struct Sizes {
+    rows: usize,
+    lists: [usize; 16],
+}
+
+fn cell_count(grid: &Grid) -> usize {
+    (grid.width() as usize).saturating_mul(grid.height() as usize)
+}
+
+/// What there is beside the bank.
+pub fn sizes_of(engine: &Live) -> Sizes {
+    let Live {
+        alloc: _,
+        grid,
+        lights,
+        bank: _,
+        net,
+        before,
+        noted,
+        spent: _,
+    } = engine;
+    let sizes = net.sizes();
+    let mut lists = [0; 16];
+    lists[0] = cell_count(grid);
+    lists[1] = lights.len();
+    lists[2] = before.len();
+    lists[3] = noted.len();
+    for k in 0..12usize {
+        lists[k + 4] = sizes.lists[k];
+    }
+    let mut rows = 0usize;
+    for k in 0..4usize {
+        rows = rows.saturating_add(sizes.rows[k]);
+    }
+    Sizes { rows, lists }
+}
+
+fn is_no_longer(before: Sizes, after: Sizes) -> bool {
+    for k in 0..16usize {
+        if after.lists[k] > before.lists[k] {
+            return false;
+        }
+    }
+    true
+}
+
+/// Whether an edit left few rows, and whether no other list grew by a word.
+pub fn is_small(engine: &Live, before: Sizes, edit: &Edit<'_>) -> bool {
+    let after = sizes_of(engine);
+    let most = cell_count(&engine.grid).saturating_mul(2).saturating_add(2);
+    match *edit {
+        Edit::Add(_) => after.rows <= most && is_no_longer(before, after),
+        _ => after.rows <= most,
+    }
+}
