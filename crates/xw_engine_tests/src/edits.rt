@@ -2,9 +2,9 @@
 use std::alloc::Global;
 use xw_feas::edit::{Edit, Refusal};
 use xw_feas::feasible::Feasible;
-use xw_feas::plain::Plain;
 use xw_grid::cell::{Cell, Direction, LightName, Side, Symmetry};
 use xw_grid::grid::Grid;
+use xw_plain::plain::Plain;
 use xw_words::bank::Bank;
 use xw_words::letter::Letter;
 

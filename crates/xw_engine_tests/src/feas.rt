@@ -10,12 +10,12 @@ use std::process::Abort;
 use xw_feas::changed::Changed;
 use xw_feas::edit::{Edit, Found, Refusal};
 use xw_feas::feasible::Feasible;
-use xw_feas::plain::Plain;
 use xw_feas::words::{Spelled, words};
 use xw_grid::cell::{Cell, LightName};
 use xw_grid::fault::GridFault;
 use xw_grid::grid::Grid;
 use xw_grid::lights::Light;
+use xw_plain::plain::Plain;
 use xw_words::letter::Letter;
 use xw_words::letter_set::LetterSet;
 

@@ -6,11 +6,11 @@ use std::alloc::Global;
 use std::process::Abort;
 use xw_feas::edit::Refusal;
 use xw_feas::feasible::Feasible;
-use xw_feas::plain::Plain;
 use xw_fill::listing::{Duplicate, duplicates, unlisted};
 use xw_fill::search::{Filling, fill};
 use xw_fill::suggesting::{Suggestion, suggest};
 use xw_grid::cell::{LightName, Square, Symmetry};
+use xw_plain::plain::Plain;
 
 /// A call and its answer.
 #[derive(Clone, Copy)]

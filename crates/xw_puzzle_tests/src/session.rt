@@ -13,8 +13,8 @@ use std::alloc::{AllocError, Global};
 use std::process::Abort;
 use std::test::Fail;
 use xw_feas::feasible::Feasible;
-use xw_feas::plain::Plain;
 use xw_grid::Grid;
+use xw_plain::plain::Plain;
 use xw_session::{FromRead, RunEnd, Session, ToWrite};
 use xw_words::Bank;
 

@@ -5,9 +5,9 @@ use std::alloc::Global;
 use std::process::Abort;
 use xw_feas::edit::{Edit, Refusal};
 use xw_feas::feasible::Feasible;
-use xw_feas::plain::Plain;
 use xw_grid::cell::Cell;
 use xw_grid::fault::GridFault;
+use xw_plain::plain::Plain;
 use xw_words::letter::Letter;
 
 /// Cells by row and column, each with a letter by its byte, or with none.

@@ -5,8 +5,8 @@ use std::alloc::Global;
 use std::process::Abort;
 use std::test::Fail;
 use xw_arguments::arguments::{Call, SessionFiles, Usage, arguments};
-use xw_program::failure::Status;
-use xw_program::perform::explain;
+use xw_outcome::explaining::explain;
+use xw_outcome::failure::Status;
 use xw_session::ToWrite;
 
 /// A version, told.

@@ -9,7 +9,7 @@ use std::process::Abort;
 use std::rt::Files;
 use std::test::Fail;
 use xw_arguments::arguments::{Call, SessionFiles};
-use xw_program::failure::Status;
+use xw_outcome::failure::Status;
 use xw_program::perform::perform;
 use xw_session::{DeviceFault, FromRead, Sink, Source, ToWrite};
 

@@ -4,7 +4,7 @@ use crate::runs::steps::Step::{Remove, Run, Write, WritePart};
 use crate::runs::steps::{Outcome, QUIET, Step, pass};
 use std::process::Abort;
 use std::rt::Files;
-use xw_program::failure::Status;
+use xw_outcome::failure::Status;
 
 /// What is told where a file is not of its format.
 fn told(errors: &[u8]) -> Outcome<'_> {

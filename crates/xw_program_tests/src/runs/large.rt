@@ -8,10 +8,10 @@ use std::process::Abort;
 use std::rt::Files;
 use std::test::Fail;
 use xw_feas::feasible::Feasible;
-use xw_feas::plain::Plain;
 use xw_grid::Grid;
 use xw_live::live::Live;
-use xw_program::failure::Status;
+use xw_outcome::failure::Status;
+use xw_plain::plain::Plain;
 use xw_session::{FromRead, RunEnd, Session, ToWrite};
 use xw_words::Bank;
 

@@ -2,7 +2,7 @@
 use crate::runs::samples::{CIRCLED, PLAIN, STARTED, TEXT};
 use crate::runs::steps::Step::{Absent, Holds, Remove, Run, Write, WritePart};
 use crate::runs::steps::{Case, Outcome, QUIET, pass_all};
-use xw_program::failure::Status;
+use xw_outcome::failure::Status;
 
 const CASES: &[Case<'static>] = &[
     Case {

@@ -8,7 +8,7 @@ use std::fs;
 use std::process::Abort;
 use std::rt::Files;
 use std::test::Fail;
-use xw_program::failure::Status;
+use xw_outcome::failure::Status;
 
 /// A session that starts with some lines, and what it is to come to. The file of the lines stays as it is.
 #[derive(Clone, Copy)]

@@ -4,8 +4,9 @@ use std::os::unix::fs::symlink;
 use std::process::Abort;
 use std::rt::Files;
 use xw_arguments::arguments::arguments;
-use xw_program::failure::Status;
-use xw_program::perform::{explain, perform};
+use xw_outcome::explaining::explain;
+use xw_outcome::failure::Status;
+use xw_program::perform::perform;
 use xw_session::{FromRead, ToWrite};
 
 /// What a run is to come to.

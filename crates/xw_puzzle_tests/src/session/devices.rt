@@ -4,8 +4,8 @@ ghost use Rattle.std.specs.Prelude.{◌≡◌, ◌≤◌, ◌<◌, length, take,
 use crate::session::{Exchange, engine_of};
 use std::process::Abort;
 use std::test::Fail;
-use xw_feas::plain::Plain;
 use xw_lines::history::History;
+use xw_plain::plain::Plain;
 use xw_session::{DeviceFault, RunEnd, Session, Sink, Source, Step};
 
 /// A reader of some bytes, by pieces, that fails at one of its calls.

@@ -2,9 +2,9 @@
 use crate::session::{Exchange, engine_of, push_long, says, session};
 use std::process::Abort;
 use std::test::Fail;
-use xw_feas::plain::Plain;
 use xw_files::puzzle::Puzzle;
 use xw_grid::{Cell, Direction};
+use xw_plain::plain::Plain;
 use xw_session::Session;
 
 /// Lines with their answers, and what the puzzle has after them: its texts, and the clues that begin at its corner.
