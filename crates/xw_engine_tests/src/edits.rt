@@ -84,9 +84,16 @@ pub fn edit_of(spelled: Do) -> Option<Edit<'static>> {
     })
 }
 
-fn add_all(engine: &mut Plain, words: &[&[u8]]) -> Result<(), Refusal> {
+fn add(engine: &mut Plain, word: &'static [u8]) -> Result<(), Refusal> {
+    if let Some(edit) = edit_of(Do::Add(word)) {
+        let _ = engine.edit(&edit)?;
+    }
+    Ok(())
+}
+
+fn add_all(engine: &mut Plain, words: &'static [&'static [u8]]) -> Result<(), Refusal> {
     for word in words {
-        let _ = engine.edit(&Edit::Add(*word))?;
+        add(engine, *word)?;
     }
     Ok(())
 }

@@ -106,6 +106,17 @@ fn have_same_words(one: &Plain, other: &Plain) -> bool {
     true
 }
 
+fn compare(rt: &impl Abort, one: &Plain, other: &Plain, name: &str, place: usize) {
+    assert!(rt;
+        have_same_cells(one, other),
+        "{name}, the cells after list {place}"
+    );
+    assert!(rt;
+        have_same_words(one, other),
+        "{name}, the words after list {place}"
+    );
+}
+
 /// Gives each list of a case to one engine, and compares it with the other after it.
 fn pass_lists(rt: &(impl Abort + AllocGlobal), one: &mut Plain, other: &mut Plain, case: &Case) {
     let name = case.name;
@@ -114,14 +125,7 @@ fn pass_lists(rt: &(impl Abort + AllocGlobal), one: &mut Plain, other: &mut Plai
             goes(rt.alloc(), one, other, *listed) == Ok(true),
             "{name}, at list {place}"
         );
-        assert!(rt;
-            have_same_cells(one, other),
-            "{name}, the cells after list {place}"
-        );
-        assert!(rt;
-            have_same_words(one, other),
-            "{name}, the words after list {place}"
-        );
+        compare(rt, one, other, name, place);
     }
 }
 

@@ -59,9 +59,14 @@ pub fn does(engine: &mut Live, edit: &Edit<'_>, cells: Option<Cells>) -> bool {
     }
 }
 
-/// Whether the net beside an engine takes as many ticks for an edit as the engine took, within the bounds of a table.
-fn is_recounted(beside: &mut Beside, edit: &Edit<'_>, risen: u64, wanted: Wanted) -> bool {
-    beside.edit(edit) == Ok(risen) && wanted.least <= risen && risen <= wanted.most
+/// Whether the net beside an engine takes as many ticks for an edit as the engine took since a count, within the bounds of a table.
+fn is_recounted(watched: &mut Watched, edit: &Edit<'_>, spent: u64, wanted: Wanted) -> bool {
+    match watched.engine.spent().checked_sub(spent) {
+        Some(risen) => {
+            watched.beside.edit(edit) == Ok(risen) && wanted.least <= risen && risen <= wanted.most
+        }
+        None => false,
+    }
 }
 
 /// Has an edit done, and compares what it tells, its ticks, and how much there is after it.
@@ -79,9 +84,8 @@ pub fn watch(
         does(&mut watched.engine, edit, wanted.cells),
         "{name}, {list} {at}: the cells told"
     );
-    let risen = watched.engine.spent().saturating_sub(spent);
     assert!(rt;
-        is_recounted(&mut watched.beside, edit, risen, wanted),
+        is_recounted(watched, edit, spent, wanted),
         "{name}, {list} {at}: the ticks"
     );
     assert!(rt;

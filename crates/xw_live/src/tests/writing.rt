@@ -119,24 +119,27 @@ fn have_same_words(one: &Live, other: &Live) -> bool {
     true
 }
 
+fn compare(rt: &impl Abort, one: &Live, other: &Live, name: &str, at: usize) {
+    assert!(rt;
+        have_same_cells(one, other),
+        "{name}, the cells after list {at}"
+    );
+    assert!(rt;
+        have_same_words(one, other),
+        "{name}, the words after list {at}"
+    );
+}
+
 /// Gives each list of a case to one engine, and compares it with the other after it.
 fn pass_lists(rt: &(impl Abort + AllocGlobal), one: &mut Watched, other: &mut Live, case: &Case) {
-    let name = case.name;
-    let list = "list";
+    let (name, list) = (case.name, "list");
     for (at, listed) in case.lists.iter().enumerate() {
         let place = Place { name, list, at };
         assert!(rt;
             write_twice(rt, one, other, *listed, place) == Ok(true),
             "{name}, list {at}"
         );
-        assert!(rt;
-            have_same_cells(&one.engine, other),
-            "{name}, the cells after list {at}"
-        );
-        assert!(rt;
-            have_same_words(&one.engine, other),
-            "{name}, the words after list {at}"
-        );
+        compare(rt, &one.engine, other, name, at);
     }
 }
 
