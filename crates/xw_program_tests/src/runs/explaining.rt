@@ -1,7 +1,7 @@
 //! Runs that tell the place of a fault too.
 use crate::runs::samples::{CIRCLED, PLAIN, TEXT, WRONG_SUM};
 use crate::runs::steps::Step::{Remove, Run, Write, WritePart};
-use crate::runs::steps::{Outcome, QUIET, Step, pass};
+use crate::runs::steps::{Case, Outcome, QUIET, pass, pass_all};
 use std::process::Abort;
 use std::rt::Files;
 use xw_outcome::failure::Status;
@@ -122,91 +122,124 @@ fn faults_told(rt: HostRuntime) {
     }
 }
 
-/// A session that ends by writing a puzzle that the file cannot hold.
-struct Refusal {
-    name: &'static str,
-    file: &'static str,
-    input: &'static [u8],
-    output: &'static [u8],
-    errors: &'static [u8],
-}
-
-const REFUSALS: &[Refusal] = &[
-    Refusal {
+/// Puzzles that the file cannot hold into which they are to be written.
+const REFUSALS: &[Case<'static>] = &[
+    Case {
         name: "empty_cell_told",
-        file: "empty.puz",
-        input: b"clear 2 1\nclear 2 2\n",
-        output: b"ok\nok\n",
-        errors: b"xw: empty.puz: NotFilled\nxw: row 2, column 1\n",
+        steps: &[
+            Write("refused", PLAIN),
+            Run(
+                &[
+                    "xw",
+                    "edit",
+                    "--explain",
+                    "--from",
+                    "refused",
+                    "--to",
+                    "empty.puz",
+                ],
+                b"clear 2 1\nclear 2 2\n",
+                Outcome {
+                    status: Status::Format,
+                    output: b"ok\nok\n",
+                    errors: b"xw: empty.puz: NotFilled\nxw: row 2, column 1\n",
+                },
+            ),
+            Remove("refused"),
+        ],
     },
-    Refusal {
+    Case {
         name: "unspelled_clue_told",
-        file: "clue.txt",
-        input: b"clue 2 down\n",
-        output: b"ok\n",
-        errors: b"xw: clue.txt: Field\nxw: clue 3 (2 down)\n",
+        steps: &[
+            Write("refused", PLAIN),
+            Run(
+                &[
+                    "xw",
+                    "edit",
+                    "--explain",
+                    "--from",
+                    "refused",
+                    "--to",
+                    "clue.txt",
+                ],
+                b"clue 2 down\n",
+                Outcome {
+                    status: Status::Format,
+                    output: b"ok\n",
+                    errors: b"xw: clue.txt: Field\nxw: clue 3 (2 down)\n",
+                },
+            ),
+            Remove("refused"),
+        ],
     },
-    Refusal {
+    Case {
         name: "unspelled_title_told",
-        file: "title.txt",
-        input: b"title <x>\n",
-        output: b"ok\n",
-        errors: b"xw: title.txt: Field\nxw: title\n",
+        steps: &[
+            Write("refused", PLAIN),
+            Run(
+                &[
+                    "xw",
+                    "edit",
+                    "--explain",
+                    "--from",
+                    "refused",
+                    "--to",
+                    "title.txt",
+                ],
+                b"title <x>\n",
+                Outcome {
+                    status: Status::Format,
+                    output: b"ok\n",
+                    errors: b"xw: title.txt: Field\nxw: title\n",
+                },
+            ),
+            Remove("refused"),
+        ],
     },
     // A bar has no place in the fault.
-    Refusal {
+    Case {
         name: "barred_told",
-        file: "barred.txt",
-        input: b"bar 1 1 right\n",
-        output: b"ok\n",
-        errors: b"xw: barred.txt: Barred\n",
+        steps: &[
+            Write("refused", PLAIN),
+            Run(
+                &[
+                    "xw",
+                    "edit",
+                    "--explain",
+                    "--from",
+                    "refused",
+                    "--to",
+                    "barred.txt",
+                ],
+                b"bar 1 1 right\n",
+                Outcome {
+                    status: Status::Format,
+                    output: b"ok\n",
+                    errors: b"xw: barred.txt: Barred\n",
+                },
+            ),
+            Remove("refused"),
+        ],
+    },
+    Case {
+        name: "circle_told",
+        steps: &[
+            Write("circled", CIRCLED),
+            Run(
+                &["xw", "convert", "circled", "--explain", "circled.txt"],
+                b"",
+                Outcome {
+                    status: Status::Format,
+                    errors: b"xw: circled.txt: Circled\nxw: row 1, column 1\n",
+                    ..QUIET
+                },
+            ),
+            Remove("circled"),
+        ],
     },
 ];
-
-fn refuses(rt: &(impl Abort + AllocGlobal + Files), refusal: &Refusal) {
-    let wanted = Outcome {
-        output: refusal.output,
-        ..told(refusal.errors)
-    };
-    let words = [
-        "xw",
-        "edit",
-        "--explain",
-        "--from",
-        "refused",
-        "--to",
-        refusal.file,
-    ];
-    let steps = [
-        Write("refused", PLAIN),
-        Run(&words, refusal.input, wanted),
-        Remove("refused"),
-    ];
-    pass(rt, refusal.name, &steps);
-}
 
 #[test]
 fn refusals_told(rt: HostRuntime) {
-    for refusal in REFUSALS {
-        refuses(&rt, refusal);
-    }
-}
-
-const CIRCLE: &[Step<'static>] = &[
-    Write("circled", CIRCLED),
-    Run(
-        &["xw", "convert", "circled", "--explain", "circled.txt"],
-        b"",
-        Outcome {
-            status: Status::Format,
-            errors: b"xw: circled.txt: Circled\nxw: row 1, column 1\n",
-            ..QUIET
-        },
-    ),
-    Remove("circled"),
-];
-
-#[test]
-fn circle_told(rt: HostRuntime) {
-    pass(&rt, "circle_told", CIRCLE);
+    pass_all(&rt, REFUSALS);
 }

@@ -217,38 +217,47 @@ fn large_files(rt: HostRuntime) -> Result<(), Fail> {
     Ok(())
 }
 
-/// Writes a puzzle of that text with circles in the whole first row.
-fn circles_set(rt: &(impl Abort + AllocGlobal + Files)) -> Result<(), Fail> {
-    let text = text_of(rt.alloc(), LARGE)?;
-    let lines = text_of(rt.alloc(), &[Numbers(1, 255, "circle 1 ", "")])?;
-    let answers = text_of(rt.alloc(), &[Times(255, b"ok\n")])?;
-    let wanted = Outcome {
-        output: answers.as_slice(),
+/// Sets circles in a puzzle of this text by these lines, and lists them from the file that it is written to.
+fn circles<'a>(
+    rt: &(impl Abort + AllocGlobal + Files),
+    text: &'a [u8],
+    (lines, answers): (&'a [u8], &'a [u8]),
+    listed: &'a [u8],
+) {
+    let set = Outcome {
+        output: answers,
         ..QUIET
     };
-    let words = ["xw", "edit", "--from", "round.txt", "--to", "round.puz"];
+    let found = Outcome {
+        output: listed,
+        ..QUIET
+    };
     let steps = [
-        Write("round.txt", text.as_slice()),
-        Run(&words, lines.as_slice(), wanted),
+        Write("round.txt", text),
+        Run(
+            &["xw", "edit", "--from", "round.txt", "--to", "round.puz"],
+            lines,
+            set,
+        ),
+        Run(&["xw", "edit", "--from", "round.puz"], b"circles\n", found),
         Remove("round.txt"),
+        Remove("round.puz"),
     ];
-    pass(rt, "large_circles, set", &steps);
-    Ok(())
+    pass(rt, "large_circles", &steps);
 }
 
 /// Circles in the whole first row.
 #[test]
 fn large_circles(rt: HostRuntime) -> Result<(), Fail> {
-    circles_set(&rt)?;
+    let text = text_of(rt.alloc(), LARGE)?;
+    let lines = text_of(rt.alloc(), &[Numbers(1, 255, "circle 1 ", "")])?;
+    let answers = text_of(rt.alloc(), &[Times(255, b"ok\n")])?;
     let listed = text_of(rt.alloc(), &[Numbers(1, 255, "1 ", ""), Bytes(b"ok\n")])?;
-    let wanted = Outcome {
-        output: listed.as_slice(),
-        ..QUIET
-    };
-    let steps = [
-        Run(&["xw", "edit", "--from", "round.puz"], b"circles\n", wanted),
-        Remove("round.puz"),
-    ];
-    pass(&rt, "large_circles, listed", &steps);
+    circles(
+        &rt,
+        text.as_slice(),
+        (lines.as_slice(), answers.as_slice()),
+        listed.as_slice(),
+    );
     Ok(())
 }

@@ -33,6 +33,7 @@ enum Step<'a> {
     Replace(&'a str, bool),
 }
 
+/// Does one step.
 fn take(rt: &(impl Abort + AllocGlobal + Files), name: &str, step: Step<'_>) -> Result<(), Fail> {
     match step {
         Step::Also(step) => steps::pass(rt, name, &[step]),

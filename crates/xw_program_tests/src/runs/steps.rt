@@ -1,8 +1,8 @@
 //! Cases as tables: what is done in each, step by step.
-use std::fs;
 use std::os::unix::fs::symlink;
 use std::process::Abort;
 use std::rt::Files;
+use std::{fs, io};
 use xw_arguments::arguments::arguments;
 use xw_outcome::explaining::explain;
 use xw_outcome::failure::Status;
@@ -63,19 +63,26 @@ pub fn pass(rt: &(impl Abort + AllocGlobal + Files), name: &str, steps: &[Step<'
     }
 }
 
+/// Does one step.
 fn take(rt: &(impl Abort + AllocGlobal + Files), name: &str, step: Step<'_>) {
     match step {
         Step::Run(words, input, wanted) => runs(rt, name, words, input, wanted),
-        Step::Write(file, bytes) => writes(rt, name, file, bytes),
+        Step::Write(file, bytes) => is_done(rt, name, file, fs::write(rt, file, bytes)),
         Step::WritePart(file, bytes, from, to) => {
-            writes(rt, name, file, part_of(bytes, from, to));
+            let part = part_of(bytes, from, to);
+            is_done(rt, name, file, fs::write(rt, file, part));
         }
-        Step::Link(link, to) => links(rt, name, link, to),
-        Step::Remove(file) => removes(rt, name, file),
+        Step::Link(link, to) => is_done(rt, name, link, symlink(rt, to, link)),
+        Step::Remove(file) => is_done(rt, name, file, fs::remove_file(rt, file)),
         Step::Holds(file, bytes) => holds(rt, name, file, bytes),
         Step::Absent(file) => is_absent(rt, name, file),
         Step::Differs(file, bytes) => differs(rt, name, file, bytes),
     }
+}
+
+/// A change of a file has succeeded.
+fn is_done(rt: &impl Abort, name: &str, file: &str, done: io::Result<()>) {
+    assert!(rt; done.is_ok(), "{name}: {file}: {done:?}");
 }
 
 /// Does what the words ask for, and compares.
@@ -121,42 +128,20 @@ fn part_of(bytes: &[u8], from: usize, to: usize) -> &[u8] {
     bytes.get(from..to).unwrap_or_default()
 }
 
-fn writes(rt: &(impl Abort + AllocGlobal + Files), name: &str, file: &str, bytes: &[u8]) {
-    let written = fs::write(rt, file, bytes);
-    assert!(rt; written.is_ok(), "{name}: {file}: {written:?}");
-}
-
-fn links(rt: &(impl Abort + AllocGlobal + Files), name: &str, link: &str, to: &str) {
-    let linked = symlink(rt, to, link);
-    assert!(rt; linked.is_ok(), "{name}: {link}: {linked:?}");
-}
-
-fn removes(rt: &(impl Abort + AllocGlobal + Files), name: &str, file: &str) {
-    let removed = fs::remove_file(rt, file);
-    assert!(rt; removed.is_ok(), "{name}: {file}: {removed:?}");
-}
-
 /// Compares a file with bytes.
 fn holds(rt: &(impl Abort + AllocGlobal + Files), name: &str, file: &str, bytes: &[u8]) {
-    let found = fs::read(rt, file).ok();
-    assert_eq!(rt;
-        found.as_ref().map(|found| found.as_slice()),
-        Some(bytes),
-        "{name}: {file}"
-    );
+    let found = fs::read(rt, file).expect(rt, name);
+    assert_eq!(rt; found.as_slice(), bytes, "{name}: {file}");
+}
+
+/// A file has bytes, and not these.
+fn differs(rt: &(impl Abort + AllocGlobal + Files), name: &str, file: &str, bytes: &[u8]) {
+    let found = fs::read(rt, file).expect(rt, name);
+    let is_other = !found.is_empty() && found.as_slice() != bytes;
+    assert!(rt; is_other, "{name}: {file}");
 }
 
 fn is_absent(rt: &(impl Abort + AllocGlobal + Files), name: &str, file: &str) {
-    assert!(rt; fs::read(rt, file).is_err(), "{name}: {file}");
-}
-
-/// The file has bytes, and not these.
-fn differs(rt: &(impl Abort + AllocGlobal + Files), name: &str, file: &str, bytes: &[u8]) {
-    let found = fs::read(rt, file)
-        .ok()
-        .unwrap_or_else(|| Vec::new(rt.alloc()));
-    assert!(rt;
-        !found.is_empty() && found.as_slice() != bytes,
-        "{name}: {file}"
-    );
+    let is_read = fs::read(rt, file).is_ok();
+    assert!(rt; !is_read, "{name}: {file}");
 }
