@@ -1,0 +1,5 @@
+use Rattle.std.proofs.Common.{rules}
+use Rattle.xw_words.proofs.counted.CountedRows.active.Goals as goal
+
+pub returns-clause-ticks : goal.returns-clause-ticks
+returns-clause-ticks c = search rules
