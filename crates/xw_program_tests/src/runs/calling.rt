@@ -1,6 +1,6 @@
 //! Runs as the program is called: word lists, versions, help, and wrong words.
 use crate::runs::steps::Step::{Holds, Link, Remove, Run, Write};
-use crate::runs::steps::{Case, Outcome, QUIET, pass_all};
+use crate::runs::steps::{Case, Outcome, pass_all};
 use std::alloc::Global;
 use std::process::Abort;
 use std::test::Fail;
