@@ -4,9 +4,9 @@ use xw_feas::edit::{Edit, Refusal};
 use xw_feas::feasible::Feasible;
 use xw_grid::cell::{Cell, Direction, LightName, Side, Symmetry};
 use xw_grid::grid::Grid;
+use xw_letters::letter::Letter;
 use xw_plain::plain::Plain;
 use xw_words::bank::Bank;
-use xw_words::letter::Letter;
 
 /// An edit as a table spells it: a letter by its byte, and a cell by row and column.
 #[derive(Clone, Copy)]

@@ -15,9 +15,9 @@ use xw_grid::cell::{Cell, LightName};
 use xw_grid::fault::GridFault;
 use xw_grid::grid::Grid;
 use xw_grid::lights::Light;
+use xw_letters::letter::Letter;
+use xw_letters::letter_set::LetterSet;
 use xw_plain::plain::Plain;
-use xw_words::letter::Letter;
-use xw_words::letter_set::LetterSet;
 
 /// Cells by row and column, each with its feasible letters.
 type Cells = &'static [(u32, u32, &'static [u8])];

@@ -8,7 +8,7 @@ use xw_grid::fault::GridFault;
 use xw_grid::grid::Grid;
 use xw_grid::lights::{Light, Lights};
 use xw_grid::orbit::Orbit;
-use xw_words::letter::Letter;
+use xw_letters::letter::Letter;
 
 fn cell(row: u32, col: u32) -> Cell {
     Cell { row, col }

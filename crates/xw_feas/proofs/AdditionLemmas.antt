@@ -3,11 +3,11 @@ use Rattle.std.proofs.Common.{◌≡◌, ℕ, ◌<◌, ◌≤◌, ◌+◌, Bool,
 use Rattle.std.specs.Prelude.{Option, Result, Ok, Err, position, nat_le}
 use Rattle.std.proofs.lemmas.Bool.Decides.{nat_tests}
 use Rattle.std.proofs.lemmas.List.{length-map, take_more, take_more_set}
-use Rattle.xw_words.specs.declared.fault.WordFault.{WordFault}
-use Rattle.xw_words.specs.declared.fault.WordFault.TheVariants.{Length, Full, Known}
+use Rattle.xw_bits.specs.declared.fault.WordFault.{WordFault}
+use Rattle.xw_bits.specs.declared.fault.WordFault.TheVariants.{Length, Full, Known}
 use Rattle.xw_words.specs.declared.bank.Added.{Added}
 use Rattle.xw_words.specs.declared.bank.Added.TheVariants.{New, Returned}
-use Rattle.xw_words.specs.Letter.{folded}
+use Rattle.xw_letters.specs.Letter.{folded}
 use Rattle.xw_words.specs.Word.{is_bad_letter, is_word_length, judged, word_of}
 use Rattle.xw_words.specs.Dictionary.{Entry, Dictionary, row, entry_at, place_in, place_of, most_words, added_at, add_to, answer_on, add_answer, IsNew}
 use Rattle.xw_words.proofs.DictionaryLemmas.{judged-Ok}

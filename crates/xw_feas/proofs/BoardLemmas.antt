@@ -1,8 +1,8 @@
 -- Lemmas on the board of a grid, on entries and on the words that agree with them.
 use Rattle.std.proofs.Common.{◌≡◌, ℕ, ◌+◌, ◌-◌, ◌*◌, ◌<◌, ◌≤◌, Bool, true, false, ◌&&◌, eqb, List, [], ◌∷◌, map, length, get_or, drop, Some, None, refl, sym, ◌∙◌, ap, subst, arith, inl, inr}
 use Rattle.std.specs.Prelude.{slice_get, All, is_some}
-use Rattle.xw_words.specs.Letter.{is_capital}
-use Rattle.xw_words.proofs.LetterSetLemmas.{has-none}
+use Rattle.xw_letters.specs.Letter.{is_capital}
+use Rattle.xw_letters.proofs.LetterSetLemmas.{has-none}
 use Rattle.std.specs.List.{range_with_len}
 use Rattle.std.proofs.Math.Nat.{add-mul}
 use Rattle.std.proofs.lemmas.Nat.{mul-le}

@@ -1,7 +1,7 @@
 -- Each light of a grid has a name of its own.
 use Rattle.std.proofs.Common.{◌≡◌, ℕ, ◌<◌, true, length, get_or, eqb, refl, sym, ap, ◌∙◌, arith, inl, inr, Some}
 use Rattle.std.proofs.lemmas.Bool.{cases_order, cases_eq, cases_Bool, and_parts, eq-eqb, ne_eqb, false≢true}
-use Rattle.xw_words.proofs.Position.{position_is_some}
+use Rattle.xw_letters.proofs.Position.{position_is_some}
 use Rattle.xw_grid.specs.declared.cell.LightName.{LightName}
 use Rattle.xw_grid.specs.declared.cell.Direction.{Direction}
 use Rattle.xw_grid.specs.declared.cell.Direction.TheVariants.{Across, Down}

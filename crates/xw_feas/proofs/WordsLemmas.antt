@@ -5,7 +5,7 @@ use Rattle.std.proofs.lemmas.Bool.{cases_Bool, and_parts, and_from}
 use Rattle.std.proofs.lemmas.List.Quantifiers.{position-Some}
 use Rattle.std.proofs.lemmas.List.Elements.{filter_agree}
 use Rattle.std.proofs.lemmas.List.{get_or-drop, length-drop, drop-drop}
-use Rattle.xw_words.proofs.Position.{position-None}
+use Rattle.xw_letters.proofs.Position.{position-None}
 use Rattle.xw_words.specs.Dictionary.{Entry, Dictionary, no_entry, entry_at, row as known_words}
 use Rattle.std.specs.Prelude.{Ok}
 use Rattle.xw_grid.specs.declared.cell.LightName.{LightName}

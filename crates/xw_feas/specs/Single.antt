@@ -13,7 +13,7 @@ use Rattle.xw_feas.specs.State.{State}
 use Rattle.xw_feas.specs.WellFormed.{IsLaidOut, IsWellFormed}
 use Rattle.xw_feas.specs.Choices.{IsExact, is_base_at, choice_at}
 use Rattle.xw_feas.specs.Feasible.{IsFeasibleWord, IsFeasibleLetter, Answers, AreAnswers, answers_word, answers_letter, base_words_at}
-use Rattle.xw_words.specs.Letter.{alphabet, IsLetter}
+use Rattle.xw_letters.specs.Letter.{alphabet, IsLetter}
 use Rattle.std.specs.Coded.{Coded, Coded-set, coded_ℕ, coded_bool, coded_list, coded×, code_by, le_prop}
 
 words_prop : (board : Board) (dictionary : Dictionary) (word_stands : ℕ → ℕ → Bool) → IsProp ((light choice : ℕ) → light < length board.lights → IsTrue (word_stands light choice) ↔ (IsTrue (is_base_at board dictionary light choice) × IsFeasibleWord board dictionary light (choice_at board dictionary light choice)))

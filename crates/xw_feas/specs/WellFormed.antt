@@ -1,6 +1,6 @@
 -- What is true of the grid and the dictionary of every engine.
 use Rattle.std.specs.Prelude.{◌≡◌, ℕ, ◌<◌, ◌≤◌, true, length, slice_index, Some}
-use Rattle.xw_words.specs.Letter.{IsLetter}
+use Rattle.xw_letters.specs.Letter.{IsLetter}
 use Rattle.xw_words.specs.Dictionary.{IsDictionary}
 use Rattle.xw_grid.specs.Grid.{IsGrid}
 use Rattle.xw_feas.specs.Board.{Board, board_of, entry, is_open, light_at}

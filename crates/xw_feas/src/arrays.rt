@@ -4,7 +4,7 @@ ghost use Rattle.std.specs.Prelude.{◌≡◌, length, IfOk, IsOkUnless};
 use std::alloc::{AllocError, Global};
 use xw_grid::fault::GridFault;
 use xw_grid::grid::Grid;
-use xw_words::letter_set::LetterSet;
+use xw_letters::letter_set::LetterSet;
 
 /// A set of letters for each cell.
 fn make_sets(alloc: Global, count: usize) -> Result<Vec<LetterSet>, AllocError>

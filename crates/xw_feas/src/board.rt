@@ -1,7 +1,7 @@
 //! What feasibility sees of a grid.
 ghost use Rattle.std.specs.Prelude.{◌≡◌, ◌⊎◌, ◌<◌, ◌≤◌, ◌&&◌, ℕ, Some, length, slice_index, slice_get, All, unwrap_or, IfSome};
-ghost use Rattle.xw_words.specs.Letter.{IsLetter, is_capital};
-ghost use Rattle.xw_words.specs.LetterSet.{has};
+ghost use Rattle.xw_letters.specs.Letter.{IsLetter, is_capital};
+ghost use Rattle.xw_letters.specs.LetterSet.{has};
 ghost use Rattle.xw_grid.specs.Grid.{is_open_square as is_open_in, letter_in as letter_of};
 ghost use Rattle.xw_grid.specs.Light.{lights_of};
 ghost use Rattle.xw_feas.specs.Board.{board_of, places_of, light_at, is_open as is_open_place, entry as entry_at, IsCrossing, other_than as other_than_light, allows, is_wholly_entered};
@@ -12,8 +12,8 @@ use std::marker::Model;
 use xw_grid::cell::{Direction, Square};
 use xw_grid::grid::Grid;
 use xw_grid::lights::{Light, Lights};
-use xw_words::letter::Letter;
-use xw_words::letter_set::LetterSet;
+use xw_letters::letter::Letter;
+use xw_letters::letter_set::LetterSet;
 
 /// The places of a light's cells, in reading order of the grid.
 #[derive(Drop)]

@@ -6,7 +6,7 @@ ghost use Rattle.xw_feas.specs.Changed.{changes_left};
 
 use xw_grid::cell::Cell;
 use xw_grid::grid::Grid;
-use xw_words::letter_set::LetterSet;
+use xw_letters::letter_set::LetterSet;
 
 /// The open cells whose letters differ, in reading order, each with its letters now.
 #[derive(Drop)]

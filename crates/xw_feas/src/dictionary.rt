@@ -2,14 +2,14 @@
 ghost use Rattle.std.specs.Prelude.{◌≡◌, ◌≤◌, length, map, position, take, None, true, IfOk, IfErr, OnOk, OnErr, IsOkUnless, Ok, Err};
 ghost use Rattle.xw_words.specs.Bank.{has_room};
 ghost use Rattle.xw_words.specs.Dictionary.{add_answer, strike_answer, IsNew, IsDictionary};
-ghost use Rattle.xw_words.specs.Letter.{folded};
+ghost use Rattle.xw_letters.specs.Letter.{folded};
 ghost use Rattle.xw_words.specs.Word.{is_bad_letter};
 ghost use Rattle.xw_feas.specs.Shape.{SameCounts, GrowsAt, IsReturned, IsAddRefused};
 ghost use Rattle.xw_feas.specs.State.{add_word, strike_word};
 
+use xw_letters::letter::Letter;
+use xw_words::WordFault;
 use xw_words::bank::Bank;
-use xw_words::fault::WordFault;
-use xw_words::letter::Letter;
 use xw_words::word::{LONGEST, spell};
 
 /// What is true of every dictionary; it does nothing.

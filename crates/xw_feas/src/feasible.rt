@@ -2,7 +2,7 @@
 ghost use Rattle.std.specs.Prelude.{◌≡◌, ℕ, map, IfOk, IfErr, OnOk, OnErr};
 ghost use Rattle.std.specs.Borrow.{sem};
 ghost use Rattle.std.specs.Io.BufRead.{Rests};
-ghost use Rattle.xw_words.specs.LetterSet.{letters_in};
+ghost use Rattle.xw_letters.specs.LetterSet.{letters_in};
 ghost use Rattle.xw_grid.specs.Light.{lights_of};
 ghost use Rattle.xw_feas.specs.Board.{board_of};
 ghost use Rattle.xw_feas.specs.Feasible.{Answers, AreAnswers};
@@ -18,8 +18,8 @@ use xw_grid::cell::{Cell, LightName};
 use xw_grid::fault::GridFault;
 use xw_grid::grid::Grid;
 use xw_grid::lights::Lights;
+use xw_letters::letter_set::LetterSet;
 use xw_words::bank::Bank;
-use xw_words::letter_set::LetterSet;
 
 /// A grid and a dictionary that are edited, with the feasible words and letters.
 pub trait Feasible: Drop {

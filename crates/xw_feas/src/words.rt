@@ -11,7 +11,7 @@ use crate::edit::{Found, Refusal};
 use crate::feasible::Feasible;
 use std::marker::Model;
 use xw_grid::cell::LightName;
-use xw_words::letter::Letter;
+use xw_letters::letter::Letter;
 
 /// What is entered in the cells of a light.
 #[derive(Drop)]

@@ -9,7 +9,7 @@ ghost use Rattle.xw_feas.specs.State.{write_list};
 use xw_grid::cell::Cell;
 use xw_grid::fault::GridFault;
 use xw_grid::grid::Grid;
-use xw_words::letter::Letter;
+use xw_letters::letter::Letter;
 
 /// Whether a cell takes an entry, or why not.
 fn judge(grid: &Grid, cell: Cell) -> Result<(), GridFault>

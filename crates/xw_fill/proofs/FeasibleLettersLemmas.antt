@@ -4,7 +4,7 @@ use Rattle.std.specs.List.{list_all}
 use Rattle.std.proofs.lemmas.Bool.{and_parts, and_from}
 use Rattle.std.proofs.Math.Logic.{∥∥₁_elim}
 use mathlib.Core.Bool.{Bool-set}
-use Rattle.xw_words.specs.Letter.{alphabet}
+use Rattle.xw_letters.specs.Letter.{alphabet}
 use Rattle.xw_feas.specs.Feasible.{Family, IsSupported, Answers, AreAnswers, answers_letter}
 use Rattle.xw_feas.specs.Changes.{letters_of}
 use Rattle.xw_fill.specs.Position.{Position}

@@ -10,7 +10,7 @@ use mathlib.Core.Bool.{Bool-set}
 use Rattle.xw_feas.specs.Board.{Board, light_at}
 use Rattle.xw_words.specs.Dictionary.{Dictionary}
 use Rattle.xw_feas.specs.Feasible.{Family, IsSupported, Answers, AreAnswers, answers_word, answers_letter, base_words, base_words_at, may_stand}
-use Rattle.xw_words.specs.Letter.{alphabet}
+use Rattle.xw_letters.specs.Letter.{alphabet}
 use Rattle.xw_fill.specs.Position.{Position}
 use Rattle.xw_feas.specs.Queries.{words_of}
 use Rattle.xw_fill.specs.Below.{all_below}

@@ -14,8 +14,8 @@ use Rattle.xw_fill.specs.Fill.{IsActive, IsFill}
 use Rattle.xw_fill.specs.FeasibleWords.{feasible_words}
 use Rattle.xw_feas.specs.WellFormed.{HasLetterEntries}
 use Rattle.xw_fill.specs.Search.{light_count, is_entered, spelling, lacks_words, is_dead, chosen, found_by, found_in, end_of, end_by, end_in, unentered_count}
-use Rattle.xw_words.specs.Letter.{IsLetter, is_capital}
-use Rattle.xw_words.proofs.LetterSetLemmas.{letter_is_capital, capital_is_letter}
+use Rattle.xw_letters.specs.Letter.{IsLetter, is_capital}
+use Rattle.xw_letters.proofs.LetterSetLemmas.{letter_is_capital, capital_is_letter}
 use Rattle.xw_fill.proofs.BelowLemmas.{Among, Among-contained, Contains-among, Among-filter, Among-map, list_any-from}
 use Rattle.xw_fill.proofs.FeasibleWordsLemmas.{feasible-gives, feasible-from, is_feasible_word-gives}
 use Rattle.xw_fill.proofs.PlacingLemmas.{entered-at, empty-at, length-spelled, spelled-at, spelled-same, spelled-is, agrees-length, agrees-at, agrees-from, allowed, allows-from, cell_in, entries_with-other, length-entries_with}

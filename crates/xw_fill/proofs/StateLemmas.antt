@@ -6,9 +6,9 @@ use Rattle.std.proofs.lemmas.List.{map-set, get_or-map, length-map}
 use Rattle.xw_words.specs.Dictionary.{Entry, row, entry_at, no_entry}
 use Rattle.xw_feas.specs.WellFormed.{IsWellFormed}
 use Rattle.xw_fill.specs.Words.{spellings_at}
-use Rattle.xw_words.specs.Letter.{IsLetter, folded}
+use Rattle.xw_letters.specs.Letter.{IsLetter, folded}
 use Rattle.xw_words.specs.Word.{is_bad_letter}
-use Rattle.xw_words.proofs.LetterSetLemmas.{letter_is_capital}
+use Rattle.xw_letters.proofs.LetterSetLemmas.{letter_is_capital}
 use Rattle.xw_grid.specs.declared.cell.Cell.{Cell}
 use Rattle.xw_grid.specs.declared.cell.Square.{Square}
 use Rattle.xw_grid.specs.declared.cell.Square.TheVariants.{Block, Open}

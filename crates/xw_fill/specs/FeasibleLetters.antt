@@ -1,7 +1,7 @@
 -- The feasible letters of a cell as a list: those that some family leaves which supports itself. Such a family is looked for as for a word.
 use Rattle.std.specs.Prelude.{ℕ, Bool, ◌&&◌, List, filter, length}
 use Rattle.std.specs.List.{list_all}
-use Rattle.xw_words.specs.Letter.{alphabet}
+use Rattle.xw_letters.specs.Letter.{alphabet}
 use Rattle.xw_fill.specs.Position.{Position}
 use Rattle.xw_fill.specs.Below.{any_part}
 use Rattle.xw_fill.specs.FeasibleWords.{Pair, leaves_letter, is_kept, base_pairs}

@@ -12,7 +12,7 @@ use xw_feas::edit::Refusal;
 use xw_feas::feasible::Feasible;
 use xw_grid::cell::LightName;
 use xw_grid::fault::GridFault;
-use xw_words::letter::Letter;
+use xw_letters::letter::Letter;
 use xw_words::word::LONGEST;
 
 /// A light that spells what an earlier one does, and the first such.

@@ -4,7 +4,7 @@ use Rattle.std.specs.Prelude.{Some, None, Option, position}
 use Rattle.std.specs.Option.{unwrap_or}
 use Rattle.std.proofs.lemmas.Bool.{false≢true, cases_lt, cases_eq, both_ways, lt-ltb, le-ltb, eq-eqb, ne_eqb}
 use Rattle.std.proofs.lemmas.Bool.Decides.{nat_tests}
-use Rattle.xw_words.proofs.Position.{position_is_some, position_is_none}
+use Rattle.xw_letters.proofs.Position.{position_is_some, position_is_none}
 use Rattle.xw_grid.specs.declared.cell.Cell.{Cell}
 use Rattle.xw_grid.specs.declared.cell.Direction.{Direction}
 use Rattle.xw_grid.specs.declared.cell.Direction.TheVariants.{Across, Down}

@@ -4,14 +4,14 @@ ghost use Rattle.xw_grid.specs.Grid.{IsGrid, IsSquare, cell_at as cell_in_place,
 ghost use Rattle.xw_grid.specs.Edit.{new_grid, grid_of, set_entry, turned, turn_at, with_orbit, is_occupied as is_occupied_orbit, toggle_block as block_toggled, toggle_bar as bar_toggled, with_bar, with_edges, set_symmetry as symmetry_set};
 ghost use Rattle.xw_grid.specs.Orbit.{moved as moved_cell, images_of, IsEdgeBetween, AreEdgesBetween, orbit_of};
 ghost use Rattle.xw_grid.specs.declared.cell.Square.TheVariants.{Open};
-ghost use Rattle.xw_words.specs.Letter.{IsLetter};
+ghost use Rattle.xw_letters.specs.Letter.{IsLetter};
 
 use crate::cell::{Cell, Edge, Side, Square, Symmetry};
 use crate::fault::GridFault;
 use crate::orbit::{Orbit, edge_between};
 use std::alloc::Global;
 use std::marker::Model;
-use xw_words::letter::Letter;
+use xw_letters::letter::Letter;
 
 /// The longest side of a grid.
 pub const LONGEST_SIDE: u32 = 255;

@@ -8,8 +8,8 @@ use mathlib.Core.HLevel.{Π_prop}
 use Rattle.std.specs.Coded.{Coded-set, coded_ℕ, le_prop}
 use Rattle.std.proofs.lemmas.List.{length-map}
 use Rattle.std.proofs.lemmas.Option.{slice_get_within, get_or_from_slice_get}
-use Rattle.xw_words.specs.Letter.{IsLetter}
-use Rattle.xw_words.specs.LetterSet.{letters_in}
+use Rattle.xw_letters.specs.Letter.{IsLetter}
+use Rattle.xw_letters.specs.LetterSet.{letters_in}
 use Rattle.xw_words.specs.Dictionary.{Dictionary, IsDictionary}
 use Rattle.xw_grid.specs.declared.cell.Square.{Square}
 use Rattle.xw_grid.specs.declared.cell.Square.TheVariants.{Block, Open}

@@ -7,7 +7,7 @@ use std::alloc::Global;
 use xw_grid::cell::Cell;
 use xw_grid::fault::GridFault;
 use xw_grid::grid::Grid;
-use xw_words::letter::Letter;
+use xw_letters::letter::Letter;
 
 /// Room for each cell of a grid with an entry.
 pub fn make_noted(alloc: Global, grid: &Grid) -> Result<Vec<(Cell, Option<Letter>)>, GridFault>

@@ -20,12 +20,12 @@ use xw_feas::dictionary::{known_distinct, reserve_in};
 use xw_feas::edit::{Edit, Refusal};
 use xw_grid::grid::Grid;
 use xw_grid::lights::Lights;
+use xw_letters::letter_set::LetterSet;
 use xw_net::change::Change;
 use xw_net::net::Net;
+use xw_words::WordFault;
 use xw_words::bank::Bank;
 use xw_words::counted::Counted;
-use xw_words::fault::WordFault;
-use xw_words::letter_set::LetterSet;
 use xw_words::rows::Rows;
 
 /// Brings a net to the answers of a grid and a dictionary, and answers the ticks so far.

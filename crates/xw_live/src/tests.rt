@@ -14,8 +14,8 @@ use xw_feas::edit::{Edit, Found, Refusal};
 use xw_feas::feasible::Feasible;
 use xw_feas::words::{Spelled, words};
 use xw_grid::cell::{Cell, Direction, LightName, Side, Symmetry};
-use xw_words::letter::Letter;
-use xw_words::letter_set::LetterSet;
+use xw_letters::letter::Letter;
+use xw_letters::letter_set::LetterSet;
 
 /// An edit as a table spells it: a letter by its byte, and a cell by row and column.
 #[derive(Clone, Copy)]

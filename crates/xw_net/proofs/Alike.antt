@@ -2,7 +2,7 @@
 use Rattle.std.proofs.Common.{◌≡◌, ℕ, ◌<◌, ◌≤◌, Bool, false, not, List, [], ◌∷◌, ◌++◌, Some, None, length, get_or, count_by, map, sym, ap, ◌∙◌, subst, arith}
 use Rattle.std.specs.Prelude.{All, Option, vec_len, vec_capacity}
 use Rattle.std.specs.List.{range_with_len}
-use Rattle.xw_words.specs.Bits.{RowOfBits}
+use Rattle.xw_bits.specs.Bits.{RowOfBits}
 use Rattle.xw_words.specs.Dictionary.{Dictionary}
 use Rattle.xw_grid.specs.declared.lights.Light.{Light}
 use Rattle.xw_feas.specs.Board.{Board}

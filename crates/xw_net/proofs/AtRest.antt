@@ -5,7 +5,7 @@ use Rattle.std.specs.Coded.{Coded-set, coded_ℕ, coded_list, le_prop}
 use Rattle.std.proofs.Math.Logic.{∥∥₁_elim}
 use mathlib.Core.HLevel.{Π_prop, ×_prop}
 use mathlib.Core.Bool.{Bool-set}
-use Rattle.xw_words.specs.Bits.{RowOfBits}
+use Rattle.xw_bits.specs.Bits.{RowOfBits}
 use Rattle.xw_words.specs.Dictionary.{Dictionary, row}
 use Rattle.xw_grid.specs.declared.lights.Light.{Light}
 use Rattle.xw_grid.specs.Grid.{Grid}

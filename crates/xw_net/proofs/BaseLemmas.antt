@@ -3,7 +3,7 @@ use Rattle.std.proofs.Common.{◌≡◌, ℕ, zero, suc, ◌+◌, ◌-◌, ◌*�
 use Rattle.std.specs.Prelude.{All, Option, Some, None, slice_get}
 use Rattle.std.proofs.lemmas.Bool.{cases_lt, cases_eq, eq-eqb, ne_eqb}
 use Rattle.std.proofs.lemmas.List.{same_lists, get_or-map, get_or_past, get_or_default, length-map, take_all}
-use Rattle.xw_words.specs.Bits.{has_bit}
+use Rattle.xw_bits.specs.Bits.{has_bit}
 use Rattle.xw_words.specs.Dictionary.{Entry, entry_at, no_entry}
 use Rattle.xw_words.specs.Columns.{letter_is}
 use Rattle.xw_feas.specs.Board.{Board, entry, allows, agrees, is_wholly_entered}

@@ -6,11 +6,11 @@ use Rattle.std.proofs.lemmas.List.{get_or-replicate, get_or_past, length-replica
 use Rattle.std.proofs.lemmas.List.Sums.{count_by-le-length}
 use Rattle.std.proofs.lemmas.List.Elements.{All-get_or}
 use Rattle.std.proofs.lemmas.Nat.{mul-le}
-use Rattle.xw_words.specs.Bits.{RowOfBits}
-use Rattle.xw_words.specs.Letter.{is_capital}
+use Rattle.xw_bits.specs.Bits.{RowOfBits}
+use Rattle.xw_letters.specs.Letter.{is_capital}
 use Rattle.xw_words.specs.Dictionary.{Dictionary, IsDictionary, row, most_words}
-use Rattle.xw_words.proofs.LetterSetLemmas.{has-none, capital_is_letter}
-use Rattle.xw_words.specs.LetterSet.{has}
+use Rattle.xw_letters.proofs.LetterSetLemmas.{has-none, capital_is_letter}
+use Rattle.xw_letters.specs.LetterSet.{has}
 use Rattle.xw_grid.specs.Grid.{Grid, IsGrid}
 use Rattle.xw_grid.specs.Light.{lights_of}
 use Rattle.xw_feas.specs.Board.{Board, board_of, light_at}

@@ -2,7 +2,7 @@
 use Rattle.std.proofs.Common.{◌≡◌, ℕ, ◌<◌, ◌≤◌, Bool, true, false, ◌&&◌, sym, ◌∙◌, ap, subst, inl, inr}
 use Rattle.std.specs.Prelude.{IsTrue, List, slice_index, Option}
 use Rattle.std.proofs.lemmas.Bool.{and_parts, cases_Bool, both_ways, or_left}
-use Rattle.xw_words.specs.Letter.{is_capital}
+use Rattle.xw_letters.specs.Letter.{is_capital}
 use Rattle.xw_words.specs.Dictionary.{Dictionary}
 use Rattle.xw_feas.specs.Board.{Board, board_of, light_at, entry, is_open, allows}
 use Rattle.xw_feas.specs.Feasible.{may_stand}

@@ -3,7 +3,7 @@ use Rattle.std.proofs.Common.{◌≡◌, ℕ, ◌+◌, ◌*◌, ◌<◌, ◌≤�
 use Rattle.std.specs.Prelude.{slice_index, Option, Some, unwrap_or}
 use Rattle.std.proofs.lemmas.Bool.{cases_Bool, both_ways, or_cases}
 use Rattle.xw_words.specs.Dictionary.{Dictionary, IsDictionary}
-use Rattle.xw_words.specs.Letter.{is_capital}
+use Rattle.xw_letters.specs.Letter.{is_capital}
 use Rattle.xw_feas.specs.Board.{Board}
 use Rattle.xw_feas.specs.WellFormed.{IsLaidOut}
 use Rattle.xw_net.specs.Revival.{IsMatching}

@@ -6,17 +6,17 @@ use Rattle.std.proofs.lemmas.Bool.{cases_lt, cases_eq, cases_Bool, both_ways, fa
 use Rattle.std.proofs.lemmas.List.{get_or_default, get_or-map, length-map, ext_get_or, get_or_append_left}
 use Rattle.std.proofs.lemmas.Option.{slice_get_within, unwrap_or-slice_get, slice_get-get_or}
 use Rattle.std.proofs.Math.ListN.{get_or-map as get_or-map_any}
-use Rattle.xw_words.specs.Bits.{RowOfBits}
+use Rattle.xw_bits.specs.Bits.{RowOfBits}
 use Rattle.xw_words.specs.Dictionary.{Entry, Dictionary, row, no_entry, add_answer, strike_answer}
 use Rattle.xw_grid.specs.declared.cell.Cell.{Cell}
 use Rattle.xw_grid.specs.Grid.{Grid, index_of, is_inside, letter_in, entry as entry_in}
 use Rattle.xw_feas.specs.Board.{Board, board_of, entry, light_at, is_wholly_entered, allows, agrees, is_open}
-use Rattle.xw_words.specs.Letter.{is_capital}
+use Rattle.xw_letters.specs.Letter.{is_capital}
 use Rattle.xw_feas.specs.Feasible.{may_stand}
 use Rattle.xw_feas.specs.Known.{spellings, actives}
 use Rattle.xw_feas.specs.Choices.{is_base_at, IsExact}
 use Rattle.xw_feas.specs.State.{State, Action, letter_set, cell_cleared, word_placed, list_written, block_toggled, bar_toggled, symmetry_chosen, word_added, word_struck}
-use Rattle.xw_words.specs.declared.fault.WordFault.{WordFault}
+use Rattle.xw_bits.specs.declared.fault.WordFault.{WordFault}
 use Rattle.xw_words.specs.declared.bank.Added.{Added}
 use Rattle.xw_words.specs.declared.bank.Added.TheVariants.{New, Returned}
 use Rattle.xw_feas.proofs.BoardLemmas.{entry-square}

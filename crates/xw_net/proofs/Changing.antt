@@ -3,10 +3,10 @@ use Rattle.std.proofs.Common.{◌≡◌, ℕ, zero, suc, ◌<◌, ◌≤◌, Lis
 use Rattle.std.specs.Prelude.{Option, Result, Ok, Err, Contains, slice_get}
 use Rattle.std.proofs.lemmas.Bool.{cases_lt, cases_eq}
 use Rattle.std.proofs.lemmas.List.{get_or-set_same, get_or-set_other, get_or_append_left, length-map}
-use Rattle.xw_words.specs.declared.fault.WordFault.{WordFault}
+use Rattle.xw_bits.specs.declared.fault.WordFault.{WordFault}
 use Rattle.xw_words.specs.declared.bank.Added.{Added}
 use Rattle.xw_words.specs.declared.bank.Added.TheVariants.{New, Returned}
-use Rattle.xw_words.specs.Letter.{folded}
+use Rattle.xw_letters.specs.Letter.{folded}
 use Rattle.xw_words.specs.Dictionary.{Entry, Dictionary, row, entry_at, no_entry, marked, add_answer, after_add, strike_answer, after_strike}
 use Rattle.xw_words.proofs.DictionaryLemmas.{word-marked}
 use Rattle.xw_grid.specs.declared.cell.Cell.{Cell}

@@ -6,9 +6,9 @@ use Rattle.std.proofs.lemmas.List.{get_or-set_other, get_or-map, length-map}
 use Rattle.std.proofs.lemmas.List.Elements.{Contains-get_or}
 use Rattle.std.proofs.lemmas.List.FromFn.{get_or-map-range_with_len}
 use Rattle.std.proofs.lemmas.Option.{slice_get-get_or, slice_get_past}
-use Rattle.xw_words.specs.declared.fault.WordFault.{WordFault}
+use Rattle.xw_bits.specs.declared.fault.WordFault.{WordFault}
 use Rattle.xw_words.specs.declared.bank.Added.{Added}
-use Rattle.xw_words.specs.Letter.{folded}
+use Rattle.xw_letters.specs.Letter.{folded}
 use Rattle.xw_words.specs.Word.{is_bad_letter}
 use Rattle.xw_words.specs.Dictionary.{Entry, Dictionary, row, add_answer, after_add, strike_answer, after_strike}
 use Rattle.xw_grid.specs.declared.cell.Cell.{Cell}

@@ -4,7 +4,7 @@ use Rattle.std.specs.Prelude.{Option, is_some, unwrap_or}
 use Rattle.std.proofs.lemmas.Bool.{cases_Bool, cases_eq, both_ways, and_parts, and_from, or_cases, or_left, or_right, eq-eqb, eqb-true, not_from_false, false_from_ne_true, ne_eqb, false≢true}
 use Rattle.std.proofs.lemmas.List.{get_or_push, length-map}
 use Rattle.std.proofs.lemmas.List.Folds.{list_all_at}
-use Rattle.xw_words.specs.Letter.{is_capital}
+use Rattle.xw_letters.specs.Letter.{is_capital}
 use Rattle.xw_words.specs.Dictionary.{Dictionary, Entry, row}
 use Rattle.xw_feas.specs.Board.{Board, light_at, entry, is_open, allows, agrees, is_wholly_entered}
 use Rattle.xw_feas.specs.Choices.{SupportsItself, IsExact}

@@ -2,7 +2,7 @@
 use Rattle.std.proofs.Common.{◌≡◌, ◌≢◌, ℕ, ◌+◌, ◌-◌, ◌*◌, ◌/◌, ◌<◌, ◌≤◌, Bool, true, false, not, ◌&&◌, cond, eqb, ltb, List, length, get_or, set, refl, sym, ap, ◌∙◌, subst, inl, inr, arith}
 use Rattle.std.proofs.lemmas.Bool.{cases_lt, cases_Bool, both_ways, and_parts, and_from, and_right, eq-eqb, eqb-true, lt-ltb, le-ltb, not_from_true, false_from_ne_true, or_cases, or_left, or_right}
 use Rattle.std.proofs.lemmas.List.{get_or-set_same, get_or-set_other, get_or_past}
-use Rattle.xw_words.specs.Letter.{IsLetter}
+use Rattle.xw_letters.specs.Letter.{IsLetter}
 use Rattle.xw_words.specs.Dictionary.{Dictionary, Entry}
 use Rattle.xw_words.specs.Columns.{has_letter}
 use Rattle.xw_feas.specs.Board.{Board, light_at}

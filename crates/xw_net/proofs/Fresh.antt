@@ -3,9 +3,9 @@ use Rattle.std.proofs.Common.{◌≡◌, ℕ, zero, suc, ◌+◌, ◌<◌, ◌�
 use Rattle.std.specs.Prelude.{is_some, unwrap_or}
 use Rattle.std.proofs.lemmas.Bool.{false_from_ne_true, cases_Bool, cases_lt, both_ways, and_parts, and_from, or_left, eq-eqb, false≢true}
 use Rattle.std.proofs.lemmas.List.Folds.{list_all_at}
-use Rattle.xw_words.specs.Letter.{IsLetter, is_capital}
+use Rattle.xw_letters.specs.Letter.{IsLetter, is_capital}
 use Rattle.xw_words.specs.Dictionary.{Dictionary, Entry, row, no_entry}
-use Rattle.xw_words.proofs.LetterSetLemmas.{letter_is_capital}
+use Rattle.xw_letters.proofs.LetterSetLemmas.{letter_is_capital}
 use Rattle.xw_feas.specs.Board.{Board, light_at, entry, is_open, allows, agrees, is_wholly_entered}
 use Rattle.xw_feas.specs.Feasible.{may_stand}
 use Rattle.xw_feas.specs.Choices.{is_base_at, base_flags}

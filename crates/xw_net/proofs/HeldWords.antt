@@ -1,9 +1,9 @@
 -- A known word that is held for a letter has it, through each search for a word.
 use Rattle.std.proofs.Common.{◌≡◌, ℕ, ◌<◌, true, ap, ◌∙◌, sym, subst, inl, inr, arith}
 use Rattle.std.proofs.lemmas.Bool.{cases_eq}
-use Rattle.xw_words.specs.Letter.{is_capital}
+use Rattle.xw_letters.specs.Letter.{is_capital}
 use Rattle.xw_words.specs.Dictionary.{Dictionary}
-use Rattle.xw_words.proofs.LetterSetLemmas.{capital_is_letter}
+use Rattle.xw_letters.proofs.LetterSetLemmas.{capital_is_letter}
 use Rattle.xw_feas.specs.Board.{Board}
 use Rattle.xw_net.specs.Marks.{Marks, IsPlace, slot_at, AreSlotsApart, known, puts, IsHolding}
 use Rattle.xw_net.proofs.Steps.{IsHung}

@@ -4,7 +4,7 @@ use Rattle.std.specs.Prelude.{vec_capacity, vec_len, vec_items, All}
 use Rattle.xw_net.specs.Room.{row_at}
 use Rattle.xw_net.specs.Nets.{IsLeft, IsChained}
 use Rattle.xw_net.specs.Brought.{HasBase}
-use Rattle.xw_words.specs.Bits.{RowOfBits}
+use Rattle.xw_bits.specs.Bits.{RowOfBits}
 use Rattle.xw_words.specs.Dictionary.{Entry}
 use Rattle.xw_feas.specs.Board.{Board, light_at}
 use Rattle.xw_net.specs.declared.net.Net.{Net}

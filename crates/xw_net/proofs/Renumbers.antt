@@ -12,7 +12,7 @@ use Rattle.xw_grid.proofs.LookupLemmas.{alike}
 use Rattle.std.proofs.lemmas.Bool.{cases_eq}
 use Rattle.std.proofs.lemmas.List.{length-replicate}
 use Rattle.std.proofs.Common.{◌+◌, inl, inr}
-use Rattle.xw_words.specs.Bits.{RowOfBits}
+use Rattle.xw_bits.specs.Bits.{RowOfBits}
 use Rattle.xw_net.specs.Room.{size_at, row_at, HaveBits, HaveRoom, IsWhole, HasRoom}
 use Rattle.xw_net.specs.Renumber.{AreLights, same_before, bits_from, room_from, AreRowsMoved, IsRenumbered}
 use Rattle.xw_net.specs.declared.net.Net.{Net}

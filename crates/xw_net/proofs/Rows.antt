@@ -4,11 +4,11 @@ use Rattle.std.specs.Prelude.{unwrap_or}
 use Rattle.std.proofs.lemmas.Bool.{cases_lt, cases_eq, both_ways, and_parts, and_from, eq-eqb, not_from_false, not-true, false_from_ne_true, false≢true}
 use Rattle.std.proofs.lemmas.List.{get_or-map, get_or_append_left, get_or_push, length-map, get_or-set_same, get_or-set_other}
 use Rattle.std.proofs.lemmas.Option.{slice_get-get_or, slice_get_within}
-use Rattle.xw_words.specs.Bits.{RowOfBits}
+use Rattle.xw_bits.specs.Bits.{RowOfBits}
 use Rattle.xw_words.specs.Dictionary.{Dictionary, Entry, row, no_entry}
 use Rattle.xw_words.specs.Columns.{has_letter, letter_is}
-use Rattle.xw_words.specs.LetterSet.{has}
-use Rattle.xw_words.proofs.LetterSetLemmas.{has-none}
+use Rattle.xw_letters.specs.LetterSet.{has}
+use Rattle.xw_letters.proofs.LetterSetLemmas.{has-none}
 use Rattle.xw_feas.specs.Board.{Board, light_at, entry, spelled}
 use Rattle.xw_feas.specs.Choices.{choice_at}
 use Rattle.xw_feas.specs.Flags.{set_has}

@@ -2,8 +2,8 @@
 use Rattle.std.proofs.Common.{◌≡◌, ◌≢◌, ℕ, ◌/◌, ◌<◌, ◌≤◌, Bool, true, false, not, ◌&&◌, ◌||◌, cond, eqb, ltb, List, get_or, set, length, refl, sym, ap, ◌∙◌, inl, inr}
 use Rattle.std.proofs.lemmas.Bool.{cases_Bool, cases_lt, cases_eq, lt-ltb, le-ltb, eq-eqb, ne_eqb}
 use Rattle.std.proofs.lemmas.List.{get_or-set_same, get_or-set_other}
-use Rattle.xw_words.specs.LetterSet.{has}
-use Rattle.xw_words.proofs.LetterSetLemmas.{has-none}
+use Rattle.xw_letters.specs.LetterSet.{has}
+use Rattle.xw_letters.proofs.LetterSetLemmas.{has-none}
 use Rattle.xw_feas.specs.Flags.{set_has}
 use Rattle.xw_net.specs.Support.{Held, place_for, search_from}
 

@@ -4,8 +4,8 @@ use Rattle.std.specs.Prelude.{IsTrue}
 use Rattle.std.proofs.lemmas.Bool.{cases_eq, cases_Bool, cases_lt, and_parts, and_from, or_cases, or_left, or_right, both_ways, eq-eqb, eqb-true, not_from_false, not_from_true, and_right, false_from_ne_true}
 use Rattle.std.proofs.Math.Logic.{∥∥₁_elim}
 use mathlib.Core.Bool.{Bool-set}
-use Rattle.xw_words.specs.Letter.{IsLetter, is_capital}
-use Rattle.xw_words.proofs.LetterSetLemmas.{capital_is_letter}
+use Rattle.xw_letters.specs.Letter.{IsLetter, is_capital}
+use Rattle.xw_letters.proofs.LetterSetLemmas.{capital_is_letter}
 use Rattle.xw_words.specs.Dictionary.{Dictionary}
 use Rattle.xw_feas.specs.Board.{Board, light_at, is_open, entry, allows}
 use Rattle.xw_feas.specs.Feasible.{Family, IsSupported, may_stand}

@@ -6,9 +6,9 @@ use Rattle.std.proofs.Common.{◌-◌}
 use Rattle.std.proofs.lemmas.Bool.{both_ways, and_parts, and_from, and_right, eqb-true, false_from_ne_true, not_from_true, not_from_false}
 use Rattle.xw_words.specs.Dictionary.{Entry, entry_at}
 use Rattle.xw_words.specs.Columns.{has_letter, has_one_of, is_among, letter_is}
-use Rattle.xw_words.specs.Letter.{IsLetter, is_capital}
-use Rattle.xw_words.specs.LetterSet.{has, letters_in}
-use Rattle.xw_words.proofs.LetterSetLemmas.{capital_is_letter}
+use Rattle.xw_letters.specs.Letter.{IsLetter, is_capital}
+use Rattle.xw_letters.specs.LetterSet.{has, letters_in}
+use Rattle.xw_letters.proofs.LetterSetLemmas.{capital_is_letter}
 use Rattle.xw_net.specs.Support.{AreApart, Strikes, letter_count}
 use Rattle.xw_net.proofs.Sums.{letter_count-is, sum_to-one}
 

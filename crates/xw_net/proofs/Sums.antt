@@ -3,9 +3,9 @@ use Rattle.std.proofs.Common.{◌≡◌, ℕ, zero, suc, ◌+◌, ◌-◌, ◌*�
 use Rattle.std.specs.Prelude.{filter}
 use Rattle.std.proofs.lemmas.Bool.{cases_eq, cases_lt, cases_Bool}
 use Rattle.std.proofs.lemmas.List.{take_all}
-use Rattle.xw_words.specs.Letter.{alphabet}
-use Rattle.xw_words.specs.LetterSet.{has, letters_in}
-use Rattle.xw_words.proofs.LetterSetLemmas.{count-more, length-alphabet}
+use Rattle.xw_letters.specs.Letter.{alphabet}
+use Rattle.xw_letters.specs.LetterSet.{has, letters_in}
+use Rattle.xw_letters.proofs.LetterSetLemmas.{count-more, length-alphabet}
 use Rattle.xw_net.specs.Region.{chunks_of}
 use Rattle.xw_net.specs.Support.{letter_count}
 use Rattle.xw_net.specs.Due.{sum_to, count_from}

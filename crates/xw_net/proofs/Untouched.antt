@@ -4,7 +4,7 @@ use Rattle.std.specs.Prelude.{Option, Ok, IsTrue, Contains, slice_index, unwrap_
 use Rattle.std.proofs.lemmas.Bool.{cases_Bool, both_ways}
 use Rattle.std.proofs.lemmas.List.{get_or_default}
 use Rattle.std.proofs.lemmas.List.Elements.{Contains-get_or}
-use Rattle.xw_words.specs.Letter.{is_capital}
+use Rattle.xw_letters.specs.Letter.{is_capital}
 use Rattle.xw_words.specs.Dictionary.{row}
 use Rattle.xw_grid.specs.Grid.{IsGrid}
 use Rattle.xw_feas.specs.Board.{Board, board_of, light_at, entry, is_open, allows}

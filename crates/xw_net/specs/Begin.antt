@@ -1,7 +1,7 @@
 -- From where the revival and the stripping begin after an edit.
 use Rattle.std.specs.Prelude.{◌≡◌, ℕ, ◌+◌, ◌<◌, Bool, true, false, List, length, slice_index, slice_index_or, Option, Some, None, is_some, is_none, Contains, ◌&&◌, ◌||◌, ◌==◌, nat_le}
-use Rattle.xw_words.specs.Bits.{RowOfBits}
-use Rattle.xw_words.specs.Letter.{is_capital}
+use Rattle.xw_bits.specs.Bits.{RowOfBits}
+use Rattle.xw_letters.specs.Letter.{is_capital}
 use Rattle.xw_words.specs.Dictionary.{Entry, Dictionary}
 use Rattle.xw_feas.specs.Board.{Board, entry, light_at, is_wholly_entered}
 use Rattle.xw_feas.specs.Feasible.{may_stand}

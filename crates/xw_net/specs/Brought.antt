@@ -1,7 +1,7 @@
 -- What the revival of a chain of lights leaves of a net.
 use Rattle.std.specs.Prelude.{◌≡◌, ◌⊎◌, ℕ, ◌+◌, ◌*◌, ◌<◌, ◌≤◌, Bool, true, false, List, length, slice_index, Option, Some, IsTrue, ◌↔◌, if◌then◌else◌}
-use Rattle.xw_words.specs.Bits.{RowOfBits}
-use Rattle.xw_words.specs.Letter.{is_capital}
+use Rattle.xw_bits.specs.Bits.{RowOfBits}
+use Rattle.xw_letters.specs.Letter.{is_capital}
 use Rattle.xw_words.specs.Dictionary.{Dictionary, Entry, row}
 use Rattle.xw_feas.specs.Board.{Board, light_at}
 use Rattle.xw_feas.specs.Feasible.{may_stand}

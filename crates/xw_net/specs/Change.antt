@@ -1,6 +1,6 @@
 -- What a net is told of an edit.
 use Rattle.std.specs.Prelude.{◌≡◌, ℕ, ◌<◌, Bool, not, List, [], ◌∷◌, map, length, Option, Some, None, Result, Ok, Err, slice_get, slice_index_or, Contains}
-use Rattle.xw_words.specs.declared.fault.WordFault.{WordFault}
+use Rattle.xw_bits.specs.declared.fault.WordFault.{WordFault}
 use Rattle.xw_words.specs.declared.bank.Added.{Added}
 use Rattle.xw_words.specs.declared.bank.Added.TheVariants.{New, Returned}
 use Rattle.xw_words.specs.Dictionary.{Entry, Dictionary, row, entry_at, add_answer, strike_answer}

@@ -1,7 +1,7 @@
 -- A net in which nothing stands yet, and one that is settled.
 use Rattle.std.specs.Prelude.{◌≡◌, ℕ, ◌<◌, ◌≤◌, true, false, List, [], length, All}
-use Rattle.xw_words.specs.Bits.{RowOfBits}
-use Rattle.xw_words.specs.Letter.{is_capital}
+use Rattle.xw_bits.specs.Bits.{RowOfBits}
+use Rattle.xw_letters.specs.Letter.{is_capital}
 use Rattle.xw_words.specs.Dictionary.{Dictionary, Entry, row, most_words}
 use Rattle.xw_feas.specs.Board.{Board, light_at}
 use Rattle.xw_feas.specs.Choices.{IsExact}

@@ -1,6 +1,6 @@
 -- A net is made to go by the lights and the words after an edit.
 use Rattle.std.specs.Prelude.{◌≡◌, ℕ, ◌+◌, ◌*◌, ◌^◌, ◌<◌, ◌≤◌, Bool, true, false, List, [], ◌∷◌, ◌++◌, length, nat_lt, Option, Some, None, slice_index_or, vec_len, vec_capacity, if◌then◌else◌}
-use Rattle.xw_words.specs.Bits.{RowOfBits}
+use Rattle.xw_bits.specs.Bits.{RowOfBits}
 use Rattle.xw_grid.specs.declared.lights.Light.{Light}
 use Rattle.xw_net.specs.Room.{size_at, row_at, HasRoom, HasSpare}
 use Rattle.xw_net.specs.Renumber.{same_before}

@@ -1,6 +1,6 @@
 -- A net in vectors.
 use Rattle.std.specs.Prelude.{◌≡◌, ℕ, ◌+◌, ◌-◌, ◌*◌, ◌^◌, ◌<◌, ◌≤◌, Bool, true, false, not, List, [], ◌∷◌, ◌++◌, Option, Some, None, length, slice_get, slice_index, slice_index_or, count_by, vec_len, vec_capacity, All, Contains}
-use Rattle.xw_words.specs.Bits.{RowOfBits}
+use Rattle.xw_bits.specs.Bits.{RowOfBits}
 use Rattle.xw_words.specs.Dictionary.{Entry}
 use Rattle.xw_feas.specs.Board.{Board, light_at}
 use Rattle.xw_feas.specs.Flags.{set_has, set_sum}

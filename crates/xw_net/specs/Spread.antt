@@ -1,8 +1,8 @@
 -- Words and letters that come back along a chain of lights.
 use Rattle.std.specs.Prelude.{◌≡◌, ℕ, ◌<◌, Bool, true, false, ◌&&◌, ◌||◌, nat_le, ◌==◌, List, length, slice_get, slice_index_or, Contains}
 use Rattle.std.specs.List.{list_any}
-use Rattle.xw_words.specs.Bits.{RowOfBits}
-use Rattle.xw_words.specs.Letter.{is_capital}
+use Rattle.xw_bits.specs.Bits.{RowOfBits}
+use Rattle.xw_letters.specs.Letter.{is_capital}
 use Rattle.xw_feas.specs.Board.{Board, light_at, is_wholly_entered}
 use Rattle.xw_feas.specs.Feasible.{may_stand}
 use Rattle.xw_feas.specs.Flags.{set_has}

@@ -2,7 +2,7 @@
 use Rattle.std.specs.Prelude.{◌≡◌, ℕ, ◌+◌, ◌-◌, ◌*◌, ◌/◌, ◌<◌, ◌≤◌, Bool, true, false, ◌&&◌, not, nat_lt, ◌==◌, List, length, slice_index, slice_index_or, slice_set, if◌then◌else◌}
 use Rattle.xw_words.specs.Columns.{has_letter}
 use Rattle.xw_words.specs.Dictionary.{Entry}
-use Rattle.xw_words.specs.LetterSet.{has}
+use Rattle.xw_letters.specs.LetterSet.{has}
 use Rattle.xw_net.specs.Region.{chunks_of}
 use Rattle.xw_net.specs.Due.{sum_letters}
 use Rattle.xw_feas.specs.Flags.{set_has}

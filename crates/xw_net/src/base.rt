@@ -1,6 +1,6 @@
 //! The base words of a light, as a row of bits.
 ghost use Rattle.std.specs.Prelude.{◌≡◌, ℕ, ◌+◌, ◌*◌, ◌<◌, ◌≤◌, ◌&&◌, Bool, true, false, length, slice_index, slice_index_or, All, Some, IfSome, IfNone};
-ghost use Rattle.xw_words.specs.Bits.{has_bit};
+ghost use Rattle.xw_bits.specs.Bits.{has_bit};
 ghost use Rattle.xw_words.specs.Columns.{is_active};
 ghost use Rattle.xw_words.specs.Dictionary.{Entry, entry_at};
 ghost use Rattle.xw_feas.specs.Board.{light_at, entry, agrees, is_wholly_entered};
@@ -11,9 +11,9 @@ ghost use Rattle.xw_net.specs.Room.{row_at};
 ghost use Rattle.xw_net.specs.Brought.{HasBase, base_cost};
 ghost use Rattle.xw_net.specs.Begin.{is_long as is_long_of, is_read as is_read_of};
 
+use xw_bits::bit_row::BitRow;
 use xw_feas::board::{Board, Cells, has_all_entries};
-use xw_words::bit_row::BitRow;
-use xw_words::letter_set::LetterSet;
+use xw_letters::letter_set::LetterSet;
 use xw_words::rows::Rows;
 
 /// The words of a chunk that have the letter that is entered at a place of the light.

@@ -21,13 +21,13 @@ use crate::gone::raise_gone;
 use crate::narrow::narrow_row;
 use crate::seeds::{free_cell, mark_found, mark_new, mark_through};
 use crate::spread::letters_allowed;
+use xw_bits::bit_row::BitRow;
 use xw_feas::board::{Board, has_all_entries};
 use xw_grid::cell::Cell;
 use xw_grid::grid::Grid;
 use xw_grid::lights::Lights;
-use xw_words::bit_row::BitRow;
-use xw_words::letter::Letter;
-use xw_words::letter_set::LetterSet;
+use xw_letters::letter::Letter;
+use xw_letters::letter_set::LetterSet;
 use xw_words::rows::Rows;
 
 /// Of the letters that stand at a cell, leaves those that may.

@@ -2,7 +2,7 @@
 ghost use Rattle.std.specs.Prelude.{◌≡◌};
 
 use crate::net::Net;
-use xw_words::bit_row::BitRow;
+use xw_bits::bit_row::BitRow;
 
 /// Counts the bits of each row of which it is not known how many are set.
 fn keep_counts(rows: &mut [BitRow])

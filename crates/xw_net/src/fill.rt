@@ -14,9 +14,9 @@ use xw_feas::edit::Refusal;
 use xw_grid::fault::GridFault;
 use xw_grid::grid::Grid;
 use xw_grid::lights::Lights;
+use xw_letters::letter_set::LetterSet;
 use xw_words::bank::Bank;
 use xw_words::counted::Counted;
-use xw_words::letter_set::LetterSet;
 use xw_words::rows::Rows;
 
 /// Lets at each cell the letters stand that may.

@@ -5,8 +5,8 @@ ghost use Rattle.xw_net.specs.Fit.{fitted, AreFitted};
 
 use crate::net::Net;
 use crate::room::size_at;
+use xw_bits::bit_row::BitRow;
 use xw_grid::lights::Lights;
-use xw_words::bit_row::BitRow;
 use xw_words::rows::Rows;
 
 /// Adds a false bit to a row if one is wanting for so many known words.

@@ -1,6 +1,6 @@
 //! Words that are held no more.
 ghost use Rattle.std.specs.Prelude.{◌≡◌, ◌⊎◌, ℕ, ◌+◌, ◌-◌, ◌*◌, ◌^◌, ◌<◌, ◌≤◌, false, true, Option, is_some, length, slice_index};
-ghost use Rattle.xw_words.specs.Letter.{is_capital};
+ghost use Rattle.xw_letters.specs.Letter.{is_capital};
 ghost use Rattle.xw_feas.specs.Board.{light_at};
 ghost use Rattle.xw_feas.specs.Flags.{set_has};
 ghost use Rattle.xw_net.specs.Marks.{IsPlace, slot_at, AreSlotsApart};
@@ -12,7 +12,7 @@ use crate::place::place_of;
 use crate::room::NOWHERE;
 use xw_feas::board::Board;
 use xw_grid::lights::Lights;
-use xw_words::letter_set::LetterSet;
+use xw_letters::letter_set::LetterSet;
 use xw_words::rows::Rows;
 
 /// Lets a slot hold no word from a number on.

@@ -7,7 +7,7 @@ use crate::seeds::raise_cell;
 use xw_feas::board::Board;
 use xw_grid::grid::Grid;
 use xw_grid::lights::{Light, Lights};
-use xw_words::letter_set::LetterSet;
+use xw_letters::letter_set::LetterSet;
 
 /// The place in a grid of one of the cells of a light, if the grid has it.
 fn place_along(grid: &Grid, light: &Light, k: u32) -> Option<usize>

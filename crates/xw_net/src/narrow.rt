@@ -6,8 +6,8 @@ ghost use Rattle.xw_net.specs.Room.{row_at};
 ghost use Rattle.xw_net.specs.Spread.{bits_in};
 
 use crate::base::place_if_long;
+use xw_bits::bit_row::BitRow;
 use xw_feas::board::Board;
-use xw_words::bit_row::BitRow;
 
 /// Of the words in the chunk with a place, leaves the base words.
 fn narrow_at(base: &BitRow, place: usize, row: &mut BitRow)

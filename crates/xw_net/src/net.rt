@@ -1,7 +1,7 @@
 //! What stands of the words and letters of a grid, stripped of what has no support.
 ghost use Rattle.std.specs.Prelude.{◌≡◌, ℕ, ◌+◌, ◌<◌, ◌≤◌, true, false, not, ◌++◌, [], ◌∷◌, length, vec_len, vec_capacity, count_by, slice_index_or, slice_set, if◌then◌else◌, All, IfSome, IfNone};
 ghost use Rattle.std.specs.List.Sorted.{IsPermutation};
-ghost use Rattle.xw_words.specs.Letter.{IsLetter};
+ghost use Rattle.xw_letters.specs.Letter.{IsLetter};
 ghost use Rattle.xw_words.specs.Dictionary.{Dictionary};
 ghost use Rattle.xw_feas.specs.Board.{light_at};
 
@@ -9,10 +9,10 @@ use crate::place::{Place, place_of, side};
 use crate::room::Spare;
 use crate::support::{find_support, strike_row};
 use std::alloc::Global;
+use xw_bits::bit_row::BitRow;
 use xw_feas::board::Board;
-use xw_words::bit_row::BitRow;
-use xw_words::letter::Letter;
-use xw_words::letter_set::LetterSet;
+use xw_letters::letter::Letter;
+use xw_letters::letter_set::LetterSet;
 use xw_words::rows::Rows;
 
 /// The words and letters that stand, and by slot and letter where a word for it was found.
@@ -69,8 +69,8 @@ fn take_turn(queue: &mut Vec<usize>, turn: &mut usize) -> Option<usize>
 
 impl Net {
     ghost use Rattle.std.specs.Prelude.{◌≡◌, ℕ, ◌+◌, ◌-◌, ◌*◌, ◌<◌, ◌≤◌, ◌⊎◌, Bool, true, false, not, [], ◌||◌, ◌&&◌, ◌==◌, length, slice_index_or, slice_set, vec_len, vec_capacity, count_by, Contains};
-    ghost use Rattle.xw_words.specs.Letter.{IsLetter};
-    ghost use Rattle.xw_words.specs.LetterSet.{has};
+    ghost use Rattle.xw_letters.specs.Letter.{IsLetter};
+    ghost use Rattle.xw_letters.specs.LetterSet.{has};
     ghost use Rattle.xw_words.specs.Dictionary.{Dictionary};
     ghost use Rattle.xw_feas.specs.Board.{light_at};
     ghost use Rattle.xw_feas.specs.Choices.{IsExact};

@@ -1,7 +1,7 @@
 //! What a net answers.
 use crate::net::Net;
 use xw_grid::lights::Lights;
-use xw_words::letter_set::LetterSet;
+use xw_letters::letter_set::LetterSet;
 
 impl Net {
     ghost use Rattle.std.specs.Prelude.{◌≡◌, ◌<◌, length};

@@ -6,8 +6,8 @@ ghost use Rattle.xw_net.specs.Renumber.{AreLights, bits_from, room_from, AreRows
 use crate::net::Net;
 use crate::room::{Spare, fill_row, size_at};
 use std::mem::swap;
+use xw_bits::bit_row::BitRow;
 use xw_grid::lights::Lights;
-use xw_words::bit_row::BitRow;
 use xw_words::rows::Rows;
 
 /// Moves the row of a light that stays to its place, or fills the one that a new light has there.

@@ -5,8 +5,8 @@ use std::alloc::{AllocError, Global};
 use xw_feas::edit::Refusal;
 use xw_grid::fault::GridFault;
 use xw_grid::lights::Lights;
+use xw_words::WordFault;
 use xw_words::bank::Bank;
-use xw_words::fault::WordFault;
 
 impl Net {
     ghost use Rattle.std.specs.Prelude.{◌≡◌, ◌+◌, ◌≤◌, ℕ, length, vec_len, true, false, None, Some, is_some, IfSome, IfOk, IfErr, OnOk, OnErr, if◌then◌else◌};

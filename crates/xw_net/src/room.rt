@@ -4,10 +4,10 @@ ghost use Rattle.xw_words.specs.Dictionary.{row as words_of};
 ghost use Rattle.xw_net.specs.Room.{counts_of, with_word, size_at as size_of_light, row_at, AreFalse, AreEmpty, AreRoomier, HaveRoom, HaveBitRoom, HaveBitMore};
 
 use std::alloc::{AllocError, Global};
+use xw_bits::bit_row::BitRow;
 use xw_grid::lights::Lights;
+use xw_letters::letter_set::LetterSet;
 use xw_words::bank::Bank;
-use xw_words::bit_row::BitRow;
-use xw_words::letter_set::LetterSet;
 
 /// Where no word is held.
 pub(crate) const NOWHERE: usize = usize::MAX;

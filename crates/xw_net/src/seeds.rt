@@ -10,7 +10,7 @@ ghost use Rattle.xw_net.specs.Spread.{is_marked, is_waiting, Grows, no_places, H
 use crate::spread::{letters_allowed, mark, raise};
 use xw_feas::board::Board;
 use xw_grid::lights::Lights;
-use xw_words::letter_set::LetterSet;
+use xw_letters::letter_set::LetterSet;
 
 /// Unmarks every light.
 pub(crate) fn clear_marks(marks: &mut [bool])

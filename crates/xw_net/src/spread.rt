@@ -1,8 +1,8 @@
 //! The chain of lights along which words and letters come back.
 ghost use Rattle.xw_net.specs.Room.{row_at};
 ghost use Rattle.std.specs.Prelude.{◌≡◌, ℕ, ◌+◌, ◌*◌, ◌^◌, ◌<◌, ◌≤◌, Bool, true, false, not, ◌++◌, [], ◌∷◌, IsTrue, IsFalse, All, Contains, length, vec_len, vec_capacity, count_by, slice_index, slice_index_or, slice_set, if◌then◌else◌};
-ghost use Rattle.xw_words.specs.Letter.{is_capital};
-ghost use Rattle.xw_words.specs.LetterSet.{has};
+ghost use Rattle.xw_letters.specs.Letter.{is_capital};
+ghost use Rattle.xw_letters.specs.LetterSet.{has};
 ghost use Rattle.xw_feas.specs.Board.{light_at, is_wholly_entered};
 ghost use Rattle.xw_feas.specs.Feasible.{may_stand};
 ghost use Rattle.xw_feas.specs.Flags.{set_has};
@@ -12,9 +12,9 @@ ghost use Rattle.xw_net.specs.Spread.{is_marked, is_waiting, Grows, places_from,
 use crate::net::Net;
 use crate::place::place_of;
 use crate::seeds::clear_marks;
+use xw_bits::bit_row::BitRow;
 use xw_feas::board::{Board, allowed, has_all_entries};
-use xw_words::bit_row::BitRow;
-use xw_words::letter_set::LetterSet;
+use xw_letters::letter_set::LetterSet;
 
 /// Marks the light, and lets it wait unless it was marked before.
 pub(crate) fn mark(marks: &mut [bool], stack: &mut Vec<usize>, light: usize)

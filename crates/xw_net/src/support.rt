@@ -1,16 +1,16 @@
 //! The words that support a letter at a place of a light.
 ghost use Rattle.std.specs.Prelude.{◌≡◌, ℕ, ◌+◌, ◌-◌, ◌*◌, ◌/◌, ◌^◌, ◌<◌, ◌≤◌, true, false, not, ◌&&◌, length, slice_index_or, IfSome, IfNone, MatchOption, if◌then◌else◌};
 ghost use Rattle.xw_words.specs.Columns.{has_letter};
-ghost use Rattle.xw_words.specs.Letter.{IsLetter};
-ghost use Rattle.xw_words.specs.LetterSet.{has};
+ghost use Rattle.xw_letters.specs.Letter.{IsLetter};
+ghost use Rattle.xw_letters.specs.LetterSet.{has};
 ghost use Rattle.xw_feas.specs.Flags.{set_has};
 ghost use Rattle.xw_net.specs.Region.{chunks_of};
 ghost use Rattle.xw_net.specs.Support.{supports, letter_count, Strikes, AreApart, Held, Finds, is_read_in, search_from, place_for};
 
 use crate::place::Place;
-use xw_words::bit_row::BitRow;
-use xw_words::letter::Letter;
-use xw_words::letter_set::LetterSet;
+use xw_bits::bit_row::BitRow;
+use xw_letters::letter::Letter;
+use xw_letters::letter_set::LetterSet;
 use xw_words::rows::Rows;
 
 /// The first word of the row, from a chunk on, that has the letter at the position.

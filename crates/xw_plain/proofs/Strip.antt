@@ -3,7 +3,7 @@ use Rattle.std.proofs.Common.{◌≡◌, ℕ, ◌+◌, ◌<◌, ◌≤◌, Bool,
 use Rattle.std.specs.Prelude.{IsTrue, Contains, slice_index, ◌↔◌}
 use Rattle.std.proofs.lemmas.Bool.{cases_eq, true≢false, and_parts, and_from}
 use Rattle.std.proofs.lemmas.List.{get_or-set_same, get_or-set_other, length-set, set-get_or}
-use Rattle.xw_words.specs.LetterSet.{has}
+use Rattle.xw_letters.specs.LetterSet.{has}
 use Rattle.xw_feas.specs.Flags.{standing_count, flag_at, set_has}
 use Rattle.xw_feas.specs.Board.{Board, light_at}
 use Rattle.xw_words.specs.Dictionary.{Dictionary}

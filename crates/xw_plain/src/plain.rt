@@ -1,6 +1,6 @@
 //! An engine that works out all answers anew at each edit.
 ghost use Rattle.std.specs.Prelude.{◌≡◌, ◌+◌, ◌<◌, length, [], None, Some, true, map, IfOk, IfErr, OnOk, OnErr, IsOkUnless, Ok, Err, if◌then◌else◌};
-ghost use Rattle.xw_words.specs.Letter.{folded};
+ghost use Rattle.xw_letters.specs.Letter.{folded};
 ghost use Rattle.xw_words.specs.Dictionary.{add_answer, IsNew, IsDictionary};
 ghost use Rattle.xw_grid.specs.Edit.{toggle_block as block_toggled, toggle_bar as bar_toggled};
 ghost use Rattle.xw_grid.specs.EditLaws.{SameShape};
@@ -35,9 +35,9 @@ use xw_grid::cell::{Cell, LightName, Side};
 use xw_grid::fault::GridFault;
 use xw_grid::grid::Grid;
 use xw_grid::lights::Lights;
+use xw_letters::letter_set::LetterSet;
+use xw_words::WordFault;
 use xw_words::bank::{Added, Bank};
-use xw_words::fault::WordFault;
-use xw_words::letter_set::LetterSet;
 
 /// Lets exactly the feasible words and letters of a grid stand.
 #[tactic(auto, using(xw_feas::proofs::FormedLemmas::formed_steps))]

@@ -10,8 +10,8 @@ use xw_feas::board::Board;
 use xw_grid::fault::GridFault;
 use xw_grid::grid::Grid;
 use xw_grid::lights::Lights;
+use xw_words::WordFault;
 use xw_words::bank::Bank;
-use xw_words::fault::WordFault;
 
 /// A row of flags for the choices of a light of some length, and one more where a word of a length is to be known.
 fn make_row(

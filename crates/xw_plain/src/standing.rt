@@ -4,7 +4,7 @@ ghost use Rattle.xw_feas.specs.Board.{agrees, allows, is_wholly_entered, spelled
 ghost use Rattle.xw_feas.specs.Known.{spellings};
 ghost use Rattle.xw_feas.specs.Choices.{choices, base_flags, HasLetters, SupportsLight, SupportsItself, IsExact};
 ghost use Rattle.xw_feas.specs.Flags.{flag_at, set_has, standing_count};
-ghost use Rattle.xw_words.specs.LetterSet.{has};
+ghost use Rattle.xw_letters.specs.LetterSet.{has};
 ghost use Rattle.xw_feas.specs.Standing.{HasRows, HasWordWith, KeepsLettersBelow, StripsUnsupported};
 ghost use Rattle.xw_feas.specs.Feasible.{may_stand, AreAnswers};
 ghost use Rattle.xw_feas.specs.AnswersOf.{answers_of};
@@ -12,9 +12,9 @@ ghost use Rattle.xw_feas.specs.WellFormed.{HasLetterEntries};
 
 use crate::flags::Flags;
 use xw_feas::board::{Board, Cells, allowed, has_all_entries};
+use xw_letters::letter::Letter;
+use xw_letters::letter_set::LetterSet;
 use xw_words::bank::Bank;
-use xw_words::letter::Letter;
-use xw_words::letter_set::LetterSet;
 
 /// Whether a letter agrees with an entry, if there is one.
 fn allowed_by(entry: Option<Letter>, letter: Letter) -> bool

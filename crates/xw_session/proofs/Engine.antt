@@ -2,7 +2,7 @@
 use Rattle.std.proofs.Common.{◌≡◌, ℕ, Bool, true, false, not, ◌≤◌, ◌<◌, List, [], ap, sym, ◌∙◌, refl, inl, inr, arith}
 use Rattle.std.proofs.lemmas.Bool.Decides.{nat_tests}
 use Rattle.std.specs.Prelude.{Option, flat_map, length, map, option_map, Some, None, Result, Ok, Err, IsOk, IfOk, IfErr, OnErr, if◌then◌else◌, nat_lt}
-use Rattle.xw_words.specs.LetterSet.{letters_in}
+use Rattle.xw_letters.specs.LetterSet.{letters_in}
 use Rattle.xw_grid.specs.declared.cell.Cell.{Cell}
 use Rattle.xw_grid.specs.Grid.{is_inside, is_block, index_of, cell_at}
 use Rattle.xw_feas.specs.Board.{board_of}

@@ -3,7 +3,7 @@ use Rattle.std.proofs.Common.{◌≡◌, ℕ, ◌+◌, ◌<◌, ◌≤◌, Bool,
 use Rattle.std.proofs.lemmas.Bool.Decides.{nat_tests}
 use Rattle.std.proofs.lemmas.List.{take_more_set, take_all}
 use Rattle.std.proofs.lemmas.List.Elements.{filter_more}
-use Rattle.xw_words.specs.Letter.{alphabet}
+use Rattle.xw_letters.specs.Letter.{alphabet}
 use Rattle.xw_commands.proofs.Passing.{each_passes}
 
 abbrev is_capital : ℕ → Bool

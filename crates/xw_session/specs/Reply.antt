@@ -1,9 +1,9 @@
 -- How a session replies to a command.
 use Rattle.std.specs.Prelude.{ℕ, Bool, not, List, [], ◌∷◌, map, take, length, flat_map, codes, option_map, Option, Some, None, Result, Ok, Err, if◌then◌else◌, nat_eq, nat_lt}
 use Rattle.std.specs.List.{list_any}
-use Rattle.xw_words.specs.declared.fault.WordFault.{WordFault}
-use Rattle.xw_words.specs.declared.fault.WordFault.TheVariants as words
-use Rattle.xw_words.specs.Letter.{letter_of}
+use Rattle.xw_bits.specs.declared.fault.WordFault.{WordFault}
+use Rattle.xw_bits.specs.declared.fault.WordFault.TheVariants as words
+use Rattle.xw_letters.specs.Letter.{letter_of}
 use Rattle.xw_words.specs.Dictionary.{matching_answer}
 use Rattle.xw_grid.specs.declared.cell.Cell.{Cell}
 use Rattle.xw_grid.specs.declared.cell.LightName.{LightName}

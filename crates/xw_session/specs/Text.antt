@@ -16,8 +16,8 @@ use Rattle.xw_feas.specs.State.{State as Position}
 use Rattle.xw_fill.specs.declared.listing.Duplicate.{Duplicate}
 use Rattle.xw_fill.specs.declared.suggesting.Suggestion.{Suggestion}
 use Rattle.xw_fill.specs.declared.suggesting.Suggestion.TheVariants as suggestions
-use Rattle.xw_words.specs.declared.fault.WordFault.{WordFault}
-use Rattle.xw_words.specs.declared.fault.WordFault.TheVariants as words
+use Rattle.xw_bits.specs.declared.fault.WordFault.{WordFault}
+use Rattle.xw_bits.specs.declared.fault.WordFault.TheVariants as words
 use Rattle.xw_commands.specs.declared.command.SyntaxFault.{SyntaxFault}
 use Rattle.xw_commands.specs.declared.command.SyntaxFault.TheVariants as syntax
 use Rattle.xw_session.specs.declared.refusal.Refusal.{Refusal}

@@ -3,7 +3,7 @@ ghost use Rattle.std.specs.Prelude.{◌≡◌, ◌+◌, ◌<◌, ◌≤◌, true
 ghost use Rattle.xw_session.specs.Text.{line_of};
 
 use std::marker::Model;
-use xw_words::Letter;
+use xw_letters::Letter;
 
 /// How many bytes are put together: a row of the largest grid has 510.
 const MOST: usize = 512;

@@ -5,7 +5,7 @@ ghost use Rattle.xw_session.specs.Text.{line_of};
 
 use crate::answer_line::AnswerLine;
 use xw_lines::device::{self, Sink, WriteFailed};
-use xw_words::Letter;
+use xw_letters::Letter;
 
 /// How many letters are put together to be written at once.
 const TOGETHER: usize = 64;

@@ -1,6 +1,6 @@
 //! The lines of answers.
 ghost use Rattle.std.specs.Prelude.{◌≡◌, ◌≤◌, ◌<◌, ◌^◌, ◌++◌, [], ◌∷◌, codes, map, decimal, length, slice_index_or};
-ghost use Rattle.xw_words.specs.LetterSet.{has, letters_in};
+ghost use Rattle.xw_letters.specs.LetterSet.{has, letters_in};
 ghost use Rattle.xw_grid.specs.Grid.{entry as entry_of};
 ghost use Rattle.xw_grid.specs.Light.{lights_of};
 ghost use Rattle.xw_feas.specs.Spelled.{spelling};
@@ -16,9 +16,9 @@ use std::marker::Model;
 use xw_feas::words::{Entries, Spelled};
 use xw_fill::listing::Duplicate;
 use xw_grid::{Cell, Direction, Grid, Light, LightName, Lights};
+use xw_letters::{Letter, LetterSet};
 use xw_lines::device::{self, Sink, WriteFailed};
 use xw_words::word::LONGEST;
-use xw_words::{Letter, LetterSet};
 
 /// The digits of a number, which take no memory.
 #[derive(Drop)]

@@ -15,7 +15,7 @@ use Rattle.xw_grid.specs.declared.cell.Side.{Side}
 use Rattle.xw_grid.specs.declared.cell.Side.TheVariants.{Right, Below}
 use Rattle.xw_grid.specs.declared.cell.Symmetry.{Symmetry}
 use Rattle.xw_grid.specs.declared.cell.Symmetry.TheVariants as kinds
-use Rattle.xw_words.proofs.Position.{position_is_some, position_is_none}
+use Rattle.xw_letters.proofs.Position.{position_is_some, position_is_none}
 use Rattle.xw_commands.specs.declared.command.SyntaxFault.{SyntaxFault}
 use Rattle.xw_commands.specs.declared.command.SyntaxFault.TheVariants as faults
 use Rattle.xw_commands.specs.Line.{is_blank, is_ink, is_digit, number_in, byte_in, first_place, trimmed_start, parted, first_word}

@@ -4,11 +4,11 @@ use Rattle.std.specs.Prelude.{Option, Result, Ok, Err, nat_eq, nat_le, nat_lt, p
 use Rattle.std.specs.Option.{option_and_then}
 use Rattle.std.proofs.lemmas.List.Folds.{list_any-append}
 use Rattle.std.proofs.lemmas.Option.{slice_get_within, get_or_from_slice_get}
-use Rattle.xw_words.specs.Letter.{folded, letter_of}
+use Rattle.xw_letters.specs.Letter.{folded, letter_of}
 use Rattle.xw_words.specs.Word.{is_bad_letter}
 use Rattle.xw_words.specs.Dictionary.{Dictionary, matching_answer, add_answer, strike_answer}
-use Rattle.xw_words.specs.declared.fault.WordFault.{WordFault}
-use Rattle.xw_words.specs.declared.fault.WordFault.TheVariants as faults
+use Rattle.xw_bits.specs.declared.fault.WordFault.{WordFault}
+use Rattle.xw_bits.specs.declared.fault.WordFault.TheVariants as faults
 use Rattle.xw_grid.specs.declared.cell.Cell.{Cell}
 use Rattle.xw_grid.specs.declared.cell.Direction.{Direction}
 use Rattle.xw_grid.specs.declared.cell.Direction.TheVariants.{Across, Down}

@@ -6,7 +6,7 @@ use Rattle.std.proofs.lemmas.Bool.{eqb-false, eq-eqb}
 use Rattle.std.proofs.lemmas.List.{take_all, take_more, reverse-append}
 use Rattle.std.proofs.lemmas.List.FromFn.{get_or-range_with_len, length-range_with_len}
 use Rattle.std.proofs.lemmas.Grind.{flat_map-append}
-use Rattle.xw_words.proofs.Position.{position_is_some}
+use Rattle.xw_letters.proofs.Position.{position_is_some}
 use Rattle.xw_lines.specs.Cut.{HasNoLf}
 use Rattle.xw_commands.specs.Line.{is_ink, first_place, trimmed_start, trimmed_end, trimmed}
 use Rattle.xw_session.specs.Escape.{letter_for, escaped, is_end, spelled_at, escaped_text}

@@ -9,14 +9,14 @@ use Rattle.std.proofs.lemmas.Bool.Decides.{nat_tests}
 use Rattle.std.proofs.lemmas.List.{take_more, take_all, length-take-le, length-take, length-drop, get_or-take, length-map, set-set, set-get_or, map-append, get_or-map, get_or-drop, same_lists}
 use Rattle.std.proofs.lemmas.List.FromFn.{get_or-range_with_len, length-range_with_len, get_or-map-range_with_len}
 use Rattle.std.proofs.lemmas.Slice.Eq.{bytes_eq-Decides}
-use Rattle.xw_words.specs.declared.fault.WordFault.{WordFault}
-use Rattle.xw_words.specs.declared.fault.WordFault.TheVariants.{Length, Full, Unknown}
+use Rattle.xw_bits.specs.declared.fault.WordFault.{WordFault}
+use Rattle.xw_bits.specs.declared.fault.WordFault.TheVariants.{Length, Full, Unknown}
 use Rattle.xw_words.specs.declared.bank.Added.{Added}
 use Rattle.xw_words.specs.declared.bank.Added.TheVariants.{New}
-use Rattle.xw_words.specs.Letter.{IsLetter, folded}
+use Rattle.xw_letters.specs.Letter.{IsLetter, folded}
 use Rattle.xw_words.specs.Word.{is_bad_letter, word_of, judged}
 use Rattle.xw_words.specs.Dictionary.{Dictionary, Entry, AreWords, IsDictionary, row, no_entry, entry_at, place_in, most_words, marked, added_at, add_to, add_answer, after_add, struck_at, strike_from, strike_answer, after_strike, answer_on}
-use Rattle.xw_words.proofs.Position.{position_is_some, position_is_none}
+use Rattle.xw_letters.proofs.Position.{position_is_some, position_is_none}
 use Rattle.xw_feas.specs.State.{answered, with_words as with_dictionary}
 use Rattle.xw_commands.specs.declared.command.Command.{Command}
 use Rattle.xw_commands.specs.declared.command.Command.TheVariants.{Add, Strike}

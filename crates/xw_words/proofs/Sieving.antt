@@ -1,19 +1,14 @@
 -- Words that have one of several letters at a position.
-use Rattle.std.proofs.Common.{◌≡◌, ℕ, ◌+◌, ◌-◌, ◌*◌, ◌<◌, ◌≤◌, Bool, true, false, not, ◌&&◌, ◌||◌, eqb, ltb, max, map, List, length, get_or, refl, sym, ap, ◌∙◌, subst, inl, inr, arith, zero, suc, bit_or, ◌/◌, ◌%◌, Fits, w64}
+use Rattle.std.proofs.Common.{◌≡◌, ℕ, ◌+◌, ◌-◌, ◌*◌, ◌<◌, ◌≤◌, Bool, true, false, ◌&&◌, ◌||◌, eqb, ltb, max, refl, sym, ap, ◌∙◌, subst, inl, inr, arith, zero, suc, bit_or, ◌/◌, ◌%◌}
 use Rattle.std.specs.Prelude.{Option, Some, None}
-use Rattle.std.specs.Int.{bit_at, bit_not}
-use Rattle.std.specs.Simd.Lanes.{Each1}
-use Rattle.std.proofs.lemmas.Simd.{Each1-get_or}
-use Rattle.std.proofs.lemmas.List.{get_or_default, length-map}
-use Rattle.std.proofs.Math.ListN.{get_or-map}
-use Rattle.xw_words.proofs.BitLemmas.{has_bit-not}
+use Rattle.std.specs.Int.{bit_at}
 use Rattle.std.proofs.lemmas.Nat.Bits.{bit_at_or, bit_at-lt}
 use Rattle.std.proofs.lemmas.Bool.{cases_lt, cases_eq, cases_Bool, and_parts, and_right, eq-eqb, ne_eqb, lt-ltb, le-ltb}
-use Rattle.xw_words.specs.Bits.{has_bit}
-use Rattle.xw_words.specs.Letter.{is_capital}
-use Rattle.xw_words.specs.LetterSet.{has}
+use Rattle.xw_bits.specs.Bits.{has_bit}
+use Rattle.xw_letters.specs.Letter.{is_capital}
+use Rattle.xw_letters.specs.LetterSet.{has}
 use Rattle.xw_words.specs.Columns.{is_among, letter_is}
-use Rattle.xw_words.proofs.LetterSetLemmas.{capital_is_letter}
+use Rattle.xw_letters.proofs.LetterSetLemmas.{capital_is_letter}
 
 -- whether there is a letter, before a place of the alphabet, and a set has it
 abbrev pub is_among_first : ℕ → ℕ → Option ℕ → Bool
@@ -106,12 +101,6 @@ pub in_chunk : (P : ℕ → Type 0) (at : ℕ) → ((k : ℕ) → k < 64 → P (
 in_chunk P at each i low high =
     let is : 64 * at + (i - 64 * at) ≡ i = omega (arith, low) in
     subst P is (each (i - 64 * at) (omega (arith, high, low)))
-
-pub block_not : (words : List ℕ) (chunk k : ℕ) → length words ≡ 8 → Each1 (Fits w64) words → chunk < 8 → k < 64 → has_bit (get_or (map (bit_not w64) words) chunk 0) k ≡ not (has_bit (get_or words chunk 0) k)
-block_not words chunk k eight fit in_words lt =
-    let within : chunk < length words = omega (arith, eight) in
-    ap (λ w. has_bit w k) (get_or_default (map (bit_not w64) words) chunk 0 (bit_not w64 0) (omega (arith, eight, length-map words (bit_not w64))) ∙ get_or-map (bit_not w64) words chunk 0)
-    ∙ has_bit-not (get_or words chunk 0) k (Each1-get_or (Fits w64) words chunk 0 within fit).fits lt
 
 -- what lacks a bit lacks it after sifting
 pub none_stays : (new old other : Bool) → new ≡ old → old ≡ false → new ≡ (old && other)

@@ -1,20 +1,20 @@
 //! The dictionary.
 ghost use Rattle.std.specs.Prelude.{◌≡◌, ◌≢◌, ℕ, ◌+◌, ◌*◌, ◌<◌, ◌≤◌, Bool, true, false, [], map, replicate, length, Ok, Err, None, All, IsOk, IfErr, IfOk, IfSome, IfNone, OnOk, OnErr, IsOkUnless, position, vec_len};
-ghost use Rattle.xw_words.specs.Letter.{folded, IsLetter};
+ghost use Rattle.xw_letters.specs.Letter.{folded, IsLetter};
 ghost use Rattle.xw_words.specs.Dictionary.{row as words_of, entry_at, place_of, add_answer, after_add, strike_answer, after_strike, IsNew, IsDictionary, matching_answer, reserve_answer, most_words};
 ghost use Rattle.xw_words.specs.Bank.{has_room, IsKept, KeepsRoom, KeepsOtherRoom};
 ghost use Rattle.xw_words.specs.Word.{is_bad_letter};
-ghost use Rattle.xw_words.specs.Bits.{has_bit};
+ghost use Rattle.xw_bits.specs.Bits.{has_bit};
 ghost use Rattle.xw_words.specs.Columns.{has_letter, has_one_of, is_active as word_is_active, IsColumn, AreColumns};
 
-use crate::bit_row::BitRow;
-use crate::fault::WordFault;
-use crate::letter::{Letter, are_letters};
 use crate::matching::Matching;
 use crate::row::{MOST_WORDS, Row};
 use crate::word::{judge_length, judge_pattern, judge_word};
 use std::alloc::{AllocError, Global};
 use std::marker::Model;
+use xw_bits::bit_row::BitRow;
+use xw_bits::fault::WordFault;
+use xw_letters::letter::{Letter, are_letters};
 
 /// What adding a word did, with its place among the words of its length.
 #[derive(Clone, Copy, Debug, PartialEq, Eq)]

@@ -3,10 +3,10 @@ ghost use Rattle.std.specs.Prelude.{◌≡◌, ℕ, ◌+◌, ◌*◌, ◌/◌, �
 ghost use Rattle.xw_words.specs.Columns.{column_at, bit_in};
 ghost use Rattle.xw_words.specs.Dictionary.{most_words};
 
-use crate::bit_row::{BitRow, MAX_BITS};
-use crate::fault::WordFault;
-use crate::letter::Letter;
 use std::alloc::{AllocError, Global};
+use xw_bits::bit_row::{BitRow, MAX_BITS};
+use xw_bits::fault::WordFault;
+use xw_letters::letter::Letter;
 
 /// How many letters there are, and so columns for each position.
 pub(crate) const LETTERS: usize = 26;

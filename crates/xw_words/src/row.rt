@@ -1,20 +1,20 @@
 //! The known words of one length.
-ghost use Rattle.xw_words.specs.Bits.{has_bit};
+ghost use Rattle.xw_bits.specs.Bits.{has_bit};
 ghost use Rattle.xw_words.specs.Columns.{has_letter, has_one_of, is_active, AreFits, IsColumn, AreColumns};
 ghost use Rattle.std.specs.Prelude.{◌≡◌, ℕ, ◌+◌, ◌*◌, ◌<◌, ◌≤◌, ◌||◌, ◌==◌, Bool, true, false, None, [], ◌∷◌, ◌++◌, length, take, map, position, OnOk, OnErr, IfOk, IfErr, IfSome, IfNone, ◌≢◌, vec_len, vec_capacity};
 ghost use Rattle.xw_words.specs.Dictionary.{entry_at, marked, place_in, add_to, added_at, with_added, strike_from, IsNew, most_words};
-ghost use Rattle.xw_words.specs.Letter.{folded};
+ghost use Rattle.xw_letters.specs.Letter.{folded};
 ghost use Rattle.xw_words.specs.Word.{is_bad_letter, is_bad_in_pattern};
 
 use crate::bank::Added;
-use crate::bit_row::BitRow;
 use crate::columns::{LETTERS, grow_columns, push_word};
-use crate::fault::WordFault;
 use crate::index::Index;
-use crate::letter::Letter;
 use crate::word::{LONGEST, spell};
 use std::alloc::Global;
 use std::marker::Model;
+use xw_bits::bit_row::BitRow;
+use xw_bits::fault::WordFault;
+use xw_letters::letter::Letter;
 
 /// How many words of one length can be known.
 pub const MOST_WORDS: usize = 1048576;

@@ -1,14 +1,14 @@
 //! The words of a row that have one of several letters at a position, a block of chunks after another.
 ghost use Rattle.std.specs.Prelude.{◌≡◌, ℕ, ◌+◌, ◌*◌, ◌/◌, ◌<◌, ◌≤◌, Bool, true, false, List, ◌&&◌, length, slice_index, slice_index_or};
-ghost use Rattle.xw_words.specs.Bits.{has_bit};
+ghost use Rattle.xw_bits.specs.Bits.{has_bit};
 ghost use Rattle.xw_words.specs.Columns.{column_at, AreColumns, has_one_of, stays};
 ghost use Rattle.xw_words.specs.Dictionary.{Entry};
 ghost use Rattle.xw_words.specs.Rows.{chunks_in};
 
-use crate::bit_row::BitRow;
-use crate::kernels::either_block;
-use crate::letter_set::LetterSet;
 use std::simd::prelude::*;
+use xw_bits::bit_row::BitRow;
+use xw_bits::kernels::either_block;
+use xw_letters::letter_set::LetterSet;
 
 /// How many chunks are read at once.
 const BLOCK: usize = 8;

@@ -1,10 +1,10 @@
 //! Words and patterns as they are handed in.
 ghost use Rattle.std.specs.Prelude.{map, take, None, ◌≡◌, ℕ, length, position, IfSome, ◌<◌, ◌≤◌};
-ghost use Rattle.xw_words.specs.Letter.{is_letter as is_letter_byte, folded};
+ghost use Rattle.xw_letters.specs.Letter.{is_letter as is_letter_byte, folded};
 ghost use Rattle.xw_words.specs.Word.{judged, is_bad_letter, is_bad_in_pattern};
 
-use crate::fault::WordFault;
-use crate::letter::Letter;
+use xw_bits::fault::WordFault;
+use xw_letters::letter::Letter;
 
 /// The shortest word.
 const SHORTEST: usize = 2;

@@ -8,7 +8,7 @@ use crate::feas::{ALL, Case, Step, WHOLE_SQUARE, pass, pass_each};
 use xw_feas::edit::{Edit, Found, Refusal};
 use xw_feas::feasible::run;
 use xw_grid::cell::{Side, Symmetry};
-use xw_words::letter::Letter;
+use xw_letters::letter::Letter;
 
 const ONE_ENTRY: &[Step] = &[
     Told(Set(1, 2, b'T'), &[(1, 2, b"T")]),

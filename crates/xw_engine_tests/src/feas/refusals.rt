@@ -6,7 +6,7 @@ use crate::feas::{Case, Step, pass_each};
 use xw_feas::edit::Refusal;
 use xw_grid::cell::{Side, Symmetry};
 use xw_grid::fault::GridFault;
-use xw_words::fault::WordFault;
+use xw_words::WordFault;
 
 const OUTSIDE: Refusal = Refusal::Grid(GridFault::OutOfGrid);
 

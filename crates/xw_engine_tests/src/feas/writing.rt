@@ -7,8 +7,8 @@ use xw_feas::edit::{Edit, Refusal};
 use xw_feas::feasible::Feasible;
 use xw_grid::cell::Cell;
 use xw_grid::fault::GridFault;
+use xw_letters::letter::Letter;
 use xw_plain::plain::Plain;
-use xw_words::letter::Letter;
 
 /// Cells by row and column, each with a letter by its byte, or with none.
 type List = &'static [(u32, u32, Option<u8>)];

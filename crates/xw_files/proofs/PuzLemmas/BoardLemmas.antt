@@ -2,7 +2,7 @@
 use Rattle.std.proofs.Common.{◌≡◌, ℕ, zero, suc, ◌+◌, Bool, true, false, cond, List, [], ◌∷◌, length, nat_eq, refl, sym, ap, ◌∙◌, subst, arith, Ok}
 use Rattle.std.specs.Prelude.{Option, Some, None, option_map, All}
 use Rattle.std.proofs.lemmas.Bool.Decides.{nat_tests}
-use Rattle.xw_words.specs.Letter.{IsLetter, is_letter, folded, letter_of}
+use Rattle.xw_letters.specs.Letter.{IsLetter, is_letter, folded, letter_of}
 use Rattle.xw_grid.specs.Grid.{IsSquare}
 use Rattle.xw_grid.specs.declared.cell.Square.TheVariants.{Block, Open}
 use Rattle.xw_grid.specs.declared.cell.Square.{Square}

@@ -11,7 +11,7 @@ use Rattle.std.proofs.lemmas.List.Quantifiers.{position-Some}
 use Rattle.std.proofs.lemmas.Option.{cond_some}
 use Rattle.std.proofs.lemmas.Fmt.{decimal_is_IsNumeral, length-decimal-le}
 use Rattle.std.proofs.lemmas.Str.Parse.{digit_from_value}
-use Rattle.xw_words.proofs.Position.{position_is_some}
+use Rattle.xw_letters.proofs.Position.{position_is_some}
 use Rattle.xw_files.specs.Text.Lines.{is_blank, trimmed, trim_front, trim_back, before}
 use Rattle.xw_files.specs.Text.Shape.{is_numeral, is_side, side_of, is_times, both, sides_around, sides_of}
 use Rattle.xw_files.specs.Text.Relation.{AreDigitsOf, IsSizeLine}

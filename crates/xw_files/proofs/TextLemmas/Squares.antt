@@ -5,8 +5,8 @@ use Rattle.std.proofs.lemmas.Bool.{ne_eqb}
 use Rattle.std.proofs.lemmas.Bool.Decides.{nat_tests}
 use Rattle.std.proofs.lemmas.List.{take_more, take_all, map_push}
 use Rattle.std.proofs.lemmas.Option.{cond_some}
-use Rattle.xw_words.specs.Letter.{IsLetter, is_letter, folded, letter_of}
-use Rattle.xw_words.proofs.Position.{position_is_some, position_is_none}
+use Rattle.xw_letters.specs.Letter.{IsLetter, is_letter, folded, letter_of}
+use Rattle.xw_letters.proofs.Position.{position_is_some, position_is_none}
 use Rattle.xw_grid.specs.declared.cell.Square.{Square}
 use Rattle.xw_grid.specs.declared.cell.Square.TheVariants.{Block, Open}
 use Rattle.xw_grid.specs.Grid.{IsSquare}

@@ -1,6 +1,6 @@
 -- What a file's parts make of a puzzle, or their first fault.
 use Rattle.std.specs.Prelude.{ℕ, ◌+◌, ◌==◌, nat_lt, List, [], ◌∷◌, length, Option, Some, None, option_map, Result, Ok, Err, if◌then◌else◌}
-use Rattle.xw_words.specs.Letter.{letter_of}
+use Rattle.xw_letters.specs.Letter.{letter_of}
 use Rattle.xw_grid.specs.declared.cell.Square.{Square}
 use Rattle.xw_grid.specs.declared.cell.Square.TheVariants.{Block, Open}
 use Rattle.xw_grid.specs.declared.lights.Light.{Light}

@@ -9,7 +9,7 @@ use crate::puz::header::{self, HEADER_LENGTH, Header};
 use std::alloc::Global;
 use xw_grid::cell::{Cell, Square};
 use xw_grid::grid::Grid;
-use xw_words::letter::Letter;
+use xw_letters::letter::Letter;
 
 /// The square that a byte stands for.
 fn square_of(byte: u8) -> Option<Square>

@@ -21,7 +21,7 @@ use xw_grid::circles::Circles;
 use xw_grid::clues::Clues;
 use xw_grid::grid::{Grid, LONGEST_SIDE};
 use xw_grid::lights::begins;
-use xw_words::letter::Letter;
+use xw_letters::letter::Letter;
 
 #[tactic(auto, unfolding(crate::specs::Text::Shape::header_at))]
 pub(super) fn header(lines: &mut TextLines<'_>) -> Result<(), ReadFault>

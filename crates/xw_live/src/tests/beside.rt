@@ -24,11 +24,11 @@ use xw_feas::write::write;
 use xw_grid::cell::Cell;
 use xw_grid::grid::Grid;
 use xw_grid::lights::Lights;
+use xw_letters::letter::Letter;
 use xw_net::change::Change;
 use xw_net::net::Net;
 use xw_words::bank::{Added, Bank};
 use xw_words::counted::Counted;
-use xw_words::letter::Letter;
 use xw_words::rows::Rows;
 
 /// A grid, a dictionary, and a net with the answers for them.

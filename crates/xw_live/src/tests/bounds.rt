@@ -5,7 +5,7 @@ use crate::tests::{ACROSS_1, ACROSS_3, Case, DOWN_1, DOWN_2, SQUARE, Start, Step
 use xw_feas::edit::Refusal;
 use xw_grid::cell::Symmetry;
 use xw_grid::fault::GridFault;
-use xw_words::fault::WordFault;
+use xw_words::WordFault;
 
 /// Two blocks part a grid into two squares.
 const SIDE_BY_SIDE: Start = Start {

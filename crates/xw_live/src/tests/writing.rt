@@ -8,7 +8,7 @@ use xw_feas::edit::{Edit, Refusal};
 use xw_feas::feasible::Feasible;
 use xw_grid::cell::Cell;
 use xw_grid::fault::GridFault;
-use xw_words::letter::Letter;
+use xw_letters::letter::Letter;
 
 /// Cells by row and column, each with a letter by its byte, or with none.
 type List = &'static [(u32, u32, Option<u8>)];

@@ -7,7 +7,7 @@ use xw_grid::cell::{Cell, Direction, Side, Symmetry};
 use xw_grid::circles::Circles;
 use xw_grid::clues::Clues;
 use xw_grid::grid::Grid;
-use xw_words::letter::Letter;
+use xw_letters::letter::Letter;
 
 /// What a puzzle has, as a table spells it: a cell by row and column.
 #[derive(Clone, Copy)]

@@ -20,7 +20,8 @@ use xw_feas::feasible::Feasible;
 use xw_grid::{Side, Symmetry};
 use xw_lines::device::{Sink, WriteFailed};
 use xw_lines::outcome::Step;
-use xw_words::{Letter, WordFault};
+use xw_letters::Letter;
+use xw_words::WordFault;
 
 /// With the watch on writes the cells that changed.
 fn tell_changes<W: Sink>(

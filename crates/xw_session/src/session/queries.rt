@@ -1,6 +1,6 @@
 //! Queries answered: what a session knows, and what its engine and the search say.
 ghost use Rattle.std.specs.Prelude.{◌≡◌, ℕ, Err, ◌∷◌, [], length, IfOk, IfErr, IfSome, IfNone, Some, None, codes, decimal, ◌++◌};
-ghost use Rattle.xw_words.specs.LetterSet.{letters_in};
+ghost use Rattle.xw_letters.specs.LetterSet.{letters_in};
 ghost use Rattle.xw_grid.specs.Grid.{index_of};
 ghost use Rattle.xw_grid.specs.Light.{lights_of, place_named};
 ghost use Rattle.xw_fill.specs.Position.{position_of};
@@ -24,9 +24,9 @@ use xw_fill::listing::{duplicates, unlisted};
 use xw_fill::search::{Filling, fill};
 use xw_fill::suggesting::{Suggestion, suggest};
 use xw_grid::{Direction, LightName};
+use xw_letters::{Letter, LetterSet};
 use xw_lines::device::{Sink, WriteFailed};
 use xw_lines::outcome::Step;
-use xw_words::{Letter, LetterSet};
 
 /// Writes how many words there are, and then as many of them as are asked for.
 fn write_counted<E: Feasible, W: Sink>(

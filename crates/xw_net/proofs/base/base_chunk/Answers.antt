@@ -1,7 +1,7 @@
 use Rattle.std.proofs.Common.{◌+◌, ◌*◌, ◌&&◌, not, length, sym, ap, ◌∙◌}
 use Rattle.xw_words.specs.Dictionary.{entry_at}
 use Rattle.xw_feas.specs.Board.{agrees}
-use Rattle.xw_words.proofs.BitLemmas.{has_bit-none}
+use Rattle.xw_bits.proofs.BitLemmas.{has_bit-none}
 use Rattle.xw_net.proofs.base.base_chunk.Goals as goal
 
 pub returns-then-entered-clause-words : goal.returns-then-entered-clause-words

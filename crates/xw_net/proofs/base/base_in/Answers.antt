@@ -1,8 +1,8 @@
 use Rattle.std.proofs.Common.{◌≡◌, ◌+◌, ◌*◌, ◌&&◌, false, length, get_or, sym, ap, ◌∙◌, arith}
-use Rattle.xw_words.specs.Bits.{has_bit}
+use Rattle.xw_bits.specs.Bits.{has_bit}
 use Rattle.xw_words.specs.Dictionary.{entry_at}
 use Rattle.xw_words.specs.Columns.{is_active}
-use Rattle.xw_words.proofs.BitLemmas.{has_bit-and, has_bit-none}
+use Rattle.xw_bits.proofs.BitLemmas.{has_bit-and, has_bit-none}
 use Rattle.xw_feas.specs.Board.{entry}
 use Rattle.xw_net.specs.Base.{has_entry}
 use Rattle.xw_net.proofs.BaseLemmas.{base_so_far, base_first, base_more, base_all, base_never}

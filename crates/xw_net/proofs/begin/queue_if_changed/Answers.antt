@@ -2,7 +2,7 @@ use Rattle.std.proofs.Common.{◌≡◌, ◌<◌, ℕ, length, get_or, sym, ap, 
 use Rattle.std.specs.Prelude.{Bool, List, Option}
 use Rattle.std.proofs.lemmas.Bool.{both_ways}
 use Rattle.std.proofs.lemmas.List.{get_or_default}
-use Rattle.xw_words.specs.Bits.{RowOfBits}
+use Rattle.xw_bits.specs.Bits.{RowOfBits}
 use Rattle.xw_net.specs.Begin.{has_changed}
 use Rattle.xw_net.specs.Room.{no_row}
 use Rattle.xw_net.specs.Spread.{bits_in}

@@ -1,8 +1,8 @@
 use Rattle.std.proofs.Common.{◌≡◌, ℕ, ◌+◌, ◌-◌, ◌*◌, ◌<◌, true, false, length, get_or, set, sym, ◌∙◌, ap, subst, inl, inr, arith, length-set}
 use Rattle.std.proofs.lemmas.Bool.{cases_eq, cases_lt, both_ways}
-use Rattle.xw_words.specs.LetterSet.{has}
-use Rattle.xw_words.specs.Letter.{is_capital}
-use Rattle.xw_words.proofs.LetterSetLemmas.{capital_is_letter, has-none}
+use Rattle.xw_letters.specs.LetterSet.{has}
+use Rattle.xw_letters.specs.Letter.{is_capital}
+use Rattle.xw_letters.proofs.LetterSetLemmas.{capital_is_letter, has-none}
 use Rattle.xw_feas.specs.Flags.{set_has}
 use Rattle.xw_net.specs.Marks.{IsPlace, slot_at}
 use Rattle.xw_net.specs.Forget.{cut}

@@ -1,5 +1,5 @@
 use Rattle.std.proofs.Common.{◌≡◌, ℕ, ◌+◌, ◌-◌, ◌*◌, ◌<◌, ◌≤◌, true, false, length, get_or}
-use Rattle.xw_words.specs.Letter.{is_capital}
+use Rattle.xw_letters.specs.Letter.{is_capital}
 use Rattle.xw_feas.specs.Board.{light_at}
 use Rattle.xw_feas.specs.Flags.{set_has}
 use Rattle.xw_net.specs.Marks.{IsPlace, slot_at}

@@ -1,8 +1,8 @@
 use Rattle.std.proofs.Common.{◌≡◌, ◌*◌, ◌/◌, ◌%◌, ◌+◌, ◌&&◌, false, length, get_or, sym, ap, ◌∙◌, inl, inr, arith}
 use Rattle.std.proofs.lemmas.Bool.{cases_lt}
 use Rattle.std.proofs.lemmas.List.{get_or_past}
-use Rattle.xw_words.specs.Bits.{has_bit}
-use Rattle.xw_words.proofs.BitLemmas.{has_bit-and}
+use Rattle.xw_bits.specs.Bits.{has_bit}
+use Rattle.xw_bits.proofs.BitLemmas.{has_bit-and}
 use Rattle.xw_net.proofs.Narrowed.{chunk_narrowed}
 use Rattle.xw_net.proofs.narrow.narrow_at.Goals as goal
 

@@ -1,6 +1,6 @@
 use Rattle.std.proofs.Common.{◌≡◌, ℕ, ◌+◌, ◌-◌, ◌*◌, ◌/◌, false, not, ◌&&◌, eqb, get_or, length, set, refl, sym, ap, ◌∙◌, arith}
 use Rattle.std.proofs.lemmas.List.{get_or_default, length-set}
-use Rattle.xw_words.specs.LetterSet.{has}
+use Rattle.xw_letters.specs.LetterSet.{has}
 use Rattle.xw_feas.specs.Flags.{set_has}
 use Rattle.xw_net.specs.Support.{Held, place_for, search_from}
 use Rattle.xw_net.specs.Support.Finds.{moves}

@@ -1,6 +1,6 @@
 use Rattle.std.proofs.Common.{◌≡◌, ◌≤◌, ◌*◌, false, length, get_or, sym, ap, arith}
 use Rattle.std.proofs.Math.Nat.{mul-le-mul_right}
-use Rattle.xw_words.specs.LetterSet.{letters_in}
+use Rattle.xw_letters.specs.LetterSet.{letters_in}
 use Rattle.xw_net.specs.Region.{chunks_of}
 use Rattle.xw_net.specs.Support.{letter_count}
 use Rattle.xw_net.proofs.Sums.{letter_count-is}

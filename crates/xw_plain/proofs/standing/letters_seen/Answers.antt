@@ -1,7 +1,7 @@
 use Rattle.std.proofs.Common.{sym, ◌∙◌, ap, arith}
 use Rattle.std.proofs.lemmas.Bool.{false≢true}
-use Rattle.xw_words.specs.LetterSet.{has}
-use Rattle.xw_words.proofs.LetterSetLemmas.{has-none}
+use Rattle.xw_letters.specs.LetterSet.{has}
+use Rattle.xw_letters.proofs.LetterSetLemmas.{has-none}
 use Rattle.xw_plain.proofs.standing.letters_seen.Goals as goal
 
 pub loop-choice-init : goal.loop-choice-init

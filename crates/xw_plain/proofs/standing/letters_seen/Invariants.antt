@@ -1,6 +1,6 @@
 use Rattle.std.proofs.Common.{◌≡◌, ℕ, ◌<◌, false, get_or, []}
 use Rattle.std.specs.Prelude.{IsTrue}
-use Rattle.xw_words.specs.LetterSet.{has}
+use Rattle.xw_letters.specs.LetterSet.{has}
 use Rattle.xw_feas.specs.Choices.{choices}
 use Rattle.xw_plain.proofs.standing.letters_seen.Given as goal
 

@@ -1,7 +1,7 @@
 use Rattle.std.proofs.Common.{◌≡◌, ℕ, ◌<◌, get_or, [], Some}
 use Rattle.xw_feas.specs.Flags.{set_has}
 use Rattle.xw_feas.specs.Board.{light_at, entry}
-use Rattle.xw_words.specs.Letter.{IsLetter}
+use Rattle.xw_letters.specs.Letter.{IsLetter}
 use Rattle.xw_feas.specs.Feasible.{may_stand}
 use Rattle.xw_feas.specs.Choices.{base_flags}
 use Rattle.xw_feas.specs.Standing.{HasRows}

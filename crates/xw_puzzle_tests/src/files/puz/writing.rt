@@ -14,7 +14,7 @@ use xw_files::kind::Kind;
 use xw_files::puz::write_puz;
 use xw_files::puzzle::Puzzle;
 use xw_grid::cell::{Cell, Direction, Side};
-use xw_words::letter::Letter;
+use xw_letters::letter::Letter;
 
 const OUTSIDE: &[Part] = &[
     Clue(2, 2, Direction::Across, b"\0"),

@@ -1,6 +1,6 @@
 use Rattle.std.proofs.lemmas.Result.{err_from_is_err_and}
 use Rattle.std.proofs.Common.{ap}
-use Rattle.xw_words.specs.LetterSet.{letters_in}
+use Rattle.xw_letters.specs.LetterSet.{letters_in}
 use Rattle.xw_feas.specs.Changes.{spelled_out}
 use Rattle.xw_session.specs.Text.{change_line}
 use Rattle.xw_lines.proofs.SendsLemmas.{next_stops}

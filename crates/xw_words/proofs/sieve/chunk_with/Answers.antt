@@ -1,10 +1,10 @@
 use Rattle.std.proofs.Common.{◌≡◌, ◌+◌, ◌*◌, ◌<◌, ◌||◌, false, length, get_or, sym, ap, ◌∙◌, subst, arith}
 use Rattle.std.specs.Prelude.{slice_get}
 use Rattle.std.proofs.lemmas.List.{get_or_default}
-use Rattle.xw_words.specs.Bits.{RowOfBits, has_bit}
+use Rattle.xw_bits.specs.Bits.{RowOfBits, has_bit}
 use Rattle.xw_words.specs.Columns.{column_at, no_column}
 use Rattle.xw_words.specs.Dictionary.{entry_at}
-use Rattle.xw_words.proofs.BitLemmas.{has_bit-none}
+use Rattle.xw_bits.proofs.BitLemmas.{has_bit-none}
 use Rattle.xw_words.proofs.Sieving.{is_among_first, among_none, among_next, among_all, has_bit-or}
 use Rattle.xw_words.proofs.sieve.chunk_with.Goals as goal
 

@@ -1,6 +1,6 @@
 use Rattle.std.proofs.Common.{◌≡◌, ◌≤◌, ◌<◌, ◌+◌, ◌-◌, ◌*◌, ℕ, List}
 use Rattle.std.specs.Prelude.{slice_get}
-use Rattle.xw_words.specs.Bits.{has_bit}
+use Rattle.xw_bits.specs.Bits.{has_bit}
 use Rattle.xw_words.specs.Columns.{AreColumns}
 use Rattle.xw_words.specs.Dictionary.{Entry, entry_at}
 use Rattle.xw_words.proofs.Sieving.{is_among_first}

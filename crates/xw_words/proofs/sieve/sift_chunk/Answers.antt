@@ -2,9 +2,9 @@ use Rattle.std.proofs.Common.{◌≡◌, ◌+◌, ◌*◌, ◌&&◌, not, false,
 use Rattle.std.specs.Int.{bit_not}
 use Rattle.std.proofs.lemmas.Bool.{cases_lt}
 use Rattle.std.proofs.lemmas.List.{get_or_past}
-use Rattle.xw_words.specs.Bits.{has_bit}
+use Rattle.xw_bits.specs.Bits.{has_bit}
 use Rattle.xw_words.specs.Columns.{has_one_of, stays}
-use Rattle.xw_words.proofs.BitLemmas.{has_bit-and, has_bit-not, has_bit-none}
+use Rattle.xw_bits.proofs.BitLemmas.{has_bit-and, has_bit-not, has_bit-none}
 use Rattle.xw_words.proofs.Sieving.{in_chunk, none_stays}
 use Rattle.xw_words.proofs.sieve.sift_chunk.Goals as goal
 

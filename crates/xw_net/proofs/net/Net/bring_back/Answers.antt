@@ -9,7 +9,7 @@ use Rattle.xw_net.specs.Marks.{Marks}
 use Rattle.xw_net.specs.Nets.{marks_of, letter_stands, queued_in}
 use Rattle.xw_net.specs.Spread.{is_marked, bits_in, none_waits, no_places, Lit, IsLit, IsSpread, IsReachClosed, IsListed}
 use Rattle.xw_net.specs.Brought.{IsBrought, IsBase}
-use Rattle.xw_words.specs.Bits.{RowOfBits}
+use Rattle.xw_bits.specs.Bits.{RowOfBits}
 use Rattle.xw_words.specs.Dictionary.{Dictionary}
 use Rattle.xw_net.proofs.NetLemmas.{waiting_within, lit_of, lit_same, brought_from}
 use Rattle.xw_net.proofs.Brought.{brought_is_revival, brought_covers, brought_ready, region_reach_closed}

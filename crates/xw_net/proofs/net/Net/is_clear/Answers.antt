@@ -1,8 +1,8 @@
 use Rattle.std.proofs.Common.{◌≡◌, ◌==◌, get_or, sym, ap, ◌∙◌, arith}
 use Rattle.std.proofs.lemmas.Bool.{eqb-true}
 use Rattle.std.proofs.lemmas.List.{get_or_default}
-use Rattle.xw_words.specs.LetterSet.{has}
-use Rattle.xw_words.proofs.LetterSetLemmas.{has-none}
+use Rattle.xw_letters.specs.LetterSet.{has}
+use Rattle.xw_letters.proofs.LetterSetLemmas.{has-none}
 use Rattle.xw_net.specs.Nets.{pending_in}
 use Rattle.xw_net.proofs.net.Net.is_clear.Goals as goal
 

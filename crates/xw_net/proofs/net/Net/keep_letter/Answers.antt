@@ -3,7 +3,7 @@ use Rattle.std.specs.Vec.{with_items}
 use Rattle.std.proofs.lemmas.Bool.{and_parts, and_from, ne_eqb}
 use Rattle.std.proofs.lemmas.List.{with_items_is}
 use Rattle.std.proofs.lemmas.Option.{slice_get_read}
-use Rattle.xw_words.specs.LetterSet.{has}
+use Rattle.xw_letters.specs.LetterSet.{has}
 use Rattle.xw_feas.specs.Board.{light_at}
 use Rattle.xw_net.specs.Marks.{cell_at, slot_at}
 use Rattle.xw_net.specs.Support.{Held}

@@ -1,5 +1,5 @@
 use Rattle.std.proofs.Common.{◌≡◌, ◌⊎◌, ◌<◌, ◌≤◌, ◌+◌, ◌-◌, ℕ, true}
-use Rattle.xw_words.specs.LetterSet.{has}
+use Rattle.xw_letters.specs.LetterSet.{has}
 use Rattle.xw_words.specs.Dictionary.{Dictionary}
 use Rattle.xw_net.specs.Marks.{IsHolding, IsSlot, IsPosition, IsHeld, Stays, cell_at}
 use Rattle.xw_net.specs.Due.{Measure, IsUnderway, and_light}

@@ -1,7 +1,7 @@
 use Rattle.std.proofs.Common.{◌≡◌, ◌<◌, ◌+◌, ◌*◌, ℕ, true, false, not, ◌||◌, ◌&&◌, eqb, count_by, length, get_or, set, sym, ap, ◌∙◌, subst, arith}
 use Rattle.std.specs.Prelude.{All, Contains}
 use Rattle.std.proofs.lemmas.List.{with_items_is, length-set, get_or_default}
-use Rattle.xw_words.specs.LetterSet.{has}
+use Rattle.xw_letters.specs.LetterSet.{has}
 use Rattle.xw_feas.specs.Board.{light_at}
 use Rattle.xw_feas.specs.Flags.{set_has}
 use Rattle.xw_net.specs.Marks.{side_of}

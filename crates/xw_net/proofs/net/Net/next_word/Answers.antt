@@ -1,7 +1,7 @@
 use Rattle.std.proofs.Common.{◌≡◌, ℕ, Bool, false, List, length, Some, get_or, slice_get, refl, sym, ap, ◌∙◌, arith}
 use Rattle.std.proofs.lemmas.List.{get_or_default}
 use Rattle.std.proofs.lemmas.Option.{slice_get_read}
-use Rattle.xw_words.proofs.PlaceLemmas.{within_row}
+use Rattle.xw_bits.proofs.PlaceLemmas.{within_row}
 use Rattle.xw_net.specs.Nets.{bits_at, bits_for}
 use Rattle.xw_net.proofs.Settled.{stands_shaped}
 use Rattle.xw_net.proofs.First.{first_listed, first_entered, first_nowhere}

@@ -1,5 +1,5 @@
 use Rattle.std.proofs.Common.{◌≡◌, subst}
-use Rattle.xw_words.specs.LetterSet.{letters_in}
+use Rattle.xw_letters.specs.LetterSet.{letters_in}
 use Rattle.xw_grid.specs.declared.cell.Cell.{Cell}
 use Rattle.xw_files.specs.Puzzle.{texts_view}
 use Rattle.xw_session.specs.State.{State}

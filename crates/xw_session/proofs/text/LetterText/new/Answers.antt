@@ -1,6 +1,6 @@
 use Rattle.std.proofs.Common.{◌<◌, ◌≤◌, length, ap, ◌∙◌, sym, arith, length-set}
-use Rattle.xw_words.specs.Letter.{alphabet}
-use Rattle.xw_words.specs.LetterSet.{has}
+use Rattle.xw_letters.specs.Letter.{alphabet}
+use Rattle.xw_letters.specs.LetterSet.{has}
 use Rattle.xw_session.specs.Text.{letters_or_dash}
 use Rattle.xw_session.proofs.LetterTexts.{capital_at, length-alphabet, taken, passed, all_taken}
 use Rattle.xw_session.proofs.text.LetterText.new.Goals as goal

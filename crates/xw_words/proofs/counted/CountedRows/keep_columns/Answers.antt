@@ -1,6 +1,6 @@
 use Rattle.std.proofs.Common.{◌≡◌, ◌≤◌, ◌*◌, arith}
 use Rattle.std.proofs.Math.Nat.{mul-le-mul_right}
-use Rattle.xw_words.proofs.LetterSetLemmas.{few_letters}
+use Rattle.xw_letters.proofs.LetterSetLemmas.{few_letters}
 use Rattle.xw_words.proofs.counted.CountedRows.keep_columns.Goals as goal
 
 pub overflow_mul-div_ceil : goal.overflow_mul-div_ceil

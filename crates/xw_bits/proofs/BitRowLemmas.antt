@@ -1,0 +1,130 @@
+-- What the view and the invariant of a row give.
+use Rattle.std.proofs.Common.{◌≡◌, Option, Some, None, IfSome, if◌then◌else◌, true, add-zero, ℕ, ◌+◌, ◌-◌, ◌*◌, ◌/◌, ◌<◌, ◌≤◌, Bool, false, List, length, get_or, vec_len, count_by, sym, ap, ◌∙◌, inl, inr, cond, eqb, ltb, min, set, ◌&&◌, refl, ◌%◌, [], ◌∷◌, ◌++◌, length-append, arith}
+use Rattle.std.proofs.lemmas.Bool.{cases_lt, cases_eq, cond-true, cond-false, eq-eqb, ne_eqb, lt-ltb, le-ltb}
+use Rattle.std.proofs.lemmas.List.{get_or_past, get_or_push, get_or_append_left}
+use Rattle.std.proofs.lemmas.List.Sums.{sum_by-append}
+use lib.Lanes.{zip2}
+use Rattle.xw_bits.specs.Bits.{RowOfBits, words_have, bits_of, has_bit}
+use Rattle.xw_bits.specs.BitRow.{row_of, IsBitRow}
+use Rattle.xw_bits.specs.declared.bit_row.BitRow.TheInside.{Inside}
+use Rattle.xw_bits.proofs.BitLemmas.{length-bits_of, get_or-bits_of, bits_of_is, count-nothing_past, bits_of-combined, words_have-set_same, words_have-set_other}
+
+pub view_len : (r : Inside) {v : RowOfBits} → row_of r ≡ v → r.len ≡ length v.bits
+view_len r is = sym (length-bits_of r.words.items r.len) ∙ ap (λ (x : RowOfBits). length x.bits) is
+
+pub view_bits : (r : Inside) {v : RowOfBits} → row_of r ≡ v → bits_of r.words.items r.len ≡ v.bits
+view_bits r is = ap (λ (x : RowOfBits). x.bits) is
+
+pub same_len : (r s : Inside) {v w : RowOfBits} → row_of r ≡ v → row_of s ≡ w → length v.bits ≡ length w.bits → r.len ≡ s.len
+same_len r s is is_other same = view_len r is ∙ same ∙ sym (view_len s is_other)
+
+pub same_words : (r s : Inside) → IsBitRow r → IsBitRow s → r.len ≡ s.len → vec_len r.words ≡ vec_len s.words
+same_words r s inv inv_other same = inv.words_len ∙ ap (λ n. (n + 63) / 64) same ∙ sym inv_other.words_len
+
+-- a chunk of the row is a word of it
+pub chunk_within : (r : Inside) {v : RowOfBits} → row_of r ≡ v → IsBitRow r → (chunk : ℕ) → 64 * chunk < length v.bits → chunk < vec_len r.words
+chunk_within r is inv chunk lt = omega (arith, view_len r is, inv.words_len)
+
+-- a place of the row, or past it, is a bit of the words
+pub place_is : (r : Inside) {v : RowOfBits} → row_of r ≡ v → IsBitRow r → (i : ℕ) → get_or v.bits i false ≡ words_have r.words.items i
+place_is r {v} is inv i =
+    elim (cases_lt i r.len) [
+      | inl lt ↦ ap (λ bs. get_or bs i false) (sym (view_bits r is)) ∙ get_or-bits_of r.words.items r.len i false lt
+      | inr le ↦ get_or_past v.bits i false (omega (arith, view_len r is)) ∙ sym (inv.nothing_past i le)
+    ]
+
+-- a row whose words are combined with those of another
+pub view-combined : (g : Bool → Bool → Bool) (r s : Inside) {v w : RowOfBits} (ws : List ℕ) → row_of r ≡ v → row_of s ≡ w → r.len ≡ s.len
+    → ((i : ℕ) → words_have ws i ≡ g (words_have r.words.items i) (words_have s.words.items i)) → bits_of ws r.len ≡ zip2 g v.bits w.bits
+view-combined g r s {v} {w} ws is is_other same each =
+    bits_of-combined g ws r.words.items s.words.items r.len each
+    ∙ ap (λ bs. zip2 g bs (bits_of s.words.items r.len)) (view_bits r is)
+    ∙ ap (λ n. zip2 g v.bits (bits_of s.words.items n)) same
+    ∙ ap (zip2 g v.bits) (view_bits s is_other)
+
+-- the same bit by bit, for a row of as many words
+pub combined_bit : (g : Bool → Bool → Bool) (r s : Inside) {v w : RowOfBits} (ws : List ℕ) → row_of r ≡ v → row_of s ≡ w → IsBitRow r → IsBitRow s
+    → ((i : ℕ) → words_have ws i ≡ g (words_have r.words.items i) (words_have s.words.items i)) → ((b : Bool) → g false b ≡ false)
+    → (i : ℕ) → get_or (bits_of ws r.len) i false ≡ g (get_or v.bits i false) (get_or w.bits i false)
+combined_bit g r s {v} {w} ws is is_other inv inv_other each none i =
+    elim (cases_lt i r.len) [
+      | inl lt ↦
+          get_or-bits_of ws r.len i false lt ∙ each i
+          ∙ ap (λ b. g b (words_have s.words.items i)) (sym (place_is r is inv i))
+          ∙ ap (g (get_or v.bits i false)) (sym (place_is s is_other inv_other i))
+      | inr le ↦
+          get_or_past (bits_of ws r.len) i false (omega (arith, le, length-bits_of ws r.len))
+          ∙ sym (ap (λ b. g b (get_or w.bits i false)) (get_or_past v.bits i false (omega (arith, le, view_len r is))) ∙ none (get_or w.bits i false))
+    ]
+
+-- where no bit is past a row, the count over all its words is that of its bits
+pub counted_whole : (ws : List ℕ) (n : ℕ) → n ≤ 64 * length ws → ((i : ℕ) → n ≤ i → words_have ws i ≡ false) → count_by (λ b. b) (bits_of ws (64 * length ws)) ≡ count_by (λ b. b) (bits_of ws n)
+counted_whole ws n within none =
+    let whole : 64 * length ws ≡ n + (64 * length ws - n) = omega arith in
+    ap (λ m. count_by (λ b. b) (bits_of ws m)) whole ∙ count-nothing_past ws n (64 * length ws - n) none
+
+-- the count over all words is that of the row
+pub count_is : (r : Inside) {v : RowOfBits} → row_of r ≡ v → IsBitRow r → count_by (λ b. b) (bits_of r.words.items (64 * length r.words.items)) ≡ count_by (λ b. b) v.bits
+count_is r is inv =
+    counted_whole r.words.items r.len (omega (arith, inv.words_len)) inv.nothing_past ∙ ap (count_by (λ b. b)) (view_bits r is)
+
+-- a row with one bit more
+pub pushed : (r : Inside) {v : RowOfBits} (ws : List ℕ) (bit : Bool) → row_of r ≡ v → IsBitRow r
+    → ((j : ℕ) → words_have ws j ≡ cond (eqb j r.len) bit (words_have r.words.items j)) → bits_of ws (r.len + 1) ≡ v.bits ++ bit ∷ []
+pushed r {v} ws bit is inv each =
+    let long : length (v.bits ++ bit ∷ []) ≡ r.len + 1 = omega (arith, length-append v.bits (bit ∷ []), view_len r is) in
+    bits_of_is ws (r.len + 1) (v.bits ++ bit ∷ []) long (λ i lt.
+    each i ∙ elim (cases_eq i r.len) [
+      | inl same ↦
+          cond-true (eqb i r.len) bit (words_have r.words.items i) (eq-eqb i r.len same)
+          ∙ sym (ap (λ n. get_or (v.bits ++ bit ∷ []) n false) (same ∙ view_len r is) ∙ get_or_push v.bits bit false (length v.bits) refl)
+      | inr differs ↦
+          cond-false (eqb i r.len) bit (words_have r.words.items i) (ne_eqb i r.len differs)
+          ∙ sym (get_or_append_left v.bits (bit ∷ []) false i (omega (arith, view_len r is)) ∙ place_is r is inv i)
+    ])
+
+-- where the count of a row was known, it is known with one bit more that is not set
+pub counted_pushed : (r : Inside) {v : RowOfBits} (ws : List ℕ) (bit : Bool) → row_of r ≡ v → IsBitRow r → bits_of ws (r.len + 1) ≡ v.bits ++ bit ∷ []
+    → IfSome (if bit then None else r.counted) (λ count. count ≡ count_by (λ b. b) (bits_of ws (r.len + 1)))
+counted_pushed r ws true is inv each = tt
+counted_pushed r {v} ws false is inv each = split r.counted inv.counted where
+  split : (o : Option ℕ) → IfSome o (λ count. count ≡ count_by (λ b. b) (bits_of r.words.items r.len)) → IfSome o (λ count. count ≡ count_by (λ b. b) (bits_of ws (r.len + 1)))
+  split None known = tt
+  split (Some count) known =
+      known ∙ ap (count_by (λ b. b)) (view_bits r is) ∙ sym (add-zero (count_by (λ b. b) v.bits))
+      ∙ sym (sum_by-append (λ b. cond b 1 0) v.bits (false ∷ [])) ∙ sym (ap (count_by (λ b. b)) each)
+
+-- a row with one word replaced, by one without bits past the row
+module _ (r : Inside) {v : RowOfBits} (is : row_of r ≡ v) (inv : IsBitRow r) (chunk word low : ℕ) (within : 64 * chunk < length v.bits)
+    (is_low : (k : ℕ) → k < 64 → has_bit low k ≡ (ltb k (min (r.len - 64 * chunk) 64) && has_bit word k)) where
+  in_words : chunk < length r.words.items
+  in_words = omega (arith, chunk_within r is inv chunk within)
+
+  pub replaced_none_past : (i : ℕ) → r.len ≤ i → words_have (set r.words.items chunk low) i ≡ false
+  replaced_none_past i le =
+      elim (cases_eq (i / 64) chunk) [
+        | inl here ↦
+            let past : min (r.len - 64 * chunk) 64 ≤ i % 64 = omega arith in
+            words_have-set_same r.words.items chunk low i in_words here ∙ is_low (i % 64) (omega arith)
+            ∙ ap (λ t. t && has_bit word (i % 64)) (le-ltb (i % 64) (min (r.len - 64 * chunk) 64) past)
+        | inr elsewhere ↦ words_have-set_other r.words.items chunk low i elsewhere ∙ inv.nothing_past i le
+      ]
+
+  pub replaced_inside : (k : ℕ) → k < 64 → 64 * chunk + k < length v.bits → get_or (bits_of (set r.words.items chunk low) r.len) (64 * chunk + k) false ≡ has_bit word k
+  replaced_inside k lt within_row =
+      let here : (64 * chunk + k) / 64 ≡ chunk = omega arith in
+      let bit : (64 * chunk + k) % 64 ≡ k = omega arith in
+      let below : k < min (r.len - 64 * chunk) 64 = omega (arith, view_len r is) in
+      get_or-bits_of (set r.words.items chunk low) r.len (64 * chunk + k) false (omega (arith, view_len r is))
+      ∙ words_have-set_same r.words.items chunk low (64 * chunk + k) in_words here ∙ ap (has_bit low) bit ∙ is_low k lt
+      ∙ ap (λ t. t && has_bit word k) (lt-ltb k (min (r.len - 64 * chunk) 64) below)
+
+  pub replaced_other : (i : ℕ) → (i / 64 ≡ chunk → ⊥) → get_or (bits_of (set r.words.items chunk low) r.len) i false ≡ get_or v.bits i false
+  replaced_other i elsewhere =
+      elim (cases_lt i r.len) [
+        | inl lt ↦
+            get_or-bits_of (set r.words.items chunk low) r.len i false lt ∙ words_have-set_other r.words.items chunk low i elsewhere ∙ sym (place_is r is inv i)
+        | inr le ↦
+            get_or_past (bits_of (set r.words.items chunk low) r.len) i false (omega (arith, length-bits_of (set r.words.items chunk low) r.len))
+            ∙ sym (get_or_past v.bits i false (omega (arith, view_len r is)))
+      ]

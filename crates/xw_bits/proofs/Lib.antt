@@ -1,0 +1,9 @@
+pub mod BitLemmas
+pub mod Blocks
+pub mod Combined
+pub mod Counts
+pub mod PlaceLemmas
+pub mod BitRowLemmas
+pub mod ChunkLemmas
+pub mod Apart
+pub mod RowBlocks

@@ -1,0 +1,31 @@
+use Rattle.std.proofs.Common.{ap, ◌∙◌, arith}
+use Rattle.std.proofs.lemmas.List.{with_items_is}
+use Rattle.xw_bits.specs.Bits.{bits_of, words_have}
+use Rattle.xw_bits.proofs.BitRowLemmas.{same_len, same_words, view_bits}
+use Rattle.xw_bits.proofs.bit_row.BitRow.copy_from.Goals as goal
+
+pub copy_from_slice-requires : goal.copy_from_slice-requires
+copy_from_slice-requires c =
+    let same = same_len c.self.inside c.other.inside c.self.view_is c.other.view_is c.requires in
+    omega (arith, c.as_mut_slice.ensures.len, c.deref.ensures.len, same_words c.self.inside c.other.inside c.self.invariant c.other.invariant same)
+
+pub invariant_of-self : goal.invariant_of-self
+invariant_of-self c =
+    let r = c.self.inside in
+    let same = same_len c.self.inside c.other.inside c.self.view_is c.other.view_is c.requires in
+    record {
+      small = c.self.invariant.small;
+      words_len = c.self.invariant.words_len;
+      nothing_past = λ i le.
+          ap (λ ws. words_have ws i) (with_items_is r.words c.copy_from_slice.new.self (omega (arith, c.copy_from_slice.ensures.len, c.as_mut_slice.ensures.len)) ∙ c.copy_from_slice.ensures.after ∙ c.deref.ensures.value)
+          ∙ c.other.invariant.nothing_past i (omega (arith, le, same));
+      counted = tt;
+    }
+
+pub returns-clause-bits : goal.returns-clause-bits
+returns-clause-bits c =
+    let r = c.self.inside in
+    let same = same_len c.self.inside c.other.inside c.self.view_is c.other.view_is c.requires in
+    ap (λ ws. bits_of ws r.len) (with_items_is r.words c.copy_from_slice.new.self (omega (arith, c.copy_from_slice.ensures.len, c.as_mut_slice.ensures.len)) ∙ c.copy_from_slice.ensures.after ∙ c.deref.ensures.value)
+    ∙ ap (bits_of c.other.inside.words.items) same
+    ∙ view_bits c.other.inside c.other.view_is

@@ -1,0 +1,56 @@
+use Rattle.std.proofs.Common.{ℕ, ◌+◌, ◌*◌, ◌&&◌, false, get_or, sym, ap, ◌∙◌, arith}
+use Rattle.std.proofs.lemmas.List.{with_items_is}
+use Rattle.xw_bits.specs.Bits.{bits_of, words_have, has_bit}
+use Rattle.xw_bits.proofs.BitLemmas.{length-bits_of}
+use Rattle.xw_bits.proofs.BitRowLemmas.{view_len, place_is}
+use Rattle.xw_bits.proofs.RowBlocks.{row_place, block_below, block_inside, block_above, block_none}
+use Rattle.xw_bits.proofs.bit_row.BitRow.keep_block.Goals as goal
+
+pub keep_at-requires : goal.keep_at-requires
+keep_at-requires c = omega (arith, c.deref_mut.ensures.len, c.requires, view_len c.self.inside c.self.view_is, c.self.invariant.words_len)
+
+pub invariant_of-self : goal.invariant_of-self
+invariant_of-self c = record {
+  small = c.self.invariant.small;
+  words_len = c.self.invariant.words_len;
+  nothing_past = λ i le.
+      ap (λ ws. words_have ws i) (with_items_is c.self.inside.words c.keep_at.new.words (omega (arith, c.keep_at.auto.words, c.deref_mut.ensures.len)))
+      ∙ block_none c.deref_mut.result.now c.keep_at.new.words c.args.block c.args.at c.keep_at.ensures.below c.keep_at.ensures.inside c.keep_at.ensures.above i (ap (λ ws. words_have ws i) c.deref_mut.ensures.value ∙ c.self.invariant.nothing_past i le);
+  counted = tt;
+}
+
+pub returns-clause-len : goal.returns-clause-len
+returns-clause-len c = length-bits_of _ _ ∙ view_len c.self.inside c.self.view_is
+
+pub returns-clause-below : goal.returns-clause-below
+returns-clause-below c i lt =
+    let r = c.self.inside in
+    let old = c.deref_mut.result.now in
+    let new = c.keep_at.new.words in
+    ap (λ ws. get_or (bits_of ws r.len) i false) (with_items_is r.words c.keep_at.new.words (omega (arith, c.keep_at.auto.words, c.deref_mut.ensures.len)))
+    ∙ row_place c.keep_at.new.words r.len i (λ k le. block_none old new c.args.block c.args.at c.keep_at.ensures.below c.keep_at.ensures.inside c.keep_at.ensures.above k (ap (λ ws. words_have ws k) c.deref_mut.ensures.value ∙ c.self.invariant.nothing_past k le))
+    ∙ block_below old new c.args.block c.args.at c.keep_at.ensures.below c.keep_at.ensures.inside c.keep_at.ensures.above i lt
+    ∙ ap (λ ws. words_have ws i) c.deref_mut.ensures.value
+    ∙ sym (place_is r c.self.view_is c.self.invariant i)
+
+pub returns-clause-inside : goal.returns-clause-inside
+returns-clause-inside c chunk k in_block lt =
+    let r = c.self.inside in
+    let old = c.deref_mut.result.now in
+    let new = c.keep_at.new.words in
+    let i : ℕ = 64 * (c.args.at + chunk) + k in
+    ap (λ ws. get_or (bits_of ws r.len) i false) (with_items_is r.words c.keep_at.new.words (omega (arith, c.keep_at.auto.words, c.deref_mut.ensures.len)))
+    ∙ row_place c.keep_at.new.words r.len i (λ k le. block_none old new c.args.block c.args.at c.keep_at.ensures.below c.keep_at.ensures.inside c.keep_at.ensures.above k (ap (λ ws. words_have ws k) c.deref_mut.ensures.value ∙ c.self.invariant.nothing_past k le))
+    ∙ block_inside old new c.args.block c.args.at c.keep_at.ensures.below c.keep_at.ensures.inside c.keep_at.ensures.above chunk k in_block lt
+    ∙ ap (λ b. b && has_bit (get_or c.args.block chunk 0) k) (ap (λ ws. words_have ws i) c.deref_mut.ensures.value ∙ sym (place_is r c.self.view_is c.self.invariant i))
+
+pub returns-clause-above : goal.returns-clause-above
+returns-clause-above c i le =
+    let r = c.self.inside in
+    let old = c.deref_mut.result.now in
+    let new = c.keep_at.new.words in
+    ap (λ ws. get_or (bits_of ws r.len) i false) (with_items_is r.words c.keep_at.new.words (omega (arith, c.keep_at.auto.words, c.deref_mut.ensures.len)))
+    ∙ row_place c.keep_at.new.words r.len i (λ k le. block_none old new c.args.block c.args.at c.keep_at.ensures.below c.keep_at.ensures.inside c.keep_at.ensures.above k (ap (λ ws. words_have ws k) c.deref_mut.ensures.value ∙ c.self.invariant.nothing_past k le))
+    ∙ block_above old new c.args.block c.args.at c.keep_at.ensures.below c.keep_at.ensures.inside c.keep_at.ensures.above i le
+    ∙ ap (λ ws. words_have ws i) c.deref_mut.ensures.value
+    ∙ sym (place_is r c.self.view_is c.self.invariant i)

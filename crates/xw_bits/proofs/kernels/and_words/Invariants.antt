@@ -1,0 +1,15 @@
+use Rattle.std.proofs.Common.{length, ◌+◌, ◌-◌, bit_and}
+use Rattle.xw_bits.proofs.Combined.{IsCombinedBelow}
+use Rattle.xw_bits.proofs.kernels.and_words.Given as goal
+
+abbrev pub invariant-loop-at : goal.invariant-loop-at
+invariant-loop-at l = IsCombinedBelow bit_and l.initial.words l.other l.at l.words
+
+abbrev pub decreases-loop-at : goal.decreases-loop-at
+decreases-loop-at l = length l.initial.words + 1 - l.at
+
+abbrev pub invariant-loop-at-2 : goal.invariant-loop-at-2
+invariant-loop-at-2 l = IsCombinedBelow bit_and l.fn.words l.other l.at l.words
+
+abbrev pub decreases-loop-at-2 : goal.decreases-loop-at-2
+decreases-loop-at-2 l = length l.initial.words - l.at

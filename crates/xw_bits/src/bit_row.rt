@@ -1,0 +1,276 @@
+//! A row of bits.
+ghost use Rattle.std.specs.Prelude.{◌≡◌, ℕ, ◌+◌, ◌-◌, ◌*◌, ◌/◌, ◌%◌, ◌^◌, ◌<◌, ◌≤◌, Bool, false, not, ◌&&◌, [], ◌∷◌, ◌++◌, length, min, slice_index, slice_index_or, slice_set, count_by, OnOk, OnErr, IfErr, IfSome, IfNone, None, true, if◌then◌else◌, nat_eq};
+ghost use Rattle.std.specs.Simd.Lanes.{zip2};
+ghost use Rattle.xw_bits.specs.Bits.{RowOfBits, has_bit};
+ghost use Rattle.xw_bits.specs.Places.{set_places};
+
+use crate::fault::WordFault;
+use crate::kernels::{
+    and_not_words, and_words, block_at, count_after, count_words, is_clear_block, keep_at,
+    low_bits, make_room_for_bit, next_common, put_bit, with_bit,
+};
+use crate::ones::{Ones, next_one};
+use std::alloc::Global;
+use std::marker::Model;
+use std::simd::prelude::*;
+
+/// The most bits that a row may be given room for.
+pub const MAX_BITS: usize = 0x1FF_FFFF_FFFF_FFFF;
+
+/// Bits in a row, packed 64 to a word. How many are set is known once they were counted, and stays known where
+/// one chunk is replaced; any other change drops it.
+#[derive(Drop)]
+pub struct BitRow {
+    words: Vec<u64>,
+    len: usize,
+    counted: Option<usize>,
+}
+
+/// The count of a row with one bit more, where that is known.
+fn count_with(counted: Option<usize>, bit: bool) -> Option<usize>
+    ensures { result ≡ (if bit then None else counted) }
+{
+    if bit { None } else { counted }
+}
+
+impl Model for BitRow {
+    ghost use Rattle.xw_bits.specs.Bits.{RowOfBits};
+
+    ghost Value = { RowOfBits };
+
+    ghost use Rattle.xw_bits.specs.BitRow.{row_of, IsBitRow};
+
+    ghost view = { row_of };
+
+    ghost invariant = { IsBitRow };
+}
+
+impl BitRow {
+    pub fn new(alloc: Global) -> Self
+        ensures { result.bits ≡ [] }
+    {
+        BitRow {
+            words: Vec::new(alloc),
+            len: 0,
+            counted: Some(0),
+        }
+    }
+
+    pub fn len(&self) -> usize
+        ensures value { result ≡ length self.now.bits }
+        ensures small { result < 2 ^ 57 }
+    {
+        self.len
+    }
+
+    /// Keeps the bits that both rows have.
+    pub fn and(&mut self, other: &BitRow)
+        requires { length self.old.bits ≡ length other.now.bits }
+        ensures bits { self.new.bits ≡ zip2 (λ x y. x && y) self.old.bits other.now.bits }
+        ensures room { self.new.room ≡ self.old.room }
+    {
+        self.counted = None;
+        and_words(&mut self.words, &other.words);
+    }
+
+    /// Keeps the bits that the other row lacks.
+    pub fn and_not(&mut self, other: &BitRow)
+        requires { length self.old.bits ≡ length other.now.bits }
+        ensures bits { self.new.bits ≡ zip2 (λ x y. x && not y) self.old.bits other.now.bits }
+        ensures room { self.new.room ≡ self.old.room }
+    {
+        self.counted = None;
+        and_not_words(&mut self.words, &other.words);
+    }
+
+    /// Takes the bits of a row of the same length.
+    pub fn copy_from(&mut self, other: &BitRow)
+        requires { length self.old.bits ≡ length other.now.bits }
+        ensures bits { self.new.bits ≡ other.now.bits }
+        ensures room { self.new.room ≡ self.old.room }
+    {
+        self.counted = None;
+        self.words.as_mut_slice().copy_from_slice(&other.words);
+    }
+
+    /// Clears all bits.
+    pub fn clear(&mut self)
+        ensures len { length self.new.bits ≡ length self.old.bits }
+        ensures bits { (i : ℕ) → slice_index_or self.new.bits i false ≡ false }
+        ensures room { self.new.room ≡ self.old.room }
+    {
+        self.counted = None;
+        self.words.as_mut_slice().fill(0);
+    }
+
+    /// The bits of the eight chunks from one on.
+    pub fn block(&self, at: usize) -> u64x8
+        requires { 64 * at + 448 < length self.now.bits }
+        ensures { (chunk k : ℕ) → chunk < 8 → k < 64 → has_bit (slice_index result chunk) k ≡ slice_index_or self.now.bits (64 * (at + chunk) + k) false }
+    {
+        block_at(&self.words, at)
+    }
+
+    /// Whether the eight chunks from one on have no bit.
+    pub fn is_clear(&self, at: usize) -> bool
+        requires { 64 * at + 448 < length self.now.bits }
+        ensures { result ≡ true → (i : ℕ) → 64 * at ≤ i → i < 64 * at + 512 → slice_index_or self.now.bits i false ≡ false }
+    {
+        is_clear_block(&self.words, at)
+    }
+
+    /// Keeps in the eight chunks from one on the bits that a block has.
+    pub fn keep_block(&mut self, at: usize, block: u64x8)
+        requires { 64 * at + 448 < length self.old.bits }
+        ensures len { length self.new.bits ≡ length self.old.bits }
+        ensures below { (i : ℕ) → i < 64 * at → slice_index_or self.new.bits i false ≡ slice_index_or self.old.bits i false }
+        ensures inside { (chunk k : ℕ) → chunk < 8 → k < 64 → slice_index_or self.new.bits (64 * (at + chunk) + k) false ≡ (slice_index_or self.old.bits (64 * (at + chunk) + k) false && has_bit (slice_index block chunk) k) }
+        ensures above { (i : ℕ) → 64 * at + 512 ≤ i → slice_index_or self.new.bits i false ≡ slice_index_or self.old.bits i false }
+        ensures room { self.new.room ≡ self.old.room }
+    {
+        self.counted = None;
+        keep_at(&mut self.words, at, block);
+    }
+
+    /// Clears in the eight chunks from one on the bits that a block has.
+    pub fn strike_block(&mut self, at: usize, block: u64x8)
+        requires { 64 * at + 448 < length self.old.bits }
+        ensures len { length self.new.bits ≡ length self.old.bits }
+        ensures below { (i : ℕ) → i < 64 * at → slice_index_or self.new.bits i false ≡ slice_index_or self.old.bits i false }
+        ensures inside { (chunk k : ℕ) → chunk < 8 → k < 64 → slice_index_or self.new.bits (64 * (at + chunk) + k) false ≡ (slice_index_or self.old.bits (64 * (at + chunk) + k) false && not (has_bit (slice_index block chunk) k)) }
+        ensures above { (i : ℕ) → 64 * at + 512 ≤ i → slice_index_or self.new.bits i false ≡ slice_index_or self.old.bits i false }
+        ensures room { self.new.room ≡ self.old.room }
+    {
+        self.keep_block(at, !block);
+    }
+
+    /// The first place from a chunk on that both rows have set.
+    pub fn next_common(&self, other: &BitRow, from: usize) -> Option<usize>
+        ensures found { IfSome result (λ place. (64 * from ≤ place) × ((slice_index_or self.now.bits place false && slice_index_or other.now.bits place false) ≡ true)) }
+        ensures first { IfSome result (λ place. (i : ℕ) → 64 * from ≤ i → i < place → (slice_index_or self.now.bits i false && slice_index_or other.now.bits i false) ≡ false) }
+        ensures none { IfNone result ((i : ℕ) → 64 * from ≤ i → (slice_index_or self.now.bits i false && slice_index_or other.now.bits i false) ≡ false) }
+    {
+        match next_common(&self.words, &other.words, from) {
+            Some(chunk) => {
+                let common = self.words[chunk] & other.words[chunk];
+                Some(64 * chunk + common.trailing_zeros() as usize)
+            }
+            None => None,
+        }
+    }
+
+    /// How many bits are set.
+    pub fn count(&self) -> usize
+        ensures { result ≡ count_by (λ bit. bit) self.now.bits }
+    {
+        match self.counted {
+            Some(count) => count,
+            None => count_words(&self.words) as usize,
+        }
+    }
+
+    /// Counts the bits that are set, so that `count` need not until one changes.
+    pub fn keep_count(&mut self)
+        ensures { self.new ≡ self.old }
+    {
+        self.counted = Some(self.count());
+    }
+
+    /// Makes room for so many bits in all; `Memory` where that is refused.
+    /// No row has room for more than `MAX_BITS`.
+    pub fn reserve(&mut self, bits: usize) -> Result<(), WordFault>
+        ensures room { OnOk result (min bits MAX_BITS ≤ self.new.room) }
+        ensures refused { IfErr result (λ fault. fault ≡ WordFault.Memory) }
+        ensures bits { self.new.bits ≡ self.old.bits }
+        ensures room_stays { self.old.room ≤ self.new.room }
+    {
+        let words = bits.div_ceil(64);
+        if words > self.words.len() {
+            self.words.reserve_exact(words - self.words.len())?;
+        }
+        Ok(())
+    }
+
+    /// Adds a bit at the end.
+    pub fn push(&mut self, bit: bool)
+        requires { length self.old.bits < self.old.room }
+        ensures bits { self.new.bits ≡ self.old.bits ++ bit ∷ [] }
+        ensures room { self.old.room ≤ self.new.room }
+    {
+        let counted = count_with(self.counted, bit);
+        self.counted = counted;
+        make_room_for_bit(&mut self.words, self.len);
+        put_bit(&mut self.words, self.len, bit);
+        self.len += 1;
+    }
+
+    /// Adds 64 bits at the end that are not set.
+    pub fn push_chunk(&mut self)
+        requires whole { length self.old.bits % 64 ≡ 0 }
+        requires room { length self.old.bits < self.old.room }
+        requires small { length self.old.bits < 2 ^ 56 }
+        ensures len { length self.new.bits ≡ length self.old.bits + 64 }
+        ensures bits { (i : ℕ) → slice_index_or self.new.bits i false ≡ slice_index_or self.old.bits i false }
+        ensures room { self.old.room ≤ self.new.room }
+    {
+        self.counted = None;
+        make_room_for_bit(&mut self.words, self.len);
+        self.len += 64;
+    }
+
+    /// The 64 bits from `64 * chunk` on, the first of them lowest. Bits past the row are 0.
+    pub fn chunk(&self, chunk: usize) -> u64
+        requires { 64 * chunk < length self.now.bits }
+        ensures { (k : ℕ) → k < 64 → has_bit result k ≡ slice_index_or self.now.bits (64 * chunk + k) false }
+    {
+        self.words[chunk]
+    }
+
+    /// Replaces the 64 bits from `64 * chunk` on. Bits past the row are dropped.
+    pub fn set_chunk(&mut self, chunk: usize, word: u64)
+        requires { 64 * chunk < length self.old.bits }
+        ensures len { length self.new.bits ≡ length self.old.bits }
+        ensures inside { (k : ℕ) → k < 64 → 64 * chunk + k < length self.old.bits → slice_index_or self.new.bits (64 * chunk + k) false ≡ has_bit word k }
+        ensures others { (i : ℕ) → (i / 64 ≡ chunk → ⊥) → slice_index_or self.new.bits i false ≡ slice_index_or self.old.bits i false }
+        ensures room { self.new.room ≡ self.old.room }
+    {
+        let left = self.len - 64 * chunk;
+        let word = low_bits(word, left.min(64));
+        self.counted = count_after(&self.words, chunk, word, self.counted);
+        self.words[chunk] = word;
+    }
+
+    /// Sets the bit at a place, or clears it.
+    pub fn put(&mut self, i: usize, bit: bool)
+        requires { i < length self.old.bits }
+        ensures bits { self.new.bits ≡ slice_set self.old.bits i bit }
+        ensures room { self.new.room ≡ self.old.room }
+    {
+        let chunk = self.chunk(i / 64);
+        self.set_chunk(i / 64, with_bit(chunk, i % 64, bit));
+    }
+
+    /// The places that are set, rising.
+    pub fn ones(&self) -> Ones<'_>
+        ensures { result ≡ set_places self.now.bits 0 }
+    {
+        Ones::new(self)
+    }
+
+    /// The first place from one on that is set.
+    pub fn next_one(&self, from: usize) -> Option<usize>
+        ensures set { IfSome result (λ place. (from ≤ place) × (slice_index_or self.now.bits place false ≡ true)) }
+        ensures small { IfSome result (λ place. place < 2 ^ 57) }
+        ensures first { IfSome result (λ place. (i : ℕ) → from ≤ i → i < place → slice_index_or self.now.bits i false ≡ false) }
+        ensures none { IfNone result ((i : ℕ) → from ≤ i → slice_index_or self.now.bits i false ≡ false) }
+    {
+        next_one(self, from)
+    }
+
+    pub fn has(&self, i: usize) -> bool
+        requires { i < length self.now.bits }
+        ensures { result ≡ slice_index_or self.now.bits i false }
+    {
+        (self.words[i / 64] >> (i % 64)) & 1 == 1
+    }
+}

@@ -1,0 +1,71 @@
+//! The places of the bits that are set.
+ghost use Rattle.std.specs.Prelude.{◌≡◌, ℕ, ◌+◌, ◌*◌, ◌/◌, ◌^◌, ◌<◌, ◌≤◌, true, false, length, slice_index_or, IfSome, IfNone};
+ghost use Rattle.std.specs.Iterator.{YieldsFirst, item_count};
+ghost use Rattle.xw_bits.specs.Bits.{RowOfBits};
+ghost use Rattle.xw_bits.specs.Places.{set_places};
+
+use crate::bit_row::BitRow;
+use std::marker::Model;
+
+/// The first place from one on whose bit is set.
+pub(crate) fn next_one(row: &BitRow, from: usize) -> Option<usize>
+    ensures set { IfSome result (λ place. (from ≤ place) × (slice_index_or row.now.bits place false ≡ true)) }
+    ensures small { IfSome result (λ place. place < 2 ^ 57) }
+    ensures first { IfSome result (λ place. (i : ℕ) → from ≤ i → i < place → slice_index_or row.now.bits i false ≡ false) }
+    ensures none { IfNone result ((i : ℕ) → from ≤ i → slice_index_or row.now.bits i false ≡ false) }
+{
+    let mut at = from;
+    while at < row.len() {
+        let word = row.chunk(at / 64) >> (at % 64);
+        if word != 0 {
+            return Some(at + word.trailing_zeros() as usize);
+        }
+        at = at / 64 * 64 + 64;
+    }
+    None
+}
+
+/// The set places of a row, rising.
+#[derive(Drop)]
+pub struct Ones<'a> {
+    row: &'a BitRow,
+    next: usize,
+}
+
+impl<'a> Model for Ones<'a> {
+    ghost use Rattle.std.specs.Prelude.{List, ℕ};
+    ghost use Rattle.xw_bits.specs.Places.{set_places};
+
+    ghost Value = { List ℕ };
+
+    ghost view = { λ places. set_places places.row.now.bits places.next };
+}
+
+impl<'a> Ones<'a> {
+    pub(crate) fn new(row: &'a BitRow) -> Self
+        ensures { result ≡ set_places row.now.bits 0 }
+    {
+        Ones { row, next: 0 }
+    }
+}
+
+impl<'a> Iterator for Ones<'a> {
+    type Item = usize;
+
+    ghost next_gives = { YieldsFirst (λ places. places) };
+
+    ghost remaining = { item_count (λ places. places) };
+
+    fn next(&mut self) -> Option<usize> {
+        match next_one(self.row, self.next) {
+            Some(place) => {
+                self.next = place + 1;
+                Some(place)
+            }
+            None => {
+                self.next = self.row.len();
+                None
+            }
+        }
+    }
+}

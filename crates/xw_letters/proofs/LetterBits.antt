@@ -1,0 +1,87 @@
+-- The letters of a set as the bits of its number.
+use Rattle.std.proofs.Common.{◌≡◌, ℕ, zero, suc, ◌+◌, ◌-◌, ◌/◌, ◌^◌, ◌<◌, ◌≤◌, true, false, cond, eqb, length, map, take, count_by, refl, ap, sym, ◌∙◌, inl, inr, w32, arith, count_ones}
+use Rattle.std.specs.Prelude.{filter}
+use Rattle.std.specs.Int.{bit_at, trailing_zeros}
+use Rattle.std.specs.List.{range_with_len}
+use Rattle.std.proofs.lemmas.Bool.{cases_lt, both_ways, eq-eqb}
+use Rattle.std.proofs.lemmas.Bool.Decides.{nat_tests}
+use Rattle.std.proofs.lemmas.Nat.{shr_le}
+use Rattle.std.proofs.lemmas.Nat.Bits.{bit_at-trailing_zeros, bit_at-zero, bit_at_above}
+use Rattle.std.proofs.lemmas.List.{take_all}
+use Rattle.std.proofs.lemmas.List.FromFn.{sum_by-map-range_with_len_more}
+use Rattle.xw_letters.specs.Letter.{alphabet, is_capital}
+use Rattle.xw_letters.specs.LetterSet.{has, letters_in}
+use Rattle.xw_bits.specs.Bits.{has_bit}
+use Rattle.xw_bits.proofs.BitLemmas.{ones_of_word}
+use Rattle.xw_bits.proofs.PlaceLemmas.{has_bit-shifted}
+use Rattle.xw_letters.proofs.LetterSetLemmas.{letter_is_capital, length-alphabet, count-more}
+
+has_at : (set place : ℕ) → place < 26 → has set (65 + place) ≡ has_bit set place
+unfolding has_bit
+has_at set place within =
+    let is : is_capital (65 + place) ≡ true = letter_is_capital (65 + place) (omega arith, omega arith) in
+    let back : 65 + place - 65 ≡ place = omega arith in
+    rw is (ap (λ n. eqb (bit_at set n) 1) back)
+
+has_past : (set place : ℕ) → 26 ≤ place → has set (65 + place) ≡ false
+has_past set place past =
+    let none : is_capital (65 + place) ≡ false = grind (arith, nat_tests) in
+    rw none refl
+
+-- ---- the places of a shifted set
+module _ (set from : ℕ) where
+  shifted : (other : ℕ) → from ≤ other → other < 26 → has set (65 + other) ≡ has_bit (set / 2 ^ from) (other - from)
+  shifted other low within =
+      let is : from + (other - from) ≡ other = omega arith in
+      has_at set other within ∙ ap (has_bit set) (sym is) ∙ sym (has_bit-shifted set from (other - from))
+
+  pub none_from : set / 2 ^ from ≡ 0 → (other : ℕ) → from ≤ other → has set (65 + other) ≡ false
+  unfolding has_bit
+  none_from clear other low =
+      elim (cases_lt other 26) [
+        | inl within ↦ shifted other low within ∙ ap (λ w. has_bit w (other - from)) clear ∙ ap (λ x. eqb x 1) (bit_at-zero (other - from))
+        | inr past ↦ has_past set other past
+      ]
+
+  module _ (small : set < 2 ^ 26) (some : 0 < set / 2 ^ from) where
+    fits : set / 2 ^ from < 2 ^ 32
+    fits = omega (arith, shr_le set from)
+
+    pub first_place : (from + trailing_zeros w32 (set / 2 ^ from) < 26) × (has set (65 + (from + trailing_zeros w32 (set / 2 ^ from))) ≡ true)
+    unfolding has_bit
+    first_place =
+        let low = trailing_zeros w32 (set / 2 ^ from) in
+        let found = bit_at-trailing_zeros w32 (set / 2 ^ from) some fits in
+        let on : has_bit (set / 2 ^ from) low ≡ true = eq-eqb (bit_at (set / 2 ^ from) low) 1 found.1 in
+        let here : has_bit set (from + low) ≡ true = sym (has_bit-shifted set from low) ∙ on in
+        let within : from + low < 26 =
+        elim (cases_lt (from + low) 26) [
+          | inl lt ↦ lt
+          | inr past ↦ absurd (both_ways (has_bit set (from + low)) (ap (λ x. eqb x 1) (bit_at_above set 26 (from + low) small past)) here)
+        ] in
+        (within, has_at set (from + low) within ∙ here)
+
+    pub none_before : (other : ℕ) → from ≤ other → other < from + trailing_zeros w32 (set / 2 ^ from) → has set (65 + other) ≡ false
+    unfolding has_bit
+    none_before other low high =
+        let found = bit_at-trailing_zeros w32 (set / 2 ^ from) some fits in
+        shifted other low (omega (arith, first_place.0)) ∙ ap (λ x. eqb x 1) (found.2 (other - from) (omega arith))
+
+-- how many of the first letters are in a set
+counted : (set k : ℕ) → k ≤ 26 → length (filter (has set) (take k alphabet)) ≡ count_by (λ b. b) (map (λ i. has_bit set i) (range_with_len 0 k))
+counted set zero few = refl
+counted set (suc k) few =
+    let next : suc k ≡ k + 1 = omega arith in
+    let f = λ (i : ℕ). has_bit set i in
+    ap (λ n. length (filter (has set) (take n alphabet))) next ∙ count-more set k (omega arith)
+    ∙ ap (λ n. n + cond (has set (65 + k)) 1 0) (counted set k (omega arith))
+    ∙ ap (λ b. count_by (λ b. b) (map f (range_with_len 0 k)) + cond b 1 0) (has_at set k (omega arith))
+    ∙ sym (ap (λ n. count_by (λ b. b) (map f (range_with_len 0 n))) next ∙ sum_by-map-range_with_len_more (λ b. cond b 1 0) f 0 k k (omega arith))
+
+-- a set has as many letters as its number has bits
+pub letters_counted : (set : ℕ) → set < 2 ^ 26 → count_ones set ≡ length (letters_in set)
+letters_counted set small =
+    sym
+    (ap (λ letters. length (filter (has set) letters)) (sym (take_all 26 alphabet (omega (arith, length-alphabet))))
+    ∙ counted set 26 (omega arith)
+    ∙ ones_of_word 26 set small)

@@ -1,0 +1,3 @@
+pub mod LetterSetLemmas
+pub mod Position
+pub mod LetterBits

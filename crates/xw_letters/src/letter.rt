@@ -1,0 +1,79 @@
+ghost use Rattle.std.specs.Prelude.{◌≡◌, ℕ, ◌+◌, ◌<◌, ◌≤◌, true, All};
+ghost use Rattle.xw_letters.specs.Letter.{IsLetter, letter_of, is_letter, folded};
+
+use std::marker::Model;
+
+/// A letter, A to Z.
+#[derive(Clone, Copy, Debug, PartialEq, Eq, PartialOrd, Ord)]
+pub struct Letter {
+    code: u8,
+}
+
+impl Model for Letter {
+    ghost use Rattle.std.specs.Prelude.{ℕ};
+    ghost use Rattle.xw_letters.specs.Letter.{IsLetter};
+
+    ghost Value = { ℕ };
+
+    ghost view = { λ letter. letter.code };
+
+    ghost invariant = { λ letter. IsLetter letter.code };
+
+    ghost inverse = { λ code. record { code = code } };
+}
+
+impl Letter {
+    /// The letter that a byte stands for, of either case.
+    pub fn of(byte: u8) -> Option<Letter>
+        ensures { result ≡ letter_of byte }
+    {
+        match byte {
+            b'A'..=b'Z' | b'a'..=b'z' => Some(Letter::capital(byte)),
+            _ => None,
+        }
+    }
+
+    /// The letter A.
+    pub fn first() -> Letter
+        ensures { result ≡ 65 }
+    {
+        Letter { code: b'A' }
+    }
+
+    /// The letter that a byte is, of either case.
+    pub fn capital(byte: u8) -> Letter
+        requires { is_letter byte ≡ true }
+        ensures { result ≡ folded byte }
+    {
+        Letter {
+            code: if byte >= b'a' { byte - 32 } else { byte },
+        }
+    }
+
+    /// The letter at a place of the alphabet, A at 0.
+    pub fn at(place: u32) -> Letter
+        requires { place < 26 }
+        ensures { result ≡ 65 + place }
+    {
+        Letter {
+            code: b'A' + place as u8,
+        }
+    }
+
+    /// Its capital, 65 for A to 90 for Z.
+    pub fn byte(self) -> u8
+        ensures code { result ≡ self }
+        ensures letter { IsLetter result }
+    {
+        self.code
+    }
+}
+
+/// Lets a contract know of letters in a slice what each of them is.
+pub fn are_letters(word: &[Letter])
+    ensures { All IsLetter word.now }
+{
+    for letter in word {
+        let _ = letter.byte();
+    }
+}

@@ -1,0 +1,136 @@
+//! Sets of letters.
+ghost use Rattle.std.specs.Prelude.{◌≡◌, ℕ, ◌+◌, ◌<◌, ◌≤◌, true, false, not, ◌||◌, ◌&&◌, ◌==◌, length, bytes_eq, IfSome, IfNone};
+ghost use Rattle.xw_letters.specs.Letter.{is_capital};
+ghost use Rattle.xw_letters.specs.LetterSet.{has, letters_in};
+
+use crate::letter::Letter;
+use crate::letters::Letters;
+use std::marker::Model;
+
+/// A bit for each letter.
+const ALL: u32 = 67108863;
+
+/// A set of letters.
+#[derive(Clone, Copy, Debug, PartialEq, Eq)]
+pub struct LetterSet {
+    bits: u32,
+}
+
+impl Model for LetterSet {
+    ghost use Rattle.std.specs.Prelude.{ℕ, ◌<◌, ◌^◌};
+
+    ghost Value = { ℕ };
+
+    ghost view = { λ set. set.bits };
+
+    ghost invariant = { λ set. set.bits < 2 ^ 26 };
+
+    ghost inverse = { λ bits. record { bits = bits } };
+}
+
+impl LetterSet {
+    /// The set of no letters.
+    pub fn new() -> LetterSet
+        ensures { result ≡ 0 }
+    {
+        LetterSet { bits: 0 }
+    }
+
+    /// The set of all letters.
+    #[tactic(auto, using(crate::proofs::LetterSetLemmas::set_steps))]
+    pub fn all() -> LetterSet
+        ensures { (letter : ℕ) → has result letter ≡ is_capital letter }
+    {
+        LetterSet { bits: ALL }
+    }
+
+    /// The set of one letter.
+    #[tactic(auto, using(crate::proofs::LetterSetLemmas::set_steps))]
+    pub fn only(letter: Letter) -> LetterSet
+        ensures letters { (other : ℕ) → has result other ≡ (other == letter) }
+        ensures capital { is_capital letter ≡ true }
+    {
+        let mut set = LetterSet::new();
+        set.insert(letter);
+        set
+    }
+
+    #[tactic(auto, using(crate::proofs::LetterSetLemmas::set_steps))]
+    pub fn has(self, letter: Letter) -> bool
+        ensures { result ≡ has self letter }
+    {
+        (self.bits >> (letter.byte() - b'A')) & 1 == 1
+    }
+
+    pub fn insert(&mut self, letter: Letter)
+        ensures inserted { (other : ℕ) → has self.new other ≡ (has self.old other || (other == letter)) }
+        ensures capital { is_capital letter ≡ true }
+    {
+        self.bits |= 1 << (letter.byte() - b'A');
+    }
+
+    pub fn remove(&mut self, letter: Letter)
+        ensures removed { (other : ℕ) → has self.new other ≡ (has self.old other && not (other == letter)) }
+        ensures fewer { has self.old letter ≡ true → self.new < self.old }
+        ensures capital { is_capital letter ≡ true }
+    {
+        self.bits &= !(1 << (letter.byte() - b'A'));
+    }
+
+    /// The letters that are in both sets.
+    #[tactic(auto, using(crate::proofs::LetterSetLemmas::set_steps))]
+    pub fn common(self, other: LetterSet) -> LetterSet
+        ensures both { (letter : ℕ) → has result letter ≡ (has self letter && has other letter) }
+        ensures fewer { result ≤ self }
+    {
+        LetterSet {
+            bits: self.bits & other.bits,
+        }
+    }
+
+    /// Whether the other set has the same letters.
+    #[tactic(auto, using(crate::proofs::LetterSetLemmas::set_steps))]
+    pub fn is_same(self, other: LetterSet) -> bool
+        ensures set { result ≡ (self == other) }
+        ensures letters { result ≡ bytes_eq (letters_in self) (letters_in other) }
+    {
+        self.bits == other.bits
+    }
+
+    /// Its letters, from A on.
+    pub fn iter(self) -> Letters
+        ensures { result ≡ letters_in self }
+    {
+        Letters::new(self)
+    }
+
+    /// Whether the letter at a place of the alphabet is in the set.
+    pub(crate) fn holds(self, place: u32) -> bool
+        requires { place < 26 }
+        ensures { result ≡ has self (65 + place) }
+    {
+        (self.bits >> place) & 1 == 1
+    }
+
+    /// The first place of the alphabet, from one on, whose letter is in the set.
+    pub fn next_place(self, from: u32) -> Option<u32>
+        ensures set { IfSome result (λ place. (from ≤ place) × (place < 26) × (has self (65 + place) ≡ true)) }
+        ensures first { IfSome result (λ place. (other : ℕ) → from ≤ other → other < place → has self (65 + other) ≡ false) }
+        ensures none { IfNone result ((other : ℕ) → from ≤ other → has self (65 + other) ≡ false) }
+    {
+        if from >= 26 {
+            return None;
+        }
+        let rest = self.bits >> from;
+        if rest == 0 {
+            return None;
+        }
+        Some(from + rest.trailing_zeros())
+    }
+
+    pub fn len(self) -> usize
+        ensures { result ≡ length (letters_in self) }
+    {
+        self.bits.count_ones() as usize
+    }
+}

@@ -1,0 +1,52 @@
+//! The letters of a set, one after another.
+ghost use Rattle.std.specs.Prelude.{◌≡◌, ℕ};
+ghost use Rattle.std.specs.Iterator.{YieldsFirst, item_count};
+ghost use Rattle.xw_letters.specs.LetterSet.{letters_in};
+
+use crate::letter::Letter;
+use crate::letter_set::LetterSet;
+use std::marker::Model;
+
+/// The letters of a set, from A on.
+#[derive(Drop)]
+pub struct Letters {
+    set: LetterSet,
+    place: u32,
+}
+
+impl Model for Letters {
+    ghost use Rattle.std.specs.Prelude.{List, ℕ};
+    ghost use Rattle.xw_letters.specs.LetterSet.{letters_from};
+
+    ghost Value = { List ℕ };
+
+    ghost view = { λ letters. letters_from letters.set letters.place };
+}
+
+impl Letters {
+    pub(crate) fn new(set: LetterSet) -> Letters
+        ensures { result ≡ letters_in set }
+    {
+        Letters { set, place: 0 }
+    }
+}
+
+impl Iterator for Letters {
+    type Item = Letter;
+
+    ghost next_gives = { YieldsFirst (λ letters. letters) };
+
+    ghost remaining = { item_count (λ letters. letters) };
+
+    #[tactic(auto, using(crate::proofs::LetterSetLemmas::walking_steps))]
+    fn next(&mut self) -> Option<Letter> {
+        while self.place < 26 {
+            let place = self.place;
+            self.place += 1;
+            if self.set.holds(place) {
+                return Some(Letter::at(place));
+            }
+        }
+        None
+    }
+}

@@ -1,5 +1,0 @@
-use Rattle.std.proofs.Common.{rules}
-use Rattle.xw_words.proofs.bit_row.BitRow.next_one.Goals as goal
-
-pub returns-clause-set : goal.returns-clause-set
-returns-clause-set c = search rules

@@ -1,7 +1,0 @@
-use Rattle.std.proofs.Common.{take}
-use Rattle.std.specs.Prelude.{All}
-use Rattle.xw_words.specs.Letter.{IsLetter}
-use Rattle.xw_words.proofs.letter.are_letters.Given as goal
-
-abbrev pub invariant-loop-letter : goal.invariant-loop-letter
-invariant-loop-letter l = All IsLetter (take l.letter-index l.word)

@@ -1,5 +1,0 @@
-use Rattle.std.proofs.Common.{rules}
-use Rattle.xw_words.proofs.letter_set.LetterSet.only.Goals as goal
-
-pub returns-clause-letters : goal.returns-clause-letters
-returns-clause-letters c = search rules
