@@ -1,5 +1,6 @@
 //! Runs on puzzle files.
-use crate::runs::samples::{CIRCLED, PLAIN, STARTED, TEXT};
+use crate::files::puz::files::{CIRCLED, PLAIN, STARTED};
+use crate::files::text::PLAIN as TEXT;
 use crate::runs::steps::Step::{Absent, Holds, Remove, Run, Write, WritePart};
 use crate::runs::steps::{Case, Outcome, QUIET, pass_all};
 use xw_outcome::failure::Status;

@@ -18,15 +18,6 @@ use xw_plain::plain::Plain;
 use xw_session::{FromRead, RunEnd, Session, ToWrite};
 use xw_words::Bank;
 
-/// Lines, each with its answer.
-type Script = &'static [(&'static str, &'static str)];
-
-/// A script by its name.
-struct Case {
-    name: &'static str,
-    script: Script,
-}
-
 /// Lines as a reader gives them, what is to be written, and how many of them are refused.
 #[derive(Clone, Copy)]
 struct Exchange<'a> {
@@ -81,28 +72,41 @@ fn push_long(
     Ok(())
 }
 
-/// Puts the lines of a script into one text and its answers into another, and tells how many are refused.
-fn gather(lines: &mut Vec<u8>, answers: &mut Vec<u8>, script: Script) -> Result<u64, AllocError> {
+/// Puts a line of a text behind others.
+fn put_line(lines: &mut Vec<u8>, line: &str) -> Result<(), AllocError> {
+    lines.extend_from_slice(line.as_bytes())?;
+    lines.push(b'\n')?;
+    Ok(())
+}
+
+/// Puts what is typed in a dialogue into one text and the answers into another, and tells how many lines are refused.
+fn gather(lines: &mut Vec<u8>, answers: &mut Vec<u8>, dialogue: &str) -> Result<u64, AllocError> {
     let mut refused = 0;
-    for (line, answer) in script {
-        lines.extend_from_slice(line.as_bytes())?;
-        lines.push(b'\n')?;
-        answers.extend_from_slice(answer.as_bytes())?;
-        if answer.as_bytes().starts_with(b"no ") {
+    for line in dialogue.lines() {
+        match line.strip_prefix('>') {
+            Some(typed) => put_line(lines, typed.strip_prefix(' ').unwrap_or(typed))?,
+            None => put_line(answers, line)?,
+        }
+        if line.starts_with("no ") {
             refused = u64::saturating_add(refused, 1);
         }
     }
     Ok(refused)
 }
 
-/// Runs a script after other lines in a new session.
-fn answers(rt: &(impl Abort + AllocGlobal), beginning: Script, case: &Case) -> Result<(), Fail> {
+/// Runs a dialogue after another one in a new session.
+fn answers(
+    rt: &(impl Abort + AllocGlobal),
+    name: &str,
+    beginning: &str,
+    dialogue: &str,
+) -> Result<(), Fail> {
     let mut lines = Vec::new(rt.alloc());
     let mut answers = Vec::new(rt.alloc());
     let before = gather(&mut lines, &mut answers, beginning)?;
-    let after = gather(&mut lines, &mut answers, case.script)?;
+    let after = gather(&mut lines, &mut answers, dialogue)?;
     let exchange = Exchange {
-        name: case.name,
+        name,
         lines: lines.as_slice(),
         answers: answers.as_slice(),
         refused: before.saturating_add(after),
@@ -110,14 +114,15 @@ fn answers(rt: &(impl Abort + AllocGlobal), beginning: Script, case: &Case) -> R
     runs(rt, &exchange)
 }
 
-/// Runs each script in a new session of its own, after the lines that all of them begin with.
-fn answers_each(
-    rt: &(impl Abort + AllocGlobal),
-    beginning: Script,
-    cases: &[Case],
-) -> Result<(), Fail> {
-    for case in cases {
-        answers(rt, beginning, case)?;
+/// Runs each case of a text in a new session of its own, after the dialogue that all of them begin with.
+///
+/// A case begins with a line of '@' and its name. Below that a line that begins with '>' is typed, and what stands
+/// between it and the next one is its answer.
+fn answers_each(rt: &(impl Abort + AllocGlobal), beginning: &str, cases: &str) -> Result<(), Fail> {
+    for case in cases.split("@ ") {
+        if let Some((name, dialogue)) = case.split_once('\n') {
+            answers(rt, name, beginning, dialogue)?;
+        }
     }
     Ok(())
 }

@@ -1,5 +1,5 @@
 //! Worked examples of files.
 mod cases;
-mod puz;
+pub mod puz;
 mod puzzles;
-mod text;
+pub mod text;

@@ -6,7 +6,6 @@ mod failing;
 mod large;
 mod puzzles;
 mod replacing;
-mod samples;
 mod sessions;
 mod steps;
 mod texts;

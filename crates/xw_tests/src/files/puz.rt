@@ -1,5 +1,5 @@
 //! `.puz` files read, written and told from text.
-mod files;
+pub mod files;
 mod reading;
 mod sections;
 mod writing;
