@@ -18,7 +18,7 @@ use std::simd::prelude::*;
 pub const MAX_BITS: usize = 0x1FF_FFFF_FFFF_FFFF;
 
 /// Bits in a row, packed 64 to a word. How many are set is known once they were counted, and stays known where
-/// one chunk is replaced; any other change drops it.
+/// one chunk is replaced, or a bit is added that is not set; any other change drops it.
 #[derive(Drop)]
 pub struct BitRow {
     words: Vec<u64>,
@@ -111,7 +111,7 @@ impl BitRow {
         block_at(&self.words, at)
     }
 
-    /// Whether the eight chunks from one on have no bit.
+    /// Whether the eight chunks from one on have no bit. Only what follows where they have none is promised.
     pub fn is_clear(&self, at: usize) -> bool
         requires { 64 * at + 448 < length self.now.bits }
         ensures { result ≡ true → (i : ℕ) → 64 * at ≤ i → i < 64 * at + 512 → slice_index_or self.now.bits i false ≡ false }

@@ -1,5 +1,5 @@
 //! Operations on whole words of bits: four words at a time, and one at a time for the rest.
-ghost use Rattle.std.specs.Prelude.{◌≡◌, ℕ, ◌+◌, ◌*◌, ◌/◌, ◌^◌, ◌<◌, ◌≤◌, length, slice_index, bit_and, bit_or, sum_by, count_by, count_ones, slice_range, slice_set, not, ◌&&◌, ◌==◌, nat_lt, if◌then◌else◌, true, false, vec_len, vec_capacity, IfSome, IfNone};
+ghost use Rattle.std.specs.Prelude.{◌≡◌, ℕ, ◌+◌, ◌*◌, ◌/◌, ◌^◌, ◌<◌, ◌≤◌, length, slice_index, bit_and, sum_by, count_by, count_ones, slice_range, slice_set, not, ◌&&◌, ◌==◌, nat_lt, if◌then◌else◌, true, false, vec_len, vec_capacity, IfSome, IfNone};
 ghost use Rattle.xw_bits.specs.Bits.{without, has_bit, words_have, bits_of};
 
 use std::simd::prelude::*;
@@ -197,13 +197,6 @@ pub fn block_at(words: &[u64], at: usize) -> u64x8
     ensures { (k : ℕ) → k < 8 → slice_index result k ≡ slice_index words.now (at + k) }
 {
     u64x8::from_slice(&words[at..])
-}
-
-/// The bits that one of two blocks has.
-pub fn either_block(block: u64x8, other: u64x8) -> u64x8
-    ensures { (k : ℕ) → k < 8 → slice_index result k ≡ bit_or (slice_index block k) (slice_index other k) }
-{
-    block | other
 }
 
 /// Whether no word of a block has a bit.

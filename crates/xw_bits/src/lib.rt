@@ -3,7 +3,7 @@
 
 pub mod bit_row;
 pub mod fault;
-pub mod kernels;
+mod kernels;
 pub mod ones;
 
 pub use bit_row::BitRow;

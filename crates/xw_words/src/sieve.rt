@@ -1,5 +1,5 @@
 //! The words of a row that have one of several letters at a position, a block of chunks after another.
-ghost use Rattle.std.specs.Prelude.{◌≡◌, ℕ, ◌+◌, ◌*◌, ◌/◌, ◌<◌, ◌≤◌, Bool, true, false, List, ◌&&◌, length, slice_index, slice_index_or};
+ghost use Rattle.std.specs.Prelude.{◌≡◌, ℕ, ◌+◌, ◌*◌, ◌/◌, ◌<◌, ◌≤◌, Bool, true, false, List, ◌&&◌, length, bit_or, slice_index, slice_index_or};
 ghost use Rattle.xw_bits.specs.Bits.{has_bit};
 ghost use Rattle.xw_words.specs.Columns.{column_at, AreColumns, has_one_of, stays};
 ghost use Rattle.xw_words.specs.Dictionary.{Entry};
@@ -7,11 +7,17 @@ ghost use Rattle.xw_words.specs.Rows.{chunks_in};
 
 use std::simd::prelude::*;
 use xw_bits::bit_row::BitRow;
-use xw_bits::kernels::either_block;
 use xw_letters::letter_set::LetterSet;
 
 /// How many chunks are read at once.
 const BLOCK: usize = 8;
+
+/// The bits that one of two blocks has.
+fn either_block(block: u64x8, other: u64x8) -> u64x8
+    ensures { (k : ℕ) → k < 8 → slice_index result k ≡ bit_or (slice_index block k) (slice_index other k) }
+{
+    block | other
+}
 
 /// Which words of a block have one of the letters.
 fn block_with(columns: &[BitRow], letters: LetterSet, at: usize) -> u64x8
