@@ -17,8 +17,8 @@ use crate::text::{self, Decimal};
 use crate::{escape, fields};
 use xw_commands::command::{Field, Putting, Spot, TextField};
 use xw_grid::{Cell, Circles, Clues, Direction, Grid, Side, Symmetry};
-use xw_lines::device::{Sink, WriteFailed};
 use xw_letters::Letter;
+use xw_lines::device::{Sink, WriteFailed};
 use xw_words::Bank;
 
 /// What is kept for some cells of a grid.

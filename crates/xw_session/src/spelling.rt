@@ -4,8 +4,8 @@ ghost use Rattle.xw_lines.specs.Sends.{Sends, Gathers};
 ghost use Rattle.xw_session.specs.Text.{line_of};
 
 use crate::answer_line::AnswerLine;
-use xw_lines::device::{self, Sink, WriteFailed};
 use xw_letters::Letter;
+use xw_lines::device::{self, Sink, WriteFailed};
 
 /// How many letters are put together to be written at once.
 const TOGETHER: usize = 64;

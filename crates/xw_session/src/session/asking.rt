@@ -18,9 +18,9 @@ use xw_feas::changed::Changed;
 use xw_feas::edit::{Edit, Refusal as EditRefusal};
 use xw_feas::feasible::Feasible;
 use xw_grid::{Side, Symmetry};
+use xw_letters::Letter;
 use xw_lines::device::{Sink, WriteFailed};
 use xw_lines::outcome::Step;
-use xw_letters::Letter;
 use xw_words::WordFault;
 
 /// With the watch on writes the cells that changed.
