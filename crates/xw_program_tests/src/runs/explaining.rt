@@ -1,6 +1,5 @@
 //! Runs that tell the place of a fault too.
-use crate::files::puz::files::{CIRCLED, PLAIN};
-use crate::files::text::PLAIN as TEXT;
+use crate::runs::samples::{CIRCLED, PLAIN, TEXT, WRONG_SUM};
 use crate::runs::steps::Step::{Remove, Run, Write, WritePart};
 use crate::runs::steps::{Case, Outcome, QUIET, pass, pass_all};
 use std::process::Abort;
@@ -24,10 +23,6 @@ struct Fault {
     errors: &'static [u8],
     explained: &'static [u8],
 }
-
-/// The plain file with its first byte changed, which is one of a sum.
-const WRONG_SUM: &[u8] =
-    b"\0\xBCACROSS&DOWN\0\0LI\xD6\x1C\xFF\x0D\xF4%d1.3\0\0\0\0\0\0\0\0\0\0\0\0\0\0\0\0\0\x02\x02\x04\0\x01\0\0\0ATSO----\0\0\0a\0b\0c\0d\0\0";
 
 const NO_HEADER: &[u8] = b"\n\n";
 

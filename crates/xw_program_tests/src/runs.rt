@@ -6,6 +6,7 @@ mod failing;
 mod large;
 mod puzzles;
 mod replacing;
+mod samples;
 mod sessions;
 mod steps;
 mod texts;

@@ -5,7 +5,7 @@ mod reading;
 mod writing;
 
 /// Text plain: two rows, AT and SO, with a clue for each of four lights.
-pub const PLAIN: &[u8] =
+const PLAIN: &[u8] =
     b"<ACROSS PUZZLE>\n<TITLE>\n\t\n<AUTHOR>\n\t\n<COPYRIGHT>\n\t\n<SIZE>\n\t2x2\n<GRID>\n\tAT\n\tSO\n<ACROSS>\n\ta\n\td\n<DOWN>\n\tb\n\tc\n";
 
 /// Text plain by its parts.

@@ -1,6 +1,6 @@
 use Rattle.std.proofs.Common.{arith, length-take, length-drop}
-use Rattle.xw_tests.proofs.Buffers.{told-read}
-use Rattle.xw_tests.proofs.session.devices.ScriptSource.read.Goals as goal
+use Rattle.xw_puzzle_tests.proofs.Buffers.{told-read}
+use Rattle.xw_puzzle_tests.proofs.session.devices.ScriptSource.read.Goals as goal
 
 pub returns-else-count-eq0-clause-told : goal.returns-else-count-eq0-clause-told
 returns-else-count-eq0-clause-told c =

@@ -1,5 +1,5 @@
 //! `.puz` files read, written and told from text.
-pub mod files;
+mod files;
 mod reading;
 mod sections;
 mod writing;

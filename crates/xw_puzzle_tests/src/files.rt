@@ -1,5 +1,5 @@
 //! Worked examples of files.
 mod cases;
-pub mod puz;
+mod puz;
 mod puzzles;
-pub mod text;
+mod text;

@@ -1,6 +1,5 @@
 //! Runs on puzzle files.
-use crate::files::puz::files::{CIRCLED, PLAIN, STARTED};
-use crate::files::text::PLAIN as TEXT;
+use crate::runs::samples::{CIRCLED, PLAIN, STARTED, TEXT};
 use crate::runs::steps::Step::{Absent, Holds, Remove, Run, Write, WritePart};
 use crate::runs::steps::{Case, Outcome, QUIET, pass_all};
 use xw_outcome::failure::Status;

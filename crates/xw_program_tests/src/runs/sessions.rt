@@ -1,5 +1,5 @@
 //! Sessions that are saved and resumed.
-use crate::files::puz::files::PLAIN;
+use crate::runs::samples::PLAIN;
 use crate::runs::steps::Step::{Absent, Differs, Holds, Remove, Run, Write};
 use crate::runs::steps::{Case, Outcome, QUIET, Step, pass, pass_all};
 use crate::runs::texts::Part::{Bytes, Times};

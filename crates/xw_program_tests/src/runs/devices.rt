@@ -1,7 +1,7 @@
 //! Runs over devices that fail.
 ghost use Rattle.std.specs.Prelude.{◌≡◌, ◌≤◌, take, false};
 
-use crate::files::puz::files::PLAIN;
+use crate::runs::samples::PLAIN;
 use crate::runs::steps::Step::{Absent, Differs, Remove, Write};
 use crate::runs::steps::pass;
 use std::fs::File;
