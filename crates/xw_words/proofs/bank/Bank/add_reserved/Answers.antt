@@ -26,6 +26,16 @@ invariant_of-self c =
     IsKept-set rows count c.add_reserved.new.self c.self.invariant c.add_reserved.ensures.long (c.add_reserved.ensures.count ∙ at.count_is)
     (rw c.add_reserved.ensures.entries (AreWords-push count old.entries word at.words refl c.are_letters.ensures unknown few))
 
+pub returns-clause-place : goal.returns-clause-place
+returns-clause-place c =
+    let rows = c.self.inside.rows.items in
+    let old = c.index_mut-row.result.now in
+    let count = length c.args.word.now in
+    let small = room_within rows count c.self.invariant (ap (λ bank. slice_index_or bank.room count false) c.self.view_is ∙ c.requires.room) in
+    let at = row_kept rows count old c.self.invariant small c.index_mut-row.ensures.value in
+    let was : row c.args.self.now.words count ≡ old.entries = ap (λ bank. row bank.words count) (sym c.self.view_is) ∙ row-entries_in rows count old at.within c.index_mut-row.ensures.value in
+    c.len-place.ensures.value ∙ ap (λ entries. length entries) (sym was)
+
 pub returns-clause-words : goal.returns-clause-words
 returns-clause-words c =
     let rows = c.self.inside.rows.items in

@@ -1,4 +1,4 @@
-use Rattle.std.proofs.Common.{◌≡◌, ◌*◌, ◌<◌, ◌≤◌, length, refl, sym, ap, ◌∙◌, subst, arith, vec_len, vec_capacity}
+use Rattle.std.proofs.Common.{◌≡◌, ◌*◌, ◌<◌, ◌≤◌, length, refl, sym, ap, ◌∙◌, subst, arith, vec_len, vec_capacity, rules}
 use Rattle.xw_words.specs.Row.{Row, entries_of}
 use Rattle.xw_words.specs.Index.{word_in, IsIndex}
 use Rattle.xw_words.specs.KeptRow.{IsKeptRow}
@@ -75,3 +75,6 @@ invariant_of-self-2 c =
     (omega (arith, entries_long, kept.within)) c.grow_columns.ensures.bits (new_long ∙ c.in_ok-grow_columns.ensures.all) words (λ i lt. c.in_ok-grow_columns.ensures.room i (omega (arith, new_long, lt))))
     (λ _. omega (arith, c.requires.long, ap (λ (row : Row). row.count) c.self.view_is)) (omega (arith, c.len-known.ensures.value, c.grown-words.ensures.more)) c.grown-words.ensures.few
     c.in_ok-reserve_words.ensures.letters_room c.in_ok-reserve_words.ensures.room
+
+pub returns-clause-ok : goal.returns-clause-ok
+returns-clause-ok c = search rules
