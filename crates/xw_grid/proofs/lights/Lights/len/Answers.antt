@@ -9,3 +9,6 @@ returns-clause-few c =
     let same : c.len.result ≡ length c.self.inside.lights.items = search rules in
     let long : c.len.result ≡ length (lights_of kept.grid) = same ∙ ap (λ xs. length xs) kept.whole in
     omega (arith, long, lights_are_few kept.grid kept.is)
+
+pub returns-clause-len : goal.returns-clause-len
+returns-clause-len c = search rules
