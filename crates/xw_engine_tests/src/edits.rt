@@ -46,24 +46,24 @@ pub const ACROSS_3: LightName = LightName {
     direction: Direction::Across,
 };
 
-/// An empty grid of so many columns and rows, and words for it.
+/// An empty grid of so many columns and rows, and words for it, parted by white space.
 #[derive(Clone, Copy)]
 pub struct Start {
     pub width: u32,
     pub height: u32,
-    pub words: &'static [&'static [u8]],
+    pub words: &'static str,
 }
 
 pub const SQUARE: Start = Start {
     width: 2,
     height: 2,
-    words: &[b"AS", b"AT", b"SO", b"TO", b"IN"],
+    words: "AS AT SO TO IN",
 };
 
 pub const ROW_OF_THREE: Start = Start {
     width: 3,
     height: 1,
-    words: &[b"CAT"],
+    words: "CAT",
 };
 
 pub fn at(row: u32, col: u32) -> Cell {
@@ -91,9 +91,9 @@ fn add(engine: &mut Plain, word: &'static [u8]) -> Result<(), Refusal> {
     Ok(())
 }
 
-fn add_all(engine: &mut Plain, words: &'static [&'static [u8]]) -> Result<(), Refusal> {
-    for word in words {
-        add(engine, *word)?;
+fn add_all(engine: &mut Plain, words: &'static str) -> Result<(), Refusal> {
+    for word in words.split_ascii_whitespace() {
+        add(engine, word.as_bytes())?;
     }
     Ok(())
 }

@@ -225,7 +225,7 @@ const CASES: &[Case] = &[
         start: Start {
             width: 2,
             height: 5,
-            words: &[b"AS"],
+            words: "AS",
         },
         steps: THREE_TIMES,
     },
@@ -234,7 +234,7 @@ const CASES: &[Case] = &[
         start: Start {
             width: 1,
             height: 1,
-            words: &[],
+            words: "",
         },
         steps: NOTHING_TO_ENTER,
     },

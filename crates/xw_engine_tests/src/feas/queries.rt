@@ -59,7 +59,7 @@ const CASES: &[Case] = &[
         start: Start {
             width: 1,
             height: 1,
-            words: &[],
+            words: "",
         },
         tables: &[ONE_CELL],
     },

@@ -74,7 +74,7 @@ const CASES: &[Case] = &[
         start: Start {
             width: 2,
             height: 1,
-            words: &[],
+            words: "",
         },
         tables: &[IN_A_ROW],
     },
