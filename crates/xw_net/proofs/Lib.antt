@@ -27,6 +27,7 @@ pub mod Narrowing
 pub mod Restricting
 pub mod Least
 pub mod Rooms
+mod Rowwise
 pub mod Renumbers
 pub mod BaseLemmas
 pub mod SpreadLemmas

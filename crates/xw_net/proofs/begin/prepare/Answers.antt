@@ -1,4 +1,4 @@
-use Rattle.std.proofs.Common.{◌≡◌, ◌<◌, ℕ, Bool, true, length, refl, sym, ap, subst, ◌∙◌, inl, inr, arith}
+use Rattle.std.proofs.Common.{◌≡◌, ◌<◌, ℕ, Bool, true, length, refl, sym, ap, subst, ◌∙◌, inl, inr, arith, ◌≤◌}
 use Rattle.std.specs.Prelude.{Option}
 use Rattle.std.proofs.lemmas.Bool.{cases_Bool, both_ways, false_from_ne_true, or_cases, or_left, or_right}
 use Rattle.xw_feas.specs.Board.{Board, light_at}
@@ -70,3 +70,96 @@ returns-clause-prepared g c but =
           (c.queue_changed.ensures.queued light lt (or_right (may_have c.args.word (length (light_at c.args.board.now light)) (bits_in c.read_marked.new.base light)) _ has)));
       seeds = λ light lt on seed. c.touch_lights.ensures.marked light lt on (subst (λ bits. is_seed c.args.board.now c.args.word (light_at c.args.board.now light) bits ≡ true) (sym (read light lt (queued light on))) seed);
     }
+
+pub read_marked-requires-clause-long : goal.read_marked-requires-clause-long
+read_marked-requires-clause-long g c = c.requires.long
+
+pub read_marked-requires-clause-marks : goal.read_marked-requires-clause-marks
+read_marked-requires-clause-marks g c = c.requires.is_queued
+
+pub read_marked-requires-clause-base : goal.read_marked-requires-clause-base
+read_marked-requires-clause-base g c = c.requires.base
+
+pub queue_changed-requires-clause-base : goal.queue_changed-requires-clause-base
+queue_changed-requires-clause-base g c = c.read_marked.ensures.base.rows
+
+pub queue_changed-requires-clause-words : goal.queue_changed-requires-clause-words
+queue_changed-requires-clause-words g c = c.requires.words.rows
+
+pub queue_changed-requires-clause-is_queued : goal.queue_changed-requires-clause-is_queued
+queue_changed-requires-clause-is_queued g c = c.requires.is_queued
+
+pub queue_changed-requires-clause-queue_room : goal.queue_changed-requires-clause-queue_room
+queue_changed-requires-clause-queue_room g c = c.requires.queue_room
+
+pub queue_changed-requires-clause-queue : goal.queue_changed-requires-clause-queue
+queue_changed-requires-clause-queue g c = c.requires.queue
+
+pub touch_lights-requires-clause-base : goal.touch_lights-requires-clause-base
+touch_lights-requires-clause-base g c = c.read_marked.ensures.base.rows
+
+pub touch_lights-requires-clause-is_queued : goal.touch_lights-requires-clause-is_queued
+touch_lights-requires-clause-is_queued g c = subst (λ n. length c.args.board.now.lights ≤ n) (sym c.queue_changed.ensures.is_queued) c.requires.is_queued
+
+pub touch_lights-requires-clause-rows : goal.touch_lights-requires-clause-rows
+touch_lights-requires-clause-rows g c = c.requires.words.rows
+
+pub touch_lights-requires-clause-bits : goal.touch_lights-requires-clause-bits
+touch_lights-requires-clause-bits g c light lt = c.requires.words.bits light lt ∙ sym (c.read_marked.ensures.base.bits light lt)
+
+pub touch_lights-requires-clause-marks : goal.touch_lights-requires-clause-marks
+touch_lights-requires-clause-marks g c = c.requires.marks
+
+pub touch_lights-requires-clause-stack : goal.touch_lights-requires-clause-stack
+touch_lights-requires-clause-stack g c = c.requires.stack
+
+pub touch_lights-requires-clause-room : goal.touch_lights-requires-clause-room
+touch_lights-requires-clause-room g c = c.requires.room
+
+pub returns-clause-entries : goal.returns-clause-entries
+returns-clause-entries g c = c.read_marked.ensures.entries
+
+pub returns-clause-risen : goal.returns-clause-risen
+returns-clause-risen g c = c.read_marked.ensures.risen
+
+pub returns-clause-base : goal.returns-clause-base
+returns-clause-base g c = c.read_marked.ensures.base
+
+pub returns-clause-words_len : goal.returns-clause-words_len
+returns-clause-words_len g c = c.touch_lights.ensures.len
+
+pub returns-clause-words_room : goal.returns-clause-words_room
+returns-clause-words_room g c = c.touch_lights.ensures.row_room
+
+pub returns-clause-base_room : goal.returns-clause-base_room
+returns-clause-base_room g c = c.read_marked.ensures.row_room
+
+pub returns-clause-is_queued : goal.returns-clause-is_queued
+returns-clause-is_queued g c = c.queue_changed.ensures.is_queued
+
+pub returns-clause-queue : goal.returns-clause-queue
+returns-clause-queue g c = c.queue_changed.ensures.queue
+
+pub returns-clause-queue_room : goal.returns-clause-queue_room
+returns-clause-queue_room g c = c.queue_changed.ensures.queue_room
+
+pub returns-clause-queue_grows : goal.returns-clause-queue_grows
+returns-clause-queue_grows g c = c.queue_changed.ensures.grows
+
+pub returns-clause-marks : goal.returns-clause-marks
+returns-clause-marks g c = c.touch_lights.ensures.marks
+
+pub returns-clause-stack : goal.returns-clause-stack
+returns-clause-stack g c = c.touch_lights.ensures.stack
+
+pub returns-clause-room : goal.returns-clause-room
+returns-clause-room g c = c.touch_lights.ensures.room
+
+pub returns-clause-capacity : goal.returns-clause-capacity
+returns-clause-capacity g c = c.touch_lights.ensures.capacity
+
+pub returns-clause-grows : goal.returns-clause-grows
+returns-clause-grows g c = c.touch_lights.ensures.grows
+
+pub returns-clause-within : goal.returns-clause-within
+returns-clause-within g c = c.touch_lights.ensures.within

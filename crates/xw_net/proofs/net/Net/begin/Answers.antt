@@ -1,4 +1,4 @@
-use Rattle.std.proofs.Common.{◌≡◌, ℕ, Bool, List, length, refl, sym, ap, subst, ◌∙◌, arith}
+use Rattle.std.proofs.Common.{true, ◌≡◌, ℕ, Bool, List, length, refl, sym, ap, subst, ◌∙◌, arith, ◌+◌, ◌≤◌, not}
 use Rattle.std.proofs.lemmas.Bool.{false_from_ne_true, both_ways}
 use Rattle.std.proofs.lemmas.List.{with_items_is}
 use Rattle.xw_bits.specs.Bits.{RowOfBits}
@@ -13,11 +13,15 @@ use Rattle.xw_net.specs.declared.change.Change.{Change}
 use Rattle.xw_net.specs.Marks.{AreSlotsApart}
 use Rattle.xw_net.specs.Nets.{pending_in, queued_in}
 use Rattle.xw_net.specs.Renumber.{same_before}
-use Rattle.xw_net.specs.Spread.{is_marked}
+use Rattle.xw_net.specs.Spread.{is_marked, bits_in, HasSeeds}
 use Rattle.xw_net.specs.Forget.{lost_from, Forgets}
 use Rattle.xw_net.specs.Opened.{Arrays, arrays_of, IsOpening}
 use Rattle.xw_net.proofs.Slots.{slots_apart}
 use Rattle.xw_net.proofs.Openings.{waiting_contained, opens}
+use Rattle.std.specs.Prelude.{vec_len, vec_capacity, count_by}
+use Rattle.xw_net.specs.Begin.{is_read}
+use Rattle.xw_net.specs.Room.{row_at}
+use Rattle.xw_net.specs.Brought.{HasBase}
 use Rattle.xw_net.proofs.net.Net.begin.Goals as goal
 
 abbrev Lost : Change → Board → List Light → (ℕ → List Entry) → List ℕ → List ℕ → List ℕ → List ℕ → Type 0
@@ -113,3 +117,129 @@ returns-clause-opened g c before words action settled read is filled moved =
     (lost_by c.args.change.now c.args.board.now c.args.lights.now (g.R.Rows.entries c.args.rows.now) c.deref_mut.result.now c.args.self.now.held.items c.forget_lights.new.held _ c.deref_mut-2.result.now c.args.self.now.pending.items c.forget_lights.new.pending _
     c.deref_mut.ensures.value (sym held) c.deref_mut-2.ensures.value (sym pending) c.forget_lights.ensures) in
     opens before (record { grid = c.args.grid.now; words = words }) action c.args.change.now is settled c.args.self.now _ filled filled.holding moved opening lost refl refl c.requires.inside
+
+-- the same of equal rows
+room_by : {old old' new new' : List RowOfBits} (other : ℕ) → new' ≡ new → old ≡ old' → (row_at old other).room ≤ (row_at new other).room → (row_at old' other).room ≤ (row_at new' other).room
+room_by {old} {old'} {new} {new'} other n o more = subst (λ rows. (row_at rows other).room ≤ (row_at new' other).room) o (subst (λ rows. (row_at old other).room ≤ (row_at rows other).room) (sym n) more)
+
+pub forget_lights-requires-clause-few : goal.forget_lights-requires-clause-few
+forget_lights-requires-clause-few g c = c.requires.shaped.few_cells
+
+pub forget_lights-requires-clause-held : goal.forget_lights-requires-clause-held
+forget_lights-requires-clause-held g c = c.deref_mut.ensures.len ∙ c.requires.shaped.held
+
+pub forget_lights-requires-clause-pending : goal.forget_lights-requires-clause-pending
+forget_lights-requires-clause-pending g c = c.deref_mut-2.ensures.len ∙ c.requires.shaped.pending
+
+pub begin-requires-clause-inside : goal.begin-requires-clause-inside
+begin-requires-clause-inside g c = c.requires.inside
+
+pub begin-requires-clause-long : goal.begin-requires-clause-long
+begin-requires-clause-long g c = c.requires.long
+
+pub begin-requires-clause-base : goal.begin-requires-clause-base
+begin-requires-clause-base g c = subst (HasBase c.args.board.now (g.R.Rows.entries c.args.rows.now)) (sym c.deref_mut-3.ensures.value) c.requires.base
+
+pub begin-requires-clause-words : goal.begin-requires-clause-words
+begin-requires-clause-words g c = record {
+  rows = subst (λ n. length c.args.board.now.lights ≤ n) (sym c.deref_mut-4.ensures.len) c.requires.shaped.rows;
+  bits = λ light lt. ap (λ rows. length (bits_in rows light)) c.deref_mut-4.ensures.value ∙ c.requires.bits light lt;
+}
+
+pub begin-requires-clause-letters : goal.begin-requires-clause-letters
+begin-requires-clause-letters g c = c.deref_mut-5.ensures.len ∙ c.requires.shaped.letters
+
+pub begin-requires-clause-is_queued : goal.begin-requires-clause-is_queued
+begin-requires-clause-is_queued g c = subst (λ n. length c.args.board.now.lights ≤ n) (sym c.deref_mut-6.ensures.len) c.requires.shaped.is_queued
+
+pub begin-requires-clause-queue : goal.begin-requires-clause-queue
+begin-requires-clause-queue g c = c.requires.shaped.queue
+
+pub begin-requires-clause-queue_room : goal.begin-requires-clause-queue_room
+begin-requires-clause-queue_room g c = subst (λ (flags : List Bool). vec_len c.args.self.now.queue + count_by (λ flag. not flag) flags ≤ vec_capacity c.args.self.now.queue) (sym c.deref_mut-6.ensures.value) c.requires.shaped.room
+
+pub begin-requires-clause-queued : goal.begin-requires-clause-queued
+begin-requires-clause-queued g c = subst (λ flags. HasSeeds flags c.args.self.now.queue.items) (sym c.deref_mut-6.ensures.value) c.requires.queued
+
+pub begin-requires-clause-marks : goal.begin-requires-clause-marks
+begin-requires-clause-marks g c = subst (λ n. length c.args.board.now.lights ≤ n) (sym c.deref_mut-7.ensures.len) c.requires.chained.is_marked
+
+pub begin-requires-clause-stack : goal.begin-requires-clause-stack
+begin-requires-clause-stack g c = c.requires.chained.stack
+
+pub begin-requires-clause-room : goal.begin-requires-clause-room
+begin-requires-clause-room g c = subst (λ (flags : List Bool). vec_len c.args.self.now.stack + count_by (λ flag. not flag) flags ≤ vec_capacity c.args.self.now.stack) (sym c.deref_mut-7.ensures.value) c.requires.chained.room
+
+pub begin-requires-clause-seeds : goal.begin-requires-clause-seeds
+begin-requires-clause-seeds g c = subst (λ flags. HasSeeds flags c.args.self.now.stack.items) (sym c.deref_mut-7.ensures.value) c.requires.seeds
+
+pub returns-clause-entries : goal.returns-clause-entries
+returns-clause-entries g c = c.begin.ensures.entries
+
+pub returns-clause-risen : goal.returns-clause-risen
+returns-clause-risen g c = c.begin.ensures.risen
+
+pub returns-clause-shaped : goal.returns-clause-shaped
+returns-clause-shaped g c =
+    let same = with_items_is c.args.self.now.is_queued c.begin.new.is_queued (omega (arith, c.begin.auto.is_queued, c.deref_mut-6.ensures.len)) in
+    record {
+      few_cells = c.requires.shaped.few_cells;
+      rows = c.requires.shaped.rows;
+      entered = c.requires.shaped.entered;
+      letters = c.requires.shaped.letters;
+      held = c.requires.shaped.held;
+      restart = c.requires.shaped.restart;
+      pending = c.requires.shaped.pending;
+      is_queued = c.requires.shaped.is_queued;
+      queue = c.begin.ensures.queue;
+      room = subst (λ (flags : List Bool). vec_len c.begin.new.queue + count_by (λ flag. not flag) flags ≤ vec_capacity c.begin.new.queue) (sym same) c.begin.ensures.queue_room;
+    }
+
+pub returns-clause-chained : goal.returns-clause-chained
+returns-clause-chained g c =
+    let same = with_items_is c.args.self.now.is_marked c.begin.new.marks (omega (arith, c.begin.auto.marks, c.deref_mut-7.ensures.len)) in
+    record {
+      base = c.requires.chained.base;
+      is_marked = c.requires.chained.is_marked;
+      stack = c.begin.ensures.stack;
+      room = subst (λ (flags : List Bool). vec_len c.begin.new.stack + count_by (λ flag. not flag) flags ≤ vec_capacity c.begin.new.stack) (sym same) c.begin.ensures.room;
+    }
+
+pub returns-clause-bits : goal.returns-clause-bits
+returns-clause-bits g c light lt =
+    let same = with_items_is c.args.self.now.rows c.begin.new.words (omega (arith, c.begin.auto.words, c.deref_mut-4.ensures.len)) in
+    ap (λ rows. length (bits_in rows light)) same ∙ c.begin.ensures.words.bits light lt
+
+pub returns-clause-base : goal.returns-clause-base
+returns-clause-base g c =
+    let same = with_items_is c.args.self.now.base c.begin.new.base (omega (arith, c.begin.auto.base, c.deref_mut-3.ensures.len)) in
+    subst (HasBase c.args.board.now (g.R.Rows.entries c.args.rows.now)) (sym same) c.begin.ensures.base
+
+pub returns-clause-seeds : goal.returns-clause-seeds
+returns-clause-seeds g c =
+    let same = with_items_is c.args.self.now.is_marked c.begin.new.marks (omega (arith, c.begin.auto.marks, c.deref_mut-7.ensures.len)) in
+    subst (λ flags. HasSeeds flags c.begin.new.stack.items) (sym same) c.begin.ensures.seeds
+
+pub returns-clause-spare : goal.returns-clause-spare
+returns-clause-spare g c = refl
+
+pub returns-clause-capacity : goal.returns-clause-capacity
+returns-clause-capacity g c = c.begin.ensures.capacity
+
+pub returns-clause-marks : goal.returns-clause-marks
+returns-clause-marks g c = refl
+
+pub returns-clause-row_room : goal.returns-clause-row_room
+returns-clause-row_room g c other =
+    let same = with_items_is c.args.self.now.rows c.begin.new.words (omega (arith, c.begin.auto.words, c.deref_mut-4.ensures.len)) in
+    room_by other same c.deref_mut-4.ensures.value (c.begin.ensures.words_room other)
+
+pub returns-clause-base_room : goal.returns-clause-base_room
+returns-clause-base_room g c other =
+    let same = with_items_is c.args.self.now.base c.begin.new.base (omega (arith, c.begin.auto.base, c.deref_mut-3.ensures.len)) in
+    room_by other same c.deref_mut-3.ensures.value (c.begin.ensures.base_room other)
+
+pub returns-clause-cost : goal.returns-clause-cost
+returns-clause-cost g c member has =
+    let same = with_items_is c.args.self.now.is_queued c.begin.new.is_queued (omega (arith, c.begin.auto.is_queued, c.deref_mut-6.ensures.len)) in
+    c.begin.ensures.cost member (λ light lt read. has light lt (subst (λ flags. is_read c.args.board.now c.args.change.now.word (is_marked flags) light ≡ true) (sym same) read))
