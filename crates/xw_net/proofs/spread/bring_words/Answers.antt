@@ -1,8 +1,9 @@
-use Rattle.std.proofs.Common.{◌≡◌, Bool, true, set, subst, sym, ap, ◌∙◌}
+use Rattle.std.proofs.Common.{◌≡◌, Bool, true, set, subst, sym, ap, ◌∙◌, arith}
 use Rattle.std.specs.Prelude.{List}
 use Rattle.xw_feas.specs.Board.{light_at, is_wholly_entered}
 use Rattle.xw_net.specs.Spread.{Lit, IsLit, IsListed}
 use Rattle.xw_net.proofs.LitLemmas.{listed_mark, lit_bring}
+use Rattle.std.proofs.lemmas.Grind.{common_steps}
 use Rattle.xw_net.proofs.spread.bring_words.Goals as goal
 
 pub returns-clause-listed : goal.returns-clause-listed
@@ -21,3 +22,6 @@ returns-clause-lit c start marked waiting left on quieter lit =
     let P : Bool → List Bool → Type 0 = λ e q. IsLit c.args.board.now c.args.base.now start (record { rows = c.bring_row.new.rows; entered = set c.args.entered.now c.args.light e; restart = c.restart_light.new.restart; queued = q }) marked left in
     let with_entered = subst (λ e. P e (set c.args.is_queued.now c.args.light true)) entered brought in
     subst (P c.has_all_entries.result) (sym c.mark.ensures.marks) with_entered
+
+pub returns-clause-queue : goal.returns-clause-queue
+returns-clause-queue c = grind (arith, common_steps)

@@ -5,6 +5,7 @@ use Rattle.xw_feas.specs.Board.{IsCrossing}
 use Rattle.xw_net.specs.Marks.{cell_at}
 use Rattle.xw_net.specs.Spread.{is_marked, Grows}
 use Rattle.xw_net.proofs.SpreadLemmas.{grows_mark, marked_more, marked_now, marked_before}
+use Rattle.std.proofs.lemmas.Grind.{common_steps}
 use Rattle.xw_net.proofs.spread.mark_crossing.Goals as goal
 
 pub returns-in-Some-clause-grows : goal.returns-in-Some-clause-grows
@@ -42,3 +43,6 @@ returns-in_default-clause-marked c was j r here same =
           let is : None ≡ Some j = sym c.in_default.is ∙ c.crossing.ensures.only j crosses in
           cc
     ]
+
+pub returns-in-Some-clause-waiting : goal.returns-in-Some-clause-waiting
+returns-in-Some-clause-waiting c = grind (arith, common_steps)

@@ -4,6 +4,7 @@ use Rattle.xw_feas.specs.Flags.{set_has}
 use Rattle.xw_net.specs.Spread.{is_marked, is_waiting, Lit}
 use Rattle.xw_net.proofs.SpreadLemmas.{waits_top, waits_pop, quiet_pop, waiting-none, spread_start, spread_taken, spread_end}
 use Rattle.xw_net.proofs.LitLemmas.{lit_start, lit_grows, lit_end}
+use Rattle.std.proofs.lemmas.Grind.{common_steps}
 use Rattle.xw_net.proofs.spread.spread.Goals as goal
 
 pub loop-light-init : goal.loop-light-init
@@ -71,3 +72,30 @@ pub returns-clause-spread : goal.returns-clause-spread
 returns-clause-spread c =
     let empty = nil_from_length c.loop-light.stack.items (omega (arith, c.in_default.ensures.cases.0)) in
     spread_end c.args.board.now (set_has c.args.letters.now) (set_has c.loop-light.letters) (is_marked c.loop-light.marks) (is_waiting c.loop-light.stack.items) (λ i. waiting-none c.loop-light.stack.items i empty) c.loop-light.invariant.spread
+
+pub returns-clause-letters : goal.returns-clause-letters
+returns-clause-letters c = c.loop-light.invariant.letters_len
+
+pub returns-clause-queue : goal.returns-clause-queue
+returns-clause-queue c = c.loop-light.invariant.queue
+
+pub returns-clause-queue_room : goal.returns-clause-queue_room
+returns-clause-queue_room c = c.loop-light.invariant.queue_room
+
+pub returns-clause-listed : goal.returns-clause-listed
+returns-clause-listed c = c.loop-light.invariant.listed
+
+pub returns-clause-marks : goal.returns-clause-marks
+returns-clause-marks c = c.loop-light.invariant.marks_len
+
+pub returns-clause-row_room : goal.returns-clause-row_room
+returns-clause-row_room c = c.loop-light.invariant.row_room
+
+pub returns-clause-more : goal.returns-clause-more
+returns-clause-more c = c.loop-light.invariant.more
+
+pub returns-clause-within : goal.returns-clause-within
+returns-clause-within c = c.loop-light.invariant.within
+
+pub raise_light-requires-clause-waiting : goal.raise_light-requires-clause-waiting
+raise_light-requires-clause-waiting c = grind (arith, common_steps)

@@ -13,6 +13,7 @@ use Rattle.xw_bits.specs.Bits.{RowOfBits}
 use Rattle.xw_words.specs.Dictionary.{Dictionary}
 use Rattle.xw_net.proofs.NetLemmas.{waiting_within, lit_of, lit_same, brought_from}
 use Rattle.xw_net.proofs.Brought.{brought_is_revival, brought_covers, brought_ready, region_reach_closed}
+use Rattle.std.proofs.lemmas.Grind.{common_steps}
 use Rattle.xw_net.proofs.net.Net.bring_back.Goals as goal
 
 pub returns-clause-queue : goal.returns-clause-queue
@@ -87,3 +88,15 @@ returns-clause-region c before after action member words letters is region exact
     let closed = region_reach_closed before after action member region words letters exact (letter_stands c.args.self.now) (subst P is kept) in
     let Q : Board → Type 0 = λ b. IsReachClosed b (letter_stands c.args.self.now) (λ light. member (light_at b light)) in
     returns-clause-within c (λ light. member (light_at c.args.board.now light)) (subst Q (sym is) closed) seeds
+
+pub returns-clause-shaped : goal.returns-clause-shaped
+returns-clause-shaped c = grind (arith, common_steps)
+
+pub returns-clause-chained : goal.returns-clause-chained
+returns-clause-chained c = grind (arith, common_steps)
+
+pub returns-clause-bits : goal.returns-clause-bits
+returns-clause-bits c = grind (arith, common_steps)
+
+pub returns-clause-row_room : goal.returns-clause-row_room
+returns-clause-row_room c = grind (arith, common_steps)

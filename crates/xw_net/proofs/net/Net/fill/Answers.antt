@@ -21,6 +21,7 @@ use Rattle.xw_net.specs.Filled.{IsWholeNet}
 use Rattle.xw_net.proofs.Alike.{roomier_filled}
 use Rattle.xw_net.proofs.Unstripped.{brought_unstripped}
 use Rattle.xw_net.proofs.Fresh.{brought_ready_all}
+use Rattle.std.proofs.lemmas.Grind.{common_steps}
 use Rattle.xw_net.proofs.net.Net.fill.Goals as goal
 
 pub bring_back-requires-clause-seeds : goal.bring_back-requires-clause-seeds
@@ -92,3 +93,6 @@ returns-clause-filled g c dictionary position =
     (c.unmark.ensures.shaped board back.ensures.shaped) (c.unmark.ensures.chained board back.ensures.chained)
     (back.ensures.bits (row dictionary) whole.bits) back.ensures.base back.ensures.stack back.ensures.row_room (is_marked back.new.self.is_marked.items) (back.ensures.brought dictionary is_base)
     ready (λ light place letter here capital lt. absurd (omega (arith, lt, held_far light place letter here capital))) fresh.pending c.unmark.ensures.rest c.unmark.ensures.marked))
+
+pub bring_back-requires-clause-chained : goal.bring_back-requires-clause-chained
+bring_back-requires-clause-chained g c = grind (arith, common_steps)

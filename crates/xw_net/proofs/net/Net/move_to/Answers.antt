@@ -8,6 +8,7 @@ use Rattle.xw_grid.specs.Light.{lights_of}
 use Rattle.xw_net.specs.Room.{counts_of, row_at}
 use Rattle.xw_net.specs.Fit.{AreFitted, IsTurned}
 use Rattle.xw_net.proofs.Moving.{moved_net}
+use Rattle.std.proofs.lemmas.Grind.{common_steps}
 use Rattle.xw_net.proofs.net.Net.move_to.Goals as goal
 
 fitted_of : (lights lights' : List Light) (entries entries' : ℕ → List Entry) (old old' new new' : List RowOfBits) → lights ≡ lights' → entries ≡ entries' → old ≡ old' → new ≡ new' → AreFitted lights (counts_of entries) old new → AreFitted lights' (counts_of entries') old' new'
@@ -52,3 +53,9 @@ returns-clause-moved g c was now before lights read filled =
       stack_room = rest.stack_room;
     })
     filled
+
+pub returns-clause-whole : goal.returns-clause-whole
+returns-clause-whole g c = grind (arith, common_steps)
+
+pub returns-clause-room : goal.returns-clause-room
+returns-clause-room g c = grind (arith, common_steps)

@@ -1,10 +1,11 @@
-use Rattle.std.proofs.Common.{◌≡◌, ℕ, Bool, false, List, length, get_or, ap, ◌∙◌, rules}
+use Rattle.std.proofs.Common.{◌≡◌, ℕ, Bool, false, List, length, get_or, ap, ◌∙◌, rules, arith}
 use Rattle.std.specs.Prelude.{replicate}
 use Rattle.xw_net.specs.Room.{counts_of}
 use Rattle.xw_net.specs.Nets.{queued_in}
 use Rattle.xw_net.specs.Spread.{is_marked}
 use Rattle.xw_net.proofs.Quiet.{all_false}
 use Rattle.xw_net.proofs.Renumbers.{whole_after, room_after}
+use Rattle.std.proofs.lemmas.Grind.{common_steps}
 use Rattle.xw_net.proofs.net.Net.renumber.Goals as goal
 
 pub returns-clause-whole : goal.returns-clause-whole
@@ -23,3 +24,9 @@ returns-clause-quiet g c quiet =
       stack = quiet.stack;
       marked = none c.take_over.new.self.is_marked.items (search rules);
     }
+
+pub returns-clause-shaped : goal.returns-clause-shaped
+returns-clause-shaped g c = grind (arith, common_steps)
+
+pub returns-clause-chained : goal.returns-clause-chained
+returns-clause-chained g c = grind (arith, common_steps)
