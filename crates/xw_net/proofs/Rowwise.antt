@@ -12,10 +12,6 @@ module _ (rows : List RowOfBits) (light : ℕ) (within : light < length rows) wh
   pub bits_read : (row : RowOfBits) → (get_or rows light row).bits ≡ bits_in rows light
   bits_read row = ap (λ (r : RowOfBits). r.bits) (get_or_default rows light row no_row within) ∙ sym (bits_are rows light)
 
-  -- the same of the row itself
-  pub bits_found : (row : RowOfBits) → row ≡ get_or rows light row → row.bits ≡ bits_in rows light
-  bits_found row is = ap (λ (r : RowOfBits). r.bits) is ∙ bits_read row
-
   pub bits_here : (row : RowOfBits) → bits_in (set rows light row) light ≡ row.bits
   bits_here row = bits_are (set rows light row) light ∙ ap (λ (r : RowOfBits). r.bits) (get_or-set_same rows light row no_row within)
 
