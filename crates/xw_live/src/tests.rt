@@ -79,20 +79,20 @@ const ACROSS_3: LightName = LightName {
     direction: Direction::Across,
 };
 
-/// A grid of so many columns and rows with blocks in it, and words for it.
+/// A grid of so many columns and rows with blocks in it, and words for it, parted by white space.
 #[derive(Clone, Copy)]
 struct Start {
     width: u32,
     height: u32,
     blocks: &'static [(u32, u32)],
-    words: &'static [&'static [u8]],
+    words: &'static str,
 }
 
 const SQUARE: Start = Start {
     width: 2,
     height: 2,
     blocks: &[],
-    words: &[b"AS", b"AT", b"SO", b"TO", b"IN"],
+    words: "AS AT SO TO IN",
 };
 
 /// What is feasible in the square while nothing is entered.
@@ -292,8 +292,8 @@ fn block_all(rt: &impl Abort, watched: &mut Watched, start: Start, name: &'stati
 
 fn add_all(rt: &impl Abort, watched: &mut Watched, start: Start, name: &'static str) {
     let list = "word";
-    for (at, word) in start.words.iter().enumerate() {
-        let edit = Edit::Add(*word);
+    for (at, word) in start.words.split_ascii_whitespace().enumerate() {
+        let edit = Edit::Add(word.as_bytes());
         watch(rt, watched, &edit, ANYTHING, Place { name, list, at });
     }
 }

@@ -12,7 +12,7 @@ const SIDE_BY_SIDE: Start = Start {
     width: 5,
     height: 2,
     blocks: &[(1, 3), (2, 3)],
-    words: &[b"AS", b"AT", b"SO", b"TO", b"IN"],
+    words: "AS AT SO TO IN",
 };
 
 const RIGHT_SQUARE: &[Step] = &[Letters(1, 4, b"A"), Letters(1, 5, b"ST")];
@@ -40,7 +40,7 @@ const CORNER: Start = Start {
     width: 3,
     height: 3,
     blocks: &[(2, 2), (2, 3), (3, 2), (3, 3)],
-    words: &[b"CAT", b"COT", b"CUB"],
+    words: "CAT COT CUB",
 };
 
 const CORNER_ENTERED: &[Step] = &[

@@ -88,14 +88,13 @@ const ONE_MORE: &[Step] = &[
 ];
 
 /// AAA to AAZ, ABA to ABZ, and ACA to ACL.
-const SIXTY_FOUR: &[&[u8]] = &[
-    b"AAA", b"AAB", b"AAC", b"AAD", b"AAE", b"AAF", b"AAG", b"AAH", b"AAI", b"AAJ", b"AAK", b"AAL",
-    b"AAM", b"AAN", b"AAO", b"AAP", b"AAQ", b"AAR", b"AAS", b"AAT", b"AAU", b"AAV", b"AAW", b"AAX",
-    b"AAY", b"AAZ", b"ABA", b"ABB", b"ABC", b"ABD", b"ABE", b"ABF", b"ABG", b"ABH", b"ABI", b"ABJ",
-    b"ABK", b"ABL", b"ABM", b"ABN", b"ABO", b"ABP", b"ABQ", b"ABR", b"ABS", b"ABT", b"ABU", b"ABV",
-    b"ABW", b"ABX", b"ABY", b"ABZ", b"ACA", b"ACB", b"ACC", b"ACD", b"ACE", b"ACF", b"ACG", b"ACH",
-    b"ACI", b"ACJ", b"ACK", b"ACL",
-];
+const SIXTY_FOUR: &str = "\
+AAA AAB AAC AAD AAE AAF AAG AAH AAI AAJ AAK AAL AAM
+AAN AAO AAP AAQ AAR AAS AAT AAU AAV AAW AAX AAY AAZ
+ABA ABB ABC ABD ABE ABF ABG ABH ABI ABJ ABK ABL ABM
+ABN ABO ABP ABQ ABR ABS ABT ABU ABV ABW ABX ABY ABZ
+ACA ACB ACC ACD ACE ACF ACG ACH ACI ACJ ACK ACL
+";
 
 const CASES: &[Case] = &[
     Case {
@@ -129,7 +128,7 @@ const CASES: &[Case] = &[
             width: 4,
             height: 1,
             blocks: &[],
-            words: &[b"OVER", b"ON"],
+            words: "OVER ON",
         },
         tables: &[PARTED],
     },
