@@ -29,8 +29,15 @@ kept = with_rule (with_rule begun (option (codes "to"))) (option (codes "save"))
 abbrev pub edit : App
 edit = with_rule kept explain
 
+-- a conversion with the file that it reads, then with the one that it writes
+abbrev pub reading : App
+reading = with_rule (new_app (codes "convert")) (operand (codes "from"))
+
+abbrev pub writing : App
+writing = with_rule reading (operand (codes "to"))
+
 abbrev pub convert : App
-convert = with_rule (with_rule (with_rule (new_app (codes "convert")) (operand (codes "from"))) (operand (codes "to"))) explain
+convert = with_rule writing explain
 
 abbrev pub check : App
 check = with_rule (with_rule (new_app (codes "check")) (operand (codes "file"))) explain

@@ -1,7 +1,7 @@
 //! The arguments of the program.
-ghost use Rattle.std.specs.Prelude.{◌≡◌, ◌&&◌, is_some, IfOk, IfErr, OnOk, IfSome, None, map, false, [], codes};
+ghost use Rattle.std.specs.Prelude.{◌≡◌, ◌&&◌, is_some, IfOk, IfErr, OnOk, IfSome, None, Ok, map, false, [], codes};
 ghost use Rattle.clap.specs.Values.{kind_of};
-ghost use Rattle.clap.specs.Words.{app_of, fault_of, first_of, found_of, rows_of, rule_of, subcommand_of, subcommand_rows_of};
+ghost use Rattle.clap.specs.Words.{AddsSubcommand, app_of, fault_of, first_of, found_of, rows_of, rule_of, subcommand_of, subcommand_rows_of};
 ghost use Rattle.clap.specs.declared.builder.command.Command.TheViews.{out-Command as fields_of};
 ghost use Rattle.xw_arguments.specs.Calls.{AreFiles, IsCall, is_set};
 ghost use Rattle.xw_arguments.specs.Usage.{IsTold, IsNoCall, IsUsageOf};
@@ -165,20 +165,34 @@ fn edit<'a>(alloc: Global) -> Result<Command<'a>, AllocError>
     kept(alloc)?.arg(explain(alloc))
 }
 
-fn convert<'a>(alloc: Global) -> Result<Command<'a>, AllocError>
-    ensures shape { IfOk result (λ command. app_of command ≡ shapes.convert) }
+/// A conversion from a file that has to be named.
+fn reading<'a>(alloc: Global) -> Result<Command<'a>, AllocError>
+    ensures shape { IfOk result (λ command. app_of command ≡ shapes.reading) }
     ensures local { IfOk result (λ command. (fields_of command).has_globals ≡ false) }
 {
     Command::new(alloc, "convert")
         .about("Read a puzzle file and write it in another format")
-        .arg(operand(alloc, "from", "FROM", "The puzzle to read, .puz or text"))?
-        .arg(operand(
-            alloc,
-            "to",
-            "TO",
-            "Where to write it, as .puz if it is called so, else as text",
-        ))?
-        .arg(explain(alloc))
+        .arg(operand(alloc, "from", "FROM", "The puzzle to read, .puz or text"))
+}
+
+/// A conversion from one file into another.
+fn writing<'a>(alloc: Global) -> Result<Command<'a>, AllocError>
+    ensures shape { IfOk result (λ command. app_of command ≡ shapes.writing) }
+    ensures local { IfOk result (λ command. (fields_of command).has_globals ≡ false) }
+{
+    reading(alloc)?.arg(operand(
+        alloc,
+        "to",
+        "TO",
+        "Where to write it, as .puz if it is called so, else as text",
+    ))
+}
+
+fn convert<'a>(alloc: Global) -> Result<Command<'a>, AllocError>
+    ensures shape { IfOk result (λ command. app_of command ≡ shapes.convert) }
+    ensures local { IfOk result (λ command. (fields_of command).has_globals ≡ false) }
+{
+    writing(alloc)?.arg(explain(alloc))
 }
 
 fn check<'a>(alloc: Global) -> Result<Command<'a>, AllocError>
@@ -203,6 +217,16 @@ fn top<'a>(alloc: Global) -> Command<'a>
         .subcommand_required(true)
 }
 
+/// A command with one more subcommand, where there is one to add it to.
+fn added<'a>(
+    command: Result<Command<'a>, AllocError>,
+    subcommand: Command<'a>,
+) -> Result<Command<'a>, AllocError>
+    ensures { IfOk result (λ with. (without : Command) × (command.entry ≡ Ok without) × AddsSubcommand without subcommand.entry with) }
+{
+    command?.subcommand(subcommand)
+}
+
 /// The program with its first subcommand.
 fn editing<'a>(alloc: Global) -> Result<Command<'a>, AllocError>
     ensures shape { IfOk result (λ command. app_of command ≡ shapes.editing) }
@@ -217,16 +241,16 @@ fn converting<'a>(alloc: Global) -> Result<Command<'a>, AllocError>
     ensures shape { IfOk result (λ command. app_of command ≡ shapes.converting) }
     ensures local { IfOk result (λ command. (fields_of command).has_globals ≡ false) }
 {
-    let editing = editing(alloc)?;
-    editing.subcommand(convert(alloc)?)
+    let convert = convert(alloc)?;
+    added(editing(alloc), convert)
 }
 
 fn command<'a>(alloc: Global) -> Result<Command<'a>, AllocError>
     ensures shape { IfOk result (λ command. app_of command ≡ shapes.xw) }
     ensures local { IfOk result (λ command. (fields_of command).has_globals ≡ false) }
 {
-    let converting = converting(alloc)?;
-    converting.subcommand(check(alloc)?)
+    let check = check(alloc)?;
+    added(converting(alloc), check)
 }
 
 /// The call that the words are, of which the first is the program's name.
