@@ -1,3 +1,5 @@
+use Rattle.std.proofs.lemmas.Grind.{common_steps}
+use Rattle.std.proofs.Common.{rules, arith}
 use Rattle.xw_feas.proofs.Support.{exact_when_none_unsupported}
 use Rattle.xw_feas.proofs.AnswersLemmas.{AreAnswers-rows}
 use Rattle.xw_plain.proofs.standing.settle.Goals as goal
@@ -11,3 +13,6 @@ pub returns-clause-answers : goal.returns-clause-answers
 returns-clause-answers c =
     let kept = c.loop-removed.invariant in
     AreAnswers-rows _ _ _ _ kept.rows (exact_when_none_unsupported _ _ _ _ kept.covers kept.within (kept.supported c.loop-removed-test.false))
+
+pub loop-removed-init : goal.loop-removed-init
+loop-removed-init c = grind (arith, common_steps)
