@@ -4,6 +4,8 @@ pub mod Headers
 pub mod Files
 pub mod SumLemmas
 pub mod Fronts
+pub mod SquaresRead
+pub mod Comparisons
 pub mod SectionLemmas
 pub mod ClueLemmas
 pub mod BoardLemmas
