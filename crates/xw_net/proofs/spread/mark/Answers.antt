@@ -2,7 +2,6 @@ use Rattle.std.proofs.Common.{◌≡◌, ◌++◌, [], ◌∷◌, Bool, ℕ, fal
 use Rattle.std.proofs.lemmas.Bool.{cond-true, cond-false}
 use Rattle.std.proofs.lemmas.List.Sums.{get_or-le-sum_by}
 use Rattle.xw_net.specs.Spread.{is_marked}
-use Rattle.std.proofs.lemmas.Grind.{common_steps}
 use Rattle.xw_net.proofs.spread.mark.Goals as goal
 
 pub returns-then-not-marks-light-clause-stack : goal.returns-then-not-marks-light-clause-stack
@@ -21,12 +20,3 @@ pub returns-else-not-marks-light-clause-stack : goal.returns-else-not-marks-ligh
 unfolding is_marked
 returns-else-not-marks-light-clause-stack c =
     sym (cond-true (get_or c.args.marks.now c.args.light false) c.args.stack.now.items (c.args.stack.now.items ++ c.args.light ∷ []) c.if-not-marks-light.false)
-
-pub returns-then-not-marks-light-clause-room : goal.returns-then-not-marks-light-clause-room
-returns-then-not-marks-light-clause-room c = grind (arith, common_steps)
-
-pub returns-then-not-marks-light-clause-left : goal.returns-then-not-marks-light-clause-left
-returns-then-not-marks-light-clause-left c = grind (arith, common_steps)
-
-pub returns-else-not-marks-light-clause-marks : goal.returns-else-not-marks-light-clause-marks
-returns-else-not-marks-light-clause-marks c = grind (arith, common_steps)

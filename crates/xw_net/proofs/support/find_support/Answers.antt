@@ -5,7 +5,6 @@ use Rattle.xw_feas.specs.Flags.{set_has}
 use Rattle.xw_net.specs.Support.{Held, place_for, search_from}
 use Rattle.xw_net.specs.Support.Finds.{moves}
 use Rattle.xw_net.proofs.Searches.{search_is, without_letter}
-use Rattle.std.proofs.lemmas.Grind.{common_steps}
 use Rattle.xw_net.proofs.support.find_support.Goals as goal
 
 pub returns-in-Some-first_support-clause-finds : goal.returns-in-Some-first_support-clause-finds
@@ -37,6 +36,3 @@ returns-in-Some-first_support-clause-finds g c =
     (length-set sets slot c.remove.new.self)
     (without_letter sets slot c.remove.new.self letter c.requires.restart removed)
     (omega (arith, from_is, c.in-Some-first_support.ensures.cost, c.in-Some-first_support.ensures.found.0))
-
-pub returns-in-None-clause-finds : goal.returns-in-None-clause-finds
-returns-in-None-clause-finds g c = grind (arith, common_steps)

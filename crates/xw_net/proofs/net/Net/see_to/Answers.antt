@@ -9,7 +9,6 @@ use Rattle.xw_net.specs.declared.net.Net.{Net}
 use Rattle.xw_net.proofs.Queues.{marked_less}
 use Rattle.xw_net.proofs.Ending.{taken_under, kept_all}
 use Rattle.xw_net.proofs.HeldWords.{same_holding}
-use Rattle.std.proofs.lemmas.Grind.{common_steps}
 use Rattle.xw_net.proofs.net.Net.see_to.Goals as goal
 
 pub returns-then-index-clause-kept : goal.returns-then-index-clause-kept
@@ -72,6 +71,3 @@ returns-else-index-clause-waits g c other waits is =
     let within : light < length old.is_queued.items = omega (arith, c.requires.light, c.requires.shaped.is_queued) in
     let idle : get_or old.is_queued.items light false ≡ false = sym (get_or_default old.is_queued.items light c.index.result.now false within) ∙ sym c.index.ensures ∙ c.if-index.false in
     waits (λ e. both_ways (get_or old.is_queued.items light false) idle (ap (λ n. get_or old.is_queued.items n false) (sym e) ∙ is)) is
-
-pub keep_light-requires-clause-shaped : goal.keep_light-requires-clause-shaped
-keep_light-requires-clause-shaped g c = grind (arith, common_steps)

@@ -14,7 +14,6 @@ use Rattle.std.specs.Vec.{with_item}
 use Rattle.xw_net.proofs.Searches.{emptied}
 use Rattle.xw_net.proofs.Rows.{net_struck, bits_known}
 use Rattle.xw_net.proofs.Steps.{strike_kept, strike_paid}
-use Rattle.std.proofs.lemmas.Grind.{common_steps}
 use Rattle.xw_net.proofs.net.Net.strike_place.Goals as goal
 
 pub returns-clause-cleared : goal.returns-clause-cleared
@@ -79,6 +78,3 @@ returns-clause-kept g c dictionary measure position queued in_set under =
       kept = strike_kept board dictionary position.apart (marks_of old) (marks_of new) i q c.requires.place queued struck under.kept;
       paid = strike_paid board dictionary position.apart (marks_of old) (marks_of new) i q c.requires.place queued struck measure (g.R.Rows.ticks c.args.rows.now) (g.R.Rows.ticks c.strike_row.new.rows) sound under.paid in_set spent;
     }
-
-pub returns-clause-rest : goal.returns-clause-rest
-returns-clause-rest g c = grind (arith, common_steps)
