@@ -7,8 +7,7 @@ ghost use Rattle.xw_outcome.specs.Explained.{IsExplained};
 use crate::failure::{Failure, Status};
 use std::alloc::Global;
 use xw_arguments::arguments::Usage;
-use xw_lines::device;
-use xw_session::Sink;
+use xw_lines::{Sink, device};
 
 /// Shows how the program is called, and answers how that went.
 pub fn explain<O: Sink, E: Sink>(usage: &Usage, output: &mut O, errors: &mut E) -> Status

@@ -6,7 +6,7 @@ use crate::place::Place;
 use std::alloc::AllocError;
 use std::process::ExitCode;
 use thiserror::Error;
-use xw_session::RunEnd;
+use xw_lines::RunEnd;
 
 /// How a run went, as the program's exit status tells it.
 #[derive(Clone, Copy, Debug, PartialEq, Eq)]

@@ -13,8 +13,8 @@ use xw_lines::device;
 use xw_outcome::failure::Failure;
 use xw_outcome::names::{kind_by_name, read_fault_name, write_fault_name};
 use xw_outcome::place::{self, Place};
-use xw_outcome::recording::record;
 use xw_session::refusal::{self, Refusal};
+use xw_session::saving::record;
 use xw_session::{Session, Sink};
 use xw_words::{Bank, Loaded, WordFault};
 

@@ -9,8 +9,7 @@ use xw_grid::{Grid, Lights};
 use xw_live::live::Live;
 use xw_outcome::explaining::{show, tell};
 use xw_outcome::failure::{Failure, Status, run_status};
-use xw_outcome::resuming;
-use xw_session::{Session, Sink, Source};
+use xw_session::{Session, Sink, Source, resuming};
 use xw_words::Bank;
 
 /// What works out the feasible words and letters.
@@ -140,7 +139,8 @@ fn resume<F: Feasible, R: Files + AllocGlobal, E: Sink>(
     match named {
         Some(file) => {
             let text = files::read_file(rt, file)?;
-            resuming::resume(rt.alloc(), session, file, text.as_slice(), errors)
+            let refused = resuming::resume(rt.alloc(), session, file, text.as_slice(), errors)?;
+            Ok(refused)
         }
         None => Ok(0),
     }

@@ -1,12 +1,4 @@
-//! Runs of the program.
-mod calling;
+//! Runs of the program over devices and files that fail.
 mod devices;
-mod explaining;
+mod explained;
 mod failing;
-mod large;
-mod puzzles;
-mod replacing;
-mod samples;
-mod sessions;
-mod steps;
-mod texts;

@@ -11,3 +11,4 @@ pub mod FieldTexts
 pub mod Telling
 pub mod Putting
 pub mod Recording
+pub mod Resumed

@@ -10,3 +10,4 @@ pub mod Spelling
 pub mod Record
 pub mod Reply
 pub mod Answer
+pub mod Resuming

@@ -1,5 +1,5 @@
 -- How a session replies to a command.
-use Rattle.std.specs.Prelude.{ℕ, Bool, not, List, [], ◌∷◌, map, take, length, flat_map, codes, option_map, Option, Some, None, Result, Ok, Err, if◌then◌else◌, nat_eq, nat_lt}
+use Rattle.std.specs.Prelude.{ℕ, Bool, true, false, not, List, [], ◌∷◌, map, take, length, flat_map, codes, option_map, Option, Some, None, Result, Ok, Err, if◌then◌else◌, nat_eq, nat_lt}
 use Rattle.std.specs.List.{list_any}
 use Rattle.xw_bits.specs.declared.fault.WordFault.{WordFault}
 use Rattle.xw_bits.specs.declared.fault.WordFault.TheVariants as words
@@ -191,6 +191,21 @@ reply_to state (commands.Fill limit) = fill_tried state limit
 reply_to state (commands.Watch is_on) = edited (record state { is_watched = is_on })
 reply_to state (commands.Tell telling) = shown state (told_lines state telling)
 reply_to state (commands.Put putting field spelling) = put state putting field (text_spelled spelling)
+
+-- whether a command is answered with lines of its own
+abbrev pub has_lines : Command → Bool
+has_lines (commands.Match pattern) = true
+has_lines commands.Circles = true
+has_lines commands.Show = true
+has_lines commands.Lights = true
+has_lines (commands.Words named most) = true
+has_lines (commands.Letters spot) = true
+has_lines commands.Duplicates = true
+has_lines commands.Unlisted = true
+has_lines commands.Suggest = true
+has_lines (commands.Fill limit) = true
+has_lines (commands.Tell telling) = true
+has_lines other = false
 
 -- ---- want of memory
 

@@ -4,11 +4,14 @@
 mod answer_line;
 mod escape;
 mod fields;
+mod gathered;
 mod light_line;
 mod lists;
 mod lookup;
 mod record;
 pub mod refusal;
+pub mod resuming;
+pub mod saving;
 pub mod session;
 mod show;
 mod spelling;

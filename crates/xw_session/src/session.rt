@@ -16,7 +16,7 @@ ghost use Rattle.xw_lines.specs.Run.{Speaks, StopsIn, IfDone, OnReadFailed, OnWr
 ghost use Rattle.xw_lines.specs.Sends.{Sends};
 ghost use Rattle.xw_session.specs.State.{State};
 ghost use Rattle.xw_session.specs.Record.{known_counts};
-ghost use Rattle.xw_session.specs.Reply.{cell_of};
+ghost use Rattle.xw_session.specs.Reply.{cell_of, has_lines};
 ghost use Rattle.xw_session.specs.Answer.{AnswersTo, AnswersLine, Answers, reply_of, text_of, step_of};
 
 use crate::record::{LENGTHS, known_words};
@@ -197,7 +197,6 @@ impl<E: Feasible> Session<E> {
             Command::Symmetry(kind) => self.edit(&self.symmetry(kind), sink),
             Command::Add(word) => self.edit(&self.add(word.bytes()), sink),
             Command::Strike(word) => self.edit(&self.strike(word.bytes()), sink),
-            Command::Match(pattern) => self.answer_match(pattern.bytes(), sink),
             Command::Set(spot, letter) => self.edit(&self.set(spot, letter), sink),
             Command::Clear(spot) => self.edit(&self.clear(spot), sink),
             Command::Place(named, word) => self.edit(&self.place(named, word.bytes()), sink),
@@ -206,6 +205,25 @@ impl<E: Feasible> Session<E> {
             Command::Clue(named, text) => end_answer(sink, self.set_clue(named, text.bytes())),
             Command::Write(field, text) => end_answer(sink, self.write(field, text.bytes())),
             Command::Circle(spot) => end_answer(sink, self.toggle_circle(spot)),
+            Command::Watch(is_on) => end_answer(sink, self.watch(is_on)),
+            Command::Put(putting, field, text) => {
+                end_answer(sink, self.put(putting, field, text.bytes()))
+            }
+            asked => self.answer_with_lines(asked, sink),
+        }
+    }
+
+    /// Does a command that is answered with lines of its own, and answers it.
+    fn answer_with_lines<W: Sink>(
+        &mut self,
+        command: Command<'_>,
+        sink: &mut W,
+    ) -> Result<Step, WriteFailed>
+        requires { has_lines command ≡ true }
+        ensures { AnswersTo W.told W.failures self.old command.entry result self.new sink.old sink.new }
+    {
+        match command {
+            Command::Match(pattern) => self.answer_match(pattern.bytes(), sink),
             Command::Circles => self.answer_circles(sink),
             Command::Show => self.answer_show(sink),
             Command::Lights => self.answer_lights(sink),
@@ -215,11 +233,8 @@ impl<E: Feasible> Session<E> {
             Command::Unlisted => self.answer_unlisted(sink),
             Command::Suggest => self.answer_suggestion(sink),
             Command::Fill(limit) => self.answer_fill(limit, sink),
-            Command::Watch(is_on) => end_answer(sink, self.watch(is_on)),
             Command::Tell(telling) => self.tell(telling, sink),
-            Command::Put(putting, field, text) => {
-                end_answer(sink, self.put(putting, field, text.bytes()))
-            }
+            _ => unreachable!(),
         }
     }
 

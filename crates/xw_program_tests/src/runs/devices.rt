@@ -1,10 +1,7 @@
 //! Runs over devices that fail.
 ghost use Rattle.std.specs.Prelude.{◌≡◌, ◌≤◌, take, false};
 
-use crate::runs::samples::PLAIN;
-use crate::runs::steps::Step::{Absent, Differs, Remove, Write};
-use crate::runs::steps::pass;
-use std::fs::File;
+use std::fs::{self, File};
 use std::process::Abort;
 use std::rt::Files;
 use std::test::Fail;
@@ -12,6 +9,10 @@ use xw_arguments::arguments::{Call, SessionFiles};
 use xw_outcome::failure::Status;
 use xw_program::perform::perform;
 use xw_session::{DeviceFault, FromRead, Sink, Source, ToWrite};
+
+/// A `.puz` file of two by two cells.
+const PLAIN: &[u8] =
+    b"d\xBCACROSS&DOWN\0\0LI\xD6\x1C\xFF\x0D\xF4%d1.3\0\0\0\0\0\0\0\0\0\0\0\0\0\0\0\0\0\x02\x02\x04\0\x01\0\0\0ATSO----\0\0\0a\0b\0c\0d\0\0";
 
 /// A session that ends by writing a file.
 const TO_FILE: Call<'static> = Call::Edit {
@@ -46,14 +47,21 @@ const CHECK: Call<'static> = Call::Check {
 /// Does a call of which a device fails, and compares what is told of that.
 fn fails<I: Source, O: Sink>(
     rt: &(impl Abort + AllocGlobal + Files),
+    name: &str,
     (call, fault): (Call<'_>, &[u8]),
     input: &mut I,
     output: &mut O,
 ) {
     let mut faults = Vec::new(rt.alloc());
     let status = perform(rt, call, input, output, &mut ToWrite::new(&mut faults));
-    assert_eq!(rt; faults.as_slice(), fault, "{call:?}");
-    assert_eq!(rt; status, Status::Failed, "{call:?}");
+    assert_eq!(rt; faults.as_slice(), fault, "{name}");
+    assert_eq!(rt; status, Status::Failed, "{name}");
+}
+
+/// No file of this name can be read.
+fn is_absent(rt: &(impl Abort + AllocGlobal + Files), file: &str) {
+    let is_read = fs::read(rt, file).is_ok();
+    assert!(rt; !is_read, "{file}");
 }
 
 /// A reader that fails: a file that is open for writing alone.
@@ -63,16 +71,14 @@ fn input_fault(rt: HostRuntime) -> Result<(), Fail> {
     let file = File::create(&rt, "input")?;
     fails(
         &rt,
+        "input_fault",
         (TO_FILE, b"xw: input fault\n"),
         &mut FromRead::new(file),
         &mut ToWrite::new(&mut told),
     );
     assert_eq!(&rt; told.as_slice(), b"".as_slice());
-    pass(
-        &rt,
-        "input_fault",
-        &[Remove("input"), Absent("unwritten.puz")],
-    );
+    fs::remove_file(&rt, "input")?;
+    is_absent(&rt, "unwritten.puz");
     Ok(())
 }
 
@@ -82,27 +88,29 @@ fn output_fault(rt: HostRuntime) {
     let mut buffer = [b'?'; 1];
     fails(
         &rt,
+        "output_fault",
         (TO_FILE, b"xw: output fault\n"),
         &mut FromRead::new(b"add CAT\nadd DOG\n".as_slice()),
         &mut ToWrite::new(buffer.as_mut_slice()),
     );
     assert_eq!(&rt; buffer, [b'o']);
-    pass(&rt, "output_fault", &[Absent("unwritten.puz")]);
+    is_absent(&rt, "unwritten.puz");
 }
 
 /// The line of a check that does not go out.
 #[test]
-fn output_fault_of_a_check(rt: HostRuntime) {
+fn output_fault_of_a_check(rt: HostRuntime) -> Result<(), Fail> {
     let mut buffer = [b'?'; 4];
-    let name = "output_fault_of_a_check";
-    pass(&rt, name, &[Write("checked", PLAIN)]);
+    fs::write(&rt, "checked", PLAIN)?;
     fails(
         &rt,
+        "output_fault_of_a_check",
         (CHECK, b"xw: output fault\n"),
         &mut FromRead::new(b"".as_slice()),
         &mut ToWrite::new(buffer.as_mut_slice()),
     );
-    pass(&rt, name, &[Remove("checked")]);
+    fs::remove_file(&rt, "checked")?;
+    Ok(())
 }
 
 /// A writer that takes all that it has room for, and never passes it on.
@@ -138,6 +146,7 @@ impl Sink for Unflushed {
 /// Does a call over such a writer, and compares what it took.
 fn is_unflushed(
     rt: &(impl Abort + AllocGlobal + Files),
+    name: &str,
     call: Call<'_>,
     input: &[u8],
     output: &[u8],
@@ -149,36 +158,35 @@ fn is_unflushed(
     };
     fails(
         rt,
+        name,
         (call, b"xw: output fault\n"),
         &mut FromRead::new(input),
         &mut sink,
     );
     let taken = sink.taken;
-    assert_eq!(rt; &sink.bytes[..taken], output, "{call:?}");
+    assert_eq!(rt; &sink.bytes[..taken], output, "{name}");
 }
 
 /// Nothing is read after an answer that was not passed on, and no puzzle is written. The session is
 /// saved.
 #[test]
-fn output_fault_of_a_flush(rt: HostRuntime) {
-    let name = "output_fault_of_a_flush";
-    pass(&rt, name, &[Write("checked", PLAIN)]);
-    for (call, input, output) in [
+fn output_fault_of_a_flush(rt: HostRuntime) -> Result<(), Fail> {
+    fs::write(&rt, "checked", PLAIN)?;
+    for (name, call, input, output) in [
         (
+            "a puzzle to write",
             TO_FILE,
             b"add CAT\nadd DOG\n".as_slice(),
             b"ok\n".as_slice(),
         ),
-        (SAVED, b"add CAT\nadd DOG\n", b"ok\n"),
-        (CHECK, b"", b"puz 2x2 4 lights\n"),
+        ("a session to save", SAVED, b"add CAT\nadd DOG\n", b"ok\n"),
+        ("a check", CHECK, b"", b"puz 2x2 4 lights\n"),
     ] {
-        is_unflushed(&rt, call, input, output);
+        is_unflushed(&rt, name, call, input, output);
     }
-    let steps = [
-        Absent("unwritten.puz"),
-        Differs("saved.xw", b""),
-        Remove("saved.xw"),
-        Remove("checked"),
-    ];
-    pass(&rt, name, &steps);
+    is_absent(&rt, "unwritten.puz");
+    assert!(&rt; !fs::read(&rt, "saved.xw")?.is_empty());
+    fs::remove_file(&rt, "saved.xw")?;
+    fs::remove_file(&rt, "checked")?;
+    Ok(())
 }

@@ -1,5 +1,4 @@
 //! Files replaced whole, or left as they were, where calls of the file system fail.
-use crate::runs::replacing::{NEW, OLD};
 use std::alloc::Allocator;
 use std::cell::Cell;
 use std::fs::{self, Metadata, OpenFile, OpenOptions, Permissions};
@@ -8,6 +7,10 @@ use std::process::Abort;
 use std::rt::Files;
 use std::test::Fail;
 use xw_program::replacing::replace;
+
+const OLD: &[u8] = b"what stood there";
+
+const NEW: &[u8] = b"what is to stand there, a little longer";
 
 /// Which calls fail: the one at which the count comes to nought, alone or with all that follow.
 #[derive(Drop)]

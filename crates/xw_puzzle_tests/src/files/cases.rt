@@ -1,5 +1,5 @@
-//! Cases of files of either kind: what is read of them, why they are refused, and what is written.
-use crate::files::puzzles::{PLAIN_PUZZLE, Part, is_read_as, put_all, puzzle_with};
+//! Cases of files of either kind: why they are refused, and what is written.
+use crate::files::puzzles::{PLAIN_PUZZLE, Part, put_all, puzzle_with};
 use std::alloc::{AllocError, Global};
 use std::process::Abort;
 use std::test::Fail;
@@ -38,39 +38,6 @@ fn written(alloc: Global, kind: Kind, puzzle: &Puzzle) -> Result<Vec<u8>, WriteF
 /// Why a file is refused.
 pub fn fault_of(alloc: Global, kind: Kind, bytes: &[u8]) -> Option<ReadFault> {
     read(alloc, kind, bytes).err()
-}
-
-/// A file in pieces, and tables of what its puzzle has.
-pub struct Reading {
-    pub name: &'static str,
-    pub pieces: Pieces,
-    pub parts: &'static [&'static [Part]],
-}
-
-/// Reads a file, and looks for the parts of each table in its puzzle.
-pub fn reads(
-    rt: &(impl Abort + AllocGlobal),
-    kind: Kind,
-    name: &str,
-    file: &[u8],
-    parts: &[&[Part]],
-) {
-    match read(rt.alloc(), kind, file) {
-        Ok(puzzle) => is_read_as(rt, name, &puzzle, parts),
-        Err(fault) => panic!(rt; "{name} is refused: {fault:?}"),
-    }
-}
-
-pub fn reads_each(
-    rt: &(impl Abort + AllocGlobal),
-    kind: Kind,
-    readings: &[Reading],
-) -> Result<(), AllocError> {
-    for reading in readings {
-        let file = joined(rt.alloc(), reading.pieces)?;
-        reads(rt, kind, reading.name, &file, reading.parts);
-    }
-    Ok(())
 }
 
 /// Files, each between the same pieces, and why they are refused.
@@ -146,42 +113,6 @@ pub fn refuses_cuts(rt: &(impl Abort + AllocGlobal), kind: Kind, file: &[u8], sp
             "at {length}"
         );
     }
-}
-
-/// A file in pieces, and what is written of its puzzle.
-pub struct Rewriting {
-    pub name: &'static str,
-    pub pieces: Pieces,
-    pub written: &'static [u8],
-}
-
-/// Reads a file, and compares what is written of its puzzle.
-pub fn rewrites(
-    rt: &(impl Abort + AllocGlobal),
-    kind: Kind,
-    name: &str,
-    file: &[u8],
-    wanted: &[u8],
-) {
-    match read(rt.alloc(), kind, file) {
-        Ok(puzzle) => match written(rt.alloc(), kind, &puzzle) {
-            Ok(found) => assert_eq!(rt; found.as_slice(), wanted, "in {name}"),
-            Err(fault) => panic!(rt; "{name} is not written: {fault:?}"),
-        },
-        Err(fault) => panic!(rt; "{name} is refused: {fault:?}"),
-    }
-}
-
-pub fn rewrites_each(
-    rt: &(impl Abort + AllocGlobal),
-    kind: Kind,
-    rewritings: &[Rewriting],
-) -> Result<(), AllocError> {
-    for rewriting in rewritings {
-        let file = joined(rt.alloc(), rewriting.pieces)?;
-        rewrites(rt, kind, rewriting.name, &file, rewriting.written);
-    }
-    Ok(())
 }
 
 /// A file, or why none is written.

@@ -1,5 +1,4 @@
-//! `.puz` files read, written and told from text.
+//! `.puz` files refused, written and told from text.
 mod files;
 mod reading;
-mod sections;
 mod writing;

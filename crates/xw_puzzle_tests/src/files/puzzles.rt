@@ -1,9 +1,8 @@
-//! Puzzles by their parts: made, and asked for what they have.
+//! Puzzles made by their parts.
 use std::alloc::Global;
-use std::process::Abort;
 use std::test::Fail;
 use xw_files::puzzle::{Puzzle, Texts};
-use xw_grid::cell::{Cell, Direction, Side, Symmetry};
+use xw_grid::cell::{Cell, Direction, Side};
 use xw_grid::circles::Circles;
 use xw_grid::clues::Clues;
 use xw_grid::grid::Grid;
@@ -41,13 +40,6 @@ pub const PLAIN_PUZZLE: &[Part] = &[
     Part::Circle(1, 2, false),
     Part::Circle(2, 1, false),
     Part::Circle(2, 2, false),
-];
-
-pub const NO_TEXTS: &[Part] = &[
-    Part::Title(b""),
-    Part::Author(b""),
-    Part::Copyright(b""),
-    Part::Notes(b""),
 ];
 
 pub fn cell(row: u32, col: u32) -> Cell {
@@ -114,49 +106,4 @@ pub fn puzzle_with(alloc: Global, parts: &[Part]) -> Result<Puzzle, Fail> {
     };
     put_all(alloc, &mut puzzle, parts)?;
     Ok(puzzle)
-}
-
-/// How a table spells a square.
-fn byte_at(grid: &Grid, cell: Cell) -> Option<u8> {
-    match grid.entry(cell) {
-        Some(letter) => Some(letter.byte()),
-        None if grid.is_open(cell) => Some(b'-'),
-        None if grid.is_block(cell) => Some(b'.'),
-        None => None,
-    }
-}
-
-/// Whether a puzzle has a part.
-fn has(puzzle: &Puzzle, part: Part) -> bool {
-    match part {
-        Part::Size(width, height) => {
-            puzzle.grid.width() == width && puzzle.grid.height() == height
-        }
-        Part::Square(row, col, byte) => byte_at(&puzzle.grid, cell(row, col)) == Some(byte),
-        Part::Bar(row, col, side, barred) => {
-            puzzle.grid.is_barred(cell(row, col), side) == barred
-        }
-        Part::Title(text) => puzzle.texts.title.as_slice() == text,
-        Part::Author(text) => puzzle.texts.author.as_slice() == text,
-        Part::Copyright(text) => puzzle.texts.copyright.as_slice() == text,
-        Part::Notes(text) => puzzle.texts.notes.as_slice() == text,
-        Part::Clue(row, col, direction, text) => {
-            puzzle.clues.get(cell(row, col), direction) == text
-        }
-        Part::Circle(row, col, circled) => puzzle.circles.has(cell(row, col)) == circled,
-    }
-}
-
-fn has_all(rt: &impl Abort, name: &str, puzzle: &Puzzle, parts: &[Part]) {
-    for (place, part) in parts.iter().enumerate() {
-        assert!(rt; has(puzzle, *part), "part {place} in {name}");
-    }
-}
-
-/// Looks for the parts of each table in a puzzle that was read.
-pub fn is_read_as(rt: &impl Abort, name: &str, puzzle: &Puzzle, tables: &[&[Part]]) {
-    assert_eq!(rt; puzzle.grid.symmetry(), Symmetry::None, "in {name}");
-    for parts in tables {
-        has_all(rt, name, puzzle, *parts);
-    }
 }

@@ -1,7 +1,5 @@
-//! Text files by their bytes: what they are read as, where they are refused, and what is written.
+//! Text files by their bytes: where they are refused, and what is written.
 mod faults;
-mod places;
-mod reading;
 mod writing;
 
 /// Text plain: two rows, AT and SO, with a clue for each of four lights.

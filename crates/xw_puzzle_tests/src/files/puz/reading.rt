@@ -1,177 +1,12 @@
-//! What is read, and which fault is told first.
-use crate::files::cases::{
-    Reading, Refusals, Rewriting, Spans, fault_at, fault_of, reads_each, refuses_cuts,
-    refuses_each, rewrites, rewrites_each,
-};
-use crate::files::puz::files::{
-    ALL_TEXTS, BAD_CELL, BAD_CELL_AND_COUNT, CIRCLED, CLUE_COUNT, CORNERS, EMPTY_CELL, LOWER_CASE,
-    MORE_CLUES, NO_CLUE, ONE_CELL, PLAIN, STARTED, TITLED, UNUSUAL, WIDE, WITH_NOTES,
-};
-use crate::files::puzzles::Part::{Author, Circle, Clue, Copyright, Notes, Size, Square, Title};
-use crate::files::puzzles::{NO_TEXTS, PLAIN_PUZZLE, Part};
+//! Which files are refused, and which fault is told first.
+use crate::files::cases::{Refusals, Spans, fault_at, fault_of, refuses_cuts, refuses_each};
+use crate::files::puz::files::{BAD_CELL, BAD_CELL_AND_COUNT, CLUE_COUNT, MORE_CLUES, PLAIN};
 use std::alloc::AllocError;
 use std::process::Abort;
 use xw_files::fault::{Piece, ReadFault, SumName, TextName};
 use xw_files::kind::{Kind, kind_of};
 use xw_files::puz::grid_of_puz;
-use xw_grid::cell::{Cell, Direction};
-
-const TEXTS: &[Part] = &[
-    Title(b"T"),
-    Author(b"by \xE9\xFF"),
-    Copyright(b"(c)"),
-    Notes(b"two\nlines"),
-];
-
-const IN_CORNERS: &[Part] = &[
-    Size(3, 3),
-    Square(1, 1, b'.'),
-    Square(3, 3, b'.'),
-    Square(2, 2, b'D'),
-    Clue(3, 1, Direction::Across, b"four across"),
-];
-
-const MORE_COLUMNS: &[Part] = &[
-    Size(3, 2),
-    Square(2, 1, b'C'),
-    Clue(1, 3, Direction::Down, b"c"),
-    Clue(2, 1, Direction::Across, b"d"),
-    Circle(1, 2, true),
-    Circle(1, 3, false),
-    Circle(2, 1, false),
-    Circle(2, 3, true),
-];
-
-const READINGS: &[Reading] = &[
-    Reading {
-        name: "reads_the_plain_puzzle: PLAIN",
-        pieces: &[PLAIN],
-        parts: &[PLAIN_PUZZLE, NO_TEXTS],
-    },
-    Reading {
-        name: "reads_the_plain_puzzle: STARTED",
-        pieces: &[STARTED],
-        parts: &[PLAIN_PUZZLE, NO_TEXTS],
-    },
-    Reading {
-        name: "reads_the_plain_puzzle: LOWER_CASE",
-        pieces: &[LOWER_CASE],
-        parts: &[PLAIN_PUZZLE, NO_TEXTS],
-    },
-    Reading {
-        name: "reads_the_plain_puzzle: UNUSUAL",
-        pieces: &[UNUSUAL],
-        parts: &[PLAIN_PUZZLE, NO_TEXTS],
-    },
-    Reading {
-        name: "reads_other_puzzles: ALL_TEXTS",
-        pieces: &[ALL_TEXTS],
-        parts: &[TEXTS],
-    },
-    Reading {
-        name: "reads_other_puzzles: TITLED",
-        pieces: &[TITLED],
-        parts: &[&[Title(b"T")]],
-    },
-    Reading {
-        name: "reads_other_puzzles: WITH_NOTES",
-        pieces: &[WITH_NOTES],
-        parts: &[&[Notes(b"n")]],
-    },
-    Reading {
-        name: "reads_other_puzzles: CORNERS",
-        pieces: &[CORNERS],
-        parts: &[IN_CORNERS],
-    },
-    Reading {
-        name: "reads_other_puzzles: EMPTY_CELL",
-        pieces: &[EMPTY_CELL],
-        parts: &[&[Square(1, 2, b'-')]],
-    },
-    Reading {
-        name: "reads_other_puzzles: ONE_CELL",
-        pieces: &[ONE_CELL],
-        parts: &[&[Square(1, 1, b'Z')]],
-    },
-    Reading {
-        name: "reads_other_puzzles: WIDE",
-        pieces: &[WIDE],
-        parts: &[MORE_COLUMNS],
-    },
-];
-
-#[test]
-fn readings(rt: HostRuntime) -> Result<(), AllocError> {
-    reads_each(&rt, Kind::Puz, READINGS)
-}
-
-const REWRITINGS: &[Rewriting] = &[
-    Rewriting {
-        name: "writes_what_was_read: PLAIN",
-        pieces: &[PLAIN],
-        written: PLAIN,
-    },
-    Rewriting {
-        name: "writes_what_was_read: TITLED",
-        pieces: &[TITLED],
-        written: TITLED,
-    },
-    Rewriting {
-        name: "writes_what_was_read: WITH_NOTES",
-        pieces: &[WITH_NOTES],
-        written: WITH_NOTES,
-    },
-    Rewriting {
-        name: "writes_what_was_read: CIRCLED",
-        pieces: &[CIRCLED],
-        written: CIRCLED,
-    },
-    Rewriting {
-        name: "writes_what_was_read: CORNERS",
-        pieces: &[CORNERS],
-        written: CORNERS,
-    },
-    Rewriting {
-        name: "writes_what_was_read: NO_CLUE",
-        pieces: &[NO_CLUE],
-        written: NO_CLUE,
-    },
-    Rewriting {
-        name: "writes_what_was_read: ONE_CELL",
-        pieces: &[ONE_CELL],
-        written: ONE_CELL,
-    },
-    Rewriting {
-        name: "writes_what_was_read: ALL_TEXTS",
-        pieces: &[ALL_TEXTS],
-        written: ALL_TEXTS,
-    },
-    Rewriting {
-        name: "writes_what_was_read: WIDE",
-        pieces: &[WIDE],
-        written: WIDE,
-    },
-    Rewriting {
-        name: "writes_what_was_read: STARTED",
-        pieces: &[STARTED],
-        written: PLAIN,
-    },
-    Rewriting {
-        name: "writes_what_was_read: LOWER_CASE",
-        pieces: &[LOWER_CASE],
-        written: PLAIN,
-    },
-    Rewriting {
-        name: "writes_what_was_read: UNUSUAL",
-        pieces: &[UNUSUAL],
-        written: PLAIN,
-    },
-];
-
-#[test]
-fn writes_what_was_read(rt: HostRuntime) -> Result<(), AllocError> {
-    rewrites_each(&rt, Kind::Puz, REWRITINGS)
-}
+use xw_grid::cell::Cell;
 
 /// What is wrong with the plain file when it is cut at a length up to this.
 const CUTS: Spans = &[
@@ -238,7 +73,7 @@ const ALTERED: Spans = &[
     (0x47, Some(ReadFault::NoNul(TextName::Notes))),
 ];
 
-/// Turns bits of one byte, and compares the fault; a file without one is written as the plain one.
+/// Turns bits of one byte, and compares the fault.
 fn refuses_turned(
     rt: &(impl Abort + AllocGlobal),
     offset: usize,
@@ -248,9 +83,6 @@ fn refuses_turned(
     let bytes = changed(rt, offset, bits);
     let found = fault_of(rt.alloc(), Kind::Puz, &bytes);
     assert_eq!(rt; found, fault, "at {offset}");
-    if fault.is_none() {
-        rewrites(rt, Kind::Puz, "refuses_altered_files", &bytes, PLAIN);
-    }
 }
 
 #[test]
@@ -323,13 +155,7 @@ fn tells_the_first_fault_that_is_left(rt: HostRuntime) -> Result<(), AllocError>
         assert_eq!(rt; found, Some(*fault), "at {offset}");
         turn(&mut bytes, *offset, *bits);
     }
-    rewrites(
-        &rt,
-        Kind::Puz,
-        "tells_the_first_fault_that_is_left",
-        &bytes,
-        PLAIN,
-    );
+    assert_eq!(&rt; fault_of(rt.alloc(), Kind::Puz, &bytes), None);
     Ok(())
 }
 

@@ -1,20 +1,16 @@
 //! What is written, and what refuses.
-use crate::files::cases::{Wanted, Writing, reads, writes_each};
+use crate::files::cases::{Wanted, Writing, writes_each};
 use crate::files::puz::files::{
     BLOCKED, CIRCLED, CIRCLED_LAST, CIRCLED_TWICE, NO_CLUE, PLAIN, TITLED, WITH_NOTES,
 };
+use crate::files::puzzles::Part;
 use crate::files::puzzles::Part::{
     Author, Bar, Circle, Clue, Copyright, Notes, Size, Square, Title,
 };
-use crate::files::puzzles::{Part, cell, puzzle_with};
-use std::alloc::Global;
 use std::test::Fail;
 use xw_files::fault::{TextName, WriteFault};
 use xw_files::kind::Kind;
-use xw_files::puz::write_puz;
-use xw_files::puzzle::Puzzle;
 use xw_grid::cell::{Cell, Direction, Side};
-use xw_letters::letter::Letter;
 
 const OUTSIDE: &[Part] = &[
     Clue(2, 2, Direction::Across, b"\0"),
@@ -98,42 +94,4 @@ const WRITINGS: &[Writing] = &[
 #[test]
 fn writings(rt: HostRuntime) -> Result<(), Fail> {
     writes_each(&rt, Kind::Puz, WRITINGS)
-}
-
-/// The largest grid with one letter in each cell, and a circle in the last.
-fn largest(alloc: Global, letter: Letter) -> Result<Puzzle, Fail> {
-    let mut puzzle = puzzle_with(alloc, &[Size(255, 255), Circle(255, 255, true)])?;
-    for row in 1..256 {
-        for col in 1..256 {
-            puzzle.grid.set(cell(row, col), letter)?;
-        }
-    }
-    Ok(puzzle)
-}
-
-fn largest_file(alloc: Global) -> Result<Vec<u8>, Fail> {
-    let puzzle = largest(alloc, Letter::first())?;
-    Ok(write_puz(alloc, &puzzle)?)
-}
-
-const LAST_CELLS: &[Part] = &[
-    Size(255, 255),
-    Square(255, 255, b'A'),
-    Circle(255, 255, true),
-    Circle(255, 254, false),
-];
-
-#[test]
-fn keeps_the_largest_grid(rt: HostRuntime) -> Result<(), Fail> {
-    let bytes = largest_file(rt.alloc())?;
-    // A header, three bytes for each cell, a NUL for each of four texts and 510 clues, and those of a section.
-    assert_eq!(rt; bytes.len(), 52 + 3 * 65025 + 4 + 510 + 9);
-    reads(
-        &rt,
-        Kind::Puz,
-        "keeps_the_largest_grid",
-        &bytes,
-        &[LAST_CELLS],
-    );
-    Ok(())
 }

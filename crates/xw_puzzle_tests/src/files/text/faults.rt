@@ -29,7 +29,7 @@ fn cut_at_each_length(rt: HostRuntime) {
     refuses_cuts(&rt, Kind::Text, PLAIN, CUTS);
 }
 
-const REFUSALS: &[Refusals] = &[
+const TAGS: &[Refusals] = &[
     Refusals {
         name: "without_a_tag: the top",
         before: &[],
@@ -74,6 +74,14 @@ const REFUSALS: &[Refusals] = &[
             (b"<SIZE>\n", ReadFault::SizeLine),
         ],
     },
+];
+
+#[test]
+fn refusals_of_tags(rt: HostRuntime) -> Result<(), AllocError> {
+    refuses_each(&rt, Kind::Text, TAGS)
+}
+
+const HEADERS: &[Refusals] = &[
     Refusals {
         name: "headers",
         before: &[],
@@ -117,6 +125,14 @@ const REFUSALS: &[Refusals] = &[
             (b"<NOTEPAD>\n \0\n", ReadFault::NulByte(117)),
         ],
     },
+];
+
+#[test]
+fn refusals_of_headers(rt: HostRuntime) -> Result<(), AllocError> {
+    refuses_each(&rt, Kind::Text, HEADERS)
+}
+
+const LINES: &[Refusals] = &[
     // A tag line is the whole trimmed line.
     Refusals {
         name: "lines_that_are_no_tag",
@@ -167,30 +183,44 @@ const REFUSALS: &[Refusals] = &[
             ),
         ],
     },
-    Refusals {
-        name: "size_lines",
-        before: &[TOP, b"<SIZE>\n"],
-        after: &[b"\n", ROWS, ACROSS, DOWN],
-        faults: &[
-            (b"2 by 2", ReadFault::SizeLine),
-            (b"2", ReadFault::SizeLine),
-            (b"x", ReadFault::SizeLine),
-            (b"2x", ReadFault::SizeLine),
-            (b"x2", ReadFault::SizeLine),
-            (b"2x2x2", ReadFault::SizeLine),
-            (b"0x2", ReadFault::SizeLine),
-            (b"2x000", ReadFault::SizeLine),
-            (b"256x2", ReadFault::SizeLine),
-            (b"2x999", ReadFault::SizeLine),
-            (b"0002x2", ReadFault::SizeLine),
-            (b"+2x2", ReadFault::SizeLine),
-            (b"2 2x2", ReadFault::SizeLine),
-            (b"2x2.", ReadFault::SizeLine),
-            (b"2x\r2", ReadFault::SizeLine),
-            (b"<2x2", ReadFault::SizeLine),
-            (b"<GRID>", ReadFault::SizeLine),
-        ],
-    },
+];
+
+#[test]
+fn refusals_of_lines(rt: HostRuntime) -> Result<(), AllocError> {
+    refuses_each(&rt, Kind::Text, LINES)
+}
+
+const SIZE_LINES: &[Refusals] = &[Refusals {
+    name: "size_lines",
+    before: &[TOP, b"<SIZE>\n"],
+    after: &[b"\n", ROWS, ACROSS, DOWN],
+    faults: &[
+        (b"2 by 2", ReadFault::SizeLine),
+        (b"2", ReadFault::SizeLine),
+        (b"x", ReadFault::SizeLine),
+        (b"2x", ReadFault::SizeLine),
+        (b"x2", ReadFault::SizeLine),
+        (b"2x2x2", ReadFault::SizeLine),
+        (b"0x2", ReadFault::SizeLine),
+        (b"2x000", ReadFault::SizeLine),
+        (b"256x2", ReadFault::SizeLine),
+        (b"2x999", ReadFault::SizeLine),
+        (b"0002x2", ReadFault::SizeLine),
+        (b"+2x2", ReadFault::SizeLine),
+        (b"2 2x2", ReadFault::SizeLine),
+        (b"2x2.", ReadFault::SizeLine),
+        (b"2x\r2", ReadFault::SizeLine),
+        (b"<2x2", ReadFault::SizeLine),
+        (b"<GRID>", ReadFault::SizeLine),
+    ],
+}];
+
+#[test]
+fn refusals_of_size_lines(rt: HostRuntime) -> Result<(), AllocError> {
+    refuses_each(&rt, Kind::Text, SIZE_LINES)
+}
+
+const GRID_ROWS: &[Refusals] = &[
     // Rows one by one: the length before the bytes, and both before the next row.
     Refusals {
         name: "rows",
@@ -217,6 +247,14 @@ const REFUSALS: &[Refusals] = &[
             (b"AT\nSO\n", ReadFault::AcrossCount),
         ],
     },
+];
+
+#[test]
+fn refusals_of_rows(rt: HostRuntime) -> Result<(), AllocError> {
+    refuses_each(&rt, Kind::Text, GRID_ROWS)
+}
+
+const CLUE_COUNTS: &[Refusals] = &[
     // The counts of clues are tested before the tag that is due after them.
     Refusals {
         name: "counts_of_clues",
@@ -256,6 +294,6 @@ const REFUSALS: &[Refusals] = &[
 ];
 
 #[test]
-fn refusals(rt: HostRuntime) -> Result<(), AllocError> {
-    refuses_each(&rt, Kind::Text, REFUSALS)
+fn refusals_of_counts(rt: HostRuntime) -> Result<(), AllocError> {
+    refuses_each(&rt, Kind::Text, CLUE_COUNTS)
 }

@@ -1,11 +1,11 @@
 //! What is written of a puzzle, and why it is not.
-use crate::files::cases::{Rewriting, Wanted, Writing, rewrites_each, writes_each};
+use crate::files::cases::{Wanted, Writing, writes_each};
 use crate::files::puzzles::Part::{
     Author, Bar, Circle, Clue, Copyright, Notes, Size, Square, Title,
 };
 use crate::files::puzzles::{PLAIN_PUZZLE, Part, put, puzzle_with};
 use crate::files::text::PLAIN;
-use std::alloc::{AllocError, Global};
+use std::alloc::Global;
 use std::process::Abort;
 use std::test::Fail;
 use xw_files::fault::{TextName, WriteFault};
@@ -14,7 +14,7 @@ use xw_files::text::write_text;
 use xw_grid::cell::{Cell, Direction, Side};
 
 /// Texts with bytes of any kind inside, and notes of several lines.
-pub const TEXTS: &[Part] = &[
+const TEXTS: &[Part] = &[
     Title(b"A \t\xE9 <B"),
     Author(b"\x0Bme\x0C"),
     Copyright(b"\xC2\xA0"),
@@ -22,19 +22,8 @@ pub const TEXTS: &[Part] = &[
     Clue(1, 2, Direction::Down, b"two words"),
 ];
 
-pub const WITH_TEXTS: &[u8] =
+const WITH_TEXTS: &[u8] =
     b"<ACROSS PUZZLE>\n<TITLE>\n\tA \t\xE9 <B\n<AUTHOR>\n\t\x0Bme\x0C\n<COPYRIGHT>\n\t\xC2\xA0\n<SIZE>\n\t2x2\n<GRID>\n\tAT\n\tSO\n<ACROSS>\n\ta\n\td\n<DOWN>\n\tb\n\ttwo words\n<NOTEPAD>\n\tp\n\tq q\n\tr\n";
-
-/// More rows than columns, and a light down before the first one across.
-pub const TALL: &[u8] =
-    b"<ACROSS PUZZLE>\n<TITLE>\n\t\n<AUTHOR>\n\t\n<COPYRIGHT>\n\t\n<SIZE>\n\t2x3\n<GRID>\n\t.A\n\tBC\n\tDE\n<ACROSS>\n\tbc\n\tde\n<DOWN>\n\tace\n\tbd\n";
-
-pub const TALL_PARTS: &[Part] = &[
-    Size(2, 3),
-    Square(3, 2, b'E'),
-    Clue(1, 2, Direction::Down, b"ace"),
-    Clue(2, 1, Direction::Down, b"bd"),
-];
 
 const ONE_CELL: &[u8] =
     b"<ACROSS PUZZLE>\n<TITLE>\n\t\n<AUTHOR>\n\t\n<COPYRIGHT>\n\t\n<SIZE>\n\t1x1\n<GRID>\n\tZ\n<ACROSS>\n<DOWN>\n";
@@ -150,25 +139,6 @@ const WRITINGS: &[Writing] = &[
 #[test]
 fn writings(rt: HostRuntime) -> Result<(), Fail> {
     writes_each(&rt, Kind::Text, WRITINGS)
-}
-
-/// Texts that are written as they were read.
-const REWRITINGS: &[Rewriting] = &[
-    Rewriting {
-        name: "text_plain",
-        pieces: &[PLAIN],
-        written: PLAIN,
-    },
-    Rewriting {
-        name: "tall_grid",
-        pieces: &[TALL],
-        written: TALL,
-    },
-];
-
-#[test]
-fn rewritings(rt: HostRuntime) -> Result<(), AllocError> {
-    rewrites_each(&rt, Kind::Text, REWRITINGS)
 }
 
 /// Why the puzzle of text plain has no text once it has this part.

@@ -1,0 +1,80 @@
+"""Runs that tell the place of a fault too."""
+from samples import CIRCLED, PLAIN, TEXT, WRONG_SUM
+from steps import FORMAT, run, write
+
+
+def told(data, fault, place):
+    """A file that is not read, and what is told of it, without its place and with it."""
+    return [
+        write("told", data),
+        run("check told", errors=f"xw: told: {fault}\n".encode(), status=FORMAT),
+        run("check --explain told", errors=f"xw: told: {fault}\nxw: {place}\n".encode(), status=FORMAT),
+    ]
+
+
+CASES = {
+    # A `.puz` file, cut at several places.
+    "puz_faults_told, notes": told(PLAIN[:71], "NoNul", "notes"),
+    "puz_faults_told, clue": told(PLAIN[:66], "NoNul", "clue 2 (1 down)"),
+    "puz_faults_told, header": told(PLAIN[:51], "Short", "header"),
+    "puz_faults_told, boards": told(PLAIN[:59], "Short", "boards"),
+    "wrong_sum_told": told(WRONG_SUM, "BadSum", "file checksum"),
+    # The line at which a text file leaves its shape, and its end.
+    "text_faults_told, line": told(TEXT[:20], "Tag", "line 2"),
+    "text_faults_told, end": told(b"\n\n", "Header", "end of file"),
+    "text_faults_told, byte": told(b"<ACROSS PUZZLE>\n\n<\0", "NulByte", "line 3"),
+    # A cell of a text file is told by its row and column.
+    "bad_cell_told": told(
+        b"<ACROSS PUZZLE>\n<TITLE>\n<AUTHOR>\n<COPYRIGHT>\n<SIZE>\n2x2\n<GRID>\nAT\nS?\n", "BadCell", "row 2, column 2"
+    ),
+    # Puzzles that the file cannot hold into which they are to be written.
+    "empty_cell_told": [
+        write("refused", PLAIN),
+        run(
+            "edit --explain --from refused --to empty.puz",
+            b"clear 2 1\nclear 2 2\n",
+            output=b"ok\nok\n",
+            errors=b"xw: empty.puz: NotFilled\nxw: row 2, column 1\n",
+            status=FORMAT,
+        ),
+    ],
+    "unspelled_clue_told": [
+        write("refused", PLAIN),
+        run(
+            "edit --explain --from refused --to clue.txt",
+            b"clue 2 down\n",
+            output=b"ok\n",
+            errors=b"xw: clue.txt: Field\nxw: clue 3 (2 down)\n",
+            status=FORMAT,
+        ),
+    ],
+    "unspelled_title_told": [
+        write("refused", PLAIN),
+        run(
+            "edit --explain --from refused --to title.txt",
+            b"title <x>\n",
+            output=b"ok\n",
+            errors=b"xw: title.txt: Field\nxw: title\n",
+            status=FORMAT,
+        ),
+    ],
+    # A bar has no place in the fault.
+    "barred_told": [
+        write("refused", PLAIN),
+        run(
+            "edit --explain --from refused --to barred.txt",
+            b"bar 1 1 right\n",
+            output=b"ok\n",
+            errors=b"xw: barred.txt: Barred\n",
+            status=FORMAT,
+        ),
+    ],
+    "circle_told": [
+        write("circled", CIRCLED),
+        run(
+            "convert circled --explain circled.txt",
+            errors=b"xw: circled.txt: Circled\nxw: row 1, column 1\n",
+            status=FORMAT,
+        ),
+    ],
+}

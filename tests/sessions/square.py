@@ -1,0 +1,418 @@
+"""Scripts on a square of two by two cells."""
+from steps import dialogues
+
+# The square of AS, AT, SO, TO and IN.
+SQUARE = """\
+> size 2 2
+ok
+> add AS
+ok
+> add AT
+ok
+> add SO
+ok
+> add TO
+ok
+> add IN
+ok
+"""
+
+# Each after the lines of the square.
+IN_THE_SQUARE = """\
+@ square_of_as_at_so_to_in
+> lights
+1 across 1 1 ..
+1 down 1 1 ..
+2 down 1 2 ..
+3 across 2 1 ..
+ok
+> words 1 across
+2
+AS
+AT
+ok
+> words 1 down
+2
+AS
+AT
+ok
+> words 2 down
+2
+SO
+TO
+ok
+> words 3 across
+2
+SO
+TO
+ok
+> letters 1 1
+A
+ok
+> letters 1 2
+ST
+ok
+> letters 2 1
+ST
+ok
+> letters 2 2
+O
+ok
+> suggest
+try 1 across AS
+ok
+@ square_with_one_entry
+> watch on
+ok
+> set 1 2 T
+cell 1 2 T
+ok
+> words 1 across
+1
+AT
+ok
+> words 2 down
+1
+TO
+ok
+> words 1 down
+2
+AS
+AT
+ok
+> words 3 across
+2
+SO
+TO
+ok
+> set 1 2 S
+cell 1 2 S
+ok
+> words 1 across
+1
+AS
+ok
+> words 2 down
+1
+SO
+ok
+@ square_emptied_and_restored
+> watch on
+ok
+> set 1 1 X
+cell 1 1 -
+cell 1 2 -
+cell 2 1 -
+cell 2 2 -
+ok
+> words 1 across
+0
+ok
+> words 1 down
+0
+ok
+> words 2 down
+0
+ok
+> words 3 across
+0
+ok
+> letters 1 1
+-
+ok
+> suggest
+dead 1 across
+ok
+> fill 0
+nofill
+ok
+> clear 1 1
+cell 1 1 A
+cell 1 2 ST
+cell 2 1 ST
+cell 2 2 O
+ok
+> words 1 across
+2
+AS
+AT
+ok
+> words 1 down
+2
+AS
+AT
+ok
+> words 2 down
+2
+SO
+TO
+ok
+> words 3 across
+2
+SO
+TO
+ok
+> suggest
+try 1 across AS
+ok
+@ square_blocked_under_the_watch
+> watch on
+ok
+> sym half
+ok
+> block 1 1
+cell 1 2 ABCDEFGHIJKLMNOPQRSTUVWXYZ
+cell 2 1 ABCDEFGHIJKLMNOPQRSTUVWXYZ
+ok
+@ unlisted_entries_complete_a_square
+> watch on
+ok
+> set 1 1 X
+cell 1 1 -
+cell 1 2 -
+cell 2 1 -
+cell 2 2 -
+ok
+> set 1 2 T
+ok
+> set 2 1 S
+cell 1 1 X
+cell 1 2 T
+cell 2 1 S
+cell 2 2 O
+ok
+> unlisted
+1 across XT
+1 down XS
+ok
+> suggest
+try 2 down TO
+ok
+> fill 1
+filled
+ok
+> show
+X T
+S O
+ok
+@ square_filled_within_a_limit
+> fill 3
+limit
+ok
+> show
+- -
+- -
+ok
+> fill 4
+filled
+ok
+> show
+A S
+T O
+ok
+@ square_with_only_repeats_left
+> strike SO
+ok
+> fill 100
+nofill
+ok
+> show
+- -
+- -
+ok
+> place 1 across AT
+ok
+> place 3 across TO
+ok
+> dups
+1 down 1 across AT
+3 across 2 down TO
+ok
+> unlisted
+ok
+@ fill_with_limit_nought
+> fill 0
+limit
+ok
+> show
+- -
+- -
+ok
+> size 1 1
+ok
+> fill 0
+filled
+ok
+> show
+-
+ok
+> suggest
+done
+ok
+> letters 1 1
+ABCDEFGHIJKLMNOPQRSTUVWXYZ
+ok
+> lights
+ok
+@ words_by_number
+> words 1 across 0
+2
+ok
+> words 1 across 1
+2
+AS
+ok
+> words 1 across 2
+2
+AS
+AT
+ok
+> words 1 across 99
+2
+AS
+AT
+ok
+> words 65537 across
+no NoLight
+> words 99 across x
+no Arguments
+> words 1 across 1 1
+no Arguments
+> words 1
+no Arguments
+> words 9 across 1
+no NoLight
+> words 1 across +1
+no Arguments
+> letters 4294967297 1
+no OutOfGrid
+> letters 0 1
+no OutOfGrid
+> letters 1
+no Arguments
+> block 1 1
+ok
+> letters 1 1
+no OnBlock
+@ watch_tells_no_more_than_edits
+> watch on
+ok
+> circle 1 1
+ok
+> circles
+1 1
+ok
+> title x
+ok
+> clue 1 across x
+ok
+> suggest
+try 1 across AS
+ok
+> fill 4
+filled
+ok
+> strike IN
+ok
+> add IN
+ok
+> add SO
+no Known
+> sym quarter
+ok
+> place 1 across AT
+cell 1 2 T
+ok
+> watch off
+ok
+> size 2 2
+ok
+> set 1 1 A
+ok
+@ watch_outlives_a_size
+> watch on
+ok
+> size 1 2
+ok
+> size 0 2
+no Size
+> set 1 1 T
+cell 1 1 T
+cell 2 1 O
+ok
+> watch on
+ok
+> set 1 1 A
+cell 1 1 A
+cell 2 1 ST
+ok
+@ cells_of_a_square
+> cells
+cell 1 1 A
+cell 1 2 ST
+cell 2 1 ST
+cell 2 2 O
+ok
+> set 1 1 X
+ok
+> cells
+cell 1 1 -
+cell 1 2 -
+cell 2 1 -
+cell 2 2 -
+ok
+> clear 1 1
+ok
+> sym half
+ok
+> block 1 1
+ok
+> cells
+cell 1 2 ABCDEFGHIJKLMNOPQRSTUVWXYZ
+cell 2 1 ABCDEFGHIJKLMNOPQRSTUVWXYZ
+ok
+> cells 1
+no Arguments
+@ counts_of_a_square
+> counts
+1 across 2
+1 down 2
+2 down 2
+3 across 2
+ok
+> set 1 2 T
+ok
+> counts
+1 across 1
+1 down 2
+2 down 1
+3 across 2
+ok
+> set 1 1 X
+ok
+> counts
+1 across 0
+1 down 0
+2 down 0
+3 across 0
+ok
+> set 2 1 S
+ok
+> counts
+1 across 1
+1 down 1
+2 down 1
+3 across 1
+ok
+> size 1 1
+ok
+> counts
+ok
+> cells
+cell 1 1 ABCDEFGHIJKLMNOPQRSTUVWXYZ
+ok
+> counts 1
+no Arguments
+"""
+
+CASES = dialogues(IN_THE_SQUARE, beginning=SQUARE)

@@ -1,0 +1,59 @@
+"""What a session keeps of texts and clues, step by step."""
+from steps import ACCEPTED, REFUSED, run
+
+
+def keeps(*steps):
+    """Lines and their answers, and what is told of the texts after each step."""
+    lines = b"".join(lines + b"texts\n" for lines, answers, texts in steps)
+    output = b"".join(answers + texts + b"ok\n" for lines, answers, texts in steps)
+    return [run("edit", lines, output, status=REFUSED if b"no " in output else ACCEPTED)]
+
+
+CASES = {
+    # A text is what is left of its line, without spaces and tabs at its ends; a refused one leaves the old one.
+    "texts_kept": keeps(
+        (
+            b"title \t two  words \t\r\nauthor #me\ncopyright \xA9 1\nnotes n\nnotes a\x00b\nsize 2 2\ncopyright\n",
+            b"ok\nok\nok\nok\nno NulByte\nok\nok\n",
+            b"title two  words\nauthor #me\nnotes n\n",
+        )
+    ),
+    "clue_kept": keeps(
+        (
+            b"size 3 1\nclue 9 across x\nclue 1 across two words\n",
+            b"ok\nno NoLight\nok\n",
+            b"clue 1 across two words\n",
+        ),
+        (b"clue 1 across\n", b"ok\n", b""),
+    ),
+    # Another light that begins at a clue's cell and goes its way has the clue; a size takes it, and a refused one does not.
+    "clue_of_a_start": keeps(
+        (
+            b"size 4 1\nclue 1 across x\nbar 1 2 right\nsize 0 1\n",
+            b"ok\nok\nok\nno Size\n",
+            b"clue 1 across x\n",
+        ),
+        (b"size 4 1\n", b"ok\n", b""),
+    ),
+    # Only spaces and tabs are trimmed.
+    "text_of_odd_ends": keeps(
+        (b"title \x0B a\xA0\nnotes \ra\r \r\n", b"ok\nok\n", b"title \x0B a\xA0\nnotes \\ra\\r\n")
+    ),
+    # A line of 4,096 bytes is answered, and longer ones leave the title.
+    "longest_title": keeps(
+        (
+            b"title " + b"a" * 4090 + b"\ntitle " + b"a" * 4090 + b"\r\n" + b"b" * 5000 + b"\n",
+            b"ok\nno LineTooLong\nno LineTooLong\n",
+            b"title " + b"a" * 4090 + b"\n",
+        )
+    ),
+    # A session that is opened with what another one kept goes on with it, and is not watched.
+    "opened_with_a_puzzle": [
+        run(
+            "edit --to made.puz",
+            b"size 2 2\nplace 1 across at\nplace 3 across so\ntitle t\ncircle 1 2\nclue 1 down d\nwatch on\n",
+            output=b"ok\n" * 7,
+        ),
+        run("edit --from made.puz", b"circles\nclear 1 1\ntexts\n", output=b"1 2\nok\nok\ntitle t\nclue 1 down d\nok\n"),
+    ],
+}
