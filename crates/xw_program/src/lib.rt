@@ -3,5 +3,4 @@
 
 mod files;
 pub mod perform;
-pub mod replacing;
 pub mod start;

@@ -1,8 +1,9 @@
 //! Doing what a call asks for.
-use crate::files;
+use crate::files::{read_dictionary, write_record};
 use std::alloc::Global;
 use std::rt::Files;
 use xw_arguments::arguments::{Call, SessionFiles};
+use xw_disk::files;
 use xw_feas::feasible::Feasible;
 use xw_files::Kind;
 use xw_grid::{Grid, Lights};
@@ -105,7 +106,7 @@ fn dictionary<R: Files + AllocGlobal, E: Sink>(
     errors: &mut E,
 ) -> Result<Bank, Failure> {
     match named {
-        Some(file) => files::read_dictionary(rt, file, errors),
+        Some(file) => read_dictionary(rt, file, errors),
         None => Bank::new(rt.alloc()).map_err(|_| Failure::Memory),
     }
 }
@@ -171,7 +172,7 @@ fn save<F: Feasible, R: Files + AllocGlobal>(
     named: Option<&str>,
 ) -> Result<(), Failure> {
     match named {
-        Some(file) => files::write_record(rt, file, session),
+        Some(file) => write_record(rt, file, session),
         None => Ok(()),
     }
 }
