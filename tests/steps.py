@@ -21,8 +21,12 @@ def run(words, typed=b"", output=b"", errors=b"", status=ACCEPTED):
 
 
 def call(room, program, words, typed=b""):
-    """Runs the program in a folder, without an environment."""
-    return subprocess.run([program, *words.split()], cwd=room, env={}, input=typed, capture_output=True, timeout=60)
+    return end(room, program, words, input=typed, stdout=subprocess.PIPE)
+
+
+def end(room, program, words, **streams):
+    """Runs the program in a folder, without an environment, to its end."""
+    return subprocess.run([program, *words.split()], cwd=room, env={}, stderr=subprocess.PIPE, timeout=60, **streams)
 
 
 def compare(what, found, wanted):

@@ -2,9 +2,9 @@
 use std::process::Abort;
 use std::test::Fail;
 use xw_arguments::arguments::Usage;
+use xw_lines::ToWrite;
 use xw_outcome::explaining::explain;
 use xw_outcome::failure::Status;
-use xw_session::ToWrite;
 
 /// How it ends, and where it is told.
 #[derive(Clone, Copy)]

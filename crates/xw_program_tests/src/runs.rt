@@ -1,4 +1,0 @@
-//! Runs of the program over devices and files that fail.
-mod devices;
-mod explained;
-mod failing;
