@@ -12,6 +12,16 @@ def told(data, fault, place):
     ]
 
 
+def is_not_written(file, typed, fault, place=None):
+    """The plain puzzle after some commands, and why it does not go into a file."""
+    errors = f"xw: {file}: {fault}\n" + (f"xw: {place}\n" if place else "")
+    output = b"ok\n" * typed.count(b"\n")
+    return [
+        write("refused", PLAIN),
+        run(f"edit --explain --from refused --to {file}", typed, output, errors.encode(), FORMAT),
+    ]
+
+
 CASES = {
     # A `.puz` file, cut at several places.
     "puz_faults_told, notes": told(PLAIN[:71], "NoNul", "notes"),
@@ -28,47 +38,11 @@ CASES = {
         b"<ACROSS PUZZLE>\n<TITLE>\n<AUTHOR>\n<COPYRIGHT>\n<SIZE>\n2x2\n<GRID>\nAT\nS?\n", "BadCell", "row 2, column 2"
     ),
     # Puzzles that the file cannot hold into which they are to be written.
-    "empty_cell_told": [
-        write("refused", PLAIN),
-        run(
-            "edit --explain --from refused --to empty.puz",
-            b"clear 2 1\nclear 2 2\n",
-            output=b"ok\nok\n",
-            errors=b"xw: empty.puz: NotFilled\nxw: row 2, column 1\n",
-            status=FORMAT,
-        ),
-    ],
-    "unspelled_clue_told": [
-        write("refused", PLAIN),
-        run(
-            "edit --explain --from refused --to clue.txt",
-            b"clue 2 down\n",
-            output=b"ok\n",
-            errors=b"xw: clue.txt: Field\nxw: clue 3 (2 down)\n",
-            status=FORMAT,
-        ),
-    ],
-    "unspelled_title_told": [
-        write("refused", PLAIN),
-        run(
-            "edit --explain --from refused --to title.txt",
-            b"title <x>\n",
-            output=b"ok\n",
-            errors=b"xw: title.txt: Field\nxw: title\n",
-            status=FORMAT,
-        ),
-    ],
+    "empty_cell_told": is_not_written("empty.puz", b"clear 2 1\nclear 2 2\n", "NotFilled", "row 2, column 1"),
+    "unspelled_clue_told": is_not_written("clue.txt", b"clue 2 down\n", "Field", "clue 3 (2 down)"),
+    "unspelled_title_told": is_not_written("title.txt", b"title <x>\n", "Field", "title"),
     # A bar has no place in the fault.
-    "barred_told": [
-        write("refused", PLAIN),
-        run(
-            "edit --explain --from refused --to barred.txt",
-            b"bar 1 1 right\n",
-            output=b"ok\n",
-            errors=b"xw: barred.txt: Barred\n",
-            status=FORMAT,
-        ),
-    ],
+    "barred_told": is_not_written("barred.txt", b"bar 1 1 right\n", "Barred"),
     "circle_told": [
         write("circled", CIRCLED),
         run(

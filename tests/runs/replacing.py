@@ -25,7 +25,7 @@ def is_link(name):
 
 def is_no_file(name):
     """There is something of this name, and no regular file."""
-    return lambda room, program: compare(f"whether {name} is a file", (room / name).exists() and (room / name).is_file(), False)
+    return lambda room, program: compare(f"{name} is there, a file", ((room / name).exists(), (room / name).is_file()), (True, False))
 
 
 def is_none(name):

@@ -1,39 +1,32 @@
 """Forms of lines, of any bytes and of any length."""
-from steps import ACCEPTED, REFUSED, run
-
-
-def answers(lines, output):
-    """Lines as they come, and what is answered."""
-    status = REFUSED if any(line.startswith(b"no ") for line in output.split(b"\n")) else ACCEPTED
-    return [run("edit", lines, output, status=status)]
-
+from steps import answers
 
 CASES = {
     # Silent lines, names, and the count of words.
-    "forms_of_lines: silent": answers(b"\n\r\n \t\r\n# note\n \t# note\n\r", b""),
-    "forms_of_lines: names": answers(b"frob\nADD CAT\nadd# CAT\n\xEF\xBB\xBFadd CAT\n", b"no Command\n" * 4),
-    "forms_of_lines: count of words": answers(b"add\nadd CAT DOG\nadd CAT # x\nmatch\nstrike A B\n", b"no Arguments\n" * 5),
-    "forms_of_lines: carriage returns alone": answers(b"\r\r\n\r \n", b"no Command\n" * 2),
-    "forms_of_lines: blanks and no last line feed": answers(b" \tadd\t CAT \t\r\nmatch CAT", b"ok\nCAT\nok\n"),
-    "forms_of_lines: carriage return at the end": answers(b"add CAT\r", b"ok\n"),
-    "forms_of_lines: other white space": answers(
+    "forms_of_lines: silent": [answers(b"\n\r\n \t\r\n# note\n \t# note\n\r", b"")],
+    "forms_of_lines: names": [answers(b"frob\nADD CAT\nadd# CAT\n\xEF\xBB\xBFadd CAT\n", b"no Command\n" * 4)],
+    "forms_of_lines: count of words": [answers(b"add\nadd CAT DOG\nadd CAT # x\nmatch\nstrike A B\n", b"no Arguments\n" * 5)],
+    "forms_of_lines: carriage returns alone": [answers(b"\r\r\n\r \n", b"no Command\n" * 2)],
+    "forms_of_lines: blanks and no last line feed": [answers(b" \tadd\t CAT \t\r\nmatch CAT", b"ok\nCAT\nok\n")],
+    "forms_of_lines: carriage return at the end": [answers(b"add CAT\r", b"ok\n")],
+    "forms_of_lines: other white space": [answers(
         b"add C\x00T\nadd\x0BCAT\nadd CAT\x0B\nadd \x85CAT\nad\x00d CAT\nadd CAT\x0C\nadd C\rT\n",
         b"no BadLetter\nno Command\nno BadLetter\nno BadLetter\nno Command\nno BadLetter\nno BadLetter\n",
-    ),
-    "forms_of_lines: other letters": answers(b"add C\xC3\x84T\nadd \xC2\xA0CAT\n", b"no BadLetter\n" * 2),
+    )],
+    "forms_of_lines: other letters": [answers(b"add C\xC3\x84T\nadd \xC2\xA0CAT\n", b"no BadLetter\n" * 2)],
     # At most 4,096 bytes belong to a line, a carriage return counted and the line feed not.
-    "long_lines: 4,096 bytes and LF": answers(b"add " + b"a" * 4092 + b"\n", b"no Length\n"),
-    "long_lines: 4,096 bytes": answers(b"add " + b"a" * 4092, b"no Length\n"),
-    "long_lines: 4,095 bytes and CR LF": answers(b"add " + b"a" * 4091 + b"\r\n", b"no Length\n"),
-    "long_lines: 4,096 bytes and CR LF": answers(b"add " + b"a" * 4092 + b"\r\n", b"no LineTooLong\n"),
-    "long_lines: 4,097 bytes and LF": answers(b"add " + b"a" * 4093 + b"\n", b"no LineTooLong\n"),
-    "long_lines: 5,000 bytes": answers(b"add " + b"a" * 4996, b"no LineTooLong\n"),
-    "long_lines: 9,004 bytes before other lines": answers(
+    "long_lines: 4,096 bytes and LF": [answers(b"add " + b"a" * 4092 + b"\n", b"no Length\n")],
+    "long_lines: 4,096 bytes": [answers(b"add " + b"a" * 4092, b"no Length\n")],
+    "long_lines: 4,095 bytes and CR LF": [answers(b"add " + b"a" * 4091 + b"\r\n", b"no Length\n")],
+    "long_lines: 4,096 bytes and CR LF": [answers(b"add " + b"a" * 4092 + b"\r\n", b"no LineTooLong\n")],
+    "long_lines: 4,097 bytes and LF": [answers(b"add " + b"a" * 4093 + b"\n", b"no LineTooLong\n")],
+    "long_lines: 5,000 bytes": [answers(b"add " + b"a" * 4996, b"no LineTooLong\n")],
+    "long_lines: 9,004 bytes before other lines": [answers(
         b"add " + b"a" * 9000 + b"\nadd ok\nmatch ok\n", b"no LineTooLong\nok\nOK\nok\n"
-    ),
-    "long_lines: note of 4,097 bytes": answers(b"# a " + b"a" * 4093, b"no LineTooLong\n"),
-    "long_lines: note of 4,096 bytes": answers(b"# a " + b"a" * 4092 + b"\n", b""),
+    )],
+    "long_lines: note of 4,097 bytes": [answers(b"# a " + b"a" * 4093, b"no LineTooLong\n")],
+    "long_lines: note of 4,096 bytes": [answers(b"# a " + b"a" * 4092 + b"\n", b"")],
     # A blank line may be too long as well.
-    "long_blank_line: 4,097 bytes": answers(b" " * 4097 + b"\n", b"no LineTooLong\n"),
-    "long_blank_line: 4,096 bytes": answers(b" " * 4096 + b"\n", b""),
+    "long_blank_line: 4,097 bytes": [answers(b" " * 4097 + b"\n", b"no LineTooLong\n")],
+    "long_blank_line: 4,096 bytes": [answers(b" " * 4096 + b"\n", b"")],
 }

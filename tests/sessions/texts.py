@@ -1,12 +1,12 @@
 """What a session keeps of texts and clues, step by step."""
-from steps import ACCEPTED, REFUSED, run
+from steps import answers, run
 
 
 def keeps(*steps):
     """Lines and their answers, and what is told of the texts after each step."""
-    lines = b"".join(lines + b"texts\n" for lines, answers, texts in steps)
-    output = b"".join(answers + texts + b"ok\n" for lines, answers, texts in steps)
-    return [run("edit", lines, output, status=REFUSED if b"no " in output else ACCEPTED)]
+    lines = b"".join(lines + b"texts\n" for lines, answered, texts in steps)
+    output = b"".join(answered + texts + b"ok\n" for lines, answered, texts in steps)
+    return [answers(lines, output)]
 
 
 CASES = {
