@@ -90,7 +90,7 @@ pub fn write_puzzle<R: Files + AllocGlobal>(
     write_file(rt, file, bytes.as_slice())
 }
 
-/// Writes bytes into a file, whole or not at all.
+/// Puts bytes into a file, as `replace` does.
 pub fn write_file<R: Files + AllocGlobal>(rt: &R, file: &str, bytes: &[u8]) -> Result<(), Failure> {
     match replace(rt, file, bytes) {
         Ok(()) => Ok(()),
