@@ -194,13 +194,22 @@ const CASES: &[Case] = &[
     },
 ];
 
+/// Gives the lists of a case to an engine, beside another one that begins as it did.
+fn pass_beside(
+    rt: &(impl Abort + AllocGlobal),
+    one: &mut Watched,
+    case: &Case,
+) -> Result<(), Refusal> {
+    let mut other = begin(rt, SQUARE, case.name)?;
+    pass(rt, &mut other, case.calls, case.name);
+    pass_lists(rt, one, &mut other.engine, case);
+    Ok(())
+}
+
 fn pass_case(rt: &(impl Abort + AllocGlobal), case: &Case) -> Result<(), Refusal> {
     let mut one = begin(rt, SQUARE, case.name)?;
-    let mut other = begin(rt, SQUARE, case.name)?;
     pass(rt, &mut one, case.calls, case.name);
-    pass(rt, &mut other, case.calls, case.name);
-    pass_lists(rt, &mut one, &mut other.engine, case);
-    Ok(())
+    pass_beside(rt, &mut one, case)
 }
 
 #[test]

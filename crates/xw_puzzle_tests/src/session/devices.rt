@@ -140,18 +140,18 @@ fn has_cat(session: &mut Session<Plain>) -> bool {
     session.step(b"add CAT", &mut writer(512, 9)) == Ok(Step::Refused)
 }
 
-/// Runs lines in a new session over devices one of which answers so many calls: what goes out is a beginning of the answers.
-fn runs_over(
-    rt: &(impl Abort + AllocGlobal),
+/// Runs lines in a session over devices one of which answers so many calls: what goes out is a beginning of the answers.
+fn run_in(
+    rt: &impl Abort,
+    session: &mut Session<Plain>,
     exchange: &Exchange<'_>,
     devices: Devices,
     calls: u64,
-) -> Result<Ended, Fail> {
+) -> Ended {
     let (reads, writes) = match devices.failing {
         Failing::Reader => (calls, 1000),
         Failing::Writer => (100, calls),
     };
-    let mut session = Session::new(rt.alloc(), engine_of(rt.alloc(), 1)?);
     let mut sink = writer(devices.taken, writes);
     let end = session.run_lines(&mut reader(exchange.lines, devices.given, reads), &mut sink);
     let name = exchange.name;
@@ -159,12 +159,23 @@ fn runs_over(
         exchange.answers.starts_with(&sink.bytes[..sink.taken]),
         "in {name} at {calls} calls"
     );
-    Ok(Ended {
+    Ended {
         end,
         written: sink.taken,
         failures: sink.failures,
-        has_cat: has_cat(&mut session),
-    })
+        has_cat: has_cat(session),
+    }
+}
+
+/// The same in a new session.
+fn runs_over(
+    rt: &(impl Abort + AllocGlobal),
+    exchange: &Exchange<'_>,
+    devices: Devices,
+    calls: u64,
+) -> Result<Ended, Fail> {
+    let mut session = Session::new(rt.alloc(), engine_of(rt.alloc(), 1)?);
+    Ok(run_in(rt, &mut session, exchange, devices, calls))
 }
 
 /// Runs that end alike.
@@ -346,15 +357,26 @@ const CASES: &[Case] = &[
     },
 ];
 
+/// Whether a run ended as is wanted.
+fn is_same(found: Ended, wanted: Ended) -> bool {
+    found.end == wanted.end
+        && found.written == wanted.written
+        && found.failures == wanted.failures
+        && found.has_cat == wanted.has_cat
+}
+
 /// Compares how the runs of a case end.
 fn ends_so(rt: &(impl Abort + AllocGlobal), case: &Case) -> Result<(), Fail> {
-    let name = case.exchange.name;
     for (calls, written, has_cat) in case.runs {
         let found = runs_over(rt, &case.exchange, case.devices, *calls)?;
-        assert_eq!(rt; found.end, case.end, "in {name} at {calls} calls");
-        assert_eq!(rt; found.written, *written, "in {name} at {calls} calls");
-        assert_eq!(rt; found.failures, case.failures, "in {name} at {calls} calls");
-        assert_eq!(rt; found.has_cat, *has_cat, "in {name} at {calls} calls");
+        let wanted = Ended {
+            end: case.end,
+            written: *written,
+            failures: case.failures,
+            has_cat: *has_cat,
+        };
+        let name = case.exchange.name;
+        assert!(rt; is_same(found, wanted), "in {name} at {calls} calls");
     }
     Ok(())
 }
@@ -432,6 +454,14 @@ const BREAKS: &[(Devices, RunEnd, u64)] = &[
     ),
 ];
 
+/// Whether a run came to its end with all that is to be written, or ended as a broken one does.
+fn is_right(exchange: &Exchange<'_>, found: Ended, broken: RunEnd) -> bool {
+    match found.end {
+        RunEnd::Done { refused } => refused == 0 && found.written == exchange.answers.len(),
+        end => end == broken,
+    }
+}
+
 /// A device fails at each of its calls in turn, until it has enough of them.
 fn breaks_off(
     rt: &(impl Abort + AllocGlobal),
@@ -441,15 +471,13 @@ fn breaks_off(
     let name = exchange.name;
     for calls in 0..most {
         let found = runs_over(rt, exchange, devices, calls)?;
-        if found.end == (RunEnd::Done { refused: 0 }) {
-            assert_eq!(rt;
-                found.written,
-                exchange.answers.len(),
-                "in {name} at {calls} calls"
-            );
+        assert!(rt;
+            is_right(exchange, found, broken),
+            "in {name} at {calls} calls"
+        );
+        if found.end != broken {
             return Ok(());
         }
-        assert_eq!(rt; found.end, broken, "in {name} at {calls} calls");
     }
     panic!(rt; "{name} has no end in {most} calls")
 }

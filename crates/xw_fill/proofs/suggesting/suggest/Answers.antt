@@ -1,4 +1,4 @@
-use Rattle.std.proofs.Common.{sym, ◌∙◌, ap}
+use Rattle.std.proofs.Common.{rules, sym, ◌∙◌, ap}
 use Rattle.xw_fill.specs.Position.{position_of}
 use Rattle.xw_fill.specs.Search.{light_count, lacks_words}
 use Rattle.xw_fill.proofs.BelowLemmas.{first_below-some}
@@ -23,3 +23,6 @@ name_at-requires g c = (first_below-some (lacks_words (position_of (g.E.Feasible
 
 pub name_at-name-requires : goal.name_at-name-requires
 name_at-name-requires g c = (chosen-Some (position_of (g.E.Feasible.state c.args.engine.now)) c.in-Some-chosen.light (sym c.chosen.ensures ∙ c.in-Some-chosen.is)).0
+
+pub returns-in-Some-clause-suggestion : goal.returns-in-Some-clause-suggestion
+returns-in-Some-clause-suggestion g c = search rules

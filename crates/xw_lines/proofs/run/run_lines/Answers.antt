@@ -1,4 +1,4 @@
-use Rattle.std.proofs.Common.{arith, ◌<◌, length}
+use Rattle.std.proofs.Common.{arith, rules, ◌<◌, length}
 use Rattle.xw_lines.proofs.Texts.{told-nothing}
 use Rattle.xw_lines.proofs.run.run_lines.Goals as goal
 
@@ -10,3 +10,9 @@ returns-in-Ok-finish-clause-done g c =
     let told = told-nothing (g.R.Source.told c.args.source.now) _ _ text _ _ kept.told c.in-Ok-eq0.field-0-test c.in-Ok-eq0.ensures.told in
     let said = c.in-Ok-finish.ensures.ok c.args.speaker.now (g.W.Sink.told c.args.sink.now) text kept.goes-on in
     (text, told, c.in-Ok-eq0.ensures.end c.in-Ok-eq0.field-0-test room, said.0, said.1, said.2)
+
+pub returns-in-Err-take_bytes-clause-read_failed : goal.returns-in-Err-take_bytes-clause-read_failed
+returns-in-Err-take_bytes-clause-read_failed g c = search rules
+
+pub returns-in-Err-take_bytes-clause-unfailed : goal.returns-in-Err-take_bytes-clause-unfailed
+returns-in-Err-take_bytes-clause-unfailed g c = search rules

@@ -3,3 +3,6 @@ use Rattle.xw_lines.proofs.standard.ToWrite.new.Goals as goal
 
 pub returns-clause-failures : goal.returns-clause-failures
 returns-clause-failures g c = search rules
+
+pub returns-clause-told : goal.returns-clause-told
+returns-clause-told g c = search rules
