@@ -1,11 +1,11 @@
 -- Arguments read one after another.
 use Rattle.std.specs.Prelude.{◌≡◌, ℕ, Bool, true, false, ◌==◌, List, [], ◌∷◌, length, Option, Some, None, Result, Ok, Err, bytes_eq, codes, if◌then◌else◌}
-use Rattle.xw_grid.specs.declared.cell.Direction.{Direction}
-use Rattle.xw_grid.specs.declared.cell.Direction.TheVariants.{Across, Down}
-use Rattle.xw_grid.specs.declared.cell.Side.{Side}
-use Rattle.xw_grid.specs.declared.cell.Side.TheVariants.{Right, Below}
-use Rattle.xw_grid.specs.declared.cell.Symmetry.{Symmetry}
-use Rattle.xw_grid.specs.declared.cell.Symmetry.TheVariants as kinds
+use Rattle.xw_cells.specs.declared.cell.Direction.{Direction}
+use Rattle.xw_cells.specs.declared.cell.Direction.TheVariants.{Across, Down}
+use Rattle.xw_cells.specs.declared.cell.Side.{Side}
+use Rattle.xw_cells.specs.declared.cell.Side.TheVariants.{Right, Below}
+use Rattle.xw_cells.specs.declared.cell.Symmetry.{Symmetry}
+use Rattle.xw_cells.specs.declared.cell.Symmetry.TheVariants as kinds
 use Rattle.xw_commands.specs.declared.command.Spot.{Spot}
 use Rattle.xw_commands.specs.declared.command.Named.{Named}
 use Rattle.xw_commands.specs.declared.command.TextField.{TextField}

@@ -7,7 +7,7 @@ ghost use Rattle.xw_commands.specs.Command.{command_named as command_named_so, c
 use crate::line;
 use crate::words::Words;
 use std::marker::Model;
-use xw_grid::{Direction, Side, Symmetry};
+use xw_cells::{Direction, Side, Symmetry};
 use xw_lines::run::LINE_LIMIT;
 
 /// Why a line is no command.

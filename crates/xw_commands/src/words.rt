@@ -5,7 +5,7 @@ ghost use Rattle.xw_commands.specs.Reading.{word as word_of, number as number_of
 use crate::command::{Field, Named, Spot, SyntaxFault, Text, TextField};
 use crate::line;
 use std::marker::Model;
-use xw_grid::{Direction, Side, Symmetry};
+use xw_cells::{Direction, Side, Symmetry};
 
 /// What is left of a line.
 #[derive(Drop)]

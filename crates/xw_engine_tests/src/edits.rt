@@ -1,9 +1,9 @@
 //! Edits as the tables spell them, and what the engines of the tables begin with.
 use std::alloc::Global;
+use xw_cells::cell::{Cell, Direction, LightName, Side, Symmetry};
+use xw_cells::grid::Grid;
 use xw_feas::edit::{Edit, Refusal};
 use xw_feas::feasible::Feasible;
-use xw_grid::cell::{Cell, Direction, LightName, Side, Symmetry};
-use xw_grid::grid::Grid;
 use xw_letters::letter::Letter;
 use xw_plain::plain::Plain;
 use xw_words::bank::Bank;

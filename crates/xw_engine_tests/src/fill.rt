@@ -4,12 +4,12 @@ use crate::edits::{
 };
 use std::alloc::Global;
 use std::process::Abort;
+use xw_cells::cell::{LightName, Square, Symmetry};
 use xw_feas::edit::Refusal;
 use xw_feas::feasible::Feasible;
 use xw_fill::listing::{Duplicate, duplicates, unlisted};
 use xw_fill::search::{Filling, fill};
 use xw_fill::suggesting::{Suggestion, suggest};
-use xw_grid::cell::{LightName, Square, Symmetry};
 use xw_plain::plain::Plain;
 
 /// A call and its answer.

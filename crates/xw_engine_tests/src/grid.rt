@@ -3,11 +3,11 @@ mod notes;
 
 use std::process::Abort;
 use std::test::Fail;
-use xw_grid::cell::{Cell, Direction, LightName, Side, Square, Symmetry};
-use xw_grid::fault::GridFault;
-use xw_grid::grid::Grid;
+use xw_cells::cell::{Cell, Direction, LightName, Side, Square, Symmetry};
+use xw_cells::fault::GridFault;
+use xw_cells::grid::Grid;
+use xw_cells::orbit::Orbit;
 use xw_grid::lights::{Light, Lights};
-use xw_grid::orbit::Orbit;
 use xw_letters::letter::Letter;
 
 fn cell(row: u32, col: u32) -> Cell {

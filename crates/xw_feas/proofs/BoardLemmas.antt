@@ -10,14 +10,14 @@ use Rattle.std.proofs.lemmas.Bool.{cases_lt, cases_eq, ne_eqb}
 use Rattle.std.proofs.lemmas.List.{drop_more, drop_all, get_or-map, get_or_past, length-map}
 use Rattle.std.proofs.lemmas.List.FromFn.{length-map-range_with_len, get_or-map-range_with_len}
 use Rattle.std.proofs.lemmas.Option.{slice_get-get_or, get_or_from_slice_get, slice_get_cases}
-use Rattle.xw_grid.specs.declared.cell.Cell.{Cell}
-use Rattle.xw_grid.specs.declared.cell.Square.TheVariants.{Block}
-use Rattle.xw_grid.specs.declared.cell.Direction.{Direction}
-use Rattle.xw_grid.specs.declared.cell.Direction.TheVariants.{Across, Down}
+use Rattle.xw_cells.specs.declared.cell.Cell.{Cell}
+use Rattle.xw_cells.specs.declared.cell.Square.TheVariants.{Block}
+use Rattle.xw_cells.specs.declared.cell.Direction.{Direction}
+use Rattle.xw_cells.specs.declared.cell.Direction.TheVariants.{Across, Down}
 use Rattle.xw_grid.specs.declared.lights.Light.{Light}
-use Rattle.xw_grid.specs.Grid.{Grid, IsGrid, is_inside, index_of, is_open_square, letter_in}
+use Rattle.xw_cells.specs.Grid.{Grid, IsGrid, is_inside, index_of, is_open_square, letter_in}
 use Rattle.xw_grid.specs.Light.{step, lights_of, no_light}
-use Rattle.xw_grid.proofs.GridLemmas.{IsInside-is_inside, index_of-lt}
+use Rattle.xw_cells.proofs.GridLemmas.{IsInside-is_inside, index_of-lt}
 use Rattle.xw_grid.proofs.LightLemmas.{inside_from_open, cells_of_are_open, size_of_light}
 use Rattle.xw_feas.specs.Board.{Board, board_of, places_of, square_is_open, square_entry, entry, is_open, light_at, allows, agrees, is_wholly_entered}
 use Rattle.xw_feas.specs.Fits.{Fits, stride_of}

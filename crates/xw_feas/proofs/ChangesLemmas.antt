@@ -3,9 +3,9 @@ use Rattle.std.proofs.Common.{◌≡◌, ℕ, suc, ◌+◌, ◌-◌, ◌*◌, �
 use Rattle.std.specs.Prelude.{bytes_eq}
 use Rattle.std.specs.List.{range_with_len}
 use Rattle.std.proofs.lemmas.List.Elements.{filter_agree}
-use Rattle.xw_grid.specs.Grid.{Grid, IsGrid, cell_at, index_of, is_open as cell_is_open, is_open_square}
+use Rattle.xw_cells.specs.Grid.{Grid, IsGrid, cell_at, index_of, is_open as cell_is_open, is_open_square}
 use Rattle.std.specs.Prelude.{slice_get, None}
-use Rattle.xw_grid.proofs.GridLemmas.{cell_at-inside, index_of-cell_at}
+use Rattle.xw_cells.proofs.GridLemmas.{cell_at-inside, index_of-cell_at}
 use Rattle.xw_feas.specs.Board.{board_of, is_open}
 use Rattle.xw_feas.specs.Feasible.{Answers}
 use Rattle.xw_feas.specs.Changes.{letters_of, letters_at, cells_that_differ, changes, changed_sets, spelled_out}

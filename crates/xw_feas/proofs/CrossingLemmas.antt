@@ -4,13 +4,13 @@ use Rattle.std.specs.Prelude.{IfSome}
 use Rattle.std.proofs.lemmas.Bool.{and_parts, and_from, eq-eqb, ne_eqb, lt-ltb, both_ways}
 use Rattle.std.proofs.lemmas.Bool.Decides.{nat_tests}
 use Rattle.std.proofs.lemmas.List.Quantifiers.{position-Some}
-use Rattle.xw_grid.specs.declared.cell.Cell.{Cell}
-use Rattle.xw_grid.specs.declared.cell.Direction.{Direction}
-use Rattle.xw_grid.specs.declared.cell.Direction.TheVariants.{Across, Down}
+use Rattle.xw_cells.specs.declared.cell.Cell.{Cell}
+use Rattle.xw_cells.specs.declared.cell.Direction.{Direction}
+use Rattle.xw_cells.specs.declared.cell.Direction.TheVariants.{Across, Down}
 use Rattle.xw_grid.specs.declared.lights.Light.{Light}
-use Rattle.xw_grid.specs.Grid.{Grid, index_of, cell_at}
+use Rattle.xw_cells.specs.Grid.{Grid, index_of, cell_at}
 use Rattle.xw_grid.specs.Light.{step, lights_of, no_light, same_direction, is_on_line, holds, passes, place_through}
-use Rattle.xw_grid.proofs.GridLemmas.{cell_at-index_of, index_of-cell_at}
+use Rattle.xw_cells.proofs.GridLemmas.{cell_at-index_of, index_of-cell_at}
 use Rattle.xw_grid.proofs.OrderLemmas.{lights_are_apart}
 use Rattle.xw_grid.proofs.PlaceLemmas.{held_step, place_is as through_is}
 use Rattle.xw_feas.specs.Board.{Board, board_of, light_at, IsCrossing, other_than, first_found}

@@ -4,12 +4,12 @@ use Rattle.std.specs.Prelude.{Result, Ok, Err, is_err, IsOk, IfErr, IsErrAnd}
 use Rattle.std.proofs.lemmas.List.{take_more, take_all, map_push}
 use Rattle.xw_feas.specs.State.{State, Action, after, action_of, IsRefused, IsAfter, done, accepted, skipped, with_grid, by_fault, block_toggled, bar_toggled}
 use Rattle.xw_feas.specs.Shape.{IsGridRefused}
-use Rattle.xw_grid.specs.declared.cell.Cell.{Cell}
-use Rattle.xw_grid.specs.declared.cell.Side.{Side}
-use Rattle.xw_grid.specs.declared.fault.GridFault.{GridFault}
-use Rattle.xw_grid.specs.declared.fault.GridFault.TheVariants as grids
-use Rattle.xw_grid.specs.Grid.{Grid}
-use Rattle.xw_grid.specs.Edit.{toggle_block, toggle_bar}
+use Rattle.xw_cells.specs.declared.cell.Cell.{Cell}
+use Rattle.xw_cells.specs.declared.cell.Side.{Side}
+use Rattle.xw_cells.specs.declared.fault.GridFault.{GridFault}
+use Rattle.xw_cells.specs.declared.fault.GridFault.TheVariants as grids
+use Rattle.xw_cells.specs.Grid.{Grid}
+use Rattle.xw_cells.specs.Edit.{toggle_block, toggle_bar}
 use Rattle.xw_feas.specs.declared.edit.Refusal.TheVariants as refusals
 use Rattle.xw_feas.specs.Feasible.{Answers}
 use Rattle.xw_feas.specs.Engine.{IsEdited}

@@ -6,15 +6,15 @@ use Rattle.std.proofs.lemmas.List.{get_or-map, get_or_past, length-map}
 use Rattle.std.proofs.lemmas.List.Elements.{Contains-get_or}
 use Rattle.std.proofs.lemmas.List.FromFn.{length-map-range_with_len, get_or-map-range_with_len}
 use Rattle.xw_words.specs.Dictionary.{Dictionary, IsDictionary}
-use Rattle.xw_grid.specs.declared.cell.Cell.{Cell}
-use Rattle.xw_grid.specs.declared.cell.Direction.{Direction}
-use Rattle.xw_grid.specs.declared.cell.Direction.TheVariants.{Across, Down}
+use Rattle.xw_cells.specs.declared.cell.Cell.{Cell}
+use Rattle.xw_cells.specs.declared.cell.Direction.{Direction}
+use Rattle.xw_cells.specs.declared.cell.Direction.TheVariants.{Across, Down}
 use Rattle.xw_grid.specs.declared.lights.Light.{Light}
-use Rattle.xw_grid.specs.Grid.{Grid, IsGrid, is_inside, is_open_square, index_of, cell_at}
-use Rattle.xw_grid.specs.Grid.{is_open as is_open_cell}
+use Rattle.xw_cells.specs.Grid.{Grid, IsGrid, is_inside, is_open_square, index_of, cell_at}
+use Rattle.xw_cells.specs.Grid.{is_open as is_open_cell}
 use Rattle.std.specs.Prelude.{slice_get, None}
 use Rattle.xw_grid.specs.Light.{step, lights_of, no_light}
-use Rattle.xw_grid.proofs.GridLemmas.{cell_at-index_of}
+use Rattle.xw_cells.proofs.GridLemmas.{cell_at-index_of}
 use Rattle.xw_grid.proofs.LightLemmas.{inside_from_open, cells_of_are_open, size_of_light}
 use Rattle.xw_grid.proofs.OrderLemmas.{lights_meet_once}
 use Rattle.xw_feas.specs.Board.{board_of, light_at, is_open}

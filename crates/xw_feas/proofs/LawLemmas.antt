@@ -2,10 +2,10 @@
 use Rattle.std.proofs.Common.{◌≡◌, ℕ, ◌+◌, Bool, true, false, ◌||◌, List, [], ◌∷◌, map, refl, ap, sym, ◌∙◌, subst, inl, inr, ◌⊎◌, arith}
 use Rattle.std.specs.Prelude.{Option, Some, None, Result, Ok, Err, IsTrue, ◌↔◌}
 use Rattle.xw_words.specs.Dictionary.{Dictionary}
-use Rattle.xw_grid.specs.declared.cell.Cell.{Cell}
-use Rattle.xw_grid.specs.declared.fault.GridFault.{GridFault}
-use Rattle.xw_grid.specs.Grid.{Grid}
-use Rattle.xw_grid.specs.Edit.{set_entry}
+use Rattle.xw_cells.specs.declared.cell.Cell.{Cell}
+use Rattle.xw_cells.specs.declared.fault.GridFault.{GridFault}
+use Rattle.xw_cells.specs.Grid.{Grid}
+use Rattle.xw_cells.specs.Edit.{set_entry}
 use Rattle.xw_feas.specs.declared.edit.Refusal.{Refusal}
 use Rattle.xw_feas.specs.Board.{Board}
 use Rattle.xw_feas.specs.Feasible.{Family, IsSupported}

@@ -8,9 +8,9 @@ use Rattle.std.proofs.lemmas.List.{get_or-drop, length-drop, drop-drop}
 use Rattle.xw_letters.proofs.Position.{position-None}
 use Rattle.xw_words.specs.Dictionary.{Entry, Dictionary, no_entry, entry_at, row as known_words}
 use Rattle.std.specs.Prelude.{Ok}
-use Rattle.xw_grid.specs.declared.cell.LightName.{LightName}
+use Rattle.xw_cells.specs.declared.cell.LightName.{LightName}
 use Rattle.xw_grid.specs.declared.lights.Light.{Light}
-use Rattle.xw_grid.specs.Grid.{Grid}
+use Rattle.xw_cells.specs.Grid.{Grid}
 use Rattle.xw_grid.specs.Light.{lights_of, place_named, same_name, no_light}
 use Rattle.xw_feas.specs.State.{State}
 use Rattle.xw_feas.specs.Board.{Board, board_of, light_at, is_wholly_entered, spelled, agrees}

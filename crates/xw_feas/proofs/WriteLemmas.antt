@@ -2,13 +2,13 @@
 use Rattle.std.proofs.Common.{◌≡◌, ℕ, zero, suc, ◌+◌, ◌<◌, Bool, true, false, cond, not, List, [], ◌∷◌, ◌++◌, drop, length, get_or, set, Some, None, refl, sym, ◌∙◌, ap, arith}
 use Rattle.std.specs.Prelude.{Option, Result, Ok, Err, slice_get}
 use Rattle.std.proofs.lemmas.List.{drop_more}
-use Rattle.xw_grid.specs.declared.cell.Cell.{Cell}
-use Rattle.xw_grid.specs.declared.cell.Square.{Square}
-use Rattle.xw_grid.specs.declared.cell.Square.TheVariants.{Open}
-use Rattle.xw_grid.specs.declared.fault.GridFault.{GridFault}
-use Rattle.xw_grid.specs.declared.fault.GridFault.TheVariants.{OutOfGrid, OnBlock}
-use Rattle.xw_grid.specs.Grid.{Grid, IsGrid, is_inside, is_open, is_block, is_block_square, index_of}
-use Rattle.xw_grid.specs.Edit.{set_entry, with_entry}
+use Rattle.xw_cells.specs.declared.cell.Cell.{Cell}
+use Rattle.xw_cells.specs.declared.cell.Square.{Square}
+use Rattle.xw_cells.specs.declared.cell.Square.TheVariants.{Open}
+use Rattle.xw_cells.specs.declared.fault.GridFault.{GridFault}
+use Rattle.xw_cells.specs.declared.fault.GridFault.TheVariants.{OutOfGrid, OnBlock}
+use Rattle.xw_cells.specs.Grid.{Grid, IsGrid, is_inside, is_open, is_block, is_block_square, index_of}
+use Rattle.xw_cells.specs.Edit.{set_entry, with_entry}
 use Rattle.xw_feas.specs.Shape.{fault_at}
 use Rattle.xw_feas.specs.State.{then_write, write_list}
 use Rattle.xw_grid.proofs.ChangeLemmas.{open_from_no_block}

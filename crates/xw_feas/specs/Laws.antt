@@ -1,6 +1,6 @@
 -- What the definitions come to in a setter's words.
 use Rattle.std.specs.Prelude.{◌≡◌, ℕ, ◌||◌, List, [], ◌∷◌, ◌++◌, map, Option, Some, None, Result, Ok, Err}
-use Rattle.xw_grid.specs.declared.cell.Cell.{Cell}
+use Rattle.xw_cells.specs.declared.cell.Cell.{Cell}
 use Rattle.xw_feas.specs.declared.edit.Refusal.{Refusal}
 use Rattle.xw_feas.specs.Feasible.{Family}
 use Rattle.xw_feas.specs.State.{State, Action, letter_set, cell_cleared, after, want_of, IsAfter}

@@ -2,10 +2,10 @@
 use Rattle.std.specs.Prelude.{◌≡◌, ℕ, ◌+◌, Bool, not, cond, ◌&&◌, ◌==◌, List, [], drop, length, slice_index_or, position, Option, Some, None, option_map, Result, Ok, Err, if◌then◌else◌}
 use Rattle.xw_letters.specs.LetterSet.{letters_in}
 use Rattle.xw_words.specs.Dictionary.{Entry, Dictionary, row as known_words}
-use Rattle.xw_grid.specs.declared.cell.Cell.{Cell}
-use Rattle.xw_grid.specs.declared.cell.LightName.{LightName}
-use Rattle.xw_grid.specs.declared.fault.GridFault.TheVariants as grids
-use Rattle.xw_grid.specs.Grid.{Grid, is_inside, is_block, index_of}
+use Rattle.xw_cells.specs.declared.cell.Cell.{Cell}
+use Rattle.xw_cells.specs.declared.cell.LightName.{LightName}
+use Rattle.xw_cells.specs.declared.fault.GridFault.TheVariants as grids
+use Rattle.xw_cells.specs.Grid.{Grid, is_inside, is_block, index_of}
 use Rattle.xw_grid.specs.Light.{lights_of, place_named}
 use Rattle.xw_feas.specs.Board.{Board, board_of, light_at, is_wholly_entered, spelled}
 use Rattle.xw_feas.specs.Feasible.{Answers, answers_word}

@@ -6,9 +6,9 @@ use mathlib.Core.Path.{refl}
 use mathlib.Core.Bool.{Bool-set}
 use Rattle.xw_feas.specs.Board.{Board, board_of}
 use Rattle.xw_words.specs.Dictionary.{Entry, Dictionary, row, AreWords, IsDictionary}
-use Rattle.xw_grid.specs.declared.cell.Square.{Square}
-use Rattle.xw_grid.specs.declared.cell.Square.TheVariants.{Block, Open}
-use Rattle.xw_grid.specs.Grid.{Grid, IsSquare, IsGrid}
+use Rattle.xw_cells.specs.declared.cell.Square.{Square}
+use Rattle.xw_cells.specs.declared.cell.Square.TheVariants.{Block, Open}
+use Rattle.xw_cells.specs.Grid.{Grid, IsSquare, IsGrid}
 use Rattle.xw_feas.specs.State.{State}
 use Rattle.xw_feas.specs.WellFormed.{IsLaidOut, IsWellFormed}
 use Rattle.xw_feas.specs.Choices.{IsExact, is_base_at, choice_at}

@@ -2,7 +2,7 @@
 use Rattle.std.specs.Prelude.{◌≡◌, ℕ, ◌<◌, ◌≤◌, true, length, slice_index, Some}
 use Rattle.xw_letters.specs.Letter.{IsLetter}
 use Rattle.xw_words.specs.Dictionary.{IsDictionary}
-use Rattle.xw_grid.specs.Grid.{IsGrid}
+use Rattle.xw_cells.specs.Grid.{IsGrid}
 use Rattle.xw_feas.specs.Board.{Board, board_of, entry, is_open, light_at}
 use Rattle.xw_feas.specs.State.{State}
 

@@ -2,8 +2,8 @@
 ghost use Rattle.std.specs.Prelude.{◌≡◌, length, IfOk, IsOkUnless};
 
 use std::alloc::{AllocError, Global};
-use xw_grid::fault::GridFault;
-use xw_grid::grid::Grid;
+use xw_cells::fault::GridFault;
+use xw_cells::grid::Grid;
 use xw_letters::letter_set::LetterSet;
 
 /// A set of letters for each cell.

@@ -2,15 +2,15 @@
 ghost use Rattle.std.specs.Prelude.{◌≡◌, ◌⊎◌, ◌<◌, ◌≤◌, ◌&&◌, ℕ, Some, length, slice_index, slice_get, All, unwrap_or, IfSome};
 ghost use Rattle.xw_letters.specs.Letter.{IsLetter, is_capital};
 ghost use Rattle.xw_letters.specs.LetterSet.{has};
-ghost use Rattle.xw_grid.specs.Grid.{is_open_square as is_open_in, letter_in as letter_of};
+ghost use Rattle.xw_cells.specs.Grid.{is_open_square as is_open_in, letter_in as letter_of};
 ghost use Rattle.xw_grid.specs.Light.{lights_of};
 ghost use Rattle.xw_feas.specs.Board.{board_of, places_of, light_at, is_open as is_open_place, entry as entry_at, IsCrossing, other_than as other_than_light, allows, is_wholly_entered};
 ghost use Rattle.xw_feas.specs.Fits.{Fits, stride_of};
 ghost use Rattle.xw_feas.specs.Passes.{Passes};
 
 use std::marker::Model;
-use xw_grid::cell::{Direction, Square};
-use xw_grid::grid::Grid;
+use xw_cells::cell::{Direction, Square};
+use xw_cells::grid::Grid;
 use xw_grid::lights::{Light, Lights};
 use xw_letters::letter::Letter;
 use xw_letters::letter_set::LetterSet;
@@ -60,7 +60,7 @@ pub struct Board<'a> {
 
 impl<'a> Model for Board<'a> {
     ghost use Rattle.std.specs.Prelude.{◌≡◌};
-    ghost use Rattle.xw_grid.specs.Grid.{IsGrid};
+    ghost use Rattle.xw_cells.specs.Grid.{IsGrid};
     ghost use Rattle.xw_grid.specs.Light.{lights_of};
     ghost use Rattle.xw_feas.specs.Board.{Board as BoardOfPlaces, board_of};
 

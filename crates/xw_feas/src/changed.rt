@@ -4,8 +4,8 @@ ghost use Rattle.std.specs.Iterator.{YieldsFirst, item_count};
 ghost use Rattle.xw_feas.specs.Changes.{changed_sets};
 ghost use Rattle.xw_feas.specs.Changed.{changes_left};
 
-use xw_grid::cell::Cell;
-use xw_grid::grid::Grid;
+use xw_cells::cell::Cell;
+use xw_cells::grid::Grid;
 use xw_letters::letter_set::LetterSet;
 
 /// The open cells whose letters differ, in reading order, each with its letters now.

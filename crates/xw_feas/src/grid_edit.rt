@@ -1,6 +1,6 @@
 //! Edits of the grid.
 ghost use Rattle.std.specs.Prelude.{◌≡◌, length, true, IfOk, IfErr, OnOk, OnErr, Ok, Err};
-ghost use Rattle.xw_grid.specs.Edit.{toggle_block as block_toggled, toggle_bar as bar_toggled};
+ghost use Rattle.xw_cells.specs.Edit.{toggle_block as block_toggled, toggle_bar as bar_toggled};
 ghost use Rattle.xw_grid.specs.Light.{lights_of};
 ghost use Rattle.xw_grid.specs.EditLaws.{SameShape};
 ghost use Rattle.xw_feas.specs.Shape.{IsGridRefused};
@@ -9,9 +9,9 @@ ghost use Rattle.xw_feas.specs.State.{grid_after, is_of_letters, action_of};
 use crate::edit::{Edit, Refusal};
 use crate::place::place;
 use crate::write::write;
-use xw_grid::cell::{Cell, Side};
-use xw_grid::fault::GridFault;
-use xw_grid::grid::Grid;
+use xw_cells::cell::{Cell, Side};
+use xw_cells::fault::GridFault;
+use xw_cells::grid::Grid;
 use xw_grid::lights::Lights;
 
 /// A grid with one of its blocks toggled.

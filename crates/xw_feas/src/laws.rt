@@ -1,7 +1,7 @@
 //! What the definitions come to in a setter's words.
 ghost use Rattle.std.specs.Prelude.{◌≡◌, ℕ, List, map, Option, Ok, Err, ◌↔◌};
 ghost use Rattle.xw_words.specs.Dictionary.{Dictionary};
-ghost use Rattle.xw_grid.specs.declared.cell.Cell.{Cell};
+ghost use Rattle.xw_cells.specs.declared.cell.Cell.{Cell};
 ghost use Rattle.xw_feas.specs.declared.edit.Refusal.{Refusal};
 ghost use Rattle.xw_feas.specs.Board.{Board};
 ghost use Rattle.xw_feas.specs.Feasible.{Family, IsSupported};

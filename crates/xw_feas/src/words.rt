@@ -10,7 +10,7 @@ use crate::board::{Board, Cells};
 use crate::edit::{Found, Refusal};
 use crate::feasible::Feasible;
 use std::marker::Model;
-use xw_grid::cell::LightName;
+use xw_cells::cell::LightName;
 use xw_letters::letter::Letter;
 
 /// What is entered in the cells of a light.

@@ -1,14 +1,14 @@
 //! Writing a list of cells, each with a letter or with none.
 ghost use Rattle.std.specs.Prelude.{◌≡◌, ℕ, true, All, Option, IfErr, OnOk, OnErr, Ok, Err, Some, None};
-ghost use Rattle.xw_grid.specs.declared.cell.Cell.{Cell as CellOfGrid};
-ghost use Rattle.xw_grid.specs.Edit.{with_entry};
+ghost use Rattle.xw_cells.specs.declared.cell.Cell.{Cell as CellOfGrid};
+ghost use Rattle.xw_cells.specs.Edit.{with_entry};
 ghost use Rattle.xw_grid.specs.EditLaws.{SameShape};
 ghost use Rattle.xw_feas.specs.Shape.{fault_at};
 ghost use Rattle.xw_feas.specs.State.{write_list};
 
-use xw_grid::cell::Cell;
-use xw_grid::fault::GridFault;
-use xw_grid::grid::Grid;
+use xw_cells::cell::Cell;
+use xw_cells::fault::GridFault;
+use xw_cells::grid::Grid;
 use xw_letters::letter::Letter;
 
 /// Whether a cell takes an entry, or why not.

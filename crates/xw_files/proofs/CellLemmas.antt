@@ -4,9 +4,9 @@ use Rattle.std.specs.List.{list_any}
 use Rattle.std.specs.Prelude.{find, Some, None, slice_get}
 use Rattle.std.proofs.lemmas.List.{at_drop_more, at_drop_all, map-append, length-map}
 use Rattle.std.proofs.lemmas.List.FromFn.{get_or-map-range_with_len}
-use Rattle.xw_grid.specs.declared.cell.Cell.{Cell}
-use Rattle.xw_grid.specs.Grid.{Grid, cells, cell_at}
-use Rattle.xw_grid.proofs.GridLemmas.{length-cells, take-cells, all-cells}
+use Rattle.xw_cells.specs.declared.cell.Cell.{Cell}
+use Rattle.xw_cells.specs.Grid.{Grid, cells, cell_at}
+use Rattle.xw_cells.proofs.GridLemmas.{length-cells, take-cells, all-cells}
 
 pub cells-step : {Y : Type 0} (F : List Cell → Y) (grid : Grid) (i : ℕ) → i < grid.width * grid.height → F (drop i (cells grid)) ≡ F (cell_at grid i ∷ drop (i + 1) (cells grid))
 cells-step F grid i h =

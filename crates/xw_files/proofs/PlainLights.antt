@@ -3,17 +3,17 @@ use Rattle.std.proofs.Common.{◌≡◌, ℕ, zero, suc, ◌+◌, ◌*◌, ◌<�
 use Rattle.std.specs.Prelude.{flat_map, count_by}
 use Rattle.std.specs.List.{list_any, prefix_len}
 use Rattle.std.proofs.lemmas.List.FromFn.{get_or-map-range_with_len}
-use Rattle.xw_grid.specs.declared.cell.Cell.{Cell}
-use Rattle.xw_grid.specs.declared.cell.Square.{Square}
-use Rattle.xw_grid.specs.declared.cell.Side.{Side}
-use Rattle.xw_grid.specs.declared.cell.Side.TheVariants.{Right, Below}
-use Rattle.xw_grid.specs.declared.cell.Direction.{Direction}
-use Rattle.xw_grid.specs.declared.cell.Direction.TheVariants.{Across, Down}
+use Rattle.xw_cells.specs.declared.cell.Cell.{Cell}
+use Rattle.xw_cells.specs.declared.cell.Square.{Square}
+use Rattle.xw_cells.specs.declared.cell.Side.{Side}
+use Rattle.xw_cells.specs.declared.cell.Side.TheVariants.{Right, Below}
+use Rattle.xw_cells.specs.declared.cell.Direction.{Direction}
+use Rattle.xw_cells.specs.declared.cell.Direction.TheVariants.{Across, Down}
 use Rattle.xw_grid.specs.declared.lights.Light.{Light}
-use Rattle.xw_grid.specs.Grid.{Grid, cells, cell_at, index_of, is_inside, is_edge, is_barred, is_open, beyond, bars}
-use Rattle.xw_grid.specs.Edit.{grid_of}
+use Rattle.xw_cells.specs.Grid.{Grid, cells, cell_at, index_of, is_inside, is_edge, is_barred, is_open, beyond, bars}
+use Rattle.xw_cells.specs.Edit.{grid_of}
 use Rattle.xw_grid.specs.Light.{next, previous, side_towards, is_joined, line, extent, lights_of}
-use Rattle.xw_grid.proofs.GridLemmas.{length-cells, index_of-lt, cell_at-index_of}
+use Rattle.xw_cells.proofs.GridLemmas.{length-cells, index_of-lt, cell_at-index_of}
 use Rattle.xw_files.specs.Finished.{has_bar, is_barred_cell}
 
 -- the grid of the same squares with no bar and no symmetry

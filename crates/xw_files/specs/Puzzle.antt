@@ -1,9 +1,9 @@
 -- A puzzle as its readers and writers see it, and what a file can hold of it.
 use Rattle.std.specs.Prelude.{ℕ, Bool, ◌&&◌, List, map, filter}
-use Rattle.xw_grid.specs.declared.cell.Cell.{Cell}
-use Rattle.xw_grid.specs.declared.cell.Square.{Square}
+use Rattle.xw_cells.specs.declared.cell.Cell.{Cell}
+use Rattle.xw_cells.specs.declared.cell.Square.{Square}
 use Rattle.xw_grid.specs.declared.lights.Light.{Light}
-use Rattle.xw_grid.specs.Grid.{Grid, cells, is_open}
+use Rattle.xw_cells.specs.Grid.{Grid, cells, is_open}
 use Rattle.xw_grid.specs.Light.{lights_of}
 use Rattle.xw_grid.specs.Clue.{ClueMap, clue_at, is_circled}
 use Rattle.xw_files.specs.declared.puzzle.Texts.{Texts}

@@ -1,7 +1,7 @@
 //! Why a file is not read, and why a puzzle is not written.
 use std::alloc::{AllocError, AllocFailed};
-use xw_grid::cell::Cell;
-use xw_grid::fault::GridFault;
+use xw_cells::cell::Cell;
+use xw_cells::fault::GridFault;
 
 /// A piece of a `.puz` file of a length that is known beforehand.
 #[derive(Clone, Copy, Debug, PartialEq, Eq)]

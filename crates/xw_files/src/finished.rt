@@ -1,13 +1,13 @@
 //! What a puzzle must be to be written, and what its squares and circles are in a file; none of it takes memory.
 ghost use Rattle.std.specs.Prelude.{◌≡◌, find};
 ghost use Rattle.std.specs.List.{list_any};
-ghost use Rattle.xw_grid.specs.Grid.{cells};
+ghost use Rattle.xw_cells.specs.Grid.{cells};
 ghost use Rattle.xw_files.specs.Puzzle.{is_circled_open};
 ghost use Rattle.xw_files.specs.Finished.{is_barred_cell, has_bar, is_empty_cell, empty_cell, square_byte};
 
-use xw_grid::cell::{Cell, Side, Square};
+use xw_cells::cell::{Cell, Side, Square};
+use xw_cells::grid::Grid;
 use xw_grid::circles::Circles;
-use xw_grid::grid::Grid;
 
 /// Whether a bar is in a grid.
 pub(crate) fn has_bar(grid: &Grid) -> bool

@@ -4,11 +4,11 @@ use Rattle.std.specs.Prelude.{Result, Ok, is_some, is_none, unwrap_or, bytes_eq}
 use Rattle.std.proofs.lemmas.Bool.{true≢false, false≢true, eq-eqb, ne_eqb, false_from_ne_true, lt-ltb, le-ltb}
 use Rattle.std.proofs.lemmas.List.{get_or-map, length-map}
 use Rattle.std.proofs.lemmas.Slice.Eq.{bytes_eq-Decides}
-use Rattle.xw_grid.specs.declared.cell.Cell.{Cell}
+use Rattle.xw_cells.specs.declared.cell.Cell.{Cell}
 use Rattle.xw_grid.specs.declared.lights.Light.{Light}
-use Rattle.xw_grid.specs.Grid.{Grid, IsGrid, is_open}
+use Rattle.xw_cells.specs.Grid.{Grid, IsGrid, is_open}
 use Rattle.xw_grid.specs.Light.{lights_of, step, no_light}
-use Rattle.xw_grid.specs.Edit.{set_entry, with_entry}
+use Rattle.xw_cells.specs.Edit.{set_entry, with_entry}
 use Rattle.xw_feas.specs.State.{State, list_written, with_grid, by_fault, then_write, write_list}
 use Rattle.xw_feas.proofs.ShapeLemmas.{open_takes}
 use Rattle.xw_feas.proofs.WriteLemmas.{write_list-push}

@@ -9,14 +9,14 @@ use Rattle.xw_fill.specs.Words.{spellings_at}
 use Rattle.xw_letters.specs.Letter.{IsLetter, folded}
 use Rattle.xw_words.specs.Word.{is_bad_letter}
 use Rattle.xw_letters.proofs.LetterSetLemmas.{letter_is_capital}
-use Rattle.xw_grid.specs.declared.cell.Cell.{Cell}
-use Rattle.xw_grid.specs.declared.cell.Square.{Square}
-use Rattle.xw_grid.specs.declared.cell.Square.TheVariants.{Block, Open}
+use Rattle.xw_cells.specs.declared.cell.Cell.{Cell}
+use Rattle.xw_cells.specs.declared.cell.Square.{Square}
+use Rattle.xw_cells.specs.declared.cell.Square.TheVariants.{Block, Open}
 use Rattle.xw_grid.specs.declared.lights.Light.{Light}
 use Rattle.std.proofs.lemmas.List.Elements.{All-set}
-use Rattle.xw_grid.specs.Grid.{Grid, IsSquare, IsGrid, is_inside, is_open, is_open_square, index_of}
+use Rattle.xw_cells.specs.Grid.{Grid, IsSquare, IsGrid, is_inside, is_open, is_open_square, index_of}
 use Rattle.xw_grid.specs.Light.{lights_of, cells_of, step, no_light}
-use Rattle.xw_grid.specs.Edit.{with_entry}
+use Rattle.xw_cells.specs.Edit.{with_entry}
 use Rattle.xw_grid.proofs.LightLemmas.{inside_from_open, cells_of_are_open, length-line, get_or-line}
 use Rattle.xw_feas.specs.declared.edit.Refusal.{Refusal}
 use Rattle.xw_feas.specs.declared.edit.Refusal.TheVariants as refusals
@@ -27,7 +27,7 @@ use Rattle.xw_feas.specs.Queries.{words_of, on_light, count_answer, next_answer,
 use Rattle.xw_fill.specs.FeasibleWords.{feasible_words}
 use Rattle.xw_fill.proofs.FeasibleWordsLemmas.{answered_words}
 use Rattle.std.proofs.lemmas.Option.{slice_get-get_or, get_or_from_slice_get}
-use Rattle.xw_grid.specs.declared.cell.LightName.{LightName}
+use Rattle.xw_cells.specs.declared.cell.LightName.{LightName}
 use Rattle.xw_feas.specs.Engine.{IsEdited}
 use Rattle.xw_feas.specs.State.{State, Action, word_placed, after, want_of, placed_in, spelled_in, with_letters as grid_with_letters, with_grid}
 use Rattle.xw_feas.proofs.BoardLemmas.{length-lights, light_at-board}

@@ -2,7 +2,7 @@
 use Rattle.std.specs.Prelude.{ℕ, zero, suc, Bool, ◌&&◌, not, List, [], ◌∷◌, ◌++◌, map, length, Option, Some, None, bytes_eq}
 use Rattle.std.specs.List.{list_any}
 use Rattle.xw_words.specs.Dictionary.{Entry, row as known_words}
-use Rattle.xw_grid.specs.declared.cell.LightName.{LightName}
+use Rattle.xw_cells.specs.declared.cell.LightName.{LightName}
 use Rattle.xw_feas.specs.State.{State}
 use Rattle.xw_fill.specs.Position.{Position, position_of, name_at}
 use Rattle.xw_fill.specs.Below.{those_below}

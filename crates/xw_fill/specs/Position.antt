@@ -1,9 +1,9 @@
 -- A position is what feasibility sees of a state: its board and its dictionary. A search goes from position to position by placing words.
 use Rattle.std.specs.Prelude.{◌≡◌, ℕ, List, [], ◌∷◌, drop, slice_index_or, slice_set, Option, Some, None}
 use Rattle.xw_words.specs.Dictionary.{Dictionary}
-use Rattle.xw_grid.specs.declared.cell.Square.{Square}
-use Rattle.xw_grid.specs.declared.cell.Square.TheVariants.{Block, Open}
-use Rattle.xw_grid.specs.declared.cell.LightName.{LightName}
+use Rattle.xw_cells.specs.declared.cell.Square.{Square}
+use Rattle.xw_cells.specs.declared.cell.Square.TheVariants.{Block, Open}
+use Rattle.xw_cells.specs.declared.cell.LightName.{LightName}
 use Rattle.xw_grid.specs.Light.{lights_of, no_light}
 use Rattle.xw_feas.specs.Board.{Board, board_of, light_at}
 use Rattle.xw_feas.specs.State.{State}

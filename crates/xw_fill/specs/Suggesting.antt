@@ -1,6 +1,6 @@
 -- What is proposed at a position.
 use Rattle.std.specs.Prelude.{◌≡◌, ℕ, ◌<◌, length, slice_index_or, [], Bool, true, false, ◌&&◌, List, Option, Some, None, is_none, position}
-use Rattle.xw_grid.specs.declared.cell.LightName.{LightName}
+use Rattle.xw_cells.specs.declared.cell.LightName.{LightName}
 use Rattle.xw_feas.specs.State.{State}
 use Rattle.xw_fill.specs.Position.{Position, position_of, placed, name_at}
 use Rattle.xw_fill.specs.Below.{first_below}

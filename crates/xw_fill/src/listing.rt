@@ -7,11 +7,11 @@ ghost use Rattle.xw_fill.specs.Listing.{duplicates_of, is_listed, is_unlisted, u
 
 use crate::scan::{board, first_same, is_entered, light_count, name_at};
 use std::alloc::Global;
+use xw_cells::cell::LightName;
+use xw_cells::fault::GridFault;
 use xw_feas::board::{Board, Cells};
 use xw_feas::edit::Refusal;
 use xw_feas::feasible::Feasible;
-use xw_grid::cell::LightName;
-use xw_grid::fault::GridFault;
 use xw_letters::letter::Letter;
 use xw_words::word::LONGEST;
 

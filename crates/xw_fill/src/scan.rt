@@ -11,10 +11,10 @@ ghost use Rattle.xw_fill.specs.Search.{is_entered, spelling, spell_same, first_s
 ghost use Rattle.xw_fill.specs.Noted.{has_note, AreEntered};
 ghost use Rattle.xw_fill.specs.Filling.{scanned};
 
+use xw_cells::cell::LightName;
 use xw_feas::board::{Board, Cells, has_all_entries};
 use xw_feas::edit::Found;
 use xw_feas::feasible::Feasible;
-use xw_grid::cell::LightName;
 use xw_grid::lights::Light;
 
 /// The engine's grid with its lights, seen by the places of cells.

@@ -12,9 +12,9 @@ use crate::repeats::has_repeat;
 use crate::scan::{Scan, light_count, next_place, scan_lights};
 use crate::tries::{Try, make_try, place_word, take_all_back, take_back};
 use std::alloc::Global;
+use xw_cells::fault::GridFault;
 use xw_feas::edit::Refusal;
 use xw_feas::feasible::Feasible;
-use xw_grid::fault::GridFault;
 
 /// How a search for a fill ended.
 #[derive(Clone, Copy, Debug, PartialEq, Eq)]

@@ -7,8 +7,8 @@ ghost use Rattle.xw_fill.specs.Words.{spellings_at};
 
 use crate::scan::{chosen, first_without_words, name_at, next_place};
 use crate::tries::{make_try, place_word, take_back};
+use xw_cells::cell::LightName;
 use xw_feas::feasible::Feasible;
-use xw_grid::cell::LightName;
 
 /// What is proposed.
 #[derive(Clone, Copy, Debug, PartialEq, Eq)]

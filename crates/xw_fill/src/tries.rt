@@ -7,10 +7,10 @@ ghost use Rattle.xw_fill.specs.Tries.{taken_back, all_taken_back, AreBlanks};
 ghost use Rattle.xw_fill.specs.Words.{spellings_at};
 
 use crate::scan::{board, light_at};
+use xw_cells::cell::Cell;
 use xw_feas::board::{Board, Cells};
 use xw_feas::edit::Edit;
 use xw_feas::feasible::Feasible;
-use xw_grid::cell::Cell;
 use xw_words::word::LONGEST;
 
 /// A try under way: a light, the place of the word that was placed, and which of the light's cells were empty before.

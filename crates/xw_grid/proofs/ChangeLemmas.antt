@@ -5,22 +5,22 @@ use Rattle.std.specs.List.{prefix_len}
 use Rattle.std.proofs.lemmas.Bool.{cases_lt, cases_eq, cases_Bool, false≢true}
 use Rattle.std.proofs.lemmas.List.{get_or-set_same, get_or-set_other, length-map}
 use Rattle.std.proofs.lemmas.Option.{slice_get-get_or, slice_get_past}
-use Rattle.xw_grid.specs.declared.cell.Cell.{Cell}
-use Rattle.xw_grid.specs.declared.cell.Square.{Square}
-use Rattle.xw_grid.specs.declared.cell.Square.TheVariants.{Block, Open}
-use Rattle.xw_grid.specs.declared.cell.Side.{Side}
-use Rattle.xw_grid.specs.declared.cell.Side.TheVariants.{Right, Below}
-use Rattle.xw_grid.specs.declared.cell.Direction.{Direction}
-use Rattle.xw_grid.specs.declared.cell.Direction.TheVariants.{Across, Down}
-use Rattle.xw_grid.specs.declared.fault.GridFault.{GridFault}
-use Rattle.xw_grid.specs.declared.fault.GridFault.TheVariants.{OutOfGrid, OnBlock, NotSquare, Occupied, Border}
+use Rattle.xw_cells.specs.declared.cell.Cell.{Cell}
+use Rattle.xw_cells.specs.declared.cell.Square.{Square}
+use Rattle.xw_cells.specs.declared.cell.Square.TheVariants.{Block, Open}
+use Rattle.xw_cells.specs.declared.cell.Side.{Side}
+use Rattle.xw_cells.specs.declared.cell.Side.TheVariants.{Right, Below}
+use Rattle.xw_cells.specs.declared.cell.Direction.{Direction}
+use Rattle.xw_cells.specs.declared.cell.Direction.TheVariants.{Across, Down}
+use Rattle.xw_cells.specs.declared.fault.GridFault.{GridFault}
+use Rattle.xw_cells.specs.declared.fault.GridFault.TheVariants.{OutOfGrid, OnBlock, NotSquare, Occupied, Border}
 use Rattle.xw_grid.specs.declared.lights.Light.{Light}
-use Rattle.xw_grid.specs.Grid.{Grid, IsGrid, is_inside, is_open, is_block, is_open_square, is_block_square, is_barred, bars, index_of, cells, square_at}
+use Rattle.xw_cells.specs.Grid.{Grid, IsGrid, is_inside, is_open, is_block, is_open_square, is_block_square, is_barred, bars, index_of, cells, square_at}
 use Rattle.xw_grid.specs.Light.{side_towards, next, previous, line, extent, lights_of}
-use Rattle.xw_grid.specs.Edit.{with_entry, set_entry, with_orbit, with_edges, bars_with, turned, square_of}
-use Rattle.xw_grid.specs.Orbit.{is_in_orbit, is_in_edge_orbit}
+use Rattle.xw_cells.specs.Edit.{with_entry, set_entry, with_orbit, with_edges, bars_with, turned, square_of}
+use Rattle.xw_cells.specs.Orbit.{is_in_orbit, is_in_edge_orbit}
 use Rattle.xw_grid.specs.EditLaws.{SameShape, LettersKeepShape, SymmetryKeepsShape, BlocksChangeOrbits, BarsChangeOrbits}
-use Rattle.xw_grid.proofs.GridLemmas.{and-true, index_of-lt, length-cells, get_or-map-cells, cell_at-index_of}
+use Rattle.xw_cells.proofs.GridLemmas.{and-true, index_of-lt, length-cells, get_or-map-cells, cell_at-index_of}
 use Rattle.xw_grid.proofs.LightLemmas.{inside_from_open}
 
 -- ---- the lights by a test of open cells
@@ -129,12 +129,6 @@ symmetry_keeps_shape grid new kind ok = by_test _ ok where
       subst (SameShape grid) is (record { lights = refl; opens = λ cell. refl; cells = refl })
 
 -- ---- orbits
-
--- a square that is turned again is as it was after the first time
-pub turned_twice : (blocked : Bool) (square : Square) → turned blocked (turned blocked square) ≡ turned blocked square
-turned_twice true square = refl
-turned_twice false Block = refl
-turned_twice false (Open entered) = refl
 
 -- a square after its orbit was painted
 painted : (grid : Grid) (cell other : Cell) (blocked : Bool) → is_inside grid other ≡ true → square_at (with_orbit grid cell blocked) other ≡ Some (cond (is_in_orbit grid cell other) (turned blocked (square_of grid other)) (square_of grid other))

@@ -11,10 +11,11 @@ use Rattle.std.specs.Map.{lookup, remove_entry}
 use Rattle.std.specs.Set.{remove_key}
 use Rattle.std.specs.BTreeMap.{BTreeMap, insert_entry, is_at}
 use Rattle.std.specs.declared.vec.Vec.{Vec}
-use Rattle.xw_grid.specs.declared.cell.Cell.{Cell}
-use Rattle.xw_grid.specs.Grid.{same_cell, cell_cmp}
+use Rattle.xw_cells.specs.declared.cell.Cell.{Cell}
+use Rattle.xw_cells.specs.Grid.{same_cell, cell_cmp}
 use Rattle.xw_grid.specs.Clue.{text_at, with_text}
 use Rattle.xw_grid.specs.ClueView.{texts_in}
+use Rattle.xw_cells.proofs.GridLemmas.{map-filter}
 
 is_eq-then : (first second : Ordering) → is_eq (ordering_then first second) ≡ (is_eq first && is_eq second)
 is_eq-then Less second = refl
@@ -65,10 +66,6 @@ removed_all_keys test (k ∷ ks) h =
       | true ↦ λ _ none. sym (none_there_keys test ks none)
       | false ↦ λ other none. ap (λ rest. k ∷ rest) (removed_all_keys test ks (ap (λ b. b || list_any test (remove_key test ks)) (sym other) ∙ none))
     ] refl h
-
-pub map-filter : {A B : Type 0} (f : A → B) (p : B → Bool) (xs : List A) → map f (filter (λ x. p (f x)) xs) ≡ filter p (map f xs)
-map-filter f p [] = refl
-map-filter f p (x ∷ xs) = elim (p (f x)) as (λ b. map f (cond b (x ∷ filter (λ y. p (f y)) xs) (filter (λ y. p (f y)) xs)) ≡ cond b (f x ∷ filter p (map f xs)) (filter p (map f xs))) [ true ↦ ap (λ ys. f x ∷ ys) (map-filter f p xs) | false ↦ map-filter f p xs ]
 
 -- ---- texts as they are kept
 

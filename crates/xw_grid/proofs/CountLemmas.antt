@@ -6,13 +6,13 @@ use Rattle.std.proofs.Math.Nat.{suc-mul, mul_comm}
 use Rattle.std.proofs.lemmas.Bool.{both_ways, false_from_ne_true}
 use Rattle.std.proofs.lemmas.List.{length-append}
 use Rattle.std.proofs.lemmas.Nat.{div-mul-add, mod-mul-add}
-use Rattle.xw_grid.specs.declared.cell.Cell.{Cell}
-use Rattle.xw_grid.specs.declared.cell.Direction.{Direction}
-use Rattle.xw_grid.specs.declared.cell.Direction.TheVariants.{Across, Down}
-use Rattle.xw_grid.specs.Grid.{Grid, IsGrid, is_inside, cell_at}
+use Rattle.xw_cells.specs.declared.cell.Cell.{Cell}
+use Rattle.xw_cells.specs.declared.cell.Direction.{Direction}
+use Rattle.xw_cells.specs.declared.cell.Direction.TheVariants.{Across, Down}
+use Rattle.xw_cells.specs.Grid.{Grid, IsGrid, is_inside, cell_at}
 use Rattle.xw_grid.specs.Light.{is_joined, next, previous, begins, light_from, light_starting, lights_at}
 use Rattle.xw_grid.specs.LightLaws.{LightsAreFew}
-use Rattle.xw_grid.proofs.GridLemmas.{and-true, IsInside-is_inside}
+use Rattle.xw_cells.proofs.GridLemmas.{and-true, IsInside-is_inside}
 use Rattle.xw_grid.proofs.LightLemmas.{joined_inside, not_true, previous-next}
 
 -- ---- sums

@@ -9,12 +9,12 @@ use Rattle.std.specs.Map.{lookup}
 use Rattle.std.specs.BTreeMap.{insert_entry}
 use Rattle.std.specs.BTreeSet.{insert_key}
 use Rattle.std.proofs.lemmas.Bool.{both_ways, false_from_ne_true, cases_Bool}
-use Rattle.xw_grid.specs.declared.cell.Cell.{Cell}
-use Rattle.xw_grid.specs.declared.cell.Direction.TheVariants.{Across, Down}
-use Rattle.xw_grid.specs.Grid.{same_cell, cell_cmp}
+use Rattle.xw_cells.specs.declared.cell.Cell.{Cell}
+use Rattle.xw_cells.specs.declared.cell.Direction.TheVariants.{Across, Down}
+use Rattle.xw_cells.specs.Grid.{same_cell, cell_cmp}
 use Rattle.xw_grid.specs.Clue.{Texts, text_at, with_text}
 use Rattle.xw_grid.specs.EditLaws.{CluesAreKept, CirclesAreKept}
-use Rattle.xw_grid.proofs.GridLemmas.{cells_same, same_cell_itself}
+use Rattle.xw_cells.proofs.GridLemmas.{cells_same, same_cell_itself}
 use Rattle.xw_grid.proofs.ClueLemmas.{same_at}
 
 -- what two tests of one cell tell of two others

@@ -1,13 +1,9 @@
 pub mod Examples
-pub mod EdgeLemmas
-pub mod GridLemmas
 pub mod LightLemmas
-pub mod OrbitLemmas
 pub mod ClueLemmas
 pub mod OrderLemmas
 pub mod PlaceLemmas
 pub mod LookupLemmas
 pub mod CountLemmas
-pub mod OrbitCellLemmas
 pub mod KeptLemmas
 pub mod ChangeLemmas

@@ -1,21 +1,21 @@
 -- What the lights are.
 use Rattle.std.proofs.Common.{◌≡◌, ℕ, zero, suc, ◌+◌, ◌-◌, ◌*◌, ◌<◌, ◌≤◌, Bool, true, false, cond, not, leb, ◌&&◌, List, [], ◌∷◌, length, get_or, lit<, refl, ap, sym, subst, ◌∙◌, arith}
 use Rattle.std.proofs.lemmas.List.FromFn.{length-map-range_with_len, get_or-map-range_with_len}
-use Rattle.std.proofs.lemmas.List.Sums.{prefix_len_passes, prefix_len_stops, prefix_len-le-length}
+use Rattle.std.proofs.lemmas.List.Sums.{prefix_len_is, prefix_len_passes, prefix_len_stops, prefix_len-le-length}
 use Rattle.std.proofs.lemmas.Bool.{false≢true}
 use Rattle.std.proofs.lemmas.Bool.Decides.{nat_tests}
 use Rattle.std.specs.List.{prefix_len}
 use Rattle.std.specs.Prelude.{None, slice_get, All, Contains, flat_map}
 use Rattle.std.proofs.lemmas.List.{same_lists, get_or_default}
 use Rattle.std.proofs.lemmas.List.Elements.{All-nil, All-cons, All-append, Contains-append_left, Contains-append_right}
-use Rattle.xw_grid.specs.declared.cell.Cell.{Cell}
-use Rattle.xw_grid.specs.declared.cell.Direction.{Direction}
-use Rattle.xw_grid.specs.declared.cell.Direction.TheVariants.{Across, Down}
-use Rattle.xw_grid.specs.Grid.{Grid, is_inside, is_open, is_open_square, index_of, cells, cell_at}
+use Rattle.xw_cells.specs.declared.cell.Cell.{Cell}
+use Rattle.xw_cells.specs.declared.cell.Direction.{Direction}
+use Rattle.xw_cells.specs.declared.cell.Direction.TheVariants.{Across, Down}
+use Rattle.xw_cells.specs.Grid.{Grid, is_inside, is_open, is_open_square, index_of, cells, cell_at}
 use Rattle.xw_grid.specs.LightLaws.{LightsBegin, IsLightOf, LightsAreLights, LightsAreAll}
 use Rattle.xw_grid.specs.Light.{no_cell, is_joined, next, previous, step, line, extent, run_from, begins, IsLight, light_from, light_starting, lights_at, lights_of}
 use Rattle.xw_grid.specs.declared.lights.Light.{Light}
-use Rattle.xw_grid.proofs.GridLemmas.{and-true, IsInside-is_inside, run_is, index_of-lt, length-cells, cell_at-index_of}
+use Rattle.xw_cells.proofs.GridLemmas.{and-true, IsInside-is_inside, index_of-lt, length-cells, cell_at-index_of}
 
 -- the cell after so many steps
 pub step-next : (direction : Direction) (first : Cell) (k : ℕ) → step direction first (k + 1) ≡ next direction (step direction first k)
@@ -54,6 +54,16 @@ length-line direction first n = length-map-range_with_len (step direction first)
 
 pub get_or-line : (direction : Direction) (first : Cell) (n k : ℕ) (d : Cell) → k < n → get_or (line direction first n) k d ≡ step direction first k
 get_or-line direction first n k d within = get_or-map-range_with_len (step direction first) 0 n k k d within (omega arith)
+
+-- how long a run is
+pub run_is : (grid : Grid) (direction : Direction) (first : Cell) (n : ℕ) → n ≤ extent grid direction → ((k : ℕ) → k < n → is_joined grid direction (step direction first k) ≡ true) → (n < extent grid direction → is_joined grid direction (step direction first n) ≡ false) → run_from grid direction first ≡ n + 1
+run_is grid direction first n within joined ends =
+    let cells = line direction first (extent grid direction) in
+    let at : (k : ℕ) → k < extent grid direction → get_or cells k first ≡ step direction first k = λ k h. get_or-map-range_with_len (step direction first) 0 (extent grid direction) k k first h (omega arith) in
+    let long : length cells ≡ extent grid direction = length-map-range_with_len (step direction first) 0 (extent grid direction) in
+    ap (λ m. m + 1) (prefix_len_is (is_joined grid direction) cells n first (omega arith)
+    (λ k h. ap (is_joined grid direction) (at k (omega arith)) ∙ joined k h)
+    (λ h. ap (is_joined grid direction) (at n (omega arith)) ∙ ends (omega arith)))
 
 -- the cell before a next cell
 pub previous-next : (direction : Direction) (before cell : Cell) → next direction before ≡ cell → previous direction cell ≡ before

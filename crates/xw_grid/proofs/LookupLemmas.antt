@@ -8,16 +8,16 @@ use Rattle.std.proofs.lemmas.Bool.Decides.{nat_tests}
 use Rattle.std.proofs.lemmas.List.Quantifiers.{position-Some}
 use Rattle.std.proofs.lemmas.Option.{slice_get-get_or}
 use Rattle.xw_letters.proofs.Position.{position_is_some, position_is_none}
-use Rattle.xw_grid.specs.declared.cell.Cell.{Cell}
-use Rattle.xw_grid.specs.declared.cell.Direction.{Direction}
-use Rattle.xw_grid.specs.declared.cell.Direction.TheVariants.{Across, Down}
-use Rattle.xw_grid.specs.declared.cell.LightName.{LightName}
+use Rattle.xw_cells.specs.declared.cell.Cell.{Cell}
+use Rattle.xw_cells.specs.declared.cell.Direction.{Direction}
+use Rattle.xw_cells.specs.declared.cell.Direction.TheVariants.{Across, Down}
+use Rattle.xw_cells.specs.declared.cell.LightName.{LightName}
 use Rattle.xw_grid.specs.declared.lights.Light.{Light}
-use Rattle.xw_grid.specs.Grid.{Grid, same_cell}
+use Rattle.xw_cells.specs.Grid.{Grid, same_cell}
 use Rattle.xw_grid.specs.Light.{step, line, cells_of, lights_of, no_light, number_at, same_direction, same_name, name_before, is_on_line, holds, passes, place_named, place_through, have_same_cells, place_with_cells, number_in}
 use Rattle.xw_grid.specs.LightLaws.{AreApart, AreOrdered, IsBefore}
 use Rattle.xw_grid.specs.Places.{number_of_start, is_such}
-use Rattle.xw_grid.proofs.GridLemmas.{and-true, cells_same, same_cell_itself}
+use Rattle.xw_cells.proofs.GridLemmas.{and-true, cells_same, same_cell_itself}
 use Rattle.xw_grid.proofs.LightLemmas.{size_of_light, length-line, get_or-line, step-zero}
 use Rattle.xw_grid.proofs.OrderLemmas.{part, part_small, lights_are_made, lights_are_apart, lights_are_ordered, made_number}
 use Rattle.xw_grid.proofs.PlaceLemmas.{place_is, direction_is}

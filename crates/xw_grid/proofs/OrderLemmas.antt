@@ -4,14 +4,14 @@ use Rattle.std.specs.Prelude.{All, flat_map, count_by}
 use Rattle.std.specs.List.{range_with_len}
 use Rattle.std.proofs.lemmas.Bool.{cases_lt, both_ways}
 use Rattle.std.proofs.lemmas.List.Elements.{All-nil, All-cons, All-append}
-use Rattle.xw_grid.specs.declared.cell.Cell.{Cell}
-use Rattle.xw_grid.specs.declared.cell.Direction.{Direction}
-use Rattle.xw_grid.specs.declared.cell.Direction.TheVariants.{Across, Down}
+use Rattle.xw_cells.specs.declared.cell.Cell.{Cell}
+use Rattle.xw_cells.specs.declared.cell.Direction.{Direction}
+use Rattle.xw_cells.specs.declared.cell.Direction.TheVariants.{Across, Down}
 use Rattle.xw_grid.specs.declared.lights.Light.{Light}
-use Rattle.xw_grid.specs.Grid.{Grid, is_inside, index_of, cells, cell_at}
+use Rattle.xw_cells.specs.Grid.{Grid, is_inside, index_of, cells, cell_at}
 use Rattle.xw_grid.specs.Light.{is_joined, previous, step, begins, begins_some, number_at, run_from, light_from, light_starting, lights_at, lights_of}
 use Rattle.xw_grid.specs.LightLaws.{LightsAreOrdered, LightsAreApart, LightsMeetOnce, IsBefore}
-use Rattle.xw_grid.proofs.GridLemmas.{and-true, index_of-lt, index_of-cell_at, cell_at-index_of, count_by-cells}
+use Rattle.xw_cells.proofs.GridLemmas.{and-true, index_of-lt, index_of-cell_at, cell_at-index_of, count_by-cells}
 use Rattle.xw_grid.proofs.LightLemmas.{all_flat_map, joined_inside, light_is, step-next, step-zero, previous-next, not_true, length-line, get_or-line}
 
 -- ---- numbers that rise along a list

@@ -5,14 +5,14 @@ use Rattle.std.specs.Option.{unwrap_or}
 use Rattle.std.proofs.lemmas.Bool.{false≢true, cases_lt, cases_eq, both_ways, lt-ltb, le-ltb, eq-eqb, ne_eqb}
 use Rattle.std.proofs.lemmas.Bool.Decides.{nat_tests}
 use Rattle.xw_letters.proofs.Position.{position_is_some, position_is_none}
-use Rattle.xw_grid.specs.declared.cell.Cell.{Cell}
-use Rattle.xw_grid.specs.declared.cell.Direction.{Direction}
-use Rattle.xw_grid.specs.declared.cell.Direction.TheVariants.{Across, Down}
+use Rattle.xw_cells.specs.declared.cell.Cell.{Cell}
+use Rattle.xw_cells.specs.declared.cell.Direction.{Direction}
+use Rattle.xw_cells.specs.declared.cell.Direction.TheVariants.{Across, Down}
 use Rattle.xw_grid.specs.declared.lights.Light.{Light}
-use Rattle.xw_grid.specs.Grid.{Grid, IsGrid, is_inside, index_of, cell_at, same_cell}
+use Rattle.xw_cells.specs.Grid.{Grid, IsGrid, is_inside, index_of, cell_at, same_cell}
 use Rattle.xw_grid.specs.Light.{step, lights_of, same_direction, is_within, is_on_line, holds, passes, place_through}
 use Rattle.xw_grid.specs.Places.{ArePlaces, entry_for, IsFirstOf}
-use Rattle.xw_grid.proofs.GridLemmas.{and-true, index_of-lt, cell_at-index_of, same_cell-cell_at, get_set, IsInside-is_inside}
+use Rattle.xw_cells.proofs.GridLemmas.{and-true, index_of-lt, cell_at-index_of, same_cell-cell_at, get_set, IsInside-is_inside}
 use Rattle.xw_grid.proofs.LightLemmas.{inside_from_open, cells_of_are_open}
 use Rattle.xw_grid.specs.LightLaws.{AreApart}
 

@@ -2,7 +2,7 @@
 use Rattle.std.specs.Prelude.{ℕ, map}
 use Rattle.std.specs.BTreeMap.{BTreeMap}
 use Rattle.std.specs.declared.vec.Vec.{Vec}
-use Rattle.xw_grid.specs.declared.cell.Cell.{Cell}
+use Rattle.xw_cells.specs.declared.cell.Cell.{Cell}
 use Rattle.xw_grid.specs.Clue.{Texts}
 
 -- texts without where they lie in memory

@@ -1,12 +1,12 @@
 -- What edits of a grid change, and what they leave.
 use Rattle.std.specs.Prelude.{◌≡◌, ℕ, Bool, true, not, ◌&&◌, List, length, Option, Some, Ok, if◌then◌else◌}
-use Rattle.xw_grid.specs.declared.cell.Cell.{Cell}
-use Rattle.xw_grid.specs.declared.cell.Side.{Side}
-use Rattle.xw_grid.specs.declared.cell.Direction.{Direction}
-use Rattle.xw_grid.specs.declared.cell.Symmetry.{Symmetry}
-use Rattle.xw_grid.specs.Grid.{Grid, is_block, IsGrid, is_inside, is_open, square_at, is_edge, is_barred, same_cell}
-use Rattle.xw_grid.specs.Orbit.{is_in_orbit, is_in_edge_orbit}
-use Rattle.xw_grid.specs.Edit.{set_entry, set_symmetry, toggle_block, toggle_bar, turned, square_of}
+use Rattle.xw_cells.specs.declared.cell.Cell.{Cell}
+use Rattle.xw_cells.specs.declared.cell.Side.{Side}
+use Rattle.xw_cells.specs.declared.cell.Direction.{Direction}
+use Rattle.xw_cells.specs.declared.cell.Symmetry.{Symmetry}
+use Rattle.xw_cells.specs.Grid.{Grid, is_block, IsGrid, is_inside, is_open, square_at, is_edge, is_barred, same_cell}
+use Rattle.xw_cells.specs.Orbit.{is_in_orbit, is_in_edge_orbit}
+use Rattle.xw_cells.specs.Edit.{set_entry, set_symmetry, toggle_block, toggle_bar, turned, square_of}
 use Rattle.xw_grid.specs.Light.{lights_of, same_direction}
 use Rattle.xw_grid.specs.Clue.{ClueMap, clue_at, with_clue, is_circled, with_circle}
 

@@ -1,6 +1,3 @@
-pub mod Grid
-pub mod Orbit
-pub mod Edit
 pub mod Light
 pub mod Clue
 pub mod ClueView

@@ -2,14 +2,14 @@
 use Rattle.std.specs.Prelude.{◌≡◌, ℕ, ◌+◌, ◌-◌, ◌<◌, ◌≤◌, Bool, true, false, not, ◌&&◌, ◌||◌, ◌==◌, List, [], ◌∷◌, ◌++◌, map, take, length, flat_map, count_by, Option, if◌then◌else◌, nat_le, nat_lt, slice_index_or, position, find, option_map}
 use Rattle.std.specs.List.{range_with_len, prefix_len}
 use Rattle.std.specs.Cmp.Lexicographic.{pointwise}
-use Rattle.xw_grid.specs.declared.cell.Cell.{Cell}
-use Rattle.xw_grid.specs.declared.cell.Side.{Side}
-use Rattle.xw_grid.specs.declared.cell.Side.TheVariants.{Right, Below}
-use Rattle.xw_grid.specs.declared.cell.Direction.{Direction}
-use Rattle.xw_grid.specs.declared.cell.Direction.TheVariants.{Across, Down}
-use Rattle.xw_grid.specs.declared.cell.LightName.{LightName}
+use Rattle.xw_cells.specs.declared.cell.Cell.{Cell}
+use Rattle.xw_cells.specs.declared.cell.Side.{Side}
+use Rattle.xw_cells.specs.declared.cell.Side.TheVariants.{Right, Below}
+use Rattle.xw_cells.specs.declared.cell.Direction.{Direction}
+use Rattle.xw_cells.specs.declared.cell.Direction.TheVariants.{Across, Down}
+use Rattle.xw_cells.specs.declared.cell.LightName.{LightName}
 use Rattle.xw_grid.specs.declared.lights.Light.{Light}
-use Rattle.xw_grid.specs.Grid.{Grid, cells, index_of, is_open, is_barred, beyond, same_cell}
+use Rattle.xw_cells.specs.Grid.{Grid, cells, index_of, is_open, is_barred, beyond, same_cell}
 
 -- the edge that a light crosses on its way
 abbrev pub side_towards : Direction → Side

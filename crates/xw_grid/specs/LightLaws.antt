@@ -1,11 +1,11 @@
 -- What is true of the lights of every grid.
 use Rattle.std.specs.Prelude.{◌≡◌, ◌⊎◌, ◌↔◌, true, ℕ, ◌<◌, ◌≤◌, List, length, slice_index_or, All, Contains}
-use Rattle.xw_grid.specs.declared.cell.Cell.{Cell}
-use Rattle.xw_grid.specs.declared.cell.Direction.{Direction}
-use Rattle.xw_grid.specs.declared.cell.Direction.TheVariants.{Across, Down}
-use Rattle.xw_grid.specs.declared.cell.LightName.{LightName}
+use Rattle.xw_cells.specs.declared.cell.Cell.{Cell}
+use Rattle.xw_cells.specs.declared.cell.Direction.{Direction}
+use Rattle.xw_cells.specs.declared.cell.Direction.TheVariants.{Across, Down}
+use Rattle.xw_cells.specs.declared.cell.LightName.{LightName}
 use Rattle.xw_grid.specs.declared.lights.Light.{Light}
-use Rattle.xw_grid.specs.Grid.{Grid, IsGrid}
+use Rattle.xw_cells.specs.Grid.{Grid, IsGrid}
 use Rattle.xw_grid.specs.Light.{IsLight, begins, cells_of, no_cell, number_at, lights_of, step}
 
 -- each light of the list is one, under the number of its first cell

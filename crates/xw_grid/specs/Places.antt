@@ -1,11 +1,11 @@
 -- For each cell the place of the light that passes through it, as it is kept.
-use Rattle.std.specs.Prelude.{◌≡◌, ℕ, ◌+◌, ◌-◌, ◌*◌, ◌<◌, ◌≤◌, Bool, true, false, ◌&&◌, List, length, Option, Some, None, if◌then◌else◌, nat_le, nat_lt, slice_get, slice_index_or, ◌||◌}
-use Rattle.xw_grid.specs.declared.cell.Cell.{Cell}
-use Rattle.xw_grid.specs.declared.cell.Direction.{Direction}
-use Rattle.xw_grid.specs.declared.cell.Direction.TheVariants.{Across, Down}
+use Rattle.std.specs.Prelude.{◌≡◌, ℕ, ◌+◌, ◌-◌, ◌*◌, ◌<◌, Bool, true, false, ◌&&◌, List, length, Option, Some, None, if◌then◌else◌, nat_le, slice_get, slice_index_or}
+use Rattle.xw_cells.specs.declared.cell.Cell.{Cell}
+use Rattle.xw_cells.specs.declared.cell.Direction.{Direction}
+use Rattle.xw_cells.specs.declared.cell.Direction.TheVariants.{Across, Down}
 use Rattle.xw_grid.specs.declared.lights.Light.{Light}
 use Rattle.std.specs.Option.{option_and_then}
-use Rattle.xw_grid.specs.Grid.{Grid, IsGrid, cell_at, same_cell}
+use Rattle.xw_cells.specs.Grid.{Grid, IsGrid, cell_at, same_cell}
 use Rattle.xw_grid.specs.Light.{lights_of, place_through}
 
 -- what a table in reading order has for a cell
@@ -41,13 +41,3 @@ number_of_start lights place cell = option_and_then (λ light. if same_cell ligh
 abbrev pub is_such : (Light → Bool) → Option Light → Bool
 is_such test (Some light) = test light
 is_such test None = false
-
--- the nearer of a place and another one, from a place on
-abbrev pub nearer : ℕ → ℕ → Option ℕ → Option ℕ
-nearer from place (Some other) = if nat_lt place from || nat_lt other place then Some other else Some place
-nearer from place None = if nat_lt place from then None else Some place
-
--- whether an answer is the least from a place on that passes a test
-abbrev pub IsLeastFrom : ℕ → (ℕ → Bool) → Option ℕ → Type 0
-IsLeastFrom from passes (Some place) = (from ≤ place) × (passes place ≡ true) × ((k : ℕ) → from ≤ k → k < place → passes k ≡ false)
-IsLeastFrom from passes None = (k : ℕ) → from ≤ k → passes k ≡ false

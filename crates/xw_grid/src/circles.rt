@@ -3,11 +3,11 @@ ghost use Rattle.std.specs.Prelude.{◌≡◌, IfOk, OnOk, OnErr, IsOk, IsOkUnle
 ghost use Rattle.xw_grid.specs.EditLaws.{CirclesAreKept};
 ghost use Rattle.xw_grid.specs.Clue.{is_circled, with_circle};
 
-use crate::cell::Cell;
-use crate::fault::GridFault;
 use std::alloc::Global;
 use std::collections::BTreeSet;
 use std::marker::Model;
+use xw_cells::cell::Cell;
+use xw_cells::fault::GridFault;
 
 /// The circled cells of a puzzle.
 #[derive(Drop)]
@@ -17,7 +17,7 @@ pub struct Circles {
 
 impl Model for Circles {
     ghost use Rattle.std.specs.Prelude.{List};
-    ghost use Rattle.xw_grid.specs.declared.cell.Cell.{Cell as CircledCell};
+    ghost use Rattle.xw_cells.specs.declared.cell.Cell.{Cell as CircledCell};
 
     ghost Value = { List CircledCell };
 

@@ -4,11 +4,11 @@ ghost use Rattle.xw_grid.specs.Clue.{no_clues, clue_at, with_clue, text_at, with
 ghost use Rattle.xw_grid.specs.EditLaws.{CluesAreKept};
 ghost use Rattle.xw_grid.specs.ClueView.{texts_in};
 
-use crate::cell::{Cell, Direction};
-use crate::fault::GridFault;
 use std::alloc::{AllocError, Global};
 use std::collections::BTreeMap;
 use std::marker::Model;
+use xw_cells::cell::{Cell, Direction};
+use xw_cells::fault::GridFault;
 
 /// The clues of a puzzle, each kept whether or not its light stands.
 #[derive(Drop)]

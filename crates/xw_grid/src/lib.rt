@@ -1,20 +1,15 @@
-//! Grids: cells, bars and symmetry, lights and their numbers.
+//! Lights and their numbers, clues and circles.
 #![tactic(auto)]
 
-pub mod cell;
 pub mod circles;
 pub mod clues;
-pub mod fault;
-pub mod grid;
 pub mod laws;
 pub mod lights;
-pub mod orbit;
 mod places;
 
-pub use cell::{Cell, Direction, Edge, LightName, Side, Square, Symmetry};
 pub use circles::Circles;
 pub use clues::Clues;
-pub use fault::GridFault;
-pub use grid::Grid;
 pub use lights::{Light, Lights};
-pub use orbit::Orbit;
+pub use xw_cells::{
+    Cell, Direction, Edge, Grid, GridFault, LightName, Orbit, Side, Square, Symmetry,
+};

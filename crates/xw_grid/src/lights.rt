@@ -1,17 +1,17 @@
 //! Lights and their numbers.
 ghost use Rattle.std.specs.Prelude.{◌≡◌, ℕ, ◌+◌, ◌++◌, ◌<◌, ◌≤◌, ◌^◌, true, List, Some, None, slice_get, IfOk, OnOk, IsOkUnless, length, if◌then◌else◌, ◌&&◌, ◌==◌};
-ghost use Rattle.xw_grid.specs.Grid.{is_inside, same_cell};
+ghost use Rattle.xw_cells.specs.Grid.{is_inside, same_cell};
 ghost use Rattle.xw_grid.specs.Light.{is_joined as is_joined_to_next, begins as begins_light, previous as cell_before, begins_some as begins_some_light, step as cell_after, run_from, light_from, lights_at, lights_of, number_at, same_name, place_named, place_through, place_with_cells, number_in, same_name, name_before};
 ghost use Rattle.xw_grid.specs.LightLaws.{LightsAreLights, LightsAreAll, LightsBegin, LightsAreOrdered, LightsAreApart, LightsAreFew, LightsMeetOnce};
 ghost use Rattle.xw_grid.specs.Places.{ArePlaces, number_of_start, is_such};
 ghost use Rattle.std.specs.Option.{option_and_then};
 
-use crate::cell::{Cell, Direction, LightName, Side};
-use crate::fault::GridFault;
-use crate::grid::Grid;
 use crate::places;
 use std::alloc::{AllocError, Global};
 use std::marker::Model;
+use xw_cells::cell::{Cell, Direction, LightName, Side};
+use xw_cells::fault::GridFault;
+use xw_cells::grid::Grid;
 
 /// A light by its name, its first cell and how many cells it has.
 #[derive(Clone, Copy, Debug, PartialEq, Eq)]
@@ -184,7 +184,7 @@ impl Lights {
 }
 
 /// The lights of a grid in order.
-#[tactic(auto, using(crate::proofs::GridLemmas::cells_steps))]
+#[tactic(auto, using(xw_cells::proofs::GridLemmas::cells_steps))]
 fn list(alloc: Global, grid: &Grid) -> Result<Vec<Light>, AllocError>
     ensures { IfOk result (λ lights. lights.items ≡ lights_of grid.now) }
 {
@@ -254,7 +254,8 @@ fn is_joined(grid: &Grid, direction: Direction, cell: Cell) -> bool
         Direction::Across => Side::Right,
         Direction::Down => Side::Below,
     };
-    grid.is_open(cell) && grid.is_open(grid.beyond(cell, side)) && !grid.is_barred(cell, side)
+    grid.well_formed();
+    grid.is_open(cell) && grid.is_open(step(direction, cell, 1)) && !grid.is_barred(cell, side)
 }
 
 fn previous(direction: Direction, cell: Cell) -> Cell

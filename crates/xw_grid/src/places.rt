@@ -1,14 +1,14 @@
 //! Tables of the places of lights, by the cells that they pass through.
 ghost use Rattle.std.specs.Prelude.{◌≡◌, ℕ, ◌*◌, ◌<◌, ◌≤◌, true, Some, None, length, if◌then◌else◌, ◌&&◌, slice_index_or, slice_set, IfOk};
 ghost use Rattle.std.specs.Option.{unwrap_or};
-ghost use Rattle.xw_grid.specs.Grid.{cell_at, is_inside};
+ghost use Rattle.xw_cells.specs.Grid.{cell_at, index_of, is_inside};
 ghost use Rattle.xw_grid.specs.Light.{lights_of, is_on_line, passes, same_direction, step as cell_after};
 ghost use Rattle.xw_grid.specs.Places.{ArePlaces, entry_for};
 
-use crate::cell::{Cell, Direction};
-use crate::grid::Grid;
 use crate::lights::Light;
 use std::alloc::{AllocError, Global};
+use xw_cells::cell::{Cell, Direction};
+use xw_cells::grid::Grid;
 
 /// What a table in reading order has for a cell.
 pub(crate) fn at(width: u32, height: u32, places: &[Option<usize>], cell: Cell) -> Option<usize>
@@ -75,9 +75,19 @@ fn enter(places: &mut [Option<usize>], grid: &Grid, light: &Light, place: usize)
 {
     grid.well_formed();
     for k in 0..light.size {
-        let square = grid.index_inside(light.cell(k));
+        let square = square_inside(grid, light.cell(k));
         mark(places, square, place);
     }
+}
+
+/// The place in reading order of a cell that is there.
+fn square_inside(grid: &Grid, cell: Cell) -> usize
+    requires { is_inside grid.now cell ≡ true }
+    ensures index { result ≡ index_of grid.now cell }
+    ensures within { result < grid.now.width * grid.now.height }
+{
+    grid.well_formed();
+    grid.index(cell).unwrap_or(0)
 }
 
 fn mark(places: &mut [Option<usize>], square: usize, place: usize)

@@ -3,8 +3,8 @@ use Rattle.std.proofs.Common.{◌≡◌, Bool, true, false, cond, not, List, [],
 use Rattle.std.specs.Prelude.{Option, ℕ, Ok, Vec, filter}
 use Rattle.std.specs.Vec.{with_items}
 use Rattle.std.proofs.lemmas.List.{with_items_is}
-use Rattle.xw_grid.specs.declared.cell.Cell.{Cell}
-use Rattle.xw_grid.specs.Grid.{Grid, cells, entry}
+use Rattle.xw_cells.specs.declared.cell.Cell.{Cell}
+use Rattle.xw_cells.specs.Grid.{Grid, cells, entry}
 use Rattle.xw_feas.specs.State.{write_list, list_written, by_fault}
 use Rattle.xw_net.specs.Region.{same_entry, cells_changed}
 use Rattle.xw_net.specs.Change.{with_entry_of, is_changed, entries_written}

@@ -1,12 +1,12 @@
 //! The cells of a grid with their entries, noted before a list is written.
 ghost use Rattle.std.specs.Prelude.{◌≡◌, ◌≤◌, length, map, take, filter, IfOk, IsOkUnless};
-ghost use Rattle.xw_grid.specs.Grid.{cells};
+ghost use Rattle.xw_cells.specs.Grid.{cells};
 ghost use Rattle.xw_net.specs.Change.{with_entry_of, is_changed};
 
 use std::alloc::Global;
-use xw_grid::cell::Cell;
-use xw_grid::fault::GridFault;
-use xw_grid::grid::Grid;
+use xw_cells::cell::Cell;
+use xw_cells::fault::GridFault;
+use xw_cells::grid::Grid;
 use xw_letters::letter::Letter;
 
 /// Room for each cell of a grid with an entry.

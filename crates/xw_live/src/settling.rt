@@ -2,8 +2,8 @@
 ghost use Rattle.std.specs.Prelude.{◌≡◌, ◌+◌, ◌≤◌, ℕ, length, if◌then◌else◌, true, false, is_some, IsTrue, Option, Some, Contains, IfErr, OnOk, OnErr};
 ghost use Rattle.xw_words.specs.Bank.{has_room};
 ghost use Rattle.xw_words.specs.Dictionary.{Dictionary, add_answer, IsNew};
-ghost use Rattle.xw_grid.specs.declared.cell.Cell.{Cell as CellOfGrid};
-ghost use Rattle.xw_grid.specs.Grid.{is_inside};
+ghost use Rattle.xw_cells.specs.declared.cell.Cell.{Cell as CellOfGrid};
+ghost use Rattle.xw_cells.specs.Grid.{is_inside};
 ghost use Rattle.xw_grid.specs.Light.{lights_of};
 ghost use Rattle.xw_feas.specs.Rows.{grows};
 ghost use Rattle.xw_feas.specs.State.{State, Action, action_of};
@@ -16,9 +16,9 @@ ghost use Rattle.xw_net.specs.Net.{StandsFor, StoodFor, IsSettledFor, IsAlike, k
 ghost use Rattle.xw_net.specs.Room.{HasRoom};
 ghost use Rattle.xw_net.specs.Fit.{HasRoomBetween};
 
+use xw_cells::grid::Grid;
 use xw_feas::dictionary::{known_distinct, reserve_in};
 use xw_feas::edit::{Edit, Refusal};
-use xw_grid::grid::Grid;
 use xw_grid::lights::Lights;
 use xw_letters::letter_set::LetterSet;
 use xw_net::change::Change;

@@ -9,11 +9,11 @@ mod writing;
 use crate::live::Live;
 use crate::tests::watched::{ANYTHING, Place, Wanted, Watched, does, open, watch};
 use std::process::Abort;
+use xw_cells::cell::{Cell, Direction, LightName, Side, Symmetry};
 use xw_feas::changed::Changed;
 use xw_feas::edit::{Edit, Found, Refusal};
 use xw_feas::feasible::Feasible;
 use xw_feas::words::{Spelled, words};
-use xw_grid::cell::{Cell, Direction, LightName, Side, Symmetry};
 use xw_letters::letter::Letter;
 use xw_letters::letter_set::LetterSet;
 

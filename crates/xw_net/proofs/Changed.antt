@@ -8,8 +8,8 @@ use Rattle.std.proofs.lemmas.Option.{slice_get_within, unwrap_or-slice_get, slic
 use Rattle.std.proofs.Math.ListN.{get_or-map as get_or-map_any}
 use Rattle.xw_bits.specs.Bits.{RowOfBits}
 use Rattle.xw_words.specs.Dictionary.{Entry, Dictionary, row, no_entry, add_answer, strike_answer}
-use Rattle.xw_grid.specs.declared.cell.Cell.{Cell}
-use Rattle.xw_grid.specs.Grid.{Grid, index_of, is_inside, letter_in, entry as entry_in}
+use Rattle.xw_cells.specs.declared.cell.Cell.{Cell}
+use Rattle.xw_cells.specs.Grid.{Grid, index_of, is_inside, letter_in, entry as entry_in}
 use Rattle.xw_feas.specs.Board.{Board, board_of, entry, light_at, is_wholly_entered, allows, agrees, is_open}
 use Rattle.xw_letters.specs.Letter.{is_capital}
 use Rattle.xw_feas.specs.Feasible.{may_stand}

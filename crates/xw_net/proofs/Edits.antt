@@ -11,19 +11,19 @@ use Rattle.xw_words.specs.declared.bank.Added.{Added}
 use Rattle.xw_letters.specs.Letter.{folded}
 use Rattle.xw_words.specs.Word.{is_bad_letter}
 use Rattle.xw_words.specs.Dictionary.{Entry, Dictionary, row, add_answer, after_add, strike_answer, after_strike}
-use Rattle.xw_grid.specs.declared.cell.Cell.{Cell}
-use Rattle.xw_grid.specs.declared.cell.Square.{Square}
-use Rattle.xw_grid.specs.declared.cell.Square.TheVariants.{Block, Open}
-use Rattle.xw_grid.specs.declared.cell.LightName.{LightName}
-use Rattle.xw_grid.specs.declared.cell.Side.{Side}
-use Rattle.xw_grid.specs.declared.cell.Symmetry.{Symmetry}
-use Rattle.xw_grid.specs.declared.fault.GridFault.{GridFault}
-use Rattle.xw_grid.specs.declared.fault.GridFault.TheVariants as grids
-use Rattle.xw_grid.specs.Grid.{Grid, IsGrid, is_inside, is_block, is_barred, is_open_square, letter_in, entry as entry_of, index_of, cells, cell_at}
+use Rattle.xw_cells.specs.declared.cell.Cell.{Cell}
+use Rattle.xw_cells.specs.declared.cell.Square.{Square}
+use Rattle.xw_cells.specs.declared.cell.Square.TheVariants.{Block, Open}
+use Rattle.xw_cells.specs.declared.cell.LightName.{LightName}
+use Rattle.xw_cells.specs.declared.cell.Side.{Side}
+use Rattle.xw_cells.specs.declared.cell.Symmetry.{Symmetry}
+use Rattle.xw_cells.specs.declared.fault.GridFault.{GridFault}
+use Rattle.xw_cells.specs.declared.fault.GridFault.TheVariants as grids
+use Rattle.xw_cells.specs.Grid.{Grid, IsGrid, is_inside, is_block, is_barred, is_open_square, letter_in, entry as entry_of, index_of, cells, cell_at}
 use Rattle.xw_grid.specs.Light.{lights_of, cells_of, place_named, no_light}
-use Rattle.xw_grid.specs.Edit.{with_entry, set_entry, set_symmetry, toggle_block, toggle_bar, with_orbit, with_edges, turned, square_of}
-use Rattle.xw_grid.specs.Orbit.{is_in_orbit, orbit_of}
-use Rattle.xw_grid.proofs.GridLemmas.{index_of-cell_at, length-cells, cell_at-inside}
+use Rattle.xw_cells.specs.Edit.{with_entry, set_entry, set_symmetry, toggle_block, toggle_bar, with_orbit, with_edges, turned, square_of}
+use Rattle.xw_cells.specs.Orbit.{is_in_orbit, orbit_of}
+use Rattle.xw_cells.proofs.GridLemmas.{index_of-cell_at, length-cells, cell_at-inside}
 use Rattle.xw_feas.specs.declared.edit.Refusal.{Refusal}
 use Rattle.xw_feas.specs.declared.edit.Refusal.TheVariants as refusals
 use Rattle.xw_feas.specs.Board.{board_of, entry, is_open, light_at}

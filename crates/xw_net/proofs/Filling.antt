@@ -4,15 +4,15 @@ use Rattle.std.specs.Prelude.{Option, Ok, Err, Contains, slice_get, is_some, is_
 use Rattle.std.proofs.lemmas.Bool.{false≢true, and_parts}
 use Rattle.std.proofs.lemmas.List.{get_or_default}
 use Rattle.std.proofs.lemmas.Option.{slice_get-get_or}
-use Rattle.xw_grid.specs.declared.cell.Cell.{Cell}
-use Rattle.xw_grid.specs.declared.cell.Square.{Square}
-use Rattle.xw_grid.specs.declared.cell.Square.TheVariants.{Block, Open}
-use Rattle.xw_grid.specs.declared.fault.GridFault.TheVariants as grids
-use Rattle.xw_grid.specs.Grid.{Grid, IsGrid, is_inside, is_block, index_of, is_open_square, is_block_square, letter_in}
+use Rattle.xw_cells.specs.declared.cell.Cell.{Cell}
+use Rattle.xw_cells.specs.declared.cell.Square.{Square}
+use Rattle.xw_cells.specs.declared.cell.Square.TheVariants.{Block, Open}
+use Rattle.xw_cells.specs.declared.fault.GridFault.TheVariants as grids
+use Rattle.xw_cells.specs.Grid.{Grid, IsGrid, is_inside, is_block, index_of, is_open_square, is_block_square, letter_in}
 use Rattle.xw_grid.specs.Light.{lights_of, place_named}
-use Rattle.xw_grid.specs.Orbit.{is_in_orbit}
-use Rattle.xw_grid.specs.Edit.{set_entry, toggle_block, turned, square_of, with_entry}
-use Rattle.xw_grid.proofs.GridLemmas.{index_of-lt}
+use Rattle.xw_cells.specs.Orbit.{is_in_orbit}
+use Rattle.xw_cells.specs.Edit.{set_entry, toggle_block, turned, square_of, with_entry}
+use Rattle.xw_cells.proofs.GridLemmas.{index_of-lt}
 use Rattle.xw_grid.proofs.ChangeLemmas.{blocks_change_orbits}
 use Rattle.xw_feas.specs.Board.{board_of, entry, is_open, light_at}
 use Rattle.xw_feas.specs.State.{State, Action, grid_after, write_list, letter_set, cell_cleared, word_placed, list_written, block_toggled, bar_toggled, symmetry_chosen, word_added, word_struck}

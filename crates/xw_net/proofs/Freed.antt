@@ -4,7 +4,7 @@ use Rattle.std.specs.Prelude.{◌⊎◌}
 use Rattle.std.proofs.lemmas.Option.{slice_get_within}
 use Rattle.std.proofs.lemmas.Bool.{cases_eq}
 use Rattle.xw_grid.specs.declared.lights.Light.{Light}
-use Rattle.xw_grid.specs.Grid.{Grid}
+use Rattle.xw_cells.specs.Grid.{Grid}
 use Rattle.xw_feas.specs.Board.{Board}
 use Rattle.xw_net.specs.Spread.{HasSeeds}
 use Rattle.xw_net.specs.Gone.{IsAlong, IsAmong, IsGone, IsFreed, IsFreedAt, Raises}

@@ -2,13 +2,13 @@
 use Rattle.std.proofs.Common.{◌≡◌, ℕ, zero, suc, ◌*◌, ◌<◌, Bool, true, false, cond, not, ◌&&◌, filter, List, [], ◌∷◌, map, length, get_or, Some, None, refl, sym, ◌∙◌, ap, subst, arith}
 use Rattle.std.specs.Prelude.{Option, Result, Ok, Err, Contains, nat_le}
 use Rattle.std.proofs.lemmas.List.FromFn.{get_or-map-range_with_len}
-use Rattle.xw_grid.specs.declared.cell.Cell.{Cell}
-use Rattle.xw_grid.specs.declared.fault.GridFault.TheVariants as grids
-use Rattle.xw_grid.specs.Grid.{Grid, IsGrid, is_inside, is_block, cells, cell_at, entry}
+use Rattle.xw_cells.specs.declared.cell.Cell.{Cell}
+use Rattle.xw_cells.specs.declared.fault.GridFault.TheVariants as grids
+use Rattle.xw_cells.specs.Grid.{Grid, IsGrid, is_inside, is_block, cells, cell_at, entry}
 use Rattle.xw_grid.specs.Light.{lights_of, place_named, no_light}
-use Rattle.xw_grid.specs.Orbit.{orbit_of, is_in_orbit}
-use Rattle.xw_grid.specs.Edit.{set_entry, with_entry}
-use Rattle.xw_grid.proofs.GridLemmas.{cell_at-inside, length-cells}
+use Rattle.xw_cells.specs.Orbit.{orbit_of, is_in_orbit}
+use Rattle.xw_cells.specs.Edit.{set_entry, with_entry}
+use Rattle.xw_cells.proofs.GridLemmas.{cell_at-inside, length-cells}
 use Rattle.xw_grid.proofs.LightLemmas.{length-line, get_or-line}
 use Rattle.xw_grid.proofs.PlaceLemmas.{light_inside}
 use Rattle.xw_feas.specs.declared.edit.Refusal.{Refusal}

@@ -6,8 +6,8 @@ use Rattle.std.proofs.lemmas.List.{get_or-set_same, get_or-set_other}
 use Rattle.xw_bits.specs.declared.fault.WordFault.{WordFault}
 use Rattle.xw_letters.specs.Letter.{folded}
 use Rattle.xw_words.specs.Dictionary.{Entry, Dictionary, row, marked, strike_answer, after_strike}
-use Rattle.xw_grid.specs.declared.cell.Cell.{Cell}
-use Rattle.xw_grid.specs.Grid.{IsGrid, index_of}
+use Rattle.xw_cells.specs.declared.cell.Cell.{Cell}
+use Rattle.xw_cells.specs.Grid.{IsGrid, index_of}
 use Rattle.xw_feas.specs.Board.{Board, board_of, entry, allows, is_wholly_entered}
 use Rattle.xw_feas.specs.Feasible.{may_stand}
 use Rattle.xw_feas.specs.Choices.{is_base_at, CoversSupported, IsExact}

@@ -5,8 +5,8 @@ use Rattle.std.proofs.lemmas.Bool.{cases_Bool, both_ways, and_from, and_cases, o
 use Rattle.std.proofs.lemmas.List.{get_or_append_left, get_or_default, get_or_push, length-map}
 use Rattle.std.proofs.lemmas.Option.{slice_get-get_or, unwrap_or-slice_get}
 use Rattle.xw_words.specs.Dictionary.{Entry, row, entry_at, no_entry}
-use Rattle.xw_grid.specs.declared.cell.Cell.{Cell}
-use Rattle.xw_grid.specs.Grid.{is_inside}
+use Rattle.xw_cells.specs.declared.cell.Cell.{Cell}
+use Rattle.xw_cells.specs.Grid.{is_inside}
 use Rattle.xw_grid.specs.Light.{lights_of, no_light, step}
 use Rattle.xw_feas.specs.Board.{Board, board_of, entry, light_at, is_wholly_entered}
 use Rattle.xw_feas.specs.Choices.{is_base_at}

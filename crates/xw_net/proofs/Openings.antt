@@ -6,8 +6,8 @@ use Rattle.std.specs.List.{list_any}
 use Rattle.xw_net.proofs.Edits.{contains_later}
 use Rattle.std.proofs.lemmas.Option.{get_or_from_slice_get}
 use Rattle.xw_words.specs.Dictionary.{row}
-use Rattle.xw_grid.specs.declared.cell.Cell.{Cell}
-use Rattle.xw_grid.specs.Grid.{is_inside, index_of}
+use Rattle.xw_cells.specs.declared.cell.Cell.{Cell}
+use Rattle.xw_cells.specs.Grid.{is_inside, index_of}
 use Rattle.xw_grid.specs.declared.lights.Light.{Light}
 use Rattle.xw_grid.specs.Light.{lights_of, no_light, step}
 use Rattle.xw_feas.proofs.BoardLemmas.{length-lights}

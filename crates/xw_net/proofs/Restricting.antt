@@ -3,11 +3,11 @@ use Rattle.std.proofs.Common.{◌≡◌, ℕ, zero, suc, ◌+◌, ◌-◌, ◌*�
 use Rattle.std.specs.Prelude.{Option, Ok, Err, IsTrue, Contains, slice_get}
 use Rattle.std.proofs.lemmas.Bool.{cases_Bool, cases_eq, both_ways, and_parts, and_from}
 use Rattle.xw_letters.specs.Letter.{is_capital}
-use Rattle.xw_grid.specs.declared.cell.Cell.{Cell}
-use Rattle.xw_grid.specs.declared.fault.GridFault.TheVariants as grids
-use Rattle.xw_grid.specs.Grid.{Grid, IsGrid, is_inside, is_block, is_open_square, index_of}
-use Rattle.xw_grid.specs.Grid.{is_open as is_open_cell}
-use Rattle.xw_grid.specs.Edit.{with_entry, set_entry}
+use Rattle.xw_cells.specs.declared.cell.Cell.{Cell}
+use Rattle.xw_cells.specs.declared.fault.GridFault.TheVariants as grids
+use Rattle.xw_cells.specs.Grid.{Grid, IsGrid, is_inside, is_block, is_open_square, index_of}
+use Rattle.xw_cells.specs.Grid.{is_open as is_open_cell}
+use Rattle.xw_cells.specs.Edit.{with_entry, set_entry}
 use Rattle.xw_grid.specs.EditLaws.{SameShape}
 use Rattle.xw_grid.specs.Light.{cells_of, lights_of, no_light}
 use Rattle.xw_grid.proofs.ChangeLemmas.{letters_keep_shape}

@@ -6,11 +6,11 @@ use Rattle.std.proofs.lemmas.Bool.{false≢true, cases_Bool, both_ways}
 use Rattle.std.proofs.lemmas.List.Quantifiers.{position-Some}
 use Rattle.std.proofs.lemmas.Option.{slice_get-get_or, slice_get_within, get_or_from_slice_get}
 use Rattle.xw_letters.proofs.Position.{position_is_some, position-None}
-use Rattle.xw_grid.specs.declared.cell.Cell.{Cell}
+use Rattle.xw_cells.specs.declared.cell.Cell.{Cell}
 use Rattle.xw_grid.specs.declared.lights.Light.{Light}
-use Rattle.xw_grid.specs.Grid.{Grid, is_inside, same_cell, index_of, cell_in}
+use Rattle.xw_cells.specs.Grid.{Grid, is_inside, same_cell, index_of, cell_in}
 use Rattle.xw_grid.specs.Light.{cells_of, lights_of, no_light, have_same_cells, place_with_cells}
-use Rattle.xw_grid.proofs.GridLemmas.{and-true, cells_same, same_cell_itself, cell_at-index_of}
+use Rattle.xw_cells.proofs.GridLemmas.{and-true, cells_same, same_cell_itself, cell_at-index_of}
 use Rattle.xw_grid.proofs.LightLemmas.{size_of_light, length-line, get_or-line}
 use Rattle.xw_grid.proofs.OrderLemmas.{same_place}
 use Rattle.xw_grid.proofs.LookupLemmas.{alike}

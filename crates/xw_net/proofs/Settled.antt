@@ -8,7 +8,7 @@ use Rattle.std.proofs.lemmas.List.{length-map}
 use Rattle.std.proofs.lemmas.List.FromFn.{length-map-range_with_len, get_or-map-range_with_len}
 use Rattle.xw_words.specs.Dictionary.{Dictionary, Entry, row}
 use Rattle.xw_grid.specs.declared.lights.Light.{Light}
-use Rattle.xw_grid.specs.Grid.{Grid}
+use Rattle.xw_cells.specs.Grid.{Grid}
 use Rattle.xw_grid.specs.Light.{lights_of}
 use Rattle.xw_feas.specs.Board.{board_of, light_at}
 use Rattle.xw_feas.specs.Flags.{flag_at, standing_count}

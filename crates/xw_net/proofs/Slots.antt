@@ -1,11 +1,11 @@
 -- In a grid each slot is that of one place at most.
 use Rattle.std.proofs.Common.{◌≡◌, ℕ, ◌+◌, ◌*◌, ◌<◌, ◌≤◌, true, false, cond, eqb, List, length, get_or, refl, sym, ap, ◌∙◌, subst, inl, inr, arith}
 use Rattle.std.proofs.lemmas.Bool.{cases_eq, eq-eqb, ne_eqb}
-use Rattle.xw_grid.specs.declared.cell.Direction.{Direction}
-use Rattle.xw_grid.specs.declared.cell.Direction.TheVariants.{Across, Down}
-use Rattle.xw_grid.specs.Grid.{Grid, is_inside, index_of}
+use Rattle.xw_cells.specs.declared.cell.Direction.{Direction}
+use Rattle.xw_cells.specs.declared.cell.Direction.TheVariants.{Across, Down}
+use Rattle.xw_cells.specs.Grid.{Grid, is_inside, index_of}
 use Rattle.xw_grid.specs.Light.{step, lights_of, no_light}
-use Rattle.xw_grid.proofs.GridLemmas.{IsInside-is_inside}
+use Rattle.xw_cells.proofs.GridLemmas.{IsInside-is_inside}
 use Rattle.xw_grid.proofs.LightLemmas.{size_of_light}
 use Rattle.xw_grid.proofs.OrderLemmas.{lights_are_apart}
 use Rattle.xw_feas.specs.Board.{board_of, light_at}

@@ -6,7 +6,7 @@ use Rattle.std.proofs.lemmas.List.{get_or_past, length-replicate, get_or-replica
 use Rattle.std.proofs.lemmas.Option.{slice_get_past}
 use Rattle.xw_bits.specs.Bits.{RowOfBits}
 use Rattle.xw_grid.specs.declared.lights.Light.{Light}
-use Rattle.xw_grid.specs.Grid.{Grid}
+use Rattle.xw_cells.specs.Grid.{Grid}
 use Rattle.xw_grid.specs.Light.{lights_of, no_light}
 use Rattle.xw_grid.proofs.LightLemmas.{size_of_light}
 use Rattle.xw_grid.proofs.OrderLemmas.{same_place}

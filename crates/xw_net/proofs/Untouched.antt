@@ -6,7 +6,7 @@ use Rattle.std.proofs.lemmas.List.{get_or_default}
 use Rattle.std.proofs.lemmas.List.Elements.{Contains-get_or}
 use Rattle.xw_letters.specs.Letter.{is_capital}
 use Rattle.xw_words.specs.Dictionary.{row}
-use Rattle.xw_grid.specs.Grid.{IsGrid}
+use Rattle.xw_cells.specs.Grid.{IsGrid}
 use Rattle.xw_feas.specs.Board.{Board, board_of, light_at, entry, is_open, allows}
 use Rattle.xw_feas.specs.Feasible.{may_stand}
 use Rattle.xw_feas.specs.Choices.{choices, base_flags, choice_at, is_base_at, HasLetters, SupportsLight, CoversSupported, IsExact}

@@ -2,13 +2,13 @@
 use Rattle.std.proofs.Common.{◌≡◌, ℕ, zero, suc, Bool, true, false, cond, not, List, [], ◌∷◌, set, Some, None, refl, sym, ◌∙◌, ap, subst, ◌⊎◌, inl, inr}
 use Rattle.std.specs.Prelude.{Option, Result, Ok, Err, slice_get, is_some}
 use Rattle.std.proofs.lemmas.Bool.{false≢true}
-use Rattle.xw_grid.specs.declared.cell.Cell.{Cell}
-use Rattle.xw_grid.specs.declared.cell.Square.{Square}
-use Rattle.xw_grid.specs.declared.cell.Square.TheVariants.{Block, Open}
-use Rattle.xw_grid.specs.declared.fault.GridFault.{GridFault}
-use Rattle.xw_grid.specs.declared.fault.GridFault.TheVariants as grids
-use Rattle.xw_grid.specs.Grid.{Grid, is_inside, is_block, is_block_square, is_open_square, letter_in, index_of}
-use Rattle.xw_grid.specs.Edit.{with_entry, set_entry}
+use Rattle.xw_cells.specs.declared.cell.Cell.{Cell}
+use Rattle.xw_cells.specs.declared.cell.Square.{Square}
+use Rattle.xw_cells.specs.declared.cell.Square.TheVariants.{Block, Open}
+use Rattle.xw_cells.specs.declared.fault.GridFault.{GridFault}
+use Rattle.xw_cells.specs.declared.fault.GridFault.TheVariants as grids
+use Rattle.xw_cells.specs.Grid.{Grid, is_inside, is_block, is_block_square, is_open_square, letter_in, index_of}
+use Rattle.xw_cells.specs.Edit.{with_entry, set_entry}
 use Rattle.xw_feas.specs.Board.{board_of, entry, is_open}
 use Rattle.xw_feas.specs.State.{then_write, write_list}
 use Rattle.xw_feas.proofs.BoardLemmas.{is_open-square, entry-square}

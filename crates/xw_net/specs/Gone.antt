@@ -1,7 +1,7 @@
 -- Lights that are gone, and letters that come back at their cells.
 use Rattle.std.specs.Prelude.{◌≡◌, ℕ, ◌<◌, Bool, true, List, length, slice_get, Some, None}
 use Rattle.xw_grid.specs.declared.lights.Light.{Light}
-use Rattle.xw_grid.specs.Grid.{Grid, index_of, is_inside}
+use Rattle.xw_cells.specs.Grid.{Grid, index_of, is_inside}
 use Rattle.xw_grid.specs.Light.{step}
 use Rattle.xw_feas.specs.Board.{Board}
 use Rattle.xw_feas.specs.Feasible.{may_stand}

@@ -2,9 +2,9 @@
 use Rattle.std.specs.Prelude.{◌≡◌, ℕ, ◌<◌, Bool, true, false, All, List, [], length, slice_index_or, Option, Some, None, IsTrue, Contains}
 use Rattle.xw_bits.specs.Bits.{RowOfBits}
 use Rattle.xw_words.specs.Dictionary.{Entry}
-use Rattle.xw_grid.specs.declared.cell.Cell.{Cell}
+use Rattle.xw_cells.specs.declared.cell.Cell.{Cell}
 use Rattle.xw_grid.specs.declared.lights.Light.{Light}
-use Rattle.xw_grid.specs.Grid.{Grid, index_of}
+use Rattle.xw_cells.specs.Grid.{Grid, index_of}
 use Rattle.xw_feas.specs.Board.{Board, board_of, light_at}
 use Rattle.xw_feas.specs.Flags.{set_has}
 use Rattle.xw_feas.specs.State.{State, Action}

@@ -2,7 +2,7 @@
 use Rattle.std.specs.Prelude.{◌≡◌, ℕ, ◌<◌, ◌≤◌, Bool, false, List, length, replicate, slice_get, slice_index_or, Option, Some, None, option_and_then}
 use Rattle.xw_bits.specs.Bits.{RowOfBits}
 use Rattle.xw_grid.specs.declared.lights.Light.{Light}
-use Rattle.xw_grid.specs.Grid.{Grid}
+use Rattle.xw_cells.specs.Grid.{Grid}
 use Rattle.xw_grid.specs.Light.{lights_of, place_with_cells}
 use Rattle.xw_net.specs.Room.{size_at, row_at}
 use Rattle.xw_net.specs.declared.net.Net.{Net}

@@ -1,7 +1,7 @@
 //! From where the revival and the stripping begin after an edit.
 ghost use Rattle.std.specs.Prelude.{◌≡◌, ℕ, ◌+◌, ◌*◌, ◌^◌, ◌<◌, ◌≤◌, Bool, true, false, not, ◌&&◌, All, Contains, Option, List, None, Some, IfSome, slice_get, length, vec_len, vec_capacity, count_by, slice_index_or};
-ghost use Rattle.xw_grid.specs.declared.cell.Cell.{Cell as CellOfGrid};
-ghost use Rattle.xw_grid.specs.Grid.{index_of, is_inside};
+ghost use Rattle.xw_cells.specs.declared.cell.Cell.{Cell as CellOfGrid};
+ghost use Rattle.xw_cells.specs.Grid.{index_of, is_inside};
 ghost use Rattle.xw_feas.specs.Board.{light_at, entry};
 ghost use Rattle.xw_feas.specs.Feasible.{may_stand};
 ghost use Rattle.xw_feas.specs.Flags.{set_has};
@@ -22,9 +22,9 @@ use crate::narrow::narrow_row;
 use crate::seeds::{free_cell, mark_found, mark_new, mark_through};
 use crate::spread::letters_allowed;
 use xw_bits::bit_row::BitRow;
+use xw_cells::cell::Cell;
+use xw_cells::grid::Grid;
 use xw_feas::board::{Board, has_all_entries};
-use xw_grid::cell::Cell;
-use xw_grid::grid::Grid;
 use xw_grid::lights::Lights;
 use xw_letters::letter::Letter;
 use xw_letters::letter_set::LetterSet;

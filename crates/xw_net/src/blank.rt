@@ -2,7 +2,7 @@
 use crate::net::Net;
 use crate::room::{make_flags, make_held, make_rows, make_sets};
 use std::alloc::{AllocError, Global};
-use xw_grid::grid::Grid;
+use xw_cells::grid::Grid;
 use xw_grid::lights::Lights;
 use xw_words::bank::Bank;
 

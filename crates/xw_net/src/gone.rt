@@ -4,8 +4,8 @@ ghost use Rattle.xw_net.specs.Spread.{HasSeeds};
 ghost use Rattle.xw_net.specs.Gone.{IsAlong, IsAmong, IsFreed, IsFreedAt, Raises};
 
 use crate::seeds::raise_cell;
+use xw_cells::grid::Grid;
 use xw_feas::board::Board;
-use xw_grid::grid::Grid;
 use xw_grid::lights::{Light, Lights};
 use xw_letters::letter_set::LetterSet;
 

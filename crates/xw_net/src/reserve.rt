@@ -2,8 +2,8 @@
 use crate::net::Net;
 use crate::room::{Spare, push_bits, reserve_list, reserve_rows};
 use std::alloc::{AllocError, Global};
+use xw_cells::fault::GridFault;
 use xw_feas::edit::Refusal;
-use xw_grid::fault::GridFault;
 use xw_grid::lights::Lights;
 use xw_words::WordFault;
 use xw_words::bank::Bank;

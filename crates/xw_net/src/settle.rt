@@ -4,16 +4,16 @@ use crate::change::Change;
 use crate::forget::forget_lights;
 use crate::net::Net;
 use crate::unmoved::are_same;
+use xw_cells::grid::Grid;
 use xw_feas::board::Board;
-use xw_grid::grid::Grid;
 use xw_grid::lights::Lights;
 use xw_words::rows::Rows;
 
 impl Net {
     ghost use Rattle.std.specs.Prelude.{◌≡◌, ℕ, ◌+◌, ◌<◌, ◌≤◌, Bool, true, false, List, Option, None, Contains, length, vec_len, vec_capacity};
     ghost use Rattle.xw_words.specs.Dictionary.{Dictionary};
-    ghost use Rattle.xw_grid.specs.declared.cell.Cell.{Cell as CellOfGrid};
-    ghost use Rattle.xw_grid.specs.Grid.{is_inside};
+    ghost use Rattle.xw_cells.specs.declared.cell.Cell.{Cell as CellOfGrid};
+    ghost use Rattle.xw_cells.specs.Grid.{is_inside};
     ghost use Rattle.xw_grid.specs.Light.{lights_of};
     ghost use Rattle.xw_feas.specs.Board.{board_of};
     ghost use Rattle.xw_feas.specs.Choices.{CoversSupported, IsWithinBase};

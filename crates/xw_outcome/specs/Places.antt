@@ -12,10 +12,10 @@ use Rattle.xw_files.specs.declared.text.place.TextPlace.{TextPlace}
 use Rattle.xw_files.specs.declared.text.place.TextPlace.TheVariants as lines
 use Rattle.xw_files.specs.Puz.Board.{grid_of_puz}
 use Rattle.xw_files.specs.Text.Place.{text_place as text_place_in}
-use Rattle.xw_grid.specs.declared.cell.Direction.{Direction}
-use Rattle.xw_grid.specs.declared.cell.Direction.TheVariants.{Across, Down}
+use Rattle.xw_cells.specs.declared.cell.Direction.{Direction}
+use Rattle.xw_cells.specs.declared.cell.Direction.TheVariants.{Across, Down}
 use Rattle.xw_grid.specs.declared.lights.Light.{Light}
-use Rattle.xw_grid.specs.Grid.{Grid}
+use Rattle.xw_cells.specs.Grid.{Grid}
 use Rattle.xw_grid.specs.Light.{lights_of}
 use Rattle.xw_outcome.specs.declared.place.Place.{Place}
 use Rattle.xw_outcome.specs.declared.place.Place.TheVariants as places

@@ -8,10 +8,10 @@ ghost use Rattle.xw_outcome.specs.Places.{cut_text_place, direction_text, line_p
 use crate::failure::Failure;
 use std::alloc::Global;
 use std::fmt;
+use xw_cells::cell::{Cell, Direction, LightName};
+use xw_cells::grid::Grid;
 use xw_files::fault::{Piece, ReadFault, SumName, TextName, WriteFault};
 use xw_files::{TextPlace, grid_of_puz, text_place};
-use xw_grid::cell::{Cell, Direction, LightName};
-use xw_grid::grid::Grid;
 use xw_grid::lights::Lights;
 
 /// What a fault names besides itself.

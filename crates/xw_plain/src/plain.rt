@@ -2,7 +2,7 @@
 ghost use Rattle.std.specs.Prelude.{◌≡◌, ◌+◌, ◌<◌, length, [], None, Some, true, map, IfOk, IfErr, OnOk, OnErr, IsOkUnless, Ok, Err, if◌then◌else◌};
 ghost use Rattle.xw_letters.specs.Letter.{folded};
 ghost use Rattle.xw_words.specs.Dictionary.{add_answer, IsNew, IsDictionary};
-ghost use Rattle.xw_grid.specs.Edit.{toggle_block as block_toggled, toggle_bar as bar_toggled};
+ghost use Rattle.xw_cells.specs.Edit.{toggle_block as block_toggled, toggle_bar as bar_toggled};
 ghost use Rattle.xw_grid.specs.EditLaws.{SameShape};
 ghost use Rattle.xw_grid.specs.Light.{lights_of};
 ghost use Rattle.xw_feas.specs.AnswersOf.{answers_of};
@@ -24,6 +24,9 @@ use crate::flags::Flags;
 use crate::rows::{make_grid_rows, make_grown_rows};
 use crate::standing::settle;
 use std::alloc::Global;
+use xw_cells::cell::{Cell, LightName, Side};
+use xw_cells::fault::GridFault;
+use xw_cells::grid::Grid;
 use xw_feas::arrays::make_grid_sets;
 use xw_feas::board::{Board, has_all_entries};
 use xw_feas::changed::Changed;
@@ -31,9 +34,6 @@ use xw_feas::dictionary::{add_in, known_distinct, reserve_in, return_in, strike_
 use xw_feas::edit::{Edit, Found, Refusal};
 use xw_feas::feasible::Feasible;
 use xw_feas::grid_edit::{edit_letters, with_bar, with_block};
-use xw_grid::cell::{Cell, LightName, Side};
-use xw_grid::fault::GridFault;
-use xw_grid::grid::Grid;
 use xw_grid::lights::Lights;
 use xw_letters::letter_set::LetterSet;
 use xw_words::WordFault;

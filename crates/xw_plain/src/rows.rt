@@ -6,9 +6,9 @@ ghost use Rattle.xw_feas.specs.Rows.{HasWordRows, row_len};
 
 use crate::flags::Flags;
 use std::alloc::{AllocError, Global};
+use xw_cells::fault::GridFault;
+use xw_cells::grid::Grid;
 use xw_feas::board::Board;
-use xw_grid::fault::GridFault;
-use xw_grid::grid::Grid;
 use xw_grid::lights::Lights;
 use xw_words::WordFault;
 use xw_words::bank::Bank;

@@ -3,8 +3,8 @@ use Rattle.std.proofs.Common.{◌≡◌, ℕ, Bool, true, false, not, ◌≤◌,
 use Rattle.std.proofs.lemmas.Bool.Decides.{nat_tests}
 use Rattle.std.specs.Prelude.{Option, flat_map, length, map, option_map, Some, None, Result, Ok, Err, IsOk, IfOk, IfErr, OnErr, if◌then◌else◌, nat_lt}
 use Rattle.xw_letters.specs.LetterSet.{letters_in}
-use Rattle.xw_grid.specs.declared.cell.Cell.{Cell}
-use Rattle.xw_grid.specs.Grid.{is_inside, is_block, index_of, cell_at}
+use Rattle.xw_cells.specs.declared.cell.Cell.{Cell}
+use Rattle.xw_cells.specs.Grid.{is_inside, is_block, index_of, cell_at}
 use Rattle.xw_feas.specs.Board.{board_of}
 use Rattle.xw_feas.specs.State.{State as Position, Action, after}
 use Rattle.xw_feas.specs.Feasible.{Answers, AreAnswers}
@@ -13,7 +13,7 @@ use Rattle.xw_feas.specs.Engine.{IsEdited}
 use Rattle.xw_feas.specs.Queries.{cell_judged, on_light, words_of}
 use Rattle.xw_feas.specs.declared.edit.Refusal.{Refusal as EditRefusal}
 use Rattle.xw_feas.specs.declared.edit.Refusal.TheVariants as edits
-use Rattle.xw_grid.specs.declared.fault.GridFault.TheVariants as grids
+use Rattle.xw_cells.specs.declared.fault.GridFault.TheVariants as grids
 use Rattle.xw_feas.specs.declared.changed.Changed.{Changed}
 use Rattle.xw_fill.specs.declared.search.Filling.{Filling}
 use Rattle.xw_fill.specs.declared.search.Filling.TheVariants as fillings

@@ -9,14 +9,14 @@ use Rattle.std.proofs.lemmas.List.{take_more, take_all}
 use Rattle.std.proofs.lemmas.List.FromFn.{take-map-range_with_len, length-map-range_with_len, get_or-map-range_with_len}
 use Rattle.std.proofs.lemmas.List.Sums.{count_by-le-length}
 use Rattle.xw_letters.proofs.Position.{position_is_none}
-use Rattle.xw_grid.specs.declared.cell.Cell.{Cell}
-use Rattle.xw_grid.specs.declared.cell.LightName.{LightName}
-use Rattle.xw_grid.specs.declared.cell.Direction.{Direction}
-use Rattle.xw_grid.specs.declared.cell.Direction.TheVariants.{Across, Down}
+use Rattle.xw_cells.specs.declared.cell.Cell.{Cell}
+use Rattle.xw_cells.specs.declared.cell.LightName.{LightName}
+use Rattle.xw_cells.specs.declared.cell.Direction.{Direction}
+use Rattle.xw_cells.specs.declared.cell.Direction.TheVariants.{Across, Down}
 use Rattle.xw_grid.specs.declared.lights.Light.{Light}
-use Rattle.xw_grid.specs.Grid.{Grid, IsGrid, is_inside, cells, cell_at, index_of, entry}
+use Rattle.xw_cells.specs.Grid.{Grid, IsGrid, is_inside, cells, cell_at, index_of, entry}
 use Rattle.xw_grid.specs.Light.{begins_some, lights_of, no_light, place_named, same_name, same_direction, step}
-use Rattle.xw_grid.proofs.GridLemmas.{IsInside-is_inside, length-cells, get_or-map-cells, size_small}
+use Rattle.xw_cells.proofs.GridLemmas.{IsInside-is_inside, length-cells, get_or-map-cells, size_small}
 use Rattle.xw_grid.proofs.LightLemmas.{size_of_light, step-zero}
 use Rattle.xw_grid.proofs.OrderLemmas.{lights_are_made, made_number}
 use Rattle.xw_grid.proofs.PlaceLemmas.{light_inside}

@@ -1,6 +1,6 @@
 -- Texts that are put into their places.
 use Rattle.std.specs.Prelude.{ℕ, Bool, true, List, [], ◌∷◌, ◌++◌}
-use Rattle.xw_grid.specs.Grid.{Grid, is_inside}
+use Rattle.xw_cells.specs.Grid.{Grid, is_inside}
 use Rattle.xw_grid.specs.Clue.{clue_at, with_clue}
 use Rattle.xw_files.specs.Puzzle.{TextsShown}
 use Rattle.xw_commands.specs.declared.command.Field.{Field}

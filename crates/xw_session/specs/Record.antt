@@ -2,12 +2,12 @@
 use Rattle.std.specs.Prelude.{ℕ, ◌+◌, ◌-◌, ◌*◌, ◌/◌, List, [], ◌∷◌, ◌++◌, map, take, drop, length, flat_map, Option, Some, None, slice_index_or, if◌then◌else◌}
 use Rattle.std.specs.List.{range_with_len}
 use Rattle.xw_words.specs.Dictionary.{Dictionary, Entry, row}
-use Rattle.xw_grid.specs.declared.cell.Cell.{Cell}
-use Rattle.xw_grid.specs.declared.cell.Direction.{Direction}
-use Rattle.xw_grid.specs.declared.cell.Direction.TheVariants.{Across, Down}
-use Rattle.xw_grid.specs.declared.cell.Side.{Side}
-use Rattle.xw_grid.specs.declared.cell.Side.TheVariants.{Right, Below}
-use Rattle.xw_grid.specs.Grid.{Grid, cells, is_block, is_barred, entry}
+use Rattle.xw_cells.specs.declared.cell.Cell.{Cell}
+use Rattle.xw_cells.specs.declared.cell.Direction.{Direction}
+use Rattle.xw_cells.specs.declared.cell.Direction.TheVariants.{Across, Down}
+use Rattle.xw_cells.specs.declared.cell.Side.{Side}
+use Rattle.xw_cells.specs.declared.cell.Side.TheVariants.{Right, Below}
+use Rattle.xw_cells.specs.Grid.{Grid, cells, is_block, is_barred, entry}
 use Rattle.xw_grid.specs.Clue.{ClueMap, clue_at, is_circled}
 use Rattle.xw_commands.specs.declared.command.Command.{Command}
 use Rattle.xw_commands.specs.declared.command.Command.TheVariants.{Size, Symmetry as Turn, Add, Strike, Set, Block, Bar, Circle, Watch, Put}

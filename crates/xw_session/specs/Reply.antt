@@ -5,13 +5,13 @@ use Rattle.xw_bits.specs.declared.fault.WordFault.{WordFault}
 use Rattle.xw_bits.specs.declared.fault.WordFault.TheVariants as words
 use Rattle.xw_letters.specs.Letter.{letter_of}
 use Rattle.xw_words.specs.Dictionary.{matching_answer}
-use Rattle.xw_grid.specs.declared.cell.Cell.{Cell}
-use Rattle.xw_grid.specs.declared.cell.LightName.{LightName}
-use Rattle.xw_grid.specs.declared.fault.GridFault.{GridFault}
-use Rattle.xw_grid.specs.declared.fault.GridFault.TheVariants as grids
+use Rattle.xw_cells.specs.declared.cell.Cell.{Cell}
+use Rattle.xw_cells.specs.declared.cell.LightName.{LightName}
+use Rattle.xw_cells.specs.declared.fault.GridFault.{GridFault}
+use Rattle.xw_cells.specs.declared.fault.GridFault.TheVariants as grids
 use Rattle.xw_grid.specs.declared.lights.Light.{Light}
-use Rattle.xw_grid.specs.Grid.{Grid, is_inside, is_open, is_block, index_of, cell_at}
-use Rattle.xw_grid.specs.Edit.{new_grid}
+use Rattle.xw_cells.specs.Grid.{Grid, is_inside, is_open, is_block, index_of, cell_at}
+use Rattle.xw_cells.specs.Edit.{new_grid}
 use Rattle.xw_grid.specs.Light.{lights_of, place_named}
 use Rattle.xw_grid.specs.Clue.{no_clues, with_clue, is_circled, with_circle}
 use Rattle.xw_feas.specs.declared.edit.Refusal.{Refusal as EditRefusal}

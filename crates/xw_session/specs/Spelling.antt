@@ -1,9 +1,9 @@
 -- The line of a command.
 use Rattle.std.specs.Prelude.{ℕ, Bool, true, false, List, [], ◌∷◌, codes, decimal, Option, Some, None}
-use Rattle.xw_grid.specs.declared.cell.Side.{Side}
-use Rattle.xw_grid.specs.declared.cell.Side.TheVariants.{Right, Below}
-use Rattle.xw_grid.specs.declared.cell.Symmetry.{Symmetry}
-use Rattle.xw_grid.specs.declared.cell.Symmetry.TheVariants as kinds
+use Rattle.xw_cells.specs.declared.cell.Side.{Side}
+use Rattle.xw_cells.specs.declared.cell.Side.TheVariants.{Right, Below}
+use Rattle.xw_cells.specs.declared.cell.Symmetry.{Symmetry}
+use Rattle.xw_cells.specs.declared.cell.Symmetry.TheVariants as kinds
 use Rattle.xw_commands.specs.declared.command.Command.{Command}
 use Rattle.xw_commands.specs.declared.command.Command.TheVariants as commands
 use Rattle.xw_commands.specs.declared.command.Field.{Field}

@@ -1,6 +1,6 @@
 -- What a session knows.
 use Rattle.std.specs.Prelude.{ℕ, Bool, List}
-use Rattle.xw_grid.specs.declared.cell.Cell.{Cell}
+use Rattle.xw_cells.specs.declared.cell.Cell.{Cell}
 use Rattle.xw_grid.specs.Clue.{ClueMap}
 use Rattle.xw_feas.specs.State.{State as Position}
 use Rattle.xw_files.specs.Puzzle.{TextsShown}

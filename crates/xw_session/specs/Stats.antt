@@ -2,11 +2,11 @@
 use Rattle.std.specs.Prelude.{ℕ, ◌+◌, ◌*◌, ◌/◌, ◌%◌, Bool, not, ◌==◌, List, [], ◌∷◌, ◌++◌, length, flat_map, codes, decimal, Option, Some, None, true, false, if◌then◌else◌}
 use Rattle.std.specs.List.{range_with_len, count_by, sum_by}
 use Rattle.std.specs.Option.{is_some}
-use Rattle.xw_grid.specs.declared.cell.Cell.{Cell}
-use Rattle.xw_grid.specs.declared.cell.Side.TheVariants.{Right, Below}
-use Rattle.xw_grid.specs.declared.cell.Direction.TheVariants.{Across, Down}
+use Rattle.xw_cells.specs.declared.cell.Cell.{Cell}
+use Rattle.xw_cells.specs.declared.cell.Side.TheVariants.{Right, Below}
+use Rattle.xw_cells.specs.declared.cell.Direction.TheVariants.{Across, Down}
 use Rattle.xw_grid.specs.declared.lights.Light.{Light}
-use Rattle.xw_grid.specs.Grid.{Grid, cells, is_block, is_barred, entry}
+use Rattle.xw_cells.specs.Grid.{Grid, cells, is_block, is_barred, entry}
 use Rattle.xw_grid.specs.Light.{lights_of, place_through}
 use Rattle.xw_session.specs.declared.stats.Tally.{Tally}
 use Rattle.xw_session.specs.declared.stats.Tally.TheVariants as tallies

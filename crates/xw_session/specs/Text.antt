@@ -1,16 +1,16 @@
 -- The lines of answers.
 use Rattle.std.specs.Prelude.{ℕ, List, [], ◌∷◌, ◌++◌, map, ◌&&◌, flat_map, codes, decimal, slice_get, Option, Some, None, if◌then◌else◌}
 use Rattle.std.specs.Option.{option_and_then}
-use Rattle.xw_grid.specs.declared.cell.Cell.{Cell}
-use Rattle.xw_grid.specs.declared.cell.Direction.{Direction}
-use Rattle.xw_grid.specs.declared.cell.Direction.TheVariants.{Across, Down}
-use Rattle.xw_grid.specs.declared.fault.GridFault.{GridFault}
-use Rattle.xw_grid.specs.declared.fault.GridFault.TheVariants as grids
+use Rattle.xw_cells.specs.declared.cell.Cell.{Cell}
+use Rattle.xw_cells.specs.declared.cell.Direction.{Direction}
+use Rattle.xw_cells.specs.declared.cell.Direction.TheVariants.{Across, Down}
+use Rattle.xw_cells.specs.declared.fault.GridFault.{GridFault}
+use Rattle.xw_cells.specs.declared.fault.GridFault.TheVariants as grids
 use Rattle.xw_grid.specs.declared.lights.Light.{Light}
-use Rattle.xw_grid.specs.Grid.{Grid, entry, is_open, cells}
+use Rattle.xw_cells.specs.Grid.{Grid, entry, is_open, cells}
 use Rattle.xw_grid.specs.Clue.{is_circled}
 use Rattle.xw_grid.specs.Light.{cells_of, lights_of, place_named}
-use Rattle.xw_grid.specs.declared.cell.LightName.{LightName}
+use Rattle.xw_cells.specs.declared.cell.LightName.{LightName}
 use Rattle.xw_words.specs.Dictionary.{entry_at, row as known_words}
 use Rattle.xw_feas.specs.State.{State as Position}
 use Rattle.xw_fill.specs.declared.listing.Duplicate.{Duplicate}

@@ -1,10 +1,10 @@
 -- What is told of a whole puzzle.
 use Rattle.std.specs.Prelude.{ℕ, List, [], ◌∷◌, ◌++◌, length, flat_map, codes, decimal, slice_index_or, if◌then◌else◌}
 use Rattle.std.specs.List.{range_with_len}
-use Rattle.xw_grid.specs.declared.cell.Cell.{Cell}
-use Rattle.xw_grid.specs.declared.cell.LightName.{LightName}
+use Rattle.xw_cells.specs.declared.cell.Cell.{Cell}
+use Rattle.xw_cells.specs.declared.cell.LightName.{LightName}
 use Rattle.xw_grid.specs.declared.lights.Light.{Light}
-use Rattle.xw_grid.specs.Grid.{Grid, is_open, index_of, cells}
+use Rattle.xw_cells.specs.Grid.{Grid, is_open, index_of, cells}
 use Rattle.xw_grid.specs.Light.{lights_of, no_light}
 use Rattle.xw_grid.specs.Clue.{ClueMap}
 use Rattle.xw_feas.specs.State.{State as Position}

@@ -8,8 +8,9 @@ ghost use Rattle.xw_session.specs.Escape.{escaped_text};
 ghost use Rattle.xw_session.specs.Told.{field_line, title_and_author, copyright_and_notes, field_lines, clue_line, clue_told, clue_lines};
 
 use crate::{escape, text};
+use xw_cells::{Direction, Grid, LightName};
 use xw_files::puzzle::Texts;
-use xw_grid::{Clues, Direction, Grid, LightName, Lights};
+use xw_grid::{Clues, Lights};
 use xw_lines::device::{Sink, WriteFailed};
 
 /// Writes a text behind its name, where it is not empty.

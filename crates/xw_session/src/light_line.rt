@@ -4,7 +4,8 @@ ghost use Rattle.xw_session.specs.Text.{direction_name as name_of_direction, pat
 
 use crate::answer_line::AnswerLine;
 use crate::text::{Decimal, direction_name, letter_or_dot};
-use xw_grid::{Direction, Grid, Light};
+use xw_cells::{Direction, Grid};
+use xw_grid::Light;
 
 /// Puts a word and a space at the end of a line.
 fn put_spaced(line: &mut AnswerLine, word: &[u8])

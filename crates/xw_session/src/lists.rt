@@ -9,11 +9,12 @@ ghost use Rattle.xw_session.specs.Text.{word_line, light_line, light_lines, circ
 use crate::answer_line::AnswerLine;
 use crate::spelling::gather_letters_line;
 use crate::{light_line, text};
+use xw_cells::{Cell, Grid, LightName};
 use xw_feas::changed::Changed;
 use xw_feas::feasible::Feasible;
 use xw_feas::words::WordIter;
 use xw_fill::listing::Duplicate;
-use xw_grid::{Cell, Circles, Grid, Light, LightName, Lights};
+use xw_grid::{Circles, Light, Lights};
 use xw_lines::device::{self, Sink, WriteFailed};
 use xw_words::Matching;
 

@@ -4,8 +4,9 @@ ghost use Rattle.std.specs.Option.{option_and_then};
 ghost use Rattle.xw_grid.specs.Light.{place_named};
 ghost use Rattle.xw_session.specs.Reply.{name_of_light};
 
+use xw_cells::LightName;
 use xw_commands::command::Named;
-use xw_grid::{Light, LightName, Lights};
+use xw_grid::{Light, Lights};
 
 /// The name of a light, where its number is not too large for one.
 pub fn light_name(named: Named) -> Option<LightName>

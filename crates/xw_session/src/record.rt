@@ -3,7 +3,7 @@ ghost use Rattle.std.specs.Prelude.{◌≡◌, ℕ, ◌+◌, ◌*◌, ◌<◌, �
 ghost use Rattle.std.specs.List.{range_with_len};
 ghost use Rattle.xw_words.specs.Dictionary.{row as words_of, entry_at};
 ghost use Rattle.xw_grid.specs.Clue.{clue_at};
-ghost use Rattle.xw_grid.specs.Grid.{entry as entry_of};
+ghost use Rattle.xw_cells.specs.Grid.{entry as entry_of};
 ghost use Rattle.xw_commands.specs.declared.command.Command.TheVariants as commands;
 ghost use Rattle.xw_commands.specs.declared.command.Name.TheVariants as names;
 ghost use Rattle.xw_lines.specs.Sends.{Sends};
@@ -15,8 +15,9 @@ ghost use Rattle.xw_session.specs.Record.{command_lines, known_counts, add_comma
 
 use crate::text::{self, Decimal};
 use crate::{escape, fields};
+use xw_cells::{Cell, Direction, Grid, Side, Symmetry};
 use xw_commands::command::{Field, Putting, Spot, TextField};
-use xw_grid::{Cell, Circles, Clues, Direction, Grid, Side, Symmetry};
+use xw_grid::{Circles, Clues};
 use xw_letters::Letter;
 use xw_lines::device::{Sink, WriteFailed};
 use xw_words::Bank;

@@ -2,9 +2,9 @@
 ghost use Rattle.std.specs.Prelude.{◌≡◌};
 ghost use Rattle.xw_session.specs.Text.{word_fault, grid_fault, syntax_fault, name_of};
 
+use xw_cells::GridFault;
 use xw_commands::command::SyntaxFault;
 use xw_feas::edit::Refusal as EditRefusal;
-use xw_grid::GridFault;
 use xw_words::WordFault;
 
 /// Why a command was refused.

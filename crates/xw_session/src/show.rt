@@ -2,12 +2,12 @@
 ghost use Rattle.std.specs.Prelude.{◌≡◌, ◌+◌, ◌<◌, ◌≤◌, if◌then◌else◌, []};
 ghost use Rattle.std.specs.List.{list_any};
 ghost use Rattle.xw_lines.specs.Sends.{Sends};
-ghost use Rattle.xw_grid.specs.declared.cell.Side.TheVariants.{Below};
-ghost use Rattle.xw_grid.specs.Grid.{is_barred as is_barred_edge};
+ghost use Rattle.xw_cells.specs.declared.cell.Side.TheVariants.{Below};
+ghost use Rattle.xw_cells.specs.Grid.{is_barred as is_barred_edge};
 ghost use Rattle.xw_session.specs.Show.{cell_glyph as glyph_of, after_cell as byte_after, cell_pair as pair_of_cell, bar_pair as pair_of_bar, cell_in as nth_cell, columns as columns_of, row_line, bar_line, has_bar_below as is_barred_below_row, row_lines, show_lines};
 
 use crate::answer_line::AnswerLine;
-use xw_grid::{Cell, Grid, Side};
+use xw_cells::{Cell, Grid, Side};
 use xw_lines::device::{self, Sink, WriteFailed};
 
 fn cell_glyph(grid: &Grid, cell: Cell) -> u8

@@ -6,7 +6,8 @@ ghost use Rattle.xw_session.specs.Text.{line_of};
 ghost use Rattle.xw_session.specs.Stats.{is_unchecked as is_unchecked_cell, is_counted as is_counted_cell, count_of, count_of_size, total_size, mean_hundredths, two_places, number_line, some_line, size_line, letter_line, mean_line, cells_line, bars_line, lights_line, cells_and_blocks, bars_and_entries, size_lines, lights_and_sizes, unchecked_and_mean, letter_lines, stat_lines};
 
 use crate::text::{self, Decimal};
-use xw_grid::{Cell, Grid, Lights, Side};
+use xw_cells::{Cell, Grid, Side};
+use xw_grid::Lights;
 use xw_lines::device::{self, Sink, WriteFailed};
 
 /// What a cell is counted for.

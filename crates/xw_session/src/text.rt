@@ -1,7 +1,7 @@
 //! The lines of answers.
 ghost use Rattle.std.specs.Prelude.{◌≡◌, ◌≤◌, ◌<◌, ◌^◌, ◌++◌, [], ◌∷◌, codes, map, decimal, length, slice_index_or};
 ghost use Rattle.xw_letters.specs.LetterSet.{has, letters_in};
-ghost use Rattle.xw_grid.specs.Grid.{entry as entry_of};
+ghost use Rattle.xw_cells.specs.Grid.{entry as entry_of};
 ghost use Rattle.xw_grid.specs.Light.{lights_of};
 ghost use Rattle.xw_feas.specs.Spelled.{spelling};
 ghost use Rattle.xw_lines.specs.Sends.{Sends, Gathers};
@@ -13,9 +13,10 @@ use crate::lookup::light_named;
 use crate::refusal::{self, Refusal};
 use crate::spelling::{gather_letters_line, send_lines, write_letters_line};
 use std::marker::Model;
+use xw_cells::{Cell, Direction, Grid, LightName};
 use xw_feas::words::{Entries, Spelled};
 use xw_fill::listing::Duplicate;
-use xw_grid::{Cell, Direction, Grid, Light, LightName, Lights};
+use xw_grid::{Light, Lights};
 use xw_letters::{Letter, LetterSet};
 use xw_lines::device::{self, Sink, WriteFailed};
 use xw_words::word::LONGEST;

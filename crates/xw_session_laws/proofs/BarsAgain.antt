@@ -2,18 +2,18 @@
 use Rattle.std.proofs.Common.{◌≡◌, ℕ, ◌*◌, ◌+◌, ◌<◌, Bool, true, false, not, ◌&&◌, eqb, List, [], ◌∷◌, length, map, get_or, set, replicate, Some, refl, sym, ◌∙◌, ap, inl, length-set, arith}
 use Rattle.std.specs.Prelude.{Ok, Err, slice_index_or, if◌then◌else◌}
 use Rattle.std.proofs.lemmas.List.{length-map, length-replicate, get_or-replicate, get_or_default, same_lists}
-use Rattle.xw_grid.specs.declared.cell.Cell.{Cell}
-use Rattle.xw_grid.specs.declared.cell.Side.{Side}
-use Rattle.xw_grid.specs.declared.cell.Side.TheVariants.{Right, Below}
-use Rattle.xw_grid.specs.declared.cell.Square.{Square}
-use Rattle.xw_grid.specs.declared.cell.Symmetry.TheVariants as kinds
-use Rattle.xw_grid.specs.declared.fault.GridFault.TheVariants.{OutOfGrid, Border}
-use Rattle.xw_grid.specs.Grid.{Grid, IsGrid, is_inside, index_of, cell_at, cells, same_cell, same_side, beyond, is_edge, bars, is_barred}
-use Rattle.xw_grid.specs.Edit.{bars_with, with_edges}
-use Rattle.xw_grid.specs.Orbit.{is_between, is_in_edge_orbit}
+use Rattle.xw_cells.specs.declared.cell.Cell.{Cell}
+use Rattle.xw_cells.specs.declared.cell.Side.{Side}
+use Rattle.xw_cells.specs.declared.cell.Side.TheVariants.{Right, Below}
+use Rattle.xw_cells.specs.declared.cell.Square.{Square}
+use Rattle.xw_cells.specs.declared.cell.Symmetry.TheVariants as kinds
+use Rattle.xw_cells.specs.declared.fault.GridFault.TheVariants.{OutOfGrid, Border}
+use Rattle.xw_cells.specs.Grid.{Grid, IsGrid, is_inside, index_of, cell_at, cells, same_cell, same_side, beyond, is_edge, bars, is_barred}
+use Rattle.xw_cells.specs.Edit.{bars_with, with_edges}
+use Rattle.xw_cells.specs.Orbit.{is_between, is_in_edge_orbit}
 use Rattle.xw_grid.specs.Clue.{ClueMap}
-use Rattle.xw_grid.proofs.EdgeLemmas.{is_between-IsEdgeBetween}
-use Rattle.xw_grid.proofs.GridLemmas.{cell_at-inside, index_of-cell_at, same_cell-cell_at, get_set, length-cells, get_or-map-cells}
+use Rattle.xw_cells.proofs.EdgeLemmas.{is_between-IsEdgeBetween}
+use Rattle.xw_cells.proofs.GridLemmas.{cell_at-inside, index_of-cell_at, same_cell-cell_at, get_set, length-cells, get_or-map-cells}
 use Rattle.xw_feas.specs.State.{with_grid as with_edited, by_fault}
 use Rattle.xw_commands.specs.declared.command.Command.TheVariants as commands
 use Rattle.xw_session.specs.declared.record.Part.TheVariants as parts

@@ -9,17 +9,17 @@ use Rattle.std.proofs.lemmas.List.{take_more, take_all, length-take-le, length-d
 use Rattle.std.proofs.lemmas.List.Elements.{All-get_or}
 use Rattle.std.proofs.lemmas.Option.{slice_get-get_or}
 use Rattle.xw_letters.specs.Letter.{IsLetter, letter_of}
-use Rattle.xw_grid.specs.declared.cell.Cell.{Cell}
-use Rattle.xw_grid.specs.declared.cell.Square.{Square}
-use Rattle.xw_grid.specs.declared.cell.Square.TheVariants.{Block, Open}
-use Rattle.xw_grid.specs.declared.cell.Symmetry.TheVariants as kinds
-use Rattle.xw_grid.specs.declared.fault.GridFault.TheVariants.{OutOfGrid, OnBlock, Occupied}
-use Rattle.xw_grid.specs.Grid.{Grid, IsGrid, IsSquare, is_inside, index_of, cell_at, cells, is_block_square, letter_in, square_at, is_block, entry, same_cell}
-use Rattle.xw_grid.specs.Edit.{with_entry, is_occupied, with_orbit, turned, square_of}
-use Rattle.xw_grid.specs.Orbit.{moved_by, moved as moved_cell, is_in_orbit}
+use Rattle.xw_cells.specs.declared.cell.Cell.{Cell}
+use Rattle.xw_cells.specs.declared.cell.Square.{Square}
+use Rattle.xw_cells.specs.declared.cell.Square.TheVariants.{Block, Open}
+use Rattle.xw_cells.specs.declared.cell.Symmetry.TheVariants as kinds
+use Rattle.xw_cells.specs.declared.fault.GridFault.TheVariants.{OutOfGrid, OnBlock, Occupied}
+use Rattle.xw_cells.specs.Grid.{Grid, IsGrid, IsSquare, is_inside, index_of, cell_at, cells, is_block_square, letter_in, square_at, is_block, entry, same_cell}
+use Rattle.xw_cells.specs.Edit.{with_entry, is_occupied, with_orbit, turned, square_of}
+use Rattle.xw_cells.specs.Orbit.{moved_by, moved as moved_cell, is_in_orbit}
 use Rattle.xw_grid.specs.Clue.{ClueMap}
 use Rattle.xw_feas.specs.State.{with_grid as with_edited, by_fault}
-use Rattle.xw_grid.proofs.GridLemmas.{cell_at-inside, index_of-cell_at, same_cell-cell_at, get_set, length-cells, get_or-map-cells}
+use Rattle.xw_cells.proofs.GridLemmas.{cell_at-inside, index_of-cell_at, same_cell-cell_at, get_set, length-cells, get_or-map-cells}
 use Rattle.xw_commands.specs.declared.command.Command.{Command}
 use Rattle.xw_commands.specs.declared.command.Command.TheVariants as commands
 use Rattle.xw_session.specs.declared.record.Part.TheVariants.{Letters, Blocks}

@@ -11,14 +11,14 @@ use Rattle.std.proofs.lemmas.Nat.{mod_below, mul-le}
 use Rattle.std.proofs.lemmas.List.{get_or-take, get_or-replicate, length-take, length-replicate}
 use Rattle.std.proofs.lemmas.List.FromFn.{get_or-map-range_with_len}
 use Rattle.std.proofs.lemmas.List.Elements.{All-tail, All-from_get_or, All-filter, filter-append}
-use Rattle.xw_grid.specs.declared.cell.Cell.{Cell}
-use Rattle.xw_grid.specs.declared.cell.Square.TheVariants.{Block, Open}
-use Rattle.xw_grid.specs.declared.fault.GridFault.TheVariants.{OutOfGrid, OnBlock}
-use Rattle.xw_grid.specs.Grid.{Grid, IsGrid, is_inside, is_open, is_open_square, cell_at, cells, cell_cmp}
-use Rattle.xw_grid.specs.Edit.{blank}
+use Rattle.xw_cells.specs.declared.cell.Cell.{Cell}
+use Rattle.xw_cells.specs.declared.cell.Square.TheVariants.{Block, Open}
+use Rattle.xw_cells.specs.declared.fault.GridFault.TheVariants.{OutOfGrid, OnBlock}
+use Rattle.xw_cells.specs.Grid.{Grid, IsGrid, is_inside, is_open, is_open_square, cell_at, cells, cell_cmp}
+use Rattle.xw_cells.specs.Edit.{blank}
 use Rattle.xw_grid.specs.Clue.{ClueMap, is_circled, with_circle}
 use Rattle.xw_grid.proofs.ClueLemmas.{same_at}
-use Rattle.xw_grid.proofs.GridLemmas.{cell_at-inside, take-cells, all-cells}
+use Rattle.xw_cells.proofs.GridLemmas.{cell_at-inside, take-cells, all-cells}
 use Rattle.xw_commands.specs.declared.command.Command.TheVariants as commands
 use Rattle.xw_session.specs.declared.record.Part.TheVariants.{Circles}
 use Rattle.xw_session.specs.declared.refusal.Refusal.TheVariants as refusals

@@ -1,12 +1,12 @@
 -- Clues of a record, put in reading order.
 use Rattle.std.proofs.Common.{◌≡◌, ℕ, ◌+◌, ◌*◌, ◌<◌, false, List, [], ◌∷◌, ◌++◌, Some, refl, sym, ◌∙◌, ap, append-nil, arith}
 use Rattle.std.specs.Option.{option_and_then}
-use Rattle.xw_grid.specs.declared.cell.Cell.{Cell}
-use Rattle.xw_grid.specs.declared.cell.Direction.{Direction}
-use Rattle.xw_grid.specs.declared.cell.Direction.TheVariants.{Across, Down}
-use Rattle.xw_grid.specs.Grid.{Grid, IsGrid, cell_at}
+use Rattle.xw_cells.specs.declared.cell.Cell.{Cell}
+use Rattle.xw_cells.specs.declared.cell.Direction.{Direction}
+use Rattle.xw_cells.specs.declared.cell.Direction.TheVariants.{Across, Down}
+use Rattle.xw_cells.specs.Grid.{Grid, IsGrid, cell_at}
 use Rattle.xw_grid.specs.Clue.{Texts, ClueMap, no_clues, clue_at, text_at, with_clue}
-use Rattle.xw_grid.proofs.GridLemmas.{cell_at-inside}
+use Rattle.xw_cells.proofs.GridLemmas.{cell_at-inside}
 use Rattle.xw_commands.specs.declared.command.Field.TheVariants as fields
 use Rattle.xw_session.specs.declared.record.Part.TheVariants.{Clues}
 use Rattle.xw_session.specs.State.{State}

@@ -2,9 +2,9 @@
 use Rattle.std.specs.Prelude.{◌≡◌, true, false, List, [], ◌∷◌, codes, replicate, set, Some, None, refl}
 use Rattle.std.specs.Fmt.{digits}
 use Rattle.xw_words.specs.Dictionary.{Dictionary, Entry}
-use Rattle.xw_grid.specs.declared.cell.Square.TheVariants.{Open}
-use Rattle.xw_grid.specs.declared.cell.Symmetry.TheVariants as kinds
-use Rattle.xw_grid.specs.Edit.{blank}
+use Rattle.xw_cells.specs.declared.cell.Square.TheVariants.{Open}
+use Rattle.xw_cells.specs.declared.cell.Symmetry.TheVariants as kinds
+use Rattle.xw_cells.specs.Edit.{blank}
 use Rattle.xw_grid.specs.Clue.{no_clues}
 use Rattle.xw_session.specs.State.{State}
 use Rattle.xw_session.specs.Record.{known_counts, record_commands, record_lines}

@@ -8,10 +8,10 @@ use Rattle.std.specs.Ordering.{match_ordering}
 use Rattle.std.proofs.lemmas.Bool.{cases_Bool, cases_lt, eq-eqb}
 use Rattle.std.proofs.lemmas.Bool.Decides.{nat_tests}
 use Rattle.std.proofs.lemmas.List.Elements.{filter-append}
-use Rattle.xw_grid.specs.declared.cell.Cell.{Cell}
-use Rattle.xw_grid.specs.Grid.{Grid, is_inside, index_of, cell_at, cells, same_cell, cell_cmp}
+use Rattle.xw_cells.specs.declared.cell.Cell.{Cell}
+use Rattle.xw_cells.specs.Grid.{Grid, is_inside, index_of, cell_at, cells, same_cell, cell_cmp}
 use Rattle.xw_grid.specs.Clue.{Texts, text_at, is_circled}
-use Rattle.xw_grid.proofs.GridLemmas.{index_of-lt, cell_at-index_of, same_cell-cell_at, take-cells, all-cells}
+use Rattle.xw_cells.proofs.GridLemmas.{index_of-lt, cell_at-index_of, same_cell-cell_at, take-cells, all-cells}
 use Rattle.xw_session.specs.Reply.{has_nul}
 use Rattle.xw_session_laws.specs.Replay.{AreFrom, AreTextsFrom}
 use Rattle.xw_session_laws.proofs.CirclesAgain.{in_order}

@@ -9,12 +9,12 @@ use Rattle.std.specs.Cmp.{nat_cmp_is}
 use Rattle.std.proofs.Math.Nat.{div-add-mod}
 use Rattle.std.proofs.lemmas.Bool.{cases_lt}
 use Rattle.std.proofs.lemmas.Nat.{mod_below, mul-le}
-use Rattle.xw_grid.specs.declared.cell.Cell.{Cell}
-use Rattle.xw_grid.specs.declared.cell.Direction.{Direction}
-use Rattle.xw_grid.specs.declared.cell.Direction.TheVariants.{Across, Down}
-use Rattle.xw_grid.specs.Grid.{Grid, is_inside, index_of, cell_at, cell_cmp}
+use Rattle.xw_cells.specs.declared.cell.Cell.{Cell}
+use Rattle.xw_cells.specs.declared.cell.Direction.{Direction}
+use Rattle.xw_cells.specs.declared.cell.Direction.TheVariants.{Across, Down}
+use Rattle.xw_cells.specs.Grid.{Grid, is_inside, index_of, cell_at, cell_cmp}
 use Rattle.xw_grid.specs.Clue.{Texts, ClueMap, with_text, with_circle, with_clue}
-use Rattle.xw_grid.proofs.GridLemmas.{cell_at-index_of}
+use Rattle.xw_cells.proofs.GridLemmas.{cell_at-index_of}
 use Rattle.xw_session.specs.Reply.{has_nul}
 use Rattle.xw_session_laws.specs.Replay.{AreFrom, AreTextsFrom, clues_of}
 use Rattle.xw_session_laws.proofs.CirclesAgain.{in_order}

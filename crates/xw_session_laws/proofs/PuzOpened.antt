@@ -2,14 +2,14 @@
 use Rattle.std.proofs.Common.{◌≡◌, ℕ, ◌+◌, ◌*◌, ◌<◌, ◌≤◌, true, false, ◌&&◌, List, [], ◌∷◌, length, take, drop, Some, None, refl, sym, subst, arith}
 use Rattle.std.specs.Prelude.{Option, Ok, ◌==◌, nat_lt}
 use Rattle.std.proofs.lemmas.Bool.{cond_both, eqb-true, ne_eqb}
-use Rattle.xw_grid.specs.declared.cell.Cell.{Cell}
-use Rattle.xw_grid.specs.declared.cell.Direction.{Direction}
+use Rattle.xw_cells.specs.declared.cell.Cell.{Cell}
+use Rattle.xw_cells.specs.declared.cell.Direction.{Direction}
 use Rattle.xw_grid.specs.declared.lights.Light.{Light}
-use Rattle.xw_grid.specs.Grid.{Grid, IsGrid, is_inside, is_open, cell_at}
-use Rattle.xw_grid.specs.Edit.{grid_of}
+use Rattle.xw_cells.specs.Grid.{Grid, IsGrid, is_inside, is_open, cell_at}
+use Rattle.xw_cells.specs.Edit.{grid_of}
 use Rattle.xw_grid.specs.Clue.{ClueMap, no_clues, with_clue, with_circle}
 use Rattle.xw_grid.specs.Light.{lights_of}
-use Rattle.xw_grid.proofs.GridLemmas.{cell_at-inside}
+use Rattle.xw_cells.proofs.GridLemmas.{cell_at-inside}
 use Rattle.xw_files.specs.declared.fault.TextName.TheVariants as names
 use Rattle.xw_files.specs.declared.puz.header.Header.{Header}
 use Rattle.xw_files.specs.Puzzle.{PuzzleShown}

@@ -4,13 +4,13 @@ use Rattle.std.specs.Prelude.{Option}
 use Rattle.std.specs.Option.{option_and_then}
 use Rattle.std.proofs.lemmas.List.{length-replicate}
 use Rattle.xw_words.specs.Dictionary.{Dictionary}
-use Rattle.xw_grid.specs.declared.cell.Direction.TheVariants.{Across, Down}
-use Rattle.xw_grid.specs.declared.cell.Side.TheVariants.{Right, Below}
-use Rattle.xw_grid.specs.declared.cell.Square.{Square}
-use Rattle.xw_grid.specs.declared.cell.Square.TheVariants.{Open}
-use Rattle.xw_grid.specs.declared.cell.Symmetry.TheVariants as kinds
-use Rattle.xw_grid.specs.Grid.{Grid}
-use Rattle.xw_grid.specs.Edit.{blank}
+use Rattle.xw_cells.specs.declared.cell.Direction.TheVariants.{Across, Down}
+use Rattle.xw_cells.specs.declared.cell.Side.TheVariants.{Right, Below}
+use Rattle.xw_cells.specs.declared.cell.Square.{Square}
+use Rattle.xw_cells.specs.declared.cell.Square.TheVariants.{Open}
+use Rattle.xw_cells.specs.declared.cell.Symmetry.TheVariants as kinds
+use Rattle.xw_cells.specs.Grid.{Grid}
+use Rattle.xw_cells.specs.Edit.{blank}
 use Rattle.xw_grid.specs.Clue.{no_clues}
 use Rattle.xw_commands.specs.declared.command.Command.{Command}
 use Rattle.xw_commands.specs.declared.command.Field.TheVariants as fields

@@ -8,13 +8,13 @@ use Rattle.std.proofs.lemmas.List.{length-drop, length-take, get_or-drop}
 use Rattle.std.proofs.lemmas.List.Elements.{All-get_or}
 use Rattle.std.proofs.lemmas.List.FromFn.{get_or-range_with_len, length-range_with_len}
 use Rattle.xw_words.specs.Dictionary.{Dictionary, Entry, IsDictionary, row, no_entry}
-use Rattle.xw_grid.specs.declared.cell.Cell.{Cell}
-use Rattle.xw_grid.specs.declared.cell.Direction.{Direction}
-use Rattle.xw_grid.specs.declared.cell.Square.{Square}
-use Rattle.xw_grid.specs.declared.cell.Square.TheVariants as squares
-use Rattle.xw_grid.specs.Grid.{Grid, IsGrid, IsSquare, cell_at, cells, entry, letter_in, is_block, is_barred}
+use Rattle.xw_cells.specs.declared.cell.Cell.{Cell}
+use Rattle.xw_cells.specs.declared.cell.Direction.{Direction}
+use Rattle.xw_cells.specs.declared.cell.Square.{Square}
+use Rattle.xw_cells.specs.declared.cell.Square.TheVariants as squares
+use Rattle.xw_cells.specs.Grid.{Grid, IsGrid, IsSquare, cell_at, cells, entry, letter_in, is_block, is_barred}
 use Rattle.xw_grid.specs.Clue.{ClueMap, clue_at, is_circled}
-use Rattle.xw_grid.proofs.GridLemmas.{cell_at-inside, inside_small, length-cells}
+use Rattle.xw_cells.proofs.GridLemmas.{cell_at-inside, inside_small, length-cells}
 use Rattle.xw_commands.specs.declared.command.Command.{Command}
 use Rattle.xw_commands.specs.declared.command.Command.TheVariants as commands
 use Rattle.xw_commands.specs.declared.command.Field.{Field}

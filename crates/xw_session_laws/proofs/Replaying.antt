@@ -13,17 +13,17 @@ use Rattle.std.proofs.lemmas.List.{take-append-drop, take_all, length-take, leng
 use Rattle.std.proofs.lemmas.List.Folds.{list_any-append}
 use Rattle.std.proofs.lemmas.Nat.{mod_below}
 use Rattle.std.proofs.lemmas.Bool.{eq-eqb}
-use Rattle.xw_grid.specs.declared.cell.Cell.{Cell}
-use Rattle.xw_grid.specs.declared.cell.Direction.{Direction}
-use Rattle.xw_grid.specs.declared.cell.Direction.TheVariants.{Across, Down}
-use Rattle.xw_grid.specs.declared.cell.Symmetry.{Symmetry}
-use Rattle.xw_grid.specs.declared.cell.Symmetry.TheVariants as kinds
-use Rattle.xw_grid.specs.declared.fault.GridFault.TheVariants.{Size, NotSquare}
-use Rattle.xw_grid.specs.Grid.{Grid, IsGrid, cell_cmp}
-use Rattle.xw_grid.specs.Edit.{blank}
+use Rattle.xw_cells.specs.declared.cell.Cell.{Cell}
+use Rattle.xw_cells.specs.declared.cell.Direction.{Direction}
+use Rattle.xw_cells.specs.declared.cell.Direction.TheVariants.{Across, Down}
+use Rattle.xw_cells.specs.declared.cell.Symmetry.{Symmetry}
+use Rattle.xw_cells.specs.declared.cell.Symmetry.TheVariants as kinds
+use Rattle.xw_cells.specs.declared.fault.GridFault.TheVariants.{Size, NotSquare}
+use Rattle.xw_cells.specs.Grid.{Grid, IsGrid, cell_cmp}
+use Rattle.xw_cells.specs.Edit.{blank}
 use Rattle.xw_grid.specs.Clue.{Texts, ClueMap, no_clues, clue_at, with_clue}
 use Rattle.xw_grid.proofs.ClueLemmas.{same_at}
-use Rattle.xw_grid.proofs.GridLemmas.{same_cell_itself}
+use Rattle.xw_cells.proofs.GridLemmas.{same_cell_itself}
 use Rattle.xw_grid.proofs.KeptLemmas.{clues_are_kept}
 use Rattle.xw_feas.specs.State.{with_grid, by_fault}
 use Rattle.xw_commands.specs.declared.command.Command.{Command}

@@ -9,14 +9,14 @@ use Rattle.xw_words.specs.Word.{is_bad_letter}
 use Rattle.xw_words.specs.Dictionary.{Dictionary, matching_answer, add_answer, strike_answer}
 use Rattle.xw_bits.specs.declared.fault.WordFault.{WordFault}
 use Rattle.xw_bits.specs.declared.fault.WordFault.TheVariants as faults
-use Rattle.xw_grid.specs.declared.cell.Cell.{Cell}
-use Rattle.xw_grid.specs.declared.cell.Direction.{Direction}
-use Rattle.xw_grid.specs.declared.cell.Direction.TheVariants.{Across, Down}
-use Rattle.xw_grid.specs.declared.fault.GridFault.{GridFault}
-use Rattle.xw_grid.specs.declared.fault.GridFault.TheVariants as grids
+use Rattle.xw_cells.specs.declared.cell.Cell.{Cell}
+use Rattle.xw_cells.specs.declared.cell.Direction.{Direction}
+use Rattle.xw_cells.specs.declared.cell.Direction.TheVariants.{Across, Down}
+use Rattle.xw_cells.specs.declared.fault.GridFault.{GridFault}
+use Rattle.xw_cells.specs.declared.fault.GridFault.TheVariants as grids
 use Rattle.xw_grid.specs.declared.lights.Light.{Light}
-use Rattle.xw_grid.specs.Grid.{Grid, IsGrid, is_inside, is_edge, is_barred, is_open, is_block, index_of}
-use Rattle.xw_grid.specs.Edit.{blank, new_grid, with_entry, is_occupied, with_orbit, with_edges}
+use Rattle.xw_cells.specs.Grid.{Grid, IsGrid, is_inside, is_edge, is_barred, is_open, is_block, index_of}
+use Rattle.xw_cells.specs.Edit.{blank, new_grid, with_entry, is_occupied, with_orbit, with_edges}
 use Rattle.xw_grid.specs.Clue.{ClueMap, no_clues, with_clue, with_circle, is_circled}
 use Rattle.xw_grid.specs.Light.{lights_of, no_light, place_named, cells_of}
 use Rattle.xw_grid.proofs.OrderLemmas.{lights_are_made, made_inside}

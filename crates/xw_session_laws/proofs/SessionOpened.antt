@@ -7,12 +7,12 @@ use Rattle.std.proofs.lemmas.List.Elements.{recursion_from_All}
 use Rattle.std.proofs.lemmas.List.FromFn.{get_or-map-range_with_len, length-map-range_with_len}
 use Rattle.xw_words.specs.Dictionary.{Dictionary, Entry}
 use Rattle.xw_words.specs.WordList.{known, has_length, entries_among, listed}
-use Rattle.xw_grid.specs.declared.cell.Direction.{Direction}
-use Rattle.xw_grid.specs.declared.cell.Direction.TheVariants.{Across, Down}
-use Rattle.xw_grid.specs.declared.cell.Square.{Square}
+use Rattle.xw_cells.specs.declared.cell.Direction.{Direction}
+use Rattle.xw_cells.specs.declared.cell.Direction.TheVariants.{Across, Down}
+use Rattle.xw_cells.specs.declared.cell.Square.{Square}
 use Rattle.xw_grid.specs.declared.lights.Light.{Light}
-use Rattle.xw_grid.specs.Grid.{Grid, is_inside}
-use Rattle.xw_grid.specs.Edit.{grid_of}
+use Rattle.xw_cells.specs.Grid.{Grid, is_inside}
+use Rattle.xw_cells.specs.Edit.{grid_of}
 use Rattle.xw_grid.specs.Clue.{no_clues}
 use Rattle.xw_grid.specs.Light.{lights_of}
 use Rattle.xw_grid.proofs.OrderLemmas.{IsMade, lights_are_made, made_inside}

@@ -4,11 +4,11 @@ use Rattle.std.specs.Prelude.{Option, Ok, nat_eq, position}
 use Rattle.std.specs.List.{AllByRecursion}
 use Rattle.std.proofs.lemmas.Bool.{cond_both}
 use Rattle.std.proofs.lemmas.Bool.Decides.{nat_tests}
-use Rattle.xw_grid.specs.declared.cell.Cell.{Cell}
-use Rattle.xw_grid.specs.declared.cell.Direction.{Direction}
-use Rattle.xw_grid.specs.declared.cell.Direction.TheVariants.{Across, Down}
+use Rattle.xw_cells.specs.declared.cell.Cell.{Cell}
+use Rattle.xw_cells.specs.declared.cell.Direction.{Direction}
+use Rattle.xw_cells.specs.declared.cell.Direction.TheVariants.{Across, Down}
 use Rattle.xw_grid.specs.declared.lights.Light.{Light}
-use Rattle.xw_grid.specs.Grid.{Grid, IsGrid, is_inside}
+use Rattle.xw_cells.specs.Grid.{Grid, IsGrid, is_inside}
 use Rattle.xw_grid.specs.Clue.{ClueMap, no_clues, with_clue}
 use Rattle.xw_grid.specs.Light.{lights_of, same_direction}
 use Rattle.xw_files.specs.declared.fault.ReadFault.TheVariants as faults

@@ -2,13 +2,13 @@
 use Rattle.std.specs.Prelude.{◌≡◌, ℕ, ◌+◌, ◌<◌, ◌≤◌, true, false, List, [], ◌∷◌, ◌++◌, map, take, length, slice_index_or, Option, Some, None, Result, Ok, Err}
 use Rattle.std.specs.Option.{option_and_then}
 use Rattle.xw_words.specs.Dictionary.{Dictionary, Entry, IsDictionary, row}
-use Rattle.xw_grid.specs.declared.cell.Square.{Square}
-use Rattle.xw_grid.specs.declared.cell.Square.TheVariants.{Block, Open}
-use Rattle.xw_grid.specs.declared.cell.Cell.{Cell}
-use Rattle.xw_grid.specs.declared.cell.Direction.{Direction}
-use Rattle.xw_grid.specs.declared.cell.Direction.TheVariants.{Across, Down}
-use Rattle.xw_grid.specs.declared.cell.Side.{Side}
-use Rattle.xw_grid.specs.Grid.{Grid, IsGrid, is_inside, is_edge, bars, index_of}
+use Rattle.xw_cells.specs.declared.cell.Square.{Square}
+use Rattle.xw_cells.specs.declared.cell.Square.TheVariants.{Block, Open}
+use Rattle.xw_cells.specs.declared.cell.Cell.{Cell}
+use Rattle.xw_cells.specs.declared.cell.Direction.{Direction}
+use Rattle.xw_cells.specs.declared.cell.Direction.TheVariants.{Across, Down}
+use Rattle.xw_cells.specs.declared.cell.Side.{Side}
+use Rattle.xw_cells.specs.Grid.{Grid, IsGrid, is_inside, is_edge, bars, index_of}
 use Rattle.xw_grid.specs.Clue.{Texts, ClueMap, no_clues}
 use Rattle.xw_feas.specs.State.{State as Position}
 use Rattle.xw_feas.specs.WellFormed.{IsWellFormed}

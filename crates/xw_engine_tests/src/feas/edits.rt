@@ -5,9 +5,9 @@ use crate::edits::{
 };
 use crate::feas::Step::{Count, Letters, Lights, Next, NoLight, Regrid, Told, Words};
 use crate::feas::{ALL, Case, Step, WHOLE_SQUARE, pass, pass_each};
+use xw_cells::cell::{Side, Symmetry};
 use xw_feas::edit::{Edit, Found, Refusal};
 use xw_feas::feasible::run;
-use xw_grid::cell::{Side, Symmetry};
 use xw_letters::letter::Letter;
 
 const ONE_ENTRY: &[Step] = &[

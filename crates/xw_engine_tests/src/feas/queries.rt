@@ -3,8 +3,8 @@ use crate::edits::Do::Block;
 use crate::edits::{ACROSS_1, ACROSS_3, DOWN_1, DOWN_2, SQUARE, Start};
 use crate::feas::Step::{Known, Letters, Light, Lights, Next, NoLetters, NoLight, Size, Told};
 use crate::feas::{ALL, Case, Step, WHOLE_SQUARE, pass_each};
+use xw_cells::fault::GridFault;
 use xw_feas::edit::Found;
-use xw_grid::fault::GridFault;
 
 const LIGHTS: &[Step] = &[
     Size(2, 2),

@@ -3,9 +3,9 @@ use crate::edits::Do::{Add, Bar, Block, Choose, Clear, Place, Set, Strike};
 use crate::edits::{ACROSS_1, ACROSS_2, ROW_OF_THREE, SQUARE, Start};
 use crate::feas::Step::{Refused, Told, Words};
 use crate::feas::{Case, Step, pass_each};
+use xw_cells::cell::{Side, Symmetry};
+use xw_cells::fault::GridFault;
 use xw_feas::edit::Refusal;
-use xw_grid::cell::{Side, Symmetry};
-use xw_grid::fault::GridFault;
 use xw_words::WordFault;
 
 const OUTSIDE: Refusal = Refusal::Grid(GridFault::OutOfGrid);

@@ -3,10 +3,10 @@ use crate::edits::{Do, SQUARE, at, engine};
 use crate::feas::{Step, pass};
 use std::alloc::Global;
 use std::process::Abort;
+use xw_cells::cell::Cell;
+use xw_cells::fault::GridFault;
 use xw_feas::edit::{Edit, Refusal};
 use xw_feas::feasible::Feasible;
-use xw_grid::cell::Cell;
-use xw_grid::fault::GridFault;
 use xw_letters::letter::Letter;
 use xw_plain::plain::Plain;
 

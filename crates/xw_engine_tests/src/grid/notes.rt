@@ -1,10 +1,10 @@
 //! Clues and circles, which lie beside a grid.
 use crate::grid::cell;
 use std::process::Abort;
-use xw_grid::cell::Direction;
+use xw_cells::cell::Direction;
+use xw_cells::fault::GridFault;
 use xw_grid::circles::Circles;
 use xw_grid::clues::Clues;
-use xw_grid::fault::GridFault;
 
 /// What is written or read of clues that start in one cell.
 #[derive(Clone, Copy)]

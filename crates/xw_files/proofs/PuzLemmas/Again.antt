@@ -5,9 +5,9 @@ use Rattle.std.specs.List.{list_any}
 use Rattle.std.specs.declared.vec.Vec.{Vec}
 use Rattle.std.proofs.lemmas.List.{length-map}
 use Rattle.std.proofs.lemmas.Nat.{mul-le}
-use Rattle.xw_grid.specs.declared.cell.Cell.{Cell}
-use Rattle.xw_grid.specs.declared.cell.Square.{Square}
-use Rattle.xw_grid.specs.Grid.{IsGrid, IsSquare, cells}
+use Rattle.xw_cells.specs.declared.cell.Cell.{Cell}
+use Rattle.xw_cells.specs.declared.cell.Square.{Square}
+use Rattle.xw_cells.specs.Grid.{IsGrid, IsSquare, cells}
 use Rattle.xw_grid.specs.Light.{lights_of}
 use Rattle.xw_grid.proofs.CountLemmas.{lights_are_few}
 use Rattle.xw_files.specs.declared.fault.TextName.{TextName}

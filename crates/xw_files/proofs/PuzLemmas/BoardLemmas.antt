@@ -3,9 +3,9 @@ use Rattle.std.proofs.Common.{◌≡◌, ℕ, zero, suc, ◌+◌, Bool, true, fa
 use Rattle.std.specs.Prelude.{Option, Some, None, option_map, All}
 use Rattle.std.proofs.lemmas.Bool.Decides.{nat_tests}
 use Rattle.xw_letters.specs.Letter.{IsLetter, is_letter, folded, letter_of}
-use Rattle.xw_grid.specs.Grid.{IsSquare}
-use Rattle.xw_grid.specs.declared.cell.Square.TheVariants.{Block, Open}
-use Rattle.xw_grid.specs.declared.cell.Square.{Square}
+use Rattle.xw_cells.specs.Grid.{IsSquare}
+use Rattle.xw_cells.specs.declared.cell.Square.TheVariants.{Block, Open}
+use Rattle.xw_cells.specs.declared.cell.Square.{Square}
 use Rattle.xw_files.specs.Puz.Board.{square_of, square_or_fault, squares_at}
 use Rattle.xw_files.proofs.StepLemmas.{bind_ok, ok_is}
 

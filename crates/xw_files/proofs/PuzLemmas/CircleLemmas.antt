@@ -3,10 +3,10 @@ use Rattle.std.proofs.Common.{◌≡◌, ℕ, zero, suc, ◌+◌, ◌*◌, ◌<�
 use Rattle.std.specs.Prelude.{filter}
 use Rattle.std.specs.List.{list_any, range_with_len}
 use Rattle.std.proofs.lemmas.Bool.{false_from_ne_true}
-use Rattle.xw_grid.specs.declared.cell.Cell.{Cell}
-use Rattle.xw_grid.specs.Grid.{Grid, cells, cell_at, index_of, is_open, same_cell}
+use Rattle.xw_cells.specs.declared.cell.Cell.{Cell}
+use Rattle.xw_cells.specs.Grid.{Grid, cells, cell_at, index_of, is_open, same_cell}
 use Rattle.xw_grid.specs.Clue.{is_circled, with_circle}
-use Rattle.xw_grid.proofs.GridLemmas.{index_of-cell_at, cells_same, same_cell_itself, get_or-map-cells}
+use Rattle.xw_cells.proofs.GridLemmas.{index_of-cell_at, cells_same, same_cell_itself, get_or-map-cells}
 use Rattle.xw_grid.proofs.KeptLemmas.{circles_are_kept}
 use Rattle.xw_files.specs.Puzzle.{is_circled_open}
 use Rattle.xw_files.specs.Puz.Sections.{is_marked, marked_cells, with_mark, with_marks}

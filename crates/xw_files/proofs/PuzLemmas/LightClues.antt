@@ -1,14 +1,14 @@
 -- Clues that were set for the lights of a grid are the clues of these lights.
 use Rattle.std.proofs.Common.{◌≡◌, ℕ, suc, ◌<◌, Bool, true, false, cond, ◌&&◌, List, [], ◌∷◌, map, length, get_or, refl, sym, ap, ◌∙◌, arith, inl, inr}
 use Rattle.std.proofs.lemmas.Bool.{false_from_ne_true}
-use Rattle.xw_grid.specs.declared.cell.Direction.{Direction}
-use Rattle.xw_grid.specs.declared.cell.Direction.TheVariants.{Across, Down}
+use Rattle.xw_cells.specs.declared.cell.Direction.{Direction}
+use Rattle.xw_cells.specs.declared.cell.Direction.TheVariants.{Across, Down}
 use Rattle.xw_grid.specs.declared.lights.Light.{Light}
-use Rattle.xw_grid.specs.Grid.{Grid, same_cell}
+use Rattle.xw_cells.specs.Grid.{Grid, same_cell}
 use Rattle.xw_grid.specs.Light.{lights_of, number_at, same_direction}
 use Rattle.xw_grid.specs.LightLaws.{IsBefore}
 use Rattle.xw_grid.specs.Clue.{ClueMap, with_clue}
-use Rattle.xw_grid.proofs.GridLemmas.{and-true, same_cell_itself, cells_same}
+use Rattle.xw_cells.proofs.GridLemmas.{and-true, same_cell_itself, cells_same}
 use Rattle.xw_grid.proofs.KeptLemmas.{clues_are_kept}
 use Rattle.xw_grid.proofs.LightLemmas.{lights_are_lights}
 use Rattle.xw_grid.proofs.OrderLemmas.{lights_are_ordered}

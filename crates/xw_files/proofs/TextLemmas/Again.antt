@@ -4,8 +4,8 @@ use Rattle.std.specs.Prelude.{position}
 use Rattle.std.specs.List.{flat_map, AllByRecursion}
 use Rattle.std.proofs.lemmas.Bool.{cond-true, cond-false, eq-eqb}
 use Rattle.xw_letters.proofs.Position.{position_is_none}
-use Rattle.xw_grid.specs.declared.cell.Cell.{Cell}
-use Rattle.xw_grid.specs.declared.cell.Direction.{Direction}
+use Rattle.xw_cells.specs.declared.cell.Cell.{Cell}
+use Rattle.xw_cells.specs.declared.cell.Direction.{Direction}
 use Rattle.xw_grid.specs.Clue.{ClueMap, with_clue}
 use Rattle.xw_files.specs.declared.fault.Tag.{Tag}
 use Rattle.xw_files.specs.declared.fault.ReadFault.{ReadFault}

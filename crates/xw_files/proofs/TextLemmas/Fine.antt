@@ -3,9 +3,9 @@ use Rattle.std.proofs.Common.{◌≡◌, ℕ, zero, suc, ◌-◌, ◌*◌, ◌<�
 use Rattle.std.specs.List.{flat_map, All, AllByRecursion}
 use Rattle.std.proofs.lemmas.Bool.{ne_eqb, le-leb, lt-leb}
 use Rattle.std.proofs.lemmas.List.{length-take, length-map, nil_from_length}
-use Rattle.xw_grid.specs.declared.cell.Square.{Square}
-use Rattle.xw_grid.specs.Grid.{IsSquare}
-use Rattle.xw_grid.specs.declared.cell.Square.TheVariants.{Block, Open}
+use Rattle.xw_cells.specs.declared.cell.Square.{Square}
+use Rattle.xw_cells.specs.Grid.{IsSquare}
+use Rattle.xw_cells.specs.declared.cell.Square.TheVariants.{Block, Open}
 use Rattle.xw_files.specs.Text.Lines.{is_blank}
 use Rattle.xw_files.specs.Text.Tag.{is_tag_line}
 use Rattle.xw_files.specs.Text.Shape.{Lines, is_bad_square, square_of}

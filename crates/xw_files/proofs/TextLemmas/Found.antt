@@ -4,10 +4,10 @@ use Rattle.std.specs.Prelude.{position, filter, IfOk}
 use Rattle.std.specs.List.{flat_map, AllByRecursion}
 use Rattle.std.proofs.Math.Bool.{and-false}
 use Rattle.xw_letters.proofs.Position.{position-None}
-use Rattle.xw_grid.specs.declared.cell.Cell.{Cell}
-use Rattle.xw_grid.specs.declared.cell.Square.{Square}
-use Rattle.xw_grid.specs.declared.cell.Direction.TheVariants.{Across, Down}
-use Rattle.xw_grid.specs.Grid.{Grid, cells, is_open}
+use Rattle.xw_cells.specs.declared.cell.Cell.{Cell}
+use Rattle.xw_cells.specs.declared.cell.Square.{Square}
+use Rattle.xw_cells.specs.declared.cell.Direction.TheVariants.{Across, Down}
+use Rattle.xw_cells.specs.Grid.{Grid, cells, is_open}
 use Rattle.xw_grid.specs.Clue.{ClueMap, no_clues}
 use Rattle.xw_files.specs.declared.fault.Tag.TheVariants as tags
 use Rattle.xw_files.specs.declared.fault.ReadFault.{ReadFault}
@@ -17,7 +17,7 @@ use Rattle.xw_files.specs.Text.Lines.{text_lines}
 use Rattle.xw_files.specs.Text.Tag.{header, names}
 use Rattle.xw_files.specs.Puzzle.{PuzzleShown, TextsShown, puzzle_view, is_circled_open, circled_cells}
 use Rattle.xw_files.specs.Text.Starts.{starts}
-use Rattle.xw_grid.specs.Edit.{grid_of}
+use Rattle.xw_cells.specs.Edit.{grid_of}
 use Rattle.xw_files.specs.Steps.{GivesOrLacksMemory}
 use Rattle.xw_files.specs.Text.Shape.{Lines, header_at, tag_at, text_at, texts_at, size_at, sides_of, rows_at, square_of, grid_at, with_clues, clues_at, both_clues_at, notes_at, shape, shaped, is_nul, all_of}
 use Rattle.xw_files.specs.Finished.{has_bar}

@@ -3,9 +3,9 @@ use Rattle.std.proofs.Common.{◌≡◌, ℕ, false, List, [], ◌∷◌, ◌++�
 use Rattle.std.specs.Prelude.{position}
 use Rattle.std.proofs.lemmas.List.{length-map}
 use Rattle.xw_letters.proofs.Position.{position_is_none}
-use Rattle.xw_grid.specs.declared.cell.Direction.TheVariants.{Across, Down}
-use Rattle.xw_grid.specs.declared.cell.Cell.{Cell}
-use Rattle.xw_grid.specs.declared.cell.Direction.{Direction}
+use Rattle.xw_cells.specs.declared.cell.Direction.TheVariants.{Across, Down}
+use Rattle.xw_cells.specs.declared.cell.Cell.{Cell}
+use Rattle.xw_cells.specs.declared.cell.Direction.{Direction}
 use Rattle.xw_grid.specs.declared.lights.Light.{Light}
 use Rattle.xw_grid.specs.Light.{lights_of, same_direction}
 use Rattle.xw_grid.specs.Clue.{ClueMap, clue_at}

@@ -4,14 +4,14 @@ use Rattle.std.specs.Prelude.{filter}
 use Rattle.std.specs.List.{flat_map, AllByRecursion, range_with_len}
 use Rattle.std.proofs.lemmas.Bool.{cases_Bool, cond-false, and_right, false≢true, false_from_ne_true}
 use Rattle.std.proofs.lemmas.List.Concat.{flat_map-append}
-use Rattle.xw_grid.specs.declared.cell.Cell.{Cell}
-use Rattle.xw_grid.specs.declared.cell.Direction.{Direction}
-use Rattle.xw_grid.specs.declared.cell.Direction.TheVariants.{Across, Down}
-use Rattle.xw_grid.specs.Grid.{Grid, cells, cell_at, index_of, same_cell}
+use Rattle.xw_cells.specs.declared.cell.Cell.{Cell}
+use Rattle.xw_cells.specs.declared.cell.Direction.{Direction}
+use Rattle.xw_cells.specs.declared.cell.Direction.TheVariants.{Across, Down}
+use Rattle.xw_cells.specs.Grid.{Grid, cells, cell_at, index_of, same_cell}
 use Rattle.xw_grid.specs.Light.{begins, light_starting, lights_at, same_direction}
 use Rattle.xw_grid.specs.Clue.{ClueMap, clue_at, with_clue}
 use Rattle.xw_grid.proofs.KeptLemmas.{clues_are_kept}
-use Rattle.xw_grid.proofs.GridLemmas.{cells_same, same_cell_itself, index_of-cell_at}
+use Rattle.xw_cells.proofs.GridLemmas.{cells_same, same_cell_itself, index_of-cell_at}
 use Rattle.xw_files.specs.Text.Starts.{start_in, starts_in, starts}
 use Rattle.xw_files.specs.Text.Shape.{Lines, with_clues}
 

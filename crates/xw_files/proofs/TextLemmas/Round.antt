@@ -7,10 +7,10 @@ use Rattle.std.specs.Prelude.{codes}
 use Rattle.std.proofs.lemmas.Bool.{and_parts, eqb-true, eq-eqb, cond-true}
 use Rattle.std.proofs.lemmas.List.{length-map}
 use Rattle.xw_files.specs.declared.fault.Tag.{Tag}
-use Rattle.xw_grid.specs.declared.cell.Square.{Square}
-use Rattle.xw_grid.specs.declared.cell.Direction.{Direction}
-use Rattle.xw_grid.specs.declared.cell.Direction.TheVariants.{Across, Down}
-use Rattle.xw_grid.specs.Grid.{Grid}
+use Rattle.xw_cells.specs.declared.cell.Square.{Square}
+use Rattle.xw_cells.specs.declared.cell.Direction.{Direction}
+use Rattle.xw_cells.specs.declared.cell.Direction.TheVariants.{Across, Down}
+use Rattle.xw_cells.specs.Grid.{Grid}
 use Rattle.xw_grid.specs.Clue.{ClueMap, no_clues, clue_at}
 use Rattle.xw_files.specs.declared.fault.Tag.TheVariants as tags
 use Rattle.xw_files.specs.declared.fault.ReadFault.TheVariants as faults
@@ -18,7 +18,7 @@ use Rattle.xw_files.specs.declared.fault.ReadFault.{ReadFault}
 use Rattle.xw_files.specs.Text.Tag.{names, is_tag_line}
 use Rattle.xw_files.specs.Puzzle.{PuzzleShown, TextsShown}
 use Rattle.xw_files.specs.Text.Starts.{starts}
-use Rattle.xw_grid.specs.Edit.{grid_of}
+use Rattle.xw_cells.specs.Edit.{grid_of}
 use Rattle.xw_files.specs.Steps.{◌>>=◌}
 use Rattle.xw_files.specs.Text.Shape.{Lines, tag_at, text_at, texts_at, sides_of, square_of, grid_at, with_clues, both_clues_at, shape}
 use Rattle.xw_files.specs.Text.Written.{clue_texts}

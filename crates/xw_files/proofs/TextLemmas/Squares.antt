@@ -7,9 +7,9 @@ use Rattle.std.proofs.lemmas.List.{take_more, take_all, map_push}
 use Rattle.std.proofs.lemmas.Option.{cond_some}
 use Rattle.xw_letters.specs.Letter.{IsLetter, is_letter, folded, letter_of}
 use Rattle.xw_letters.proofs.Position.{position_is_some, position_is_none}
-use Rattle.xw_grid.specs.declared.cell.Square.{Square}
-use Rattle.xw_grid.specs.declared.cell.Square.TheVariants.{Block, Open}
-use Rattle.xw_grid.specs.Grid.{IsSquare}
+use Rattle.xw_cells.specs.declared.cell.Square.{Square}
+use Rattle.xw_cells.specs.declared.cell.Square.TheVariants.{Block, Open}
+use Rattle.xw_cells.specs.Grid.{IsSquare}
 use Rattle.xw_files.specs.declared.fault.ReadFault.TheVariants as faults
 use Rattle.xw_files.specs.Text.Shape.{is_bad_square, square_of, row_squares, squares_after}
 

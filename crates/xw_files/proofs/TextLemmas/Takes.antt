@@ -4,10 +4,10 @@ use Rattle.std.specs.Prelude.{position}
 use Rattle.std.specs.List.{flat_map, All, AllByRecursion}
 use Rattle.std.proofs.lemmas.Bool.{eqb-true}
 use Rattle.xw_letters.proofs.Position.{position-None}
-use Rattle.xw_grid.specs.declared.cell.Cell.{Cell}
-use Rattle.xw_grid.specs.declared.cell.Square.{Square}
-use Rattle.xw_grid.specs.declared.cell.Direction.{Direction}
-use Rattle.xw_grid.specs.Grid.{IsSquare}
+use Rattle.xw_cells.specs.declared.cell.Cell.{Cell}
+use Rattle.xw_cells.specs.declared.cell.Square.{Square}
+use Rattle.xw_cells.specs.declared.cell.Direction.{Direction}
+use Rattle.xw_cells.specs.Grid.{IsSquare}
 use Rattle.xw_grid.specs.Clue.{ClueMap, with_clue}
 use Rattle.xw_files.specs.declared.fault.Tag.{Tag}
 use Rattle.xw_files.specs.declared.fault.Tag.TheVariants as tags

@@ -7,13 +7,13 @@ use Rattle.std.proofs.lemmas.List.Splits.{slice_split_first, slice_split_none}
 use Rattle.std.proofs.lemmas.Bool.{ltb-true}
 use Rattle.std.proofs.lemmas.Option.{cond_some}
 use Rattle.xw_letters.proofs.Position.{position-None}
-use Rattle.xw_grid.specs.declared.cell.Cell.{Cell}
-use Rattle.xw_grid.specs.declared.cell.Direction.{Direction}
-use Rattle.xw_grid.specs.Grid.{Grid, cell_at}
+use Rattle.xw_cells.specs.declared.cell.Cell.{Cell}
+use Rattle.xw_cells.specs.declared.cell.Direction.{Direction}
+use Rattle.xw_cells.specs.Grid.{Grid, cell_at}
 use Rattle.xw_grid.specs.Light.{begins}
 use Rattle.xw_grid.specs.Clue.{ClueMap, clue_at}
 use Rattle.xw_files.proofs.TextLemmas.Clues.{starts_after, start_here, no_start, no_more_starts}
-use Rattle.xw_grid.specs.declared.cell.Square.{Square}
+use Rattle.xw_cells.specs.declared.cell.Square.{Square}
 use Rattle.xw_files.specs.Finished.{square_byte}
 use Rattle.xw_words.specs.WordList.{is_line_feed}
 use Rattle.xw_files.specs.Text.Written.{line, row_texts, pieces}

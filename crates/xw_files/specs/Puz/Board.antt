@@ -1,11 +1,11 @@
 -- What a file's parts make of a puzzle, or their first fault.
 use Rattle.std.specs.Prelude.{ℕ, ◌+◌, ◌==◌, nat_lt, List, [], ◌∷◌, length, Option, Some, None, option_map, Result, Ok, Err, if◌then◌else◌}
 use Rattle.xw_letters.specs.Letter.{letter_of}
-use Rattle.xw_grid.specs.declared.cell.Square.{Square}
-use Rattle.xw_grid.specs.declared.cell.Square.TheVariants.{Block, Open}
+use Rattle.xw_cells.specs.declared.cell.Square.{Square}
+use Rattle.xw_cells.specs.declared.cell.Square.TheVariants.{Block, Open}
 use Rattle.xw_grid.specs.declared.lights.Light.{Light}
-use Rattle.xw_grid.specs.Grid.{Grid, cell_in}
-use Rattle.xw_grid.specs.Edit.{grid_of}
+use Rattle.xw_cells.specs.Grid.{Grid, cell_in}
+use Rattle.xw_cells.specs.Edit.{grid_of}
 use Rattle.xw_grid.specs.Light.{lights_of}
 use Rattle.xw_grid.specs.Clue.{ClueMap, no_clues, with_clue}
 use Rattle.xw_files.specs.Puzzle.{PuzzleShown}

@@ -2,8 +2,8 @@
 use Rattle.std.specs.Prelude.{◌≡◌, ◌<◌, ◌^◌, ◌++◌, flat_map, filter, find, All, ℕ, zero, suc, ◌+◌, ◌*◌, true, Bool, ◌&&◌, ◌==◌, nat_eq, nat_le, nat_lt, List, [], ◌∷◌, length, take, drop, slice_index, Option, Some, None, Result, Ok, Err, if◌then◌else◌, codes}
 use Rattle.std.specs.Cmp.Lexicographic.{pointwise}
 use Rattle.byteorder.specs.Endian.{little_bytes}
-use Rattle.xw_grid.specs.declared.cell.Cell.{Cell}
-use Rattle.xw_grid.specs.Grid.{Grid, cells, cell_at, index_of, is_open}
+use Rattle.xw_cells.specs.declared.cell.Cell.{Cell}
+use Rattle.xw_cells.specs.Grid.{Grid, cells, cell_at, index_of, is_open}
 use Rattle.xw_grid.specs.Clue.{with_circle}
 use Rattle.xw_files.specs.declared.fault.ReadFault.{ReadFault}
 use Rattle.xw_files.specs.declared.fault.ReadFault.TheVariants.{GextSize, GextSum}

@@ -3,8 +3,8 @@ use Rattle.std.specs.Prelude.{◌≡◌, ℕ, true, false, List, [], ◌∷◌, 
 use Rattle.std.specs.Char.{is_ascii_digit}
 use Rattle.std.specs.Str.Parse.{digits_value}
 use Rattle.std.specs.List.{AllByRecursion, join_with_byte}
-use Rattle.xw_grid.specs.declared.cell.Direction.TheVariants as directions
-use Rattle.xw_grid.specs.declared.cell.Symmetry.TheVariants as kinds
+use Rattle.xw_cells.specs.declared.cell.Direction.TheVariants as directions
+use Rattle.xw_cells.specs.declared.cell.Symmetry.TheVariants as kinds
 use Rattle.xw_files.specs.declared.fault.Tag.{Tag}
 use Rattle.xw_files.specs.declared.fault.Tag.TheVariants as tags
 use Rattle.xw_files.specs.Text.Lines.{trimmed, text_lines}

@@ -1,14 +1,14 @@
 //! The solution board.
 ghost use Rattle.std.specs.Prelude.{◌≡◌, ◌≤◌, ◌<◌, ◌*◌, length};
-ghost use Rattle.xw_grid.specs.Grid.{cell_in};
+ghost use Rattle.xw_cells.specs.Grid.{cell_in};
 ghost use Rattle.xw_files.specs.Puz.Board.{square_of, squares_at, board_grid, grid_of_puz};
 ghost use Rattle.xw_files.specs.Steps.{GivesOrLacksMemory};
 
 use crate::fault::{Piece, ReadFault};
 use crate::puz::header::{self, HEADER_LENGTH, Header};
 use std::alloc::Global;
-use xw_grid::cell::{Cell, Square};
-use xw_grid::grid::Grid;
+use xw_cells::cell::{Cell, Square};
+use xw_cells::grid::Grid;
 use xw_letters::letter::Letter;
 
 /// The square that a byte stands for.

@@ -8,9 +8,9 @@ use crate::puz::sections::CIRCLED;
 use crate::puz::spell::{push_number, push_text};
 use crate::puz::sums::sum_from;
 use std::alloc::{AllocError, Global};
-use xw_grid::cell::Cell;
+use xw_cells::cell::Cell;
+use xw_cells::grid::Grid;
 use xw_grid::circles::Circles;
-use xw_grid::grid::Grid;
 
 /// The section of the circled open cells, where there are any.
 pub fn circles_section(alloc: Global, grid: &Grid, circles: &Circles) -> Result<Vec<u8>, AllocError>

@@ -7,7 +7,7 @@ ghost use Rattle.xw_files.specs.Puz.Relation.{IsPuz};
 ghost use Rattle.xw_files.specs.Steps.{GivesOrLacksMemory};
 ghost use Rattle.xw_files.specs.Puzzle.{PuzzleShown, puzzle_view, part_of};
 ghost use Rattle.xw_files.specs.Puz.View.{view};
-ghost use Rattle.xw_grid.specs.declared.cell.Symmetry.TheVariants as Symmetry;
+ghost use Rattle.xw_cells.specs.declared.cell.Symmetry.TheVariants as Symmetry;
 ghost use Rattle.xw_files.specs.declared.fault.ReadFault.TheVariants as faults;
 
 use crate::fault::ReadFault;
@@ -16,8 +16,8 @@ use crate::puz::sums::Sums;
 use crate::puz::{board, sections};
 use crate::puzzle::{Puzzle, Texts};
 use std::alloc::Global;
+use xw_cells::grid::Grid;
 use xw_grid::clues::Clues;
-use xw_grid::grid::Grid;
 use xw_grid::lights::Lights;
 
 /// The puzzle that a file spells; it has no symmetry, and no clue or circle but those of the file.

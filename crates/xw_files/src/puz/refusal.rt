@@ -1,7 +1,7 @@
 //! Why a puzzle is not written; none of it takes memory.
 ghost use Rattle.std.specs.Prelude.{◌≡◌, ◌+◌, ◌≤◌, ◌++◌, List, map, Some, IfOk, IfErr};
 ghost use Rattle.xw_grid.specs.declared.lights.Light.{Light};
-ghost use Rattle.xw_grid.specs.Grid.{IsGrid};
+ghost use Rattle.xw_cells.specs.Grid.{IsGrid};
 ghost use Rattle.xw_grid.specs.Light.{light_from, lights_at, lights_of};
 ghost use Rattle.xw_files.specs.Puzzle.{puzzle_view, clue_of};
 ghost use Rattle.xw_files.specs.Puz.Writing.{has_nul, clue_with_nul, text_with_nul, write_fault};
@@ -9,9 +9,9 @@ ghost use Rattle.xw_files.specs.Puz.Writing.{has_nul, clue_with_nul, text_with_n
 use crate::fault::{TextName, WriteFault};
 use crate::finished::{empty_cell, has_bar};
 use crate::puzzle::Puzzle;
-use xw_grid::cell::{Cell, Direction};
+use xw_cells::cell::{Cell, Direction};
+use xw_cells::grid::Grid;
 use xw_grid::clues::Clues;
-use xw_grid::grid::Grid;
 use xw_grid::lights;
 
 /// The first reason for which a puzzle is not written.

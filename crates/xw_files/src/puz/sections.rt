@@ -9,9 +9,9 @@ use crate::fault::ReadFault;
 use crate::puz::sums::sum_from;
 use byteorder::{ByteOrder, LittleEndian};
 use std::alloc::Global;
-use xw_grid::cell::Cell;
+use xw_cells::cell::Cell;
+use xw_cells::grid::Grid;
 use xw_grid::circles::Circles;
-use xw_grid::grid::Grid;
 
 /// How many bytes of a section stand before its data.
 const SECTION_HEADER: usize = 8;

@@ -16,9 +16,9 @@ use crate::puz::sums::Sums;
 use crate::puz::{circles, refusal, spell};
 use crate::puzzle::Puzzle;
 use std::alloc::{AllocError, Global};
-use xw_grid::cell::Square;
+use xw_cells::cell::Square;
+use xw_cells::grid::Grid;
 use xw_grid::clues::Clues;
-use xw_grid::grid::Grid;
 use xw_grid::lights::Lights;
 
 /// The bytes of a puzzle.

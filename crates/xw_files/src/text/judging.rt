@@ -2,7 +2,7 @@
 ghost use Rattle.std.specs.Prelude.{◌≡◌, ◌≢◌, ◌<◌, ◌+◌, ◌^◌, ◌≤◌, not, ◌&&◌, length, OnOk, IfErr, IfSome, Ok, Err, find};
 ghost use Rattle.std.specs.List.{list_any, list_all};
 ghost use Rattle.std.specs.Option.{option_copied};
-ghost use Rattle.xw_grid.specs.Grid.{cells};
+ghost use Rattle.xw_cells.specs.Grid.{cells};
 ghost use Rattle.xw_grid.specs.Light.{begins as begins_light, lights_at, lights_of};
 ghost use Rattle.xw_grid.specs.Clue.{clue_at};
 ghost use Rattle.xw_files.specs.Puzzle.{puzzle_view, is_circled_open};
@@ -13,10 +13,10 @@ use crate::finished::{empty_cell, has_bar, is_circled};
 use crate::puzzle::Puzzle;
 use crate::text::lines::is_blank;
 use crate::text::tag::is_tag_line;
-use xw_grid::cell::{Cell, Direction};
+use xw_cells::cell::{Cell, Direction};
+use xw_cells::grid::Grid;
 use xw_grid::circles::Circles;
 use xw_grid::clues::Clues;
-use xw_grid::grid::Grid;
 use xw_grid::lights::begins;
 
 fn has_line_end(text: &[u8]) -> bool

@@ -12,8 +12,8 @@ use crate::text::reading::{grid, header, texts};
 use crate::text::tag::{header as header_line, is_tag_line, names};
 use bstr::ByteSlice;
 use std::alloc::{AllocError, Global};
-use xw_grid::cell::Direction;
-use xw_grid::grid::Grid;
+use xw_cells::cell::Direction;
+use xw_cells::grid::Grid;
 use xw_grid::lights::begins;
 
 /// A line of a text file by its number, from 1, blank lines counted too; or the place after them all.

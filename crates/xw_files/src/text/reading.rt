@@ -16,10 +16,10 @@ use crate::puzzle::{Puzzle, Texts};
 use crate::text::lines::{TextLines, trim};
 use crate::text::tag::{header as header_line, is_tag_line, names};
 use std::alloc::{AllocError, Global};
-use xw_grid::cell::{Cell, Direction, Square};
+use xw_cells::cell::{Cell, Direction, Square};
+use xw_cells::grid::{Grid, LONGEST_SIDE};
 use xw_grid::circles::Circles;
 use xw_grid::clues::Clues;
-use xw_grid::grid::{Grid, LONGEST_SIDE};
 use xw_grid::lights::begins;
 use xw_letters::letter::Letter;
 

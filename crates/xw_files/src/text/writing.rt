@@ -12,9 +12,9 @@ use crate::puzzle::{Puzzle, Texts};
 use crate::text::judging::judge;
 use crate::text::tag::header;
 use std::alloc::{AllocError, Global};
-use xw_grid::cell::{Direction, Square};
+use xw_cells::cell::{Direction, Square};
+use xw_cells::grid::Grid;
 use xw_grid::clues::Clues;
-use xw_grid::grid::Grid;
 use xw_grid::lights::begins;
 
 fn put_line(out: &mut Vec<u8>, text: &[u8]) -> Result<(), AllocError>

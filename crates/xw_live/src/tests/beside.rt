@@ -1,8 +1,8 @@
 //! A state of the tests' own, with a net that is settled over counted reads.
 ghost use Rattle.std.specs.Prelude.{◌≡◌, ℕ, length, true, false, is_some, Option, Contains, Ok};
 ghost use Rattle.xw_words.specs.Dictionary.{Dictionary, add_answer};
-ghost use Rattle.xw_grid.specs.declared.cell.Cell.{Cell as CellOfGrid};
-ghost use Rattle.xw_grid.specs.Grid.{is_inside};
+ghost use Rattle.xw_cells.specs.declared.cell.Cell.{Cell as CellOfGrid};
+ghost use Rattle.xw_cells.specs.Grid.{is_inside};
 ghost use Rattle.xw_grid.specs.Light.{lights_of};
 ghost use Rattle.xw_feas.specs.State.{State, Action, action_of, is_of_letters, grid_after};
 ghost use Rattle.xw_feas.specs.WellFormed.{IsWellFormed};
@@ -17,12 +17,12 @@ use crate::noted::{keep_changed, make_noted, note};
 use crate::settling::make_room;
 use crate::written::Written;
 use std::alloc::Global;
+use xw_cells::cell::Cell;
+use xw_cells::grid::Grid;
 use xw_feas::dictionary::{add_in, known_distinct, return_in, strike_in};
 use xw_feas::edit::{Edit, Refusal};
 use xw_feas::grid_edit::{edit_letters, with_bar, with_block};
 use xw_feas::write::write;
-use xw_grid::cell::Cell;
-use xw_grid::grid::Grid;
 use xw_grid::lights::Lights;
 use xw_letters::letter::Letter;
 use xw_net::change::Change;

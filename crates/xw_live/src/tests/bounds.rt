@@ -2,9 +2,9 @@
 use crate::tests::Do::{Add, Choose, Clear, Set};
 use crate::tests::Step::{Idle, Letters, Refused, Spends, Told, Words};
 use crate::tests::{ACROSS_1, ACROSS_3, Case, DOWN_1, DOWN_2, SQUARE, Start, Step, pass_each};
+use xw_cells::cell::Symmetry;
+use xw_cells::fault::GridFault;
 use xw_feas::edit::Refusal;
-use xw_grid::cell::Symmetry;
-use xw_grid::fault::GridFault;
 use xw_words::WordFault;
 
 /// Two blocks part a grid into two squares.

@@ -5,8 +5,8 @@ use crate::tests::{
     ACROSS_1, ACROSS_2, ACROSS_3, Case, DOWN_1, DOWN_2, SQUARE, Start, Step, WHOLE_SQUARE,
     pass_each,
 };
+use xw_cells::cell::Side;
 use xw_feas::edit::Found;
-use xw_grid::cell::Side;
 
 const ONE_ENTRY: &[Step] = &[
     Told(Set(1, 2, b'T'), &[(1, 2, b"T")]),

@@ -1,7 +1,7 @@
 //! How many bit rows an engine has, and how long its other lists are.
 use crate::live::Live;
+use xw_cells::grid::Grid;
 use xw_feas::edit::Edit;
-use xw_grid::grid::Grid;
 
 /// How many bit rows there are, and how long each other list is.
 #[derive(Clone, Copy)]

@@ -6,9 +6,9 @@ use crate::tests::sizes::{is_small, sizes_of};
 use crate::tests::{Cells, tells};
 use std::alloc::Global;
 use std::process::Abort;
+use xw_cells::grid::Grid;
 use xw_feas::edit::{Edit, Refusal};
 use xw_feas::feasible::Feasible;
-use xw_grid::grid::Grid;
 use xw_words::bank::Bank;
 
 /// An engine, and the net beside it.

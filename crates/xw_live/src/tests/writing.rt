@@ -4,10 +4,10 @@ use crate::tests::watched::{ANYTHING, Place, Wanted, Watched, watch};
 use crate::tests::{Do, SQUARE, Step, at, begin, pass};
 use std::alloc::Global;
 use std::process::Abort;
+use xw_cells::cell::Cell;
+use xw_cells::fault::GridFault;
 use xw_feas::edit::{Edit, Refusal};
 use xw_feas::feasible::Feasible;
-use xw_grid::cell::Cell;
-use xw_grid::fault::GridFault;
 use xw_letters::letter::Letter;
 
 /// Cells by row and column, each with a letter by its byte, or with none.

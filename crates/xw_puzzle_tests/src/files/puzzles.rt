@@ -1,11 +1,11 @@
 //! Puzzles made by their parts.
 use std::alloc::Global;
 use std::test::Fail;
+use xw_cells::cell::{Cell, Direction, Side};
+use xw_cells::grid::Grid;
 use xw_files::puzzle::{Puzzle, Texts};
-use xw_grid::cell::{Cell, Direction, Side};
 use xw_grid::circles::Circles;
 use xw_grid::clues::Clues;
-use xw_grid::grid::Grid;
 use xw_letters::letter::Letter;
 
 /// What a puzzle has, as a table spells it: a cell by row and column.

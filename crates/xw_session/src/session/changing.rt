@@ -8,9 +8,10 @@ use crate::lookup::{light_name, light_named};
 use crate::refusal::Refusal;
 use crate::session::Session;
 use std::alloc::Global;
+use xw_cells::{Grid, GridFault};
 use xw_commands::command::{Named, Spot, TextField};
 use xw_feas::feasible::Feasible;
-use xw_grid::{Circles, Clues, Grid, GridFault, Light};
+use xw_grid::{Circles, Clues, Light};
 
 /// Whether a text has a NUL.
 pub(crate) fn has_nul(text: &[u8]) -> bool

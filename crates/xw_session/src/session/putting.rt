@@ -9,9 +9,9 @@ use crate::refusal::Refusal;
 use crate::session::Session;
 use crate::session::changing::has_nul;
 use std::alloc::{AllocError, Global};
+use xw_cells::{Cell, Direction, GridFault};
 use xw_commands::command::{Field, Putting, TextField};
 use xw_feas::feasible::Feasible;
-use xw_grid::{Cell, Direction, GridFault};
 
 /// Where a text is kept.
 #[derive(Clone, Copy)]

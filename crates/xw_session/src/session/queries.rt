@@ -1,7 +1,7 @@
 //! Queries answered: what a session knows, and what its engine and the search say.
 ghost use Rattle.std.specs.Prelude.{◌≡◌, ℕ, Err, ◌∷◌, [], length, IfOk, IfErr, IfSome, IfNone, Some, None, codes, decimal, ◌++◌};
 ghost use Rattle.xw_letters.specs.LetterSet.{letters_in};
-ghost use Rattle.xw_grid.specs.Grid.{index_of};
+ghost use Rattle.xw_cells.specs.Grid.{index_of};
 ghost use Rattle.xw_grid.specs.Light.{lights_of, place_named};
 ghost use Rattle.xw_fill.specs.Position.{position_of};
 ghost use Rattle.xw_fill.specs.FeasibleWords.{feasible_words};
@@ -16,6 +16,7 @@ use crate::lookup::{light_name, light_named};
 use crate::refusal::Refusal;
 use crate::session::{Session, end_answer};
 use crate::{lists, show, text};
+use xw_cells::{Direction, LightName};
 use xw_commands::command::{Named, Spot};
 use xw_feas::edit::Refusal as EditRefusal;
 use xw_feas::feasible::Feasible;
@@ -23,7 +24,6 @@ use xw_feas::words::{WordIter, words};
 use xw_fill::listing::{duplicates, unlisted};
 use xw_fill::search::{Filling, fill};
 use xw_fill::suggesting::{Suggestion, suggest};
-use xw_grid::{Direction, LightName};
 use xw_letters::{Letter, LetterSet};
 use xw_lines::device::{Sink, WriteFailed};
 use xw_lines::outcome::Step;

@@ -9,9 +9,9 @@ ghost use Rattle.xw_session.specs.Answer.{AnswersTo};
 
 use crate::session::{Session, end_answer};
 use crate::{fields, stats, text};
+use xw_cells::Cell;
 use xw_commands::command::Telling;
 use xw_feas::feasible::Feasible;
-use xw_grid::Cell;
 use xw_lines::device::{Sink, WriteFailed};
 use xw_lines::outcome::Step;
 

@@ -1,5 +1,5 @@
 use Rattle.std.proofs.Common.{◌≡◌, drop}
-use Rattle.xw_grid.specs.declared.cell.Cell.{Cell}
+use Rattle.xw_cells.specs.declared.cell.Cell.{Cell}
 use Rattle.xw_grid.specs.EditLaws.{SameShape}
 use Rattle.xw_feas.specs.Shape.{fault_at}
 use Rattle.xw_feas.specs.State.{write_list}

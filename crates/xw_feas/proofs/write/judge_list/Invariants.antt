@@ -1,6 +1,6 @@
 use Rattle.std.proofs.Common.{◌≡◌, ℕ, ◌<◌, get_or, None}
 use Rattle.std.specs.Prelude.{Option}
-use Rattle.xw_grid.specs.declared.cell.Cell.{Cell}
+use Rattle.xw_cells.specs.declared.cell.Cell.{Cell}
 use Rattle.xw_feas.specs.Shape.{fault_at}
 use Rattle.xw_feas.proofs.write.judge_list.Given as goal
 

@@ -1,6 +1,6 @@
 use Rattle.std.proofs.Common.{◌≡◌, ◌≤◌, take}
 use Rattle.std.specs.Prelude.{count_by, flat_map}
-use Rattle.xw_grid.specs.Grid.{cells}
+use Rattle.xw_cells.specs.Grid.{cells}
 use Rattle.xw_grid.specs.Light.{begins_some, lights_at}
 use Rattle.xw_grid.proofs.lights.list.Given as goal
 

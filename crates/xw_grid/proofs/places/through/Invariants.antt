@@ -1,6 +1,6 @@
 use Rattle.std.proofs.Common.{◌≡◌, ℕ, ◌*◌, ◌<◌, length, get_or}
 use Rattle.std.specs.Prelude.{None}
-use Rattle.xw_grid.specs.Grid.{cell_at}
+use Rattle.xw_cells.specs.Grid.{cell_at}
 use Rattle.xw_grid.specs.Light.{passes, no_light}
 use Rattle.xw_grid.specs.Places.{IsFirstOf}
 use Rattle.xw_grid.proofs.places.through.Given as goal

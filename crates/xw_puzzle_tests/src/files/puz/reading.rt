@@ -3,10 +3,10 @@ use crate::files::cases::{Refusals, Spans, fault_at, fault_of, refuses_cuts, ref
 use crate::files::puz::files::{BAD_CELL, BAD_CELL_AND_COUNT, CLUE_COUNT, MORE_CLUES, PLAIN};
 use std::alloc::AllocError;
 use std::process::Abort;
+use xw_cells::cell::Cell;
 use xw_files::fault::{Piece, ReadFault, SumName, TextName};
 use xw_files::kind::{Kind, kind_of};
 use xw_files::puz::grid_of_puz;
-use xw_grid::cell::Cell;
 
 /// What is wrong with the plain file when it is cut at a length up to this.
 const CUTS: Spans = &[

@@ -8,9 +8,9 @@ use crate::files::puzzles::Part::{
     Author, Bar, Circle, Clue, Copyright, Notes, Size, Square, Title,
 };
 use std::test::Fail;
+use xw_cells::cell::{Cell, Direction, Side};
 use xw_files::fault::{TextName, WriteFault};
 use xw_files::kind::Kind;
-use xw_grid::cell::{Cell, Direction, Side};
 
 const OUTSIDE: &[Part] = &[
     Clue(2, 2, Direction::Across, b"\0"),

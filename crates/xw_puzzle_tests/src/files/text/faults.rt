@@ -2,9 +2,9 @@
 use crate::files::cases::{Refusals, Spans, refuses_cuts, refuses_each};
 use crate::files::text::{ACROSS, DOWN, PLAIN, ROWS, SIZE, TOP};
 use std::alloc::AllocError;
+use xw_cells::cell::Cell;
 use xw_files::fault::{ReadFault, Tag};
 use xw_files::kind::Kind;
-use xw_grid::cell::Cell;
 
 /// What is wrong with text plain when it is cut at a length up to this.
 const CUTS: Spans = &[

@@ -8,10 +8,10 @@ use crate::files::text::PLAIN;
 use std::alloc::Global;
 use std::process::Abort;
 use std::test::Fail;
+use xw_cells::cell::{Cell, Direction, Side};
 use xw_files::fault::{TextName, WriteFault};
 use xw_files::kind::Kind;
 use xw_files::text::write_text;
-use xw_grid::cell::{Cell, Direction, Side};
 
 /// Texts with bytes of any kind inside, and notes of several lines.
 const TEXTS: &[Part] = &[

@@ -1,6 +1,6 @@
 use Rattle.std.proofs.Common.{◌≡◌, ◌++◌, take}
 use Rattle.std.specs.Prelude.{flat_map}
-use Rattle.xw_grid.specs.Grid.{cells}
+use Rattle.xw_cells.specs.Grid.{cells}
 use Rattle.xw_session.specs.Text.{circle_line}
 use Rattle.xw_session.proofs.lists.write_circles.Given as goal
 

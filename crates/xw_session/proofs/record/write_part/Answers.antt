@@ -1,8 +1,8 @@
 use Rattle.std.proofs.Common.{◌≡◌, ◌<◌, ◌*◌, ℕ, List, length, get_or, ap, sym, ◌∙◌, ◌++◌, arith}
 use Rattle.std.proofs.lemmas.Result.{err_from_is_err_and}
-use Rattle.xw_grid.specs.declared.cell.Cell.{Cell}
-use Rattle.xw_grid.specs.Grid.{cells}
-use Rattle.xw_grid.proofs.GridLemmas.{length-cells}
+use Rattle.xw_cells.specs.declared.cell.Cell.{Cell}
+use Rattle.xw_cells.specs.Grid.{cells}
+use Rattle.xw_cells.proofs.GridLemmas.{length-cells}
 use Rattle.xw_session.specs.Record.{command_lines, cell_commands}
 use Rattle.xw_session.proofs.LightTexts.{cell_in_order}
 use Rattle.xw_session.proofs.Recording.{lines_of_each, sent_as, stops_as}

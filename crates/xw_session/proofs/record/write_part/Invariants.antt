@@ -1,6 +1,6 @@
 use Rattle.std.proofs.Common.{◌≡◌, ◌++◌, take}
 use Rattle.std.specs.Prelude.{flat_map}
-use Rattle.xw_grid.specs.Grid.{cells}
+use Rattle.xw_cells.specs.Grid.{cells}
 use Rattle.xw_session.specs.Record.{command_lines, cell_commands}
 use Rattle.xw_session.proofs.record.write_part.Given as goal
 

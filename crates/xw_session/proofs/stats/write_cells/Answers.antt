@@ -1,6 +1,6 @@
 use Rattle.std.proofs.Common.{◌≡◌, length, ℕ, codes, sym, ◌∙◌, subst}
-use Rattle.xw_grid.specs.Grid.{cells}
-use Rattle.xw_grid.proofs.GridLemmas.{length-cells}
+use Rattle.xw_cells.specs.Grid.{cells}
+use Rattle.xw_cells.proofs.GridLemmas.{length-cells}
 use Rattle.xw_lines.specs.Sends.{Sends}
 use Rattle.xw_session.specs.Stats.{number_line}
 use Rattle.xw_session.proofs.stats.write_cells.Goals as goal

@@ -4,7 +4,7 @@ use Rattle.std.proofs.lemmas.List.{with_items_is}
 use Rattle.xw_bits.specs.Bits.{RowOfBits}
 use Rattle.xw_words.specs.Dictionary.{Entry, row}
 use Rattle.xw_grid.specs.declared.lights.Light.{Light}
-use Rattle.xw_grid.specs.Grid.{Grid}
+use Rattle.xw_cells.specs.Grid.{Grid}
 use Rattle.xw_grid.specs.Light.{lights_of}
 use Rattle.xw_feas.specs.Board.{Board, board_of, light_at}
 use Rattle.xw_feas.specs.Flags.{set_has}

@@ -1,5 +1,5 @@
 use Rattle.std.proofs.Common.{◌≡◌, List, ℕ, true, ap, sym, ◌∙◌, subst}
-use Rattle.xw_grid.specs.Grid.{Grid, is_open}
+use Rattle.xw_cells.specs.Grid.{Grid, is_open}
 use Rattle.xw_lines.specs.Sends.{Sends}
 use Rattle.xw_session.proofs.Telling.{told_letters, never_untold}
 use Rattle.xw_session.proofs.session.telling.write_cell_letters.Goals as goal

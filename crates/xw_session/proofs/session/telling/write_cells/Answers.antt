@@ -1,8 +1,8 @@
 use Rattle.std.proofs.Common.{◌≡◌, ◌<◌, ◌*◌, length, get_or, ap, sym, ◌∙◌, subst, ◌++◌, arith}
 use Rattle.std.proofs.lemmas.Result.{err_from_is_err_and}
-use Rattle.xw_grid.specs.declared.cell.Cell.{Cell}
-use Rattle.xw_grid.specs.Grid.{Grid, cells, cell_at}
-use Rattle.xw_grid.proofs.GridLemmas.{length-cells}
+use Rattle.xw_cells.specs.declared.cell.Cell.{Cell}
+use Rattle.xw_cells.specs.Grid.{Grid, cells, cell_at}
+use Rattle.xw_cells.proofs.GridLemmas.{length-cells}
 use Rattle.xw_lines.specs.Device.{Begins, HasFailed}
 use Rattle.xw_session.specs.Told.{letters_told}
 use Rattle.xw_session.proofs.LightTexts.{cell_in_order}

@@ -1,0 +1,4 @@
+pub mod EdgeLemmas
+pub mod GridLemmas
+pub mod OrbitLemmas
+pub mod OrbitCellLemmas
