@@ -1,8 +1,12 @@
-//! A crossword construction engine on the command line.
+//! A crossword construction engine on the command line: what it does with its arguments, its files and its streams.
 #![tactic(auto)]
+
+mod files;
+mod perform;
+mod start;
 
 use std::process::ExitCode;
 
 fn main(rt: HostRuntime) -> ExitCode {
-    xw_program::start::start(&rt).exit_code()
+    start::start(&rt).exit_code()
 }
