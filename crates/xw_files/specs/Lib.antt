@@ -1,4 +1,4 @@
-pub mod Puzzle
+pub mod Part
 pub mod Finished
 pub mod Steps
 pub mod Puz

@@ -2,7 +2,7 @@
 ghost use Rattle.std.specs.Prelude.{◌≡◌, find};
 ghost use Rattle.std.specs.List.{list_any};
 ghost use Rattle.xw_cells.specs.Grid.{cells};
-ghost use Rattle.xw_files.specs.Puzzle.{is_circled_open};
+ghost use Rattle.xw_files.specs.Part.{is_circled_open};
 ghost use Rattle.xw_files.specs.Finished.{is_barred_cell, has_bar, is_empty_cell, empty_cell, square_byte};
 
 use xw_cells::cell::{Cell, Side, Square};

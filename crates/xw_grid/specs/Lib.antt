@@ -4,3 +4,4 @@ pub mod ClueView
 pub mod LightLaws
 pub mod Places
 pub mod EditLaws
+pub mod Puzzle

@@ -1,3 +1,4 @@
 pub mod LetterSetLemmas
 pub mod Position
 pub mod LetterBits
+pub mod LineLemmas

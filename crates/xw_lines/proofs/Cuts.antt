@@ -3,7 +3,7 @@ use Rattle.std.proofs.Common.{rules, ◌≢◌, ◌≡◌, ◌≤◌, ◌<◌, �
 use Rattle.std.proofs.lemmas.Bool.{true≢false, eqb-true}
 use Rattle.std.proofs.lemmas.List.{take_all, take-append-drop, drop_more, get_or-drop}
 use Rattle.std.proofs.lemmas.List.Quantifiers.{position-Some}
-use Rattle.xw_words.specs.WordList.{is_line_feed}
+use Rattle.xw_letters.specs.Lines.{is_line_feed}
 use Rattle.xw_letters.proofs.Position.{position-None}
 use Rattle.std.specs.Prelude.{◌==◌, nat_le, position}
 use Rattle.xw_lines.specs.Cut.{Cut, cut, with_first, ended_lines, last_piece, last_line, lines_of, held, HasNoLf, EndsLine, AllHaveNoLf, with_lfs}

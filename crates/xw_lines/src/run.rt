@@ -2,7 +2,7 @@
 ghost use Rattle.std.specs.Prelude.{true, ◌≡◌, ℕ, ◌+◌, ◌-◌, ◌^◌, ◌<◌, ◌≤◌, List, [], ◌∷◌, ◌++◌, length, take, drop, position, Option, Some, None, IfOk, IfSome, IfNone, OnOk, OnErr, IsTrue};
 ghost use Rattle.std.specs.Option.{option_map};
 ghost use Rattle.xw_lines.specs.Cut.{lines_of, ended_lines, held, HasNoLf, EndsLine};
-ghost use Rattle.xw_words.specs.WordList.{is_line_feed};
+ghost use Rattle.xw_letters.specs.Lines.{is_line_feed};
 ghost use Rattle.xw_lines.specs.Device.{flushed, saturated, HasFailed};
 ghost use Rattle.xw_lines.specs.Spoken.{Answered, BrokeOff, refusals, flush_after};
 ghost use Rattle.xw_lines.specs.Run.{Speaks, StopsIn, Progress, IfDone, OnReadFailed, OnWriteFailed, OnEndless, OnMemory, UnlessWriteFailed};

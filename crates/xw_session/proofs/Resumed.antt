@@ -1,7 +1,7 @@
 -- The lines of a text, one after another.
 use Rattle.std.proofs.Common.{◌≡◌, ◌∙◌, ◌+◌, ap, sym, ℕ, List, [], ◌∷◌, ◌++◌, subst, append_assoc, append-nil}
-use Rattle.xw_words.specs.WordList.{lines_of as pieces_of}
-use Rattle.xw_words.proofs.LineLemmas.{lines_of-with_lfs}
+use Rattle.xw_letters.specs.Lines.{lines_of as pieces_of}
+use Rattle.xw_letters.proofs.LineLemmas.{lines_of-with_lfs}
 use Rattle.xw_lines.specs.Cut.{lines_of, ended_lines, last_piece}
 use Rattle.xw_session.specs.Answer.{Answers}
 use Rattle.xw_lines.specs.Spoken.{Spoken}

@@ -2,7 +2,7 @@
 use Rattle.std.specs.Prelude.{ℕ, Bool, true, List, [], ◌∷◌, ◌++◌}
 use Rattle.xw_cells.specs.Grid.{Grid, is_inside}
 use Rattle.xw_grid.specs.Clue.{clue_at, with_clue}
-use Rattle.xw_files.specs.Puzzle.{TextsShown}
+use Rattle.xw_grid.specs.Puzzle.{TextsShown}
 use Rattle.xw_commands.specs.declared.command.Field.{Field}
 use Rattle.xw_commands.specs.declared.command.Field.TheVariants as fields
 use Rattle.xw_commands.specs.declared.command.TextField.{TextField}

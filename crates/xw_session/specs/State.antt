@@ -3,7 +3,7 @@ use Rattle.std.specs.Prelude.{ℕ, Bool, List}
 use Rattle.xw_cells.specs.declared.cell.Cell.{Cell}
 use Rattle.xw_grid.specs.Clue.{ClueMap}
 use Rattle.xw_feas.specs.State.{State as Position}
-use Rattle.xw_files.specs.Puzzle.{TextsShown}
+use Rattle.xw_grid.specs.Puzzle.{TextsShown}
 use Rattle.xw_commands.specs.declared.command.Spot.{Spot}
 use Rattle.xw_commands.specs.declared.command.TextField.{TextField}
 use Rattle.xw_commands.specs.declared.command.TextField.TheVariants.{Title, Author, Copyright, Notes}

@@ -11,7 +11,7 @@ use Rattle.xw_feas.specs.State.{State as Position}
 use Rattle.xw_fill.specs.Position.{position_of}
 use Rattle.xw_fill.specs.FeasibleWords.{feasible_words}
 use Rattle.xw_fill.specs.FeasibleLetters.{feasible_letters}
-use Rattle.xw_files.specs.Puzzle.{TextsShown, clue_of}
+use Rattle.xw_grid.specs.Puzzle.{TextsShown, clue_of}
 use Rattle.xw_session.specs.State.{State}
 use Rattle.xw_session.specs.Text.{line_of, change_line, direction_name}
 use Rattle.xw_session.specs.Escape.{escaped_text}

@@ -1,7 +1,7 @@
 //! The texts and the clues of a puzzle, as answers tell them.
 ghost use Rattle.std.specs.Prelude.{◌≡◌, ◌<◌, [], ◌∷◌, length, decimal, slice_index_or};
 ghost use Rattle.xw_grid.specs.Light.{lights_of, no_light};
-ghost use Rattle.xw_files.specs.Puzzle.{texts_view};
+ghost use Rattle.xw_grid.specs.Puzzle.{texts_view};
 ghost use Rattle.xw_lines.specs.Sends.{Sends};
 ghost use Rattle.xw_session.specs.Text.{line_of, direction_name as name_of_direction};
 ghost use Rattle.xw_session.specs.Escape.{escaped_text};
@@ -9,7 +9,7 @@ ghost use Rattle.xw_session.specs.Told.{field_line, title_and_author, copyright_
 
 use crate::{escape, text};
 use xw_cells::{Direction, Grid, LightName};
-use xw_files::puzzle::Texts;
+use xw_grid::puzzle::Texts;
 use xw_grid::{Clues, Lights};
 use xw_lines::device::{Sink, WriteFailed};
 

@@ -1,6 +1,6 @@
 //! A session that starts with the lines of a file.
 ghost use Rattle.std.specs.Prelude.{◌≡◌, ℕ, ◌≤◌, ◌<◌, List, ◌∷◌, length, IfOk, position, option_map};
-ghost use Rattle.xw_words.specs.WordList.{is_line_feed};
+ghost use Rattle.xw_letters.specs.Lines.{is_line_feed};
 ghost use Rattle.xw_lines.specs.Cut.{lines_of};
 ghost use Rattle.xw_lines.specs.Spoken.{Spoken};
 ghost use Rattle.xw_session.specs.Answer.{Answers};

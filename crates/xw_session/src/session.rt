@@ -9,7 +9,7 @@ mod telling;
 ghost use Rattle.std.specs.Prelude.{◌≡◌, ℕ, ◌+◌, ◌-◌, ◌^◌, ◌≤◌, List, ◌++◌, length, IfOk, IfErr, IsTrue, IsOkUnless, true, false, []};
 ghost use Rattle.xw_cells.specs.Grid.{is_inside};
 ghost use Rattle.xw_grid.specs.Clue.{no_clues};
-ghost use Rattle.xw_files.specs.Puzzle.{texts_view, puzzle_view};
+ghost use Rattle.xw_grid.specs.Puzzle.{texts_view, puzzle_view};
 ghost use Rattle.xw_lines.specs.Cut.{lines_of, ended_lines};
 ghost use Rattle.xw_lines.specs.Device.{saturated, HasFailed};
 ghost use Rattle.xw_lines.specs.Run.{Speaks, StopsIn, IfDone, OnReadFailed, OnWriteFailed, OnEndless, OnMemory, UnlessWriteFailed};
@@ -28,7 +28,7 @@ use xw_cells::{Cell, GridFault};
 use xw_commands::command::{self, Command, Spot, SyntaxFault};
 use xw_feas::edit::Refusal as EditRefusal;
 use xw_feas::feasible::Feasible;
-use xw_files::puzzle::{Puzzle, Texts};
+use xw_grid::puzzle::{Puzzle, Texts};
 use xw_grid::{Circles, Clues};
 use xw_lines::device::{Sink, Source, WriteFailed};
 use xw_lines::outcome::{RunEnd, Step};
@@ -47,7 +47,7 @@ pub struct Session<E: Feasible> {
 }
 
 impl<E: Feasible> Model for Session<E> {
-    ghost use Rattle.xw_files.specs.Puzzle.{texts_view};
+    ghost use Rattle.xw_grid.specs.Puzzle.{texts_view};
     ghost use Rattle.xw_session.specs.State.{State};
 
     ghost Value = { State };

@@ -12,7 +12,7 @@ use Rattle.xw_grid.specs.Light.{lights_of}
 use Rattle.xw_cells.proofs.GridLemmas.{cell_at-inside}
 use Rattle.xw_files.specs.declared.fault.TextName.TheVariants as names
 use Rattle.xw_files.specs.declared.puz.header.Header.{Header}
-use Rattle.xw_files.specs.Puzzle.{PuzzleShown}
+use Rattle.xw_grid.specs.Puzzle.{PuzzleShown}
 use Rattle.xw_files.specs.Puz.Reading.{Fields, text_at, clues_at, texts_at, header_at, fields_at, cell_count}
 use Rattle.xw_files.specs.Puz.Sections.{Section, is_marked, with_mark, with_marks, circles_by, gext_in}
 use Rattle.xw_files.specs.Puz.Spelling.{HasNoNul, AllHaveNoNul}

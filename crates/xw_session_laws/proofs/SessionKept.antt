@@ -30,7 +30,7 @@ use Rattle.xw_fill.specs.Listing.{duplicates_of, unlisted_of}
 use Rattle.xw_fill.specs.Search.{found, due, end}
 use Rattle.xw_fill.specs.Suggesting.{suggestion}
 use Rattle.xw_fill.specs.declared.search.Filling.TheVariants as fillings
-use Rattle.xw_files.specs.Puzzle.{TextsShown}
+use Rattle.xw_grid.specs.Puzzle.{TextsShown}
 use Rattle.xw_commands.specs.declared.command.Command.{Command}
 use Rattle.xw_commands.specs.declared.command.Command.TheVariants as commands
 use Rattle.xw_commands.specs.declared.command.Field.{Field}

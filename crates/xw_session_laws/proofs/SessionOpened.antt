@@ -17,7 +17,7 @@ use Rattle.xw_grid.specs.Clue.{no_clues}
 use Rattle.xw_grid.specs.Light.{lights_of}
 use Rattle.xw_grid.proofs.OrderLemmas.{IsMade, lights_are_made, made_inside}
 use Rattle.xw_feas.specs.WellFormed.{IsWellFormed}
-use Rattle.xw_files.specs.Puzzle.{PuzzleShown}
+use Rattle.xw_grid.specs.Puzzle.{PuzzleShown}
 use Rattle.xw_commands.specs.declared.command.TextField.{TextField}
 use Rattle.xw_session.specs.Put.{text_of_field}
 use Rattle.xw_session.specs.Reply.{has_nul}

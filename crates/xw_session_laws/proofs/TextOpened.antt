@@ -14,7 +14,7 @@ use Rattle.xw_grid.specs.Light.{lights_of, same_direction}
 use Rattle.xw_files.specs.declared.fault.ReadFault.TheVariants as faults
 use Rattle.xw_files.specs.declared.fault.Tag.{Tag}
 use Rattle.xw_files.specs.declared.fault.Tag.TheVariants as tags
-use Rattle.xw_files.specs.Puzzle.{TextsShown, PuzzleShown}
+use Rattle.xw_grid.specs.Puzzle.{TextsShown, PuzzleShown}
 use Rattle.xw_files.specs.Text.Lines.{text_lines}
 use Rattle.xw_files.specs.Text.Relation.{AreText, AreNotes}
 use Rattle.xw_files.specs.Text.Shape.{Lines, header_at, tag_at, text_at, texts_at, size_at, rows_at, grid_at, with_clues, clues_at, both_clues_at, notes_at, shape, shaped, is_nul, all_of}

@@ -13,7 +13,7 @@ use Rattle.xw_grid.specs.Clue.{Texts, ClueMap, no_clues}
 use Rattle.xw_feas.specs.State.{State as Position}
 use Rattle.xw_feas.specs.WellFormed.{IsWellFormed}
 use Rattle.xw_files.specs.declared.fault.ReadFault.{ReadFault}
-use Rattle.xw_files.specs.Puzzle.{PuzzleShown}
+use Rattle.xw_grid.specs.Puzzle.{PuzzleShown}
 use Rattle.xw_commands.specs.declared.command.Command.{Command}
 use Rattle.xw_commands.specs.declared.command.SyntaxFault.{SyntaxFault}
 use Rattle.xw_commands.specs.declared.command.TextField.{TextField}

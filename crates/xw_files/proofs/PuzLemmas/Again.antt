@@ -12,7 +12,8 @@ use Rattle.xw_grid.specs.Light.{lights_of}
 use Rattle.xw_grid.proofs.CountLemmas.{lights_are_few}
 use Rattle.xw_files.specs.declared.fault.TextName.{TextName}
 use Rattle.xw_files.specs.declared.fault.WriteFault.{WriteFault}
-use Rattle.xw_files.specs.Puzzle.{PuzzleShown, clue_of, light_clues, is_circled_open, circled_cells}
+use Rattle.xw_grid.specs.Puzzle.{PuzzleShown, clue_of}
+use Rattle.xw_files.specs.Part.{light_clues, is_circled_open, circled_cells}
 use Rattle.xw_files.specs.Finished.{has_bar, empty_cell, square_byte}
 use Rattle.xw_files.specs.Puz.Reading.{Fields}
 use Rattle.xw_files.specs.Puz.Spelling.{HasNoNul, AllHaveNoNul, with_nuls, header_bytes, cib_bytes}

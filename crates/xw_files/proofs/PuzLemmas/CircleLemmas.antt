@@ -8,7 +8,7 @@ use Rattle.xw_cells.specs.Grid.{Grid, cells, cell_at, index_of, is_open, same_ce
 use Rattle.xw_grid.specs.Clue.{is_circled, with_circle}
 use Rattle.xw_cells.proofs.GridLemmas.{index_of-cell_at, cells_same, same_cell_itself, get_or-map-cells}
 use Rattle.xw_grid.proofs.KeptLemmas.{circles_are_kept}
-use Rattle.xw_files.specs.Puzzle.{is_circled_open}
+use Rattle.xw_files.specs.Part.{is_circled_open}
 use Rattle.xw_files.specs.Puz.Sections.{is_marked, marked_cells, with_mark, with_marks}
 use Rattle.xw_files.specs.Puz.Writing.{mark_of, marks_of, gext_bytes, circles_section}
 

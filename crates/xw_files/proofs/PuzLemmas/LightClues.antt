@@ -12,7 +12,7 @@ use Rattle.xw_cells.proofs.GridLemmas.{and-true, same_cell_itself, cells_same}
 use Rattle.xw_grid.proofs.KeptLemmas.{clues_are_kept}
 use Rattle.xw_grid.proofs.LightLemmas.{lights_are_lights}
 use Rattle.xw_grid.proofs.OrderLemmas.{lights_are_ordered}
-use Rattle.xw_files.specs.Puzzle.{clue_of}
+use Rattle.xw_grid.specs.Puzzle.{clue_of}
 use Rattle.xw_files.specs.Puz.Board.{with_clues}
 
 -- whether two lights begin at one cell and go one way

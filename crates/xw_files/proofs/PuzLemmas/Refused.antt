@@ -8,7 +8,7 @@ use Rattle.xw_cells.specs.Grid.{Grid, cells, cell_at}
 use Rattle.xw_grid.specs.Light.{light_from, lights_at}
 use Rattle.xw_grid.specs.Clue.{ClueMap}
 use Rattle.xw_files.specs.declared.fault.TextName.{TextName}
-use Rattle.xw_files.specs.Puzzle.{clue_of}
+use Rattle.xw_grid.specs.Puzzle.{clue_of}
 use Rattle.xw_files.specs.Puz.Writing.{clue_with_nul}
 use Rattle.xw_files.proofs.CellLemmas.{cells-step, cells-end}
 

@@ -12,8 +12,9 @@ use Rattle.xw_grid.specs.Clue.{ClueMap, no_clues}
 use Rattle.xw_files.specs.declared.fault.ReadFault.{ReadFault}
 use Rattle.xw_files.specs.declared.fault.ReadFault.TheVariants as faults
 use Rattle.xw_files.specs.declared.fault.SumName.{SumName}
-use Rattle.xw_files.specs.declared.puzzle.Puzzle.{Puzzle}
-use Rattle.xw_files.specs.Puzzle.{PuzzleShown, puzzle_view, clue_of, circled_cells, part_of}
+use Rattle.xw_grid.specs.declared.puzzle.Puzzle.{Puzzle}
+use Rattle.xw_grid.specs.Puzzle.{PuzzleShown, puzzle_view, clue_of}
+use Rattle.xw_files.specs.Part.{circled_cells, part_of}
 use Rattle.xw_files.specs.Finished.{has_bar}
 use Rattle.xw_files.specs.Steps.{◌>>=◌}
 use Rattle.xw_files.specs.Puz.Reading.{Fields, fields_at, part_at}

@@ -2,7 +2,8 @@
 use Rattle.std.proofs.Common.{◌≡◌, ℕ, List, length, map, replicate, refl, ap, ◌∙◌}
 use Rattle.xw_grid.specs.Light.{lights_of}
 use Rattle.xw_files.specs.Puz.Reading.{Fields}
-use Rattle.xw_files.specs.Puzzle.{PuzzleShown, light_clues}
+use Rattle.xw_grid.specs.Puzzle.{PuzzleShown}
+use Rattle.xw_files.specs.Part.{light_clues}
 use Rattle.xw_files.specs.Puz.Spelling.{file_bytes}
 use Rattle.xw_files.specs.Finished.{square_byte}
 use Rattle.xw_files.specs.Puz.Writing.{state_byte, circles_section, unsealed, unsealed_fields, sealed, spelled_puzzle}

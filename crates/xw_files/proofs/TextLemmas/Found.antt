@@ -12,10 +12,11 @@ use Rattle.xw_grid.specs.Clue.{ClueMap, no_clues}
 use Rattle.xw_files.specs.declared.fault.Tag.TheVariants as tags
 use Rattle.xw_files.specs.declared.fault.ReadFault.{ReadFault}
 use Rattle.xw_files.specs.declared.fault.ReadFault.TheVariants as faults
-use Rattle.xw_files.specs.declared.puzzle.Puzzle.{Puzzle}
+use Rattle.xw_grid.specs.declared.puzzle.Puzzle.{Puzzle}
 use Rattle.xw_files.specs.Text.Lines.{text_lines}
 use Rattle.xw_files.specs.Text.Tag.{header, names}
-use Rattle.xw_files.specs.Puzzle.{PuzzleShown, TextsShown, puzzle_view, is_circled_open, circled_cells}
+use Rattle.xw_grid.specs.Puzzle.{PuzzleShown, TextsShown, puzzle_view}
+use Rattle.xw_files.specs.Part.{is_circled_open, circled_cells}
 use Rattle.xw_files.specs.Text.Starts.{starts}
 use Rattle.xw_cells.specs.Edit.{grid_of}
 use Rattle.xw_files.specs.Steps.{GivesOrLacksMemory}

@@ -10,9 +10,10 @@ use Rattle.xw_grid.specs.declared.lights.Light.{Light}
 use Rattle.xw_grid.specs.Light.{lights_of, same_direction}
 use Rattle.xw_grid.specs.Clue.{ClueMap, clue_at}
 use Rattle.xw_files.specs.declared.fault.ReadFault.{ReadFault}
-use Rattle.xw_files.specs.declared.puzzle.Puzzle.{Puzzle}
+use Rattle.xw_grid.specs.declared.puzzle.Puzzle.{Puzzle}
 use Rattle.xw_files.specs.Text.Lines.{text_lines}
-use Rattle.xw_files.specs.Puzzle.{PuzzleShown, FilePart, part_of, light_clues, clue_of, puzzle_view}
+use Rattle.xw_grid.specs.Puzzle.{PuzzleShown, clue_of, puzzle_view}
+use Rattle.xw_files.specs.Part.{FilePart, part_of, light_clues}
 use Rattle.xw_files.specs.Text.Starts.{starts, starts_in}
 use Rattle.xw_files.specs.Steps.{GivesOrLacksMemory}
 use Rattle.xw_files.specs.Text.Shape.{is_nul, all_of}

@@ -16,7 +16,7 @@ use Rattle.xw_files.specs.declared.fault.Tag.TheVariants as tags
 use Rattle.xw_files.specs.declared.fault.ReadFault.TheVariants as faults
 use Rattle.xw_files.specs.declared.fault.ReadFault.{ReadFault}
 use Rattle.xw_files.specs.Text.Tag.{names, is_tag_line}
-use Rattle.xw_files.specs.Puzzle.{PuzzleShown, TextsShown}
+use Rattle.xw_grid.specs.Puzzle.{PuzzleShown, TextsShown}
 use Rattle.xw_files.specs.Text.Starts.{starts}
 use Rattle.xw_cells.specs.Edit.{grid_of}
 use Rattle.xw_files.specs.Steps.{◌>>=◌}

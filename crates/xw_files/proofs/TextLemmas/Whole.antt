@@ -16,7 +16,8 @@ use Rattle.xw_files.specs.declared.fault.Tag.{Tag}
 use Rattle.xw_files.specs.declared.fault.Tag.TheVariants as tags
 use Rattle.xw_files.specs.Text.Lines.{without_mark, text_lines, shown, cut}
 use Rattle.xw_files.specs.Text.Tag.{header, name_of, names}
-use Rattle.xw_files.specs.Puzzle.{PuzzleShown, TextsShown, circled_cells}
+use Rattle.xw_grid.specs.Puzzle.{PuzzleShown, TextsShown}
+use Rattle.xw_files.specs.Part.{circled_cells}
 use Rattle.xw_files.specs.Text.Shape.{Lines}
 use Rattle.xw_files.specs.Finished.{has_bar}
 use Rattle.xw_files.specs.Text.Written.{is_spelled, is_clue, are_notes, pieces, line, tag, tag_line, size_text, grid_text, texts_text, direction_text, clues_text, notes_text, row_texts, clue_texts, texted}

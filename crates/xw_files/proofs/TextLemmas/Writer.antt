@@ -15,7 +15,8 @@ use Rattle.xw_files.specs.declared.fault.TextName.{TextName}
 use Rattle.xw_files.specs.declared.fault.TextName.TheVariants as fields
 use Rattle.xw_files.specs.declared.fault.WriteFault.{WriteFault}
 use Rattle.xw_files.specs.declared.fault.WriteFault.TheVariants as faults
-use Rattle.xw_files.specs.Puzzle.{PuzzleShown, is_circled_open}
+use Rattle.xw_grid.specs.Puzzle.{PuzzleShown}
+use Rattle.xw_files.specs.Part.{is_circled_open}
 use Rattle.xw_files.specs.Text.Starts.{starts_in}
 use Rattle.xw_files.specs.Finished.{has_bar, empty_cell}
 use Rattle.xw_files.specs.Text.Written.{is_spelled, is_clue, are_notes, is_bad_clue, bad_clue, named_clue, bad_field, clue_texts, texted, unless_circled, unless_field, unless_empty, written}

@@ -15,7 +15,7 @@ use Rattle.xw_grid.specs.Clue.{ClueMap, clue_at}
 use Rattle.xw_files.proofs.TextLemmas.Clues.{starts_after, start_here, no_start, no_more_starts}
 use Rattle.xw_cells.specs.declared.cell.Square.{Square}
 use Rattle.xw_files.specs.Finished.{square_byte}
-use Rattle.xw_words.specs.WordList.{is_line_feed}
+use Rattle.xw_letters.specs.Lines.{is_line_feed}
 use Rattle.xw_files.specs.Text.Written.{line, row_texts, pieces}
 
 -- the clues of some starts as lines

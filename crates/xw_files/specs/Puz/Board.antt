@@ -8,7 +8,7 @@ use Rattle.xw_cells.specs.Grid.{Grid, cell_in}
 use Rattle.xw_cells.specs.Edit.{grid_of}
 use Rattle.xw_grid.specs.Light.{lights_of}
 use Rattle.xw_grid.specs.Clue.{ClueMap, no_clues, with_clue}
-use Rattle.xw_files.specs.Puzzle.{PuzzleShown}
+use Rattle.xw_grid.specs.Puzzle.{PuzzleShown}
 use Rattle.xw_files.specs.declared.fault.ReadFault.{ReadFault}
 use Rattle.xw_files.specs.declared.fault.Piece.TheVariants as part
 use Rattle.xw_files.specs.declared.fault.ReadFault.TheVariants.{Short, BadCell, BadSum, ClueCount}

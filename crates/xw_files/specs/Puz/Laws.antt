@@ -1,7 +1,8 @@
 -- What is true of the relation between `.puz` files and puzzles.
 use Rattle.std.specs.Prelude.{◌≡◌, ℕ, List, [], ◌++◌, Ok}
 use Rattle.xw_cells.specs.Grid.{IsGrid}
-use Rattle.xw_files.specs.Puzzle.{PuzzleShown, circled_cells, part_of}
+use Rattle.xw_grid.specs.Puzzle.{PuzzleShown}
+use Rattle.xw_files.specs.Part.{circled_cells, part_of}
 use Rattle.xw_files.specs.Puz.Sections.{Section, AreBytes, AreSections, HasNoGext}
 use Rattle.xw_files.specs.Puz.Board.{puzzle_at}
 use Rattle.xw_files.specs.Puz.Relation.{IsPuz}

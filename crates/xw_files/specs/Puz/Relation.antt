@@ -1,6 +1,7 @@
 -- When a `.puz` file and a puzzle belong together.
 use Rattle.std.specs.Prelude.{◌≡◌, ℕ, ◌*◌, false, List, [], map, length, Option, Some, None}
-use Rattle.xw_files.specs.Puzzle.{TextsShown, PuzzleShown, light_clues, circled_cells}
+use Rattle.xw_grid.specs.Puzzle.{TextsShown, PuzzleShown}
+use Rattle.xw_files.specs.Part.{light_clues, circled_cells}
 use Rattle.xw_files.specs.Finished.{has_bar}
 use Rattle.xw_files.specs.Puz.Reading.{Fields}
 use Rattle.xw_files.specs.Puz.Spelling.{FitsFile, file_bytes}

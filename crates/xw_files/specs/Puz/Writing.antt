@@ -13,7 +13,8 @@ use Rattle.xw_files.specs.declared.fault.TextName.TheVariants.{Title, Author, Co
 use Rattle.xw_files.specs.declared.puz.header.Header.{Header}
 use Rattle.xw_files.specs.declared.puz.sums.Sums.{Sums}
 use Rattle.xw_files.specs.Puz.Reading.{Fields}
-use Rattle.xw_files.specs.Puzzle.{PuzzleShown, light_clues, is_circled_open}
+use Rattle.xw_grid.specs.Puzzle.{PuzzleShown}
+use Rattle.xw_files.specs.Part.{light_clues, is_circled_open}
 use Rattle.xw_files.specs.Finished.{has_bar, empty_cell, square_byte}
 use Rattle.xw_files.specs.Puz.Sums.{sum_from, sums_of, masked_of}
 use Rattle.xw_files.specs.Puz.Spelling.{file_bytes}

@@ -9,7 +9,8 @@ use Rattle.xw_files.specs.declared.fault.Tag.{Tag}
 use Rattle.xw_files.specs.declared.fault.Tag.TheVariants as tags
 use Rattle.xw_files.specs.Text.Lines.{trimmed, text_lines}
 use Rattle.xw_files.specs.Text.Tag.{header, name_of, names, is_tag_line}
-use Rattle.xw_files.specs.Puzzle.{PuzzleShown, circled_cells, part_of}
+use Rattle.xw_grid.specs.Puzzle.{PuzzleShown}
+use Rattle.xw_files.specs.Part.{circled_cells, part_of}
 use Rattle.xw_files.specs.Text.Shape.{Lines, is_times, is_bad_square, square_of, is_nul}
 use Rattle.xw_files.specs.Finished.{has_bar}
 use Rattle.xw_files.specs.Text.Written.{clue_texts}

@@ -17,7 +17,7 @@ use Rattle.xw_files.specs.declared.fault.ReadFault.{ReadFault}
 use Rattle.xw_files.specs.declared.fault.ReadFault.TheVariants as faults
 use Rattle.xw_files.specs.Text.Lines.{trimmed, text_lines}
 use Rattle.xw_files.specs.Text.Tag.{header, name_of, names, is_tag_line}
-use Rattle.xw_files.specs.Puzzle.{TextsShown, PuzzleShown}
+use Rattle.xw_grid.specs.Puzzle.{TextsShown, PuzzleShown}
 use Rattle.xw_files.specs.Steps.{◌>>=◌}
 use Rattle.xw_files.specs.Text.Starts.{starts}
 use Rattle.xw_cells.specs.Edit.{grid_of}

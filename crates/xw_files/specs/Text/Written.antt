@@ -1,7 +1,7 @@
 -- The one text of a puzzle, or why it has none.
 use Rattle.std.specs.Prelude.{◌≡◌, ◌≢◌, ℕ, zero, suc, ◌+◌, ◌-◌, Bool, false, not, ◌&&◌, ◌||◌, ◌==◌, List, [], ◌∷◌, ◌++◌, length, map, take, drop, Option, Some, None, Result, Ok, Err, if◌then◌else◌, position, slice_get, flat_map, find, decimal}
 use Rattle.std.specs.List.{list_all, list_any, slice_split}
-use Rattle.xw_words.specs.WordList.{is_line_feed}
+use Rattle.xw_letters.specs.Lines.{is_line_feed}
 use Rattle.xw_cells.specs.declared.cell.Cell.{Cell}
 use Rattle.xw_cells.specs.declared.cell.Square.{Square}
 use Rattle.xw_cells.specs.declared.cell.Direction.{Direction}
@@ -19,7 +19,8 @@ use Rattle.xw_files.specs.declared.fault.WriteFault.{WriteFault}
 use Rattle.xw_files.specs.declared.fault.WriteFault.TheVariants as faults
 use Rattle.xw_files.specs.Text.Lines.{is_blank}
 use Rattle.xw_files.specs.Text.Tag.{header, name_of, is_tag_line}
-use Rattle.xw_files.specs.Puzzle.{PuzzleShown, TextsShown, is_circled_open}
+use Rattle.xw_grid.specs.Puzzle.{PuzzleShown, TextsShown}
+use Rattle.xw_files.specs.Part.{is_circled_open}
 use Rattle.xw_files.specs.Finished.{has_bar, empty_cell, square_byte}
 use Rattle.xw_files.specs.Text.Starts.{starts}
 

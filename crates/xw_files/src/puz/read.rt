@@ -5,7 +5,8 @@ ghost use Rattle.xw_grid.specs.Clue.{no_clues};
 ghost use Rattle.xw_files.specs.Puz.Board.{with_clues, clues_in, puzzle_of, puzzle_at};
 ghost use Rattle.xw_files.specs.Puz.Relation.{IsPuz};
 ghost use Rattle.xw_files.specs.Steps.{GivesOrLacksMemory};
-ghost use Rattle.xw_files.specs.Puzzle.{PuzzleShown, puzzle_view, part_of};
+ghost use Rattle.xw_grid.specs.Puzzle.{PuzzleShown, puzzle_view};
+ghost use Rattle.xw_files.specs.Part.{part_of};
 ghost use Rattle.xw_files.specs.Puz.View.{view};
 ghost use Rattle.xw_cells.specs.declared.cell.Symmetry.TheVariants as Symmetry;
 ghost use Rattle.xw_files.specs.declared.fault.ReadFault.TheVariants as faults;
@@ -14,11 +15,11 @@ use crate::fault::ReadFault;
 use crate::puz::fields::{self, Fields};
 use crate::puz::sums::Sums;
 use crate::puz::{board, sections};
-use crate::puzzle::{Puzzle, Texts};
 use std::alloc::Global;
 use xw_cells::grid::Grid;
 use xw_grid::clues::Clues;
 use xw_grid::lights::Lights;
+use xw_grid::puzzle::{Puzzle, Texts};
 
 /// The puzzle that a file spells; it has no symmetry, and no clue or circle but those of the file.
 pub fn read_puz(alloc: Global, bytes: &[u8]) -> Result<Puzzle, ReadFault>

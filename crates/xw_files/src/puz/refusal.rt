@@ -3,16 +3,16 @@ ghost use Rattle.std.specs.Prelude.{◌≡◌, ◌+◌, ◌≤◌, ◌++◌, Lis
 ghost use Rattle.xw_grid.specs.declared.lights.Light.{Light};
 ghost use Rattle.xw_cells.specs.Grid.{IsGrid};
 ghost use Rattle.xw_grid.specs.Light.{light_from, lights_at, lights_of};
-ghost use Rattle.xw_files.specs.Puzzle.{puzzle_view, clue_of};
+ghost use Rattle.xw_grid.specs.Puzzle.{puzzle_view, clue_of};
 ghost use Rattle.xw_files.specs.Puz.Writing.{has_nul, clue_with_nul, text_with_nul, write_fault};
 
 use crate::fault::{TextName, WriteFault};
 use crate::finished::{empty_cell, has_bar};
-use crate::puzzle::Puzzle;
 use xw_cells::cell::{Cell, Direction};
 use xw_cells::grid::Grid;
 use xw_grid::clues::Clues;
 use xw_grid::lights;
+use xw_grid::puzzle::Puzzle;
 
 /// The first reason for which a puzzle is not written.
 pub fn fault_of(puzzle: &Puzzle) -> Option<WriteFault>

@@ -1,6 +1,7 @@
 //! Writing a puzzle.
 ghost use Rattle.std.specs.Prelude.{◌≡◌, ◌≢◌, ℕ, [], List, map, Ok, Err, IfOk, IfErr, IsOk, IsOkUnless, ◌++◌};
-ghost use Rattle.xw_files.specs.Puzzle.{puzzle_view, clue_of, circled_cells};
+ghost use Rattle.xw_grid.specs.Puzzle.{puzzle_view, clue_of};
+ghost use Rattle.xw_files.specs.Part.{circled_cells};
 ghost use Rattle.xw_files.specs.Finished.{square_byte};
 ghost use Rattle.xw_files.specs.Puz.View.{view};
 ghost use Rattle.xw_files.specs.Puz.Sections.{AreBytes, HasNoGext};
@@ -14,12 +15,12 @@ use crate::puz::fields::Fields;
 use crate::puz::header::Header;
 use crate::puz::sums::Sums;
 use crate::puz::{circles, refusal, spell};
-use crate::puzzle::Puzzle;
 use std::alloc::{AllocError, Global};
 use xw_cells::cell::Square;
 use xw_cells::grid::Grid;
 use xw_grid::clues::Clues;
 use xw_grid::lights::Lights;
+use xw_grid::puzzle::Puzzle;
 
 /// The bytes of a puzzle.
 pub fn write_puz(alloc: Global, puzzle: &Puzzle) -> Result<Vec<u8>, WriteFault>

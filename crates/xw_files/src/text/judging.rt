@@ -5,12 +5,12 @@ ghost use Rattle.std.specs.Option.{option_copied};
 ghost use Rattle.xw_cells.specs.Grid.{cells};
 ghost use Rattle.xw_grid.specs.Light.{begins as begins_light, lights_at, lights_of};
 ghost use Rattle.xw_grid.specs.Clue.{clue_at};
-ghost use Rattle.xw_files.specs.Puzzle.{puzzle_view, is_circled_open};
+ghost use Rattle.xw_grid.specs.Puzzle.{puzzle_view};
+ghost use Rattle.xw_files.specs.Part.{is_circled_open};
 ghost use Rattle.xw_files.specs.Text.Written.{is_line_end, is_blank_at as is_blank_there, is_spelled as is_spelled_text, is_clue as is_clue_text, are_notes as are_notes_text, pieces, place_at as place_at_cell, bad_clue as bad_clue_of, bad_field as bad_field_of, texted, written};
 
 use crate::fault::{TextName, WriteFault};
 use crate::finished::{empty_cell, has_bar, is_circled};
-use crate::puzzle::Puzzle;
 use crate::text::lines::is_blank;
 use crate::text::tag::is_tag_line;
 use xw_cells::cell::{Cell, Direction};
@@ -18,6 +18,7 @@ use xw_cells::grid::Grid;
 use xw_grid::circles::Circles;
 use xw_grid::clues::Clues;
 use xw_grid::lights::begins;
+use xw_grid::puzzle::Puzzle;
 
 fn has_line_end(text: &[u8]) -> bool
     ensures { result ≡ list_any is_line_end text.now }

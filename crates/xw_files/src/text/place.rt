@@ -1,6 +1,6 @@
 //! Where a text file leaves its shape.
 ghost use Rattle.std.specs.Prelude.{◌≡◌, ◌+◌, length, map, take, count_by, option_map, IfOk};
-ghost use Rattle.xw_words.specs.WordList.{is_line_feed};
+ghost use Rattle.xw_letters.specs.Lines.{is_line_feed};
 ghost use Rattle.xw_files.specs.Steps.{GivesOrLacksMemory};
 ghost use Rattle.xw_files.specs.Text.Lines.{file_lines};
 ghost use Rattle.xw_files.specs.Text.Starts.{starts};

@@ -6,13 +6,13 @@ ghost use Rattle.std.specs.Char.{is_ascii_digit};
 ghost use Rattle.std.specs.Str.Parse.{digits_value};
 ghost use Rattle.std.specs.List.{join_with_byte};
 ghost use Rattle.xw_files.specs.Text.Relation.{IsText, IsBare, HasOnePart};
-ghost use Rattle.xw_files.specs.Puzzle.{PuzzleShown, puzzle_view, texts_view, part_of};
+ghost use Rattle.xw_grid.specs.Puzzle.{PuzzleShown, puzzle_view, texts_view};
+ghost use Rattle.xw_files.specs.Part.{part_of};
 ghost use Rattle.xw_files.specs.Text.Starts.{starts};
 ghost use Rattle.xw_files.specs.Steps.{GivesOrLacksMemory};
 ghost use Rattle.xw_files.specs.Text.Shape.{header_at, tag_at, plain_at, text_at, texts_at, is_numeral as is_numeral_text, side_of, is_times, sides_of, size_at, with_front, AreSides, row_squares, squares_after, row_at, rows_at, grid_at, clue_at_start, clues_at, both_clues_at, notes_at, shape, is_nul, all_of};
 
 use crate::fault::{ReadFault, Tag};
-use crate::puzzle::{Puzzle, Texts};
 use crate::text::lines::{TextLines, trim};
 use crate::text::tag::{header as header_line, is_tag_line, names};
 use std::alloc::{AllocError, Global};
@@ -21,6 +21,7 @@ use xw_cells::grid::{Grid, LONGEST_SIDE};
 use xw_grid::circles::Circles;
 use xw_grid::clues::Clues;
 use xw_grid::lights::begins;
+use xw_grid::puzzle::{Puzzle, Texts};
 use xw_letters::letter::Letter;
 
 #[tactic(auto, unfolding(crate::specs::Text::Shape::header_at))]

@@ -1,14 +1,13 @@
 //! Writing text files.
 ghost use Rattle.std.specs.Prelude.{◌≡◌, ◌++◌, ◌<◌, ◌*◌, length, OnOk, IfOk, IfSome, IsOk, Err, position, map, flat_map, decimal};
-ghost use Rattle.xw_files.specs.Puzzle.{puzzle_view, texts_view};
+ghost use Rattle.xw_grid.specs.Puzzle.{puzzle_view, texts_view};
 ghost use Rattle.xw_files.specs.Finished.{square_byte};
-ghost use Rattle.xw_words.specs.WordList.{is_line_feed};
+ghost use Rattle.xw_letters.specs.Lines.{is_line_feed};
 ghost use Rattle.xw_files.specs.Text.Written.{pieces, line, tag_line, tag, texts_text, size_text, row_texts, grid_text, clue_texts, direction_text, clues_text, notes_text, texted, written, Writes};
 ghost use Rattle.xw_files.specs.Text.Relation.{IsText};
 
 use crate::fault::{Tag, WriteFault};
 use crate::finished::square_byte;
-use crate::puzzle::{Puzzle, Texts};
 use crate::text::judging::judge;
 use crate::text::tag::header;
 use std::alloc::{AllocError, Global};
@@ -16,6 +15,7 @@ use xw_cells::cell::{Direction, Square};
 use xw_cells::grid::Grid;
 use xw_grid::clues::Clues;
 use xw_grid::lights::begins;
+use xw_grid::puzzle::{Puzzle, Texts};
 
 fn put_line(out: &mut Vec<u8>, text: &[u8]) -> Result<(), AllocError>
     ensures { OnOk result (out.new.items ≡ out.old.items ++ line text.now) }

@@ -3,10 +3,10 @@ use crate::files::puzzles::{PLAIN_PUZZLE, Part, put_all, puzzle_with};
 use std::alloc::{AllocError, Global};
 use std::process::Abort;
 use std::test::Fail;
+use xw_files::Puzzle;
 use xw_files::fault::{ReadFault, WriteFault};
 use xw_files::kind::Kind;
 use xw_files::puz::{read_puz, write_puz};
-use xw_files::puzzle::Puzzle;
 use xw_files::text::{read_text, write_text};
 
 /// Pieces that stand in a file one after another.

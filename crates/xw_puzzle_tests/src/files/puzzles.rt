@@ -3,7 +3,7 @@ use std::alloc::Global;
 use std::test::Fail;
 use xw_cells::cell::{Cell, Direction, Side};
 use xw_cells::grid::Grid;
-use xw_files::puzzle::{Puzzle, Texts};
+use xw_files::{Puzzle, Texts};
 use xw_grid::circles::Circles;
 use xw_grid::clues::Clues;
 use xw_letters::letter::Letter;

@@ -1,7 +1,7 @@
 use Rattle.std.proofs.Common.{◌≡◌, ◌-◌, List, ℕ, length, length-drop, take, drop, ◌∙◌, ap, sym, arith}
 use Rattle.std.proofs.lemmas.List.{take_all}
 use Rattle.std.specs.Prelude.{position}
-use Rattle.xw_words.specs.WordList.{is_line_feed}
+use Rattle.xw_letters.specs.Lines.{is_line_feed}
 use Rattle.xw_lines.proofs.Cuts.{no_lf, first_lf-ends}
 use Rattle.xw_lines.proofs.run.next_lf.Goals as goal
 

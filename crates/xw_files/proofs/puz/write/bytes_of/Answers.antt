@@ -1,5 +1,5 @@
 use Rattle.std.proofs.Common.{◌∙◌, map}
-use Rattle.xw_files.specs.Puzzle.{puzzle_view}
+use Rattle.xw_grid.specs.Puzzle.{puzzle_view}
 use Rattle.xw_files.proofs.PuzLemmas.Written.{unsealed-same, spelled-is}
 use Rattle.xw_files.proofs.puz.write.bytes_of.Goals as goal
 

@@ -1,7 +1,7 @@
 use Rattle.std.proofs.Common.{sym, ◌∙◌}
 use Rattle.std.proofs.lemmas.List.{map-append}
 use Rattle.xw_files.proofs.CellLemmas.{map-got, map-none}
-use Rattle.xw_files.specs.Puzzle.{clue_of}
+use Rattle.xw_grid.specs.Puzzle.{clue_of}
 use Rattle.xw_files.proofs.puz.write.clues_of.Goals as goal
 
 pub returns-in_default : goal.returns-in_default

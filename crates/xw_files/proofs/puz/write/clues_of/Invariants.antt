@@ -1,5 +1,5 @@
 use Rattle.std.proofs.Common.{◌≡◌, map, take}
-use Rattle.xw_files.specs.Puzzle.{clue_of}
+use Rattle.xw_grid.specs.Puzzle.{clue_of}
 use Rattle.xw_files.proofs.puz.write.clues_of.Given as goal
 
 abbrev pub invariant-loop-index : goal.invariant-loop-index

@@ -1,5 +1,5 @@
 use Rattle.std.proofs.Common.{sym, ◌∙◌}
-use Rattle.xw_files.specs.Puzzle.{puzzle_view}
+use Rattle.xw_grid.specs.Puzzle.{puzzle_view}
 use Rattle.xw_files.proofs.PuzLemmas.Again.{gives-again}
 use Rattle.xw_files.proofs.puz.write.write_puz.Goals as goal
 

@@ -1,6 +1,6 @@
 use Rattle.std.proofs.Common.{sym, ◌∙◌, arith, ap}
 use Rattle.std.specs.Prelude.{Some}
-use Rattle.xw_files.specs.Puzzle.{is_circled_open}
+use Rattle.xw_files.specs.Part.{is_circled_open}
 use Rattle.xw_files.proofs.CellLemmas.{find-some, find-more, find-end}
 use Rattle.xw_files.proofs.text.judging.circled.Goals as goal
 

@@ -1,7 +1,7 @@
 use Rattle.std.proofs.Common.{◌≡◌, drop}
 use Rattle.std.specs.Prelude.{find}
 use Rattle.xw_cells.specs.Grid.{cells}
-use Rattle.xw_files.specs.Puzzle.{is_circled_open}
+use Rattle.xw_files.specs.Part.{is_circled_open}
 use Rattle.xw_files.proofs.text.judging.circled.Given as goal
 
 abbrev pub invariant-loop-index : goal.invariant-loop-index

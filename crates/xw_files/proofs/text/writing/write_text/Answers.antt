@@ -1,5 +1,5 @@
 use Rattle.std.proofs.Common.{List, ℕ, sym, subst}
-use Rattle.xw_files.specs.Puzzle.{puzzle_view}
+use Rattle.xw_grid.specs.Puzzle.{puzzle_view}
 use Rattle.xw_files.specs.Text.Relation.{IsText}
 use Rattle.xw_files.proofs.TextLemmas.Writer.{is_again}
 use Rattle.xw_files.proofs.text.writing.write_text.Goals as goal

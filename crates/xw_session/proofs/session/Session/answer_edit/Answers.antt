@@ -1,5 +1,5 @@
 use Rattle.std.proofs.Common.{subst}
-use Rattle.xw_files.specs.Puzzle.{texts_view}
+use Rattle.xw_grid.specs.Puzzle.{texts_view}
 use Rattle.xw_feas.specs.State.{after, action_of}
 use Rattle.xw_session.specs.State.{State}
 use Rattle.xw_session.specs.Reply.{moved, want_of_action}

@@ -1,5 +1,5 @@
 use Rattle.std.proofs.Common.{subst, Some, refl}
-use Rattle.xw_files.specs.Puzzle.{texts_view}
+use Rattle.xw_grid.specs.Puzzle.{texts_view}
 use Rattle.xw_session.specs.State.{State}
 use Rattle.xw_session.specs.Reply.{fill_tried, grid_memory}
 use Rattle.xw_session.specs.Answer.{AnswersBy}

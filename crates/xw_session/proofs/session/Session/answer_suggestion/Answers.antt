@@ -1,6 +1,6 @@
 use Rattle.std.proofs.Common.{◌≡◌, ◌∙◌, ◌++◌, List, ℕ, subst, ap, refl}
 use Rattle.std.proofs.lemmas.Result.{err_from_is_err_and}
-use Rattle.xw_files.specs.Puzzle.{texts_view}
+use Rattle.xw_grid.specs.Puzzle.{texts_view}
 use Rattle.xw_feas.specs.State.{State as Position}
 use Rattle.xw_fill.specs.Suggesting.{suggestion}
 use Rattle.xw_session.specs.State.{State}

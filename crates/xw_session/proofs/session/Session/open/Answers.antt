@@ -1,5 +1,5 @@
 use Rattle.std.proofs.Common.{◌≡◌, ◌∙◌, ℕ, List, false, ap}
-use Rattle.xw_files.specs.Puzzle.{texts_view}
+use Rattle.xw_grid.specs.Puzzle.{texts_view}
 use Rattle.xw_session.specs.State.{State}
 use Rattle.xw_session.specs.Record.{known_counts}
 use Rattle.xw_session.proofs.session.Session.open.Goals as goal

@@ -1,8 +1,7 @@
--- Lemmas on the lines of a word list as pieces between line feeds.
+-- Lemmas on the lines of a text as pieces between line feeds.
 use Rattle.std.proofs.Common.{◌≡◌, ℕ, List, [], ◌∷◌, ◌++◌, refl, ap, ◌∙◌}
 use Rattle.std.proofs.lemmas.Bool.{cond-false, ne_eqb}
-use Rattle.xw_words.specs.Lines.{HasNoLf, AllHaveNoLf, with_lfs, last_line}
-use Rattle.xw_words.specs.WordList.{is_line_feed, begun, lines_of}
+use Rattle.xw_letters.specs.Lines.{HasNoLf, AllHaveNoLf, with_lfs, last_line, is_line_feed, begun, lines_of}
 
 -- a line feed ends the first line
 lines_of-ended : (line bytes : List ℕ) → HasNoLf line → lines_of (line ++ 10 ∷ bytes) ≡ line ∷ lines_of bytes

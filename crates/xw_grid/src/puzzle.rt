@@ -1,7 +1,7 @@
 //! A puzzle as a file can hold it, and more: symmetry, hidden clues and hidden circles are kept too.
+use crate::circles::Circles;
+use crate::clues::Clues;
 use xw_cells::grid::Grid;
-use xw_grid::circles::Circles;
-use xw_grid::clues::Clues;
 
 /// The texts of a puzzle but for its clues; bytes, without a character set.
 #[derive(Drop)]
