@@ -1,25 +1,24 @@
 #!/usr/bin/env python3
-"""A front end, as an example: draws a grid in a terminal and changes it by keys, with `xw edit` behind a pair of pipes.
+"""An example front end: draws a grid in a terminal, edits it by keys, and runs `xw edit` behind a pair of pipes.
 
-    arrows       go to the next cell, and turn to across or to down
+    arrows       move to the next cell, and turn across or down
     tab          turns between across and down
     a letter     enters it, and steps on
-    space        empties the cell, and steps on
-    backspace    steps back, and empties that cell
+    space        clears the cell, and steps on
+    backspace    steps back, and clears that cell
     #            toggles a block, with its images under the symmetry
-    ?            asks for a next word, and goes to its light
-    enter        places the word that ? asks for
-    ^F           looks for a fill
-    ^Z           takes the last edit back
+    ?            proposes a word, and moves to its light
+    enter        places the proposed word
+    ^F           searches for a fill
+    ^Z           undoes the last edit
     ^S           saves the log
-    ^Q, ^C       saves the log and quits; quits without
+    ^Q, ^C       saves the log and quits; quits without saving
 
-A capital is entered, a small letter is the only one that is feasible in its cell, `!` is a cell without a feasible letter,
-`-` any other empty cell, `#` a block. `>` or `v` marks the cell under the cursor, `.` the other cells of the light through it.
-Bars are not drawn.
+A capital is an entry. A small letter is the only feasible one of its cell, `!` is a cell without a feasible letter, `-` any other
+empty cell, `#` a block. `>` or `v` marks the cell under the cursor, `.` the other cells of its light. Bars are not drawn.
 
-The log has the line commands that make this grid, a fill as the letters that it entered: `xw edit --dict WORDS <LOG` makes it
-again. Where the file is there at the start, the board begins with its commands.
+The log has the commands that make this grid, with a fill as the letters that it entered: `xw edit --dict WORDS <LOG` makes the
+grid again. If the log exists at the start, the board begins with its commands.
 """
 import argparse
 import itertools
@@ -37,7 +36,7 @@ FILLS = {"filled": "filled", "nofill": "there is no fill", "limit": "no fill was
 PROPOSALS = {"done": "every light is entered", "try": "{2}? enter places it", "dead": "no word fits here",
              "noword": "no word here leaves every light a word"}
 MOST_PLACED = 10000
-ENCODING = "latin-1"  # a character for each byte, whatever character set the texts of a log are in
+ENCODING = "latin-1"  # one character for each byte, whatever encoding the texts of a log have
 
 
 class Refused(Exception):
@@ -48,7 +47,7 @@ class Session(subprocess.Popen):
     """`xw edit` behind a pair of pipes."""
 
     def ask(self, command):
-        """The lines that answer a command. A blank line or a note must not come here, since it has no answer."""
+        """The lines that answer a command. Never ask a blank line or a comment: it has no answer."""
         print(command, file=self.stdin, flush=True)
         lines = []
         for line in self.stdout:
@@ -62,13 +61,13 @@ class Session(subprocess.Popen):
 
 
 def read_grid(lines):
-    """What each cell holds, of the lines of `show`: the cells are at every other byte; a line with `=` is one of bars."""
+    """The contents of each cell, from the lines of `show`: every other byte is a cell; a line with `=` has bars."""
     rows = [line[::2] for line in lines if "=" not in line]
     return {(row, column): entry for row, line in enumerate(rows, 1) for column, entry in enumerate(line, 1)}
 
 
 def read_lights(lines):
-    """The cells of each light, by its name, of the lines of `lights`."""
+    """The cells of each light by its name, from the lines of `lights`."""
     lights = {}
     for line in lines:
         number, direction, row, column, letters = line.split()
@@ -79,11 +78,11 @@ def read_lights(lines):
 
 
 class Board:
-    """The grid as the program last told it, what was done to it, and what each key does."""
+    """The grid as the program last told it, the log of its edits, and the actions of the keys."""
 
     def __init__(self, session, log_file, first):
         self.session, self.log_file = session, log_file
-        self.log = [first]  # the commands that the board began with, and then those of each edit
+        self.log = [first]  # the commands that the board began with, then those of each edit
         self.grid, self.lights, self.letters = {}, {}, {}
         self.cursor, self.direction = (1, 1), "across"
         self.open, self.message = True, ""
@@ -91,7 +90,7 @@ class Board:
                         "^S": self.save, "^Q": self.quit}
 
     def begin(self):
-        """Does the whole log, on the grid that the program has at its start."""
+        """Runs the whole log on the grid that the program starts with."""
         for command in ["size 15 15", *itertools.chain(*self.log)]:
             try:
                 self.session.ask(command)
@@ -101,13 +100,13 @@ class Board:
         self.look(self.session.ask("cells"))
 
     def look(self, cells):
-        """Takes in cells, as `cells` and the watch tell them, and asks for the grid and its lights."""
+        """Takes the lines of `cells` or of the watch, and asks for the grid and its lights."""
         for line in cells:
             _, row, column, letters = line.split()
             self.letters[int(row), int(column)] = letters
         self.grid = read_grid(self.session.ask("show"))
         self.lights = read_lights(self.session.ask("lights"))
-        # the watch does not tell a block, nor an opened cell without letters
+        # the watch tells neither a block nor an opened cell without letters
         self.letters = {cell: letters for cell, letters in self.letters.items() if self.grid[cell] != "#"}
 
     def press(self, key):
@@ -170,14 +169,14 @@ class Board:
                              if entry != before[row, column]])
 
     def undo(self):
-        """Does the log again without the last edit. What the board began with stays."""
+        """Runs the log again without the last edit. The commands that the board began with stay."""
         if len(self.log) > 1:
             self.log.pop()
             self.begin()
             self.message = ""
 
     def save(self):
-        """Writes the log beside the old one and then puts it in its place, and answers whether that could be done."""
+        """Writes a new log and renames it over the old one. Returns whether that worked."""
         new = f"{self.log_file}.new"
         try:
             pathlib.Path(new).write_text("".join(f"{command}\n" for command in itertools.chain(*self.log)), ENCODING)
@@ -192,12 +191,12 @@ class Board:
         self.open = not self.save()
 
     def light(self):
-        """The name of the light through the cursor in its direction, or nothing."""
+        """The name of the light under the cursor, or an empty string."""
         names = (name for name, cells in self.lights.items() if name.endswith(self.direction) and self.cursor in cells)
         return next(names, "")
 
     def screen(self):
-        """The grid, of each cell a mark, the number and what it shows; and then the panel."""
+        """The grid, with a mark, a number and a face for each cell, and then the panel."""
         marks = dict.fromkeys(self.lights.get(self.light(), []), ".")
         marks[self.cursor] = "v" if self.direction == "down" else ">"
         numbers = {cells[0]: name.split()[0] for name, cells in self.lights.items()}
@@ -214,7 +213,7 @@ class Board:
         return "!" if feasible == "-" else feasible.lower()
 
     def panel(self):
-        """The light and the cell under the cursor, the lights that no word fits, the message."""
+        """The light and the cell under the cursor, the lights without a feasible word, and the message."""
         light = self.light()
         if light:
             count, *words = self.session.ask(f"words {light} 8")
@@ -254,7 +253,7 @@ def press_from_file(board, file):
 
 
 def first_commands(options):
-    """Those of the log that was saved, or else those of a new grid."""
+    """The commands of the saved log, or those of a new grid."""
     if not os.path.exists(options.log):
         return ["size " + options.size.replace("x", " "), f"sym {options.sym}"]
     lines = pathlib.Path(options.log).read_text(ENCODING).split("\n")
@@ -264,12 +263,12 @@ def first_commands(options):
 def main():
     parser = argparse.ArgumentParser(description=__doc__, formatter_class=argparse.RawDescriptionHelpFormatter)
     parser.add_argument("--dict", metavar="WORDS", help="a word list")
-    parser.add_argument("--log", metavar="LOG", default="board.xw", help="the file of the log (else %(default)s)")
-    parser.add_argument("--size", metavar="WxH", default="15x15", help="of a new grid (else %(default)s)")
-    parser.add_argument("--sym", metavar="KIND", default="half", help="symmetry of a new grid (else %(default)s)")
-    parser.add_argument("--keys", metavar="FILE", help="takes the keys from a file, parted by white space (`up space enter "
-                        "^F A`), and prints the last screen, without a terminal")
-    parser.add_argument("--xw", metavar="PROGRAM", default=TOP / "xw", help="the program (else %(default)s)")
+    parser.add_argument("--log", metavar="LOG", default="board.xw", help="the file of the log (default: %(default)s)")
+    parser.add_argument("--size", metavar="WxH", default="15x15", help="size of a new grid (default: %(default)s)")
+    parser.add_argument("--sym", metavar="KIND", default="half", help="symmetry of a new grid (default: %(default)s)")
+    parser.add_argument("--keys", metavar="FILE", help="take the keys from a file, separated by white space (`up space enter "
+                        "^F A`), and print the last screen, without a terminal")
+    parser.add_argument("--xw", metavar="PROGRAM", default=TOP / "xw", help="the program (default: %(default)s)")
     options = parser.parse_args()
     call = [options.xw, "edit", *(["--dict", options.dict] if options.dict else [])]
     try:

@@ -1,11 +1,11 @@
 #!/usr/bin/env python3
-"""Runs the board with keys from a file, and compares its last screen with what the rules say; and once in a terminal.
+"""Runs the board with keys from a file and compares its last screen with a screen written by hand; and once in a terminal.
 
-usage: examples/test_board.py [PROGRAM]   (the program that the board drives: ./xw unless given)
+usage: examples/test_board.py [PROGRAM]   (the program that the board drives: ./xw by default)
 
-The expected screens are written by hand. Most cases are on a lattice of 5 by 5 with six lights. Where lights cross, the words
-have the letters 1, 3 and 5: SHADE and STARE have S A E, ALONE and ATONE have A O E, ELEGY and ENEMY have E E Y. So each of
-these pairs is feasible in two lights, and TABLE nowhere. The last line is 'N passed, M failed'.
+Most cases use a lattice of 5 by 5 with six lights, which cross in letters 1, 3 and 5 of their words. SHADE and STARE have S A E
+there, ALONE and ATONE have A O E, ELEGY and ENEMY have E E Y. So each of these pairs is feasible in two lights, and TABLE in none.
+The last line is 'N passed, M failed'.
 """
 import os
 import pathlib
@@ -55,7 +55,7 @@ letters: -
 without a word: 1 across, 1 down, 2 down, 3 down, 4 across, 5 across
 """
 
-# what is shown, the keys, the screen
+# what the case shows, its keys, its screen
 CASES = [
     ("blocks are toggled with their images, and a letter that is forced is drawn small", LATTICE, FIRST),
     ("two letters leave one word, and so one letter in the fourth cell", LATTICE + "S h", """
@@ -184,7 +184,7 @@ set 5 5 Y
 
 
 class Folder:
-    """A folder with a word list, in which the board is run."""
+    """A folder with a word list in which the board runs."""
 
     def __init__(self, name, program):
         self.path, self.program = pathlib.Path(name), program
@@ -203,7 +203,7 @@ class Folder:
         return run.stdout if run.returncode == 0 else f"status {run.returncode}\n{run.stderr}"
 
     def press(self, keys):
-        """Sends bytes to the board in a terminal, once it is drawn there."""
+        """Sends bytes to the board in a terminal, once the board is drawn."""
         child, terminal = pty.fork()
         if child == 0:
             os.environ["TERM"] = "xterm"
@@ -217,12 +217,12 @@ class Folder:
             while os.read(terminal, 4096):
                 pass
         except OSError:
-            pass  # the board has ended, and the terminal with it
+            pass  # the board has ended, and closed the terminal
         os.waitpid(child, 0)
         os.close(terminal)
 
     def shown(self):
-        """What the program shows after the commands of the log alone, with no word list."""
+        """The grid that the program shows after the commands of the log, with no word list."""
         commands = self.log.read_text() + "show\n"
         return subprocess.run([self.program, "edit"], input=commands, stdout=subprocess.PIPE, encoding="utf-8", timeout=60).stdout
 
@@ -276,7 +276,7 @@ def terminals(program):
 
 def main():
     program = sys.argv[1] if len(sys.argv) > 1 else EXAMPLES.parent / "xw"
-    subprocess.run([program, "--version"], stdout=subprocess.DEVNULL, check=True)  # builds ./xw where that is due
+    subprocess.run([program, "--version"], stdout=subprocess.DEVNULL, check=True)  # builds ./xw if it is not up to date
     passed = [*screens(program), *saved_logs(program), *terminals(program)]
     print(f"{passed.count(True)} passed, {passed.count(False)} failed")
     sys.exit(0 if all(passed) else 1)

@@ -1,4 +1,4 @@
-"""`.puz` files: what is read of them, what is written, and which sections are passed over or refused."""
+"""`.puz` files: reading, writing, and extra sections that are ignored or refused."""
 from samples import (
     ALL_TEXTS,
     CIRCLED,
@@ -17,11 +17,11 @@ from samples import (
     WIDE,
     WITH_NOTES,
 )
-from steps import CLUES, FORMAT, compare, holds, is_read_as, run, write
+from steps import CLUES, FORMAT, REFUSED, compare, holds, is_read_as, run, write
 
 
 def is_rewritten(data, wanted):
-    """What is written of a file once it is read."""
+    """Reads a file, writes it again, and checks the result."""
     return [write("file", data), run("convert file out.puz"), holds("out.puz", wanted)]
 
 
@@ -30,11 +30,11 @@ def is_refused(data, fault):
 
 
 def with_turned(offset):
-    """The plain file with all bits of one byte turned."""
+    """Returns the plain file with all bits of one byte flipped."""
     return PLAIN[:offset] + bytes([PLAIN[offset] ^ 0xFF]) + PLAIN[offset + 1 :]
 
 
-# The largest grid with one letter in each cell, and a clue of one letter for each light.
+# The largest grid, with a letter in each cell and a one-letter clue for each light.
 LARGEST = (
     b"<ACROSS PUZZLE>\n<TITLE>\n<AUTHOR>\n<COPYRIGHT>\n<SIZE>\n255x255\n<GRID>\n"
     + (b"A" * 255 + b"\n") * 255
@@ -46,22 +46,22 @@ LARGEST = (
 
 
 def is_as_long_as_due(room, program):
-    """A header, three bytes for each cell, a NUL for each of four texts, two bytes for each of 510 clues, and those of a section."""
+    """The length: a header, 3 bytes per cell, 4 NULs, 2 bytes for each of 510 clues, and the rest of a section."""
     compare("length", len((room / "largest.puz").read_bytes()), 52 + 3 * 65025 + 4 + 2 * 510 + 9)
 
 
-# A mark in the first of four cells.
+# A section with a mark for the first of four cells.
 FIRST = b"GEXT\x04\0\x10\0\x80\0\0\0\0"
 
-# A mark in the last of four cells.
+# A section with a mark for the last of four cells.
 LAST = b"GEXT\x04\0\x80\0\0\0\0\x80\0"
 
-# What is passed over after any file.
+# Bytes that are ignored after any file.
 NOT_WHOLE = {
     "marks behind a line end": b"\r\nGEXT\x04\0\x10\0\x80\0\0\0\0",
     "marks behind a NUL": b"\0GEXT\x04\0\x10\0\x80\0\0\0\0",
     "another name, and a name that is cut": b"gext\x04\0\x10\0\x80\0\0\0\0GEX",
-    # The closing byte is another one, or stands past the end.
+    # The closing byte is not a NUL, or lies past the end of the file.
     "a time that is not closed": b"LTIM\x03\0\0\x001,0!",
     "a time that is longer than the file": b"LTIM\xFF\0\0\x001,0\0",
     "marks that are not closed": b"GEXT\x04\0\x10\0\x80\0\0\0!",
@@ -71,8 +71,31 @@ NOT_WHOLE = {
 }
 
 
+# A section of rebus cells: one more than the number of a cell's spelling, in the first of four cells.
+REBUS = b"GRBS\x04\0\x10\0\x01\0\0\0\0"
+
+KEPT_NO_REBUS = b"xw: file: rebus cells are not kept\n"
+
+
+def is_told_of(sections, data=PLAIN, wanted=PLAIN):
+    """Checks that each call that reads a file with these sections reports the rebus cells once, and that nothing else changes."""
+    return [
+        write("file", data + sections),
+        run("check file", output=b"puz 2x2 4 lights\n", errors=KEPT_NO_REBUS),
+        run("check --explain file", output=b"puz 2x2 4 lights\n", errors=KEPT_NO_REBUS),
+        run("convert file out.puz", errors=KEPT_NO_REBUS),
+        holds("out.puz", wanted),
+        run("edit --from file --to out.puz", b"show\nfrob\n", b"A T\nS O\nok\nno Command\n", KEPT_NO_REBUS, REFUSED),
+        holds("out.puz", wanted),
+    ]
+
+
+def is_not_told_of(sections, output=b"puz 2x2 4 lights\n"):
+    return [write("file", PLAIN + sections), run("check file", output=output)]
+
+
 def is_passed_over(section):
-    """A section that stands behind a file, and leaves it as it is."""
+    """Checks that a section after a file is ignored."""
     files = [(PLAIN, PLAIN), (STARTED, PLAIN), (WITH_NOTES, WITH_NOTES), (CIRCLED, CIRCLED)]
     return [step for data, wanted in files for step in is_rewritten(data + section, wanted)]
 
@@ -114,7 +137,7 @@ CASES = {
     "writes_what_was_read: STARTED": is_rewritten(STARTED, PLAIN),
     "writes_what_was_read: LOWER_CASE": is_rewritten(LOWER_CASE, PLAIN),
     "writes_what_was_read: UNUSUAL": is_rewritten(UNUSUAL, PLAIN),
-    # Bytes that are reserved mean nothing.
+    # Reserved bytes are ignored.
     "refuses_altered_files: reserved bytes": [step for offset in range(0x1C, 0x2C) for step in is_rewritten(with_turned(offset), PLAIN)],
     "keeps_the_largest_grid": [
         write("largest.txt", LARGEST),
@@ -124,7 +147,7 @@ CASES = {
         run("edit --from largest.puz", b"circles\nshow\n", output=b"255 255\nok\n" + (b"A " * 254 + b"A\n") * 255 + b"ok\n"),
     ],
     "circles_marked_cells: CIRCLED": is_read_as(CIRCLED, b"A T\nS O\n", circles=b"1 1\n"),
-    # A mark at a block is no circle.
+    # A mark on a block is ignored.
     "circles_marked_cells: CORNERS_MARKED": [
         write("file", CORNERS_MARKED),
         run("edit --from file", b"circles\n", output=b"1 2\nok\n"),
@@ -134,18 +157,45 @@ CASES = {
     "takes_the_first_marks: other marks": is_rewritten(PLAIN + FIRST + LAST, CIRCLED),
     "takes_the_first_marks: a section that is not whole": is_rewritten(PLAIN + FIRST + b"GEXT\x04\0\0\0\x80", CIRCLED),
     "takes_the_first_marks: after a time": is_rewritten(PLAIN + b"LTIM\x03\0\x12\x341,0\0" + FIRST, CIRCLED),
+    "takes_the_first_marks: after a time and before a line end": [
+        *is_read_as(PLAIN + b"LTIM\x03\0\0\x001,0\0" + FIRST + b"\r\n", b"A T\nS O\n", circles=b"1 1\n"),
+        *is_rewritten(PLAIN + b"LTIM\x03\0\0\x001,0\0" + FIRST + b"\r\n", CIRCLED),
+    ],
     "takes_the_first_marks: after no bytes": is_rewritten(PLAIN + b"NONE\0\0\x99\x99\0" + FIRST, CIRCLED),
     "takes_the_first_marks: after another name": is_rewritten(PLAIN + b"gext\x04\0\0\0\0\0\0\x80\0" + FIRST, CIRCLED),
-    # The other bits of a byte mean nothing.
+    "tells_of_rebus_cells": is_told_of(REBUS),
+    "tells_of_rebus_cells: before marks": is_told_of(REBUS + FIRST, wanted=CIRCLED),
+    "tells_of_rebus_cells: after marks": is_told_of(FIRST + REBUS, wanted=CIRCLED),
+    "tells_of_rebus_cells: after other sections": is_told_of(b"LTIM\x03\0\x12\x341,0\0NONE\0\0\0\0\0" + REBUS),
+    "tells_of_rebus_cells: after notes": is_told_of(REBUS, data=WITH_NOTES, wanted=WITH_NOTES),
+    # The checksum and the length of such a section do not matter, and two are reported once.
+    "tells_of_rebus_cells: of any sum": is_told_of(b"GRBS\x04\0\xFF\xFF\x01\0\0\0\0"),
+    "tells_of_rebus_cells: of no bytes": is_told_of(b"GRBS\0\0\0\0\0"),
+    "tells_of_rebus_cells: once": is_told_of(REBUS + REBUS),
+    # A section that is cut off is none, and neither is what follows it. Names are case sensitive.
+    "tells_of_no_rebus_cells: in other data": is_not_told_of(b"LTIM\x0D\0\0\0" + REBUS + b"\0"),
+    "tells_of_no_rebus_cells: another case": is_not_told_of(b"grbs" + REBUS[4:]),
+    "tells_of_no_rebus_cells: the spellings alone": is_not_told_of(b"RTBL\x06\0\0\0 0:AB;\0"),
+    "tells_of_no_rebus_cells: not closed": is_not_told_of(REBUS[:-1] + b"!"),
+    "tells_of_no_rebus_cells: cut": is_not_told_of(REBUS[:-1]),
+    "tells_of_no_rebus_cells: behind a line end": is_not_told_of(b"\r\n" + REBUS),
+    "tells_of_no_rebus_cells: behind marks that are cut": is_not_told_of(b"GEXT\x04\0\x10\0\x80\0\0\0!" + REBUS),
+    # For a file with a fault only the fault is reported; for a puzzle that cannot be written, both are.
+    "tells_of_no_rebus_cells: of a file that is not read": is_refused(with_turned(0) + REBUS, "BadSum"),
+    "tells_of_rebus_cells: of a puzzle that is not written": [
+        write("file", CIRCLED + REBUS),
+        run("convert file out.txt", errors=KEPT_NO_REBUS + b"xw: out.txt: Circled\n", status=FORMAT),
+    ],
+    # Only the highest bit of a mark counts.
     "takes_the_first_marks: other bits": is_rewritten(PLAIN + b"GEXT\x04\0\xBF\x20\xFF\x7F\x01\x7F\0", CIRCLED),
     **{f"passes_over_what_is_not_whole: {name}": is_passed_over(section) for name, section in NOT_WHOLE.items()},
     "refuses_sections: sum": is_refused(PLAIN + b"GEXT\x04\0\x11\0\x80\0\0\0\0", "GextSum"),
     "refuses_sections: three bytes": is_refused(PLAIN + b"GEXT\x03\0\x20\0\x80\0\0\0", "GextSize"),
     "refuses_sections: no bytes": is_refused(PLAIN + b"GEXT\0\0\0\0\0", "GextSize"),
     "refuses_sections: five bytes": is_refused(PLAIN + b"GEXT\x05\0\x08\0\x80\0\0\0\0\0", "GextSize"),
-    # The length comes before the sum.
+    # The length is checked before the checksum.
     "refuses_sections: three bytes, and their sum": is_refused(PLAIN + b"GEXT\x03\0\x21\0\x80\0\0\0", "GextSize"),
-    # The first section decides.
+    # Only the first section counts.
     "refuses_sections: the sum of the first of two": is_refused(PLAIN + b"GEXT\x04\0\x11\0\x80\0\0\0\0" + FIRST, "GextSum"),
     "refuses_sections: the first of two": is_refused(PLAIN + b"GEXT\x03\0\x20\0\x80\0\0\0" + FIRST, "GextSize"),
     "refuses_sections: after a number of clues that is too small": is_refused(CLUE_COUNT + b"GEXT\0\0\0\0\0", "ClueCount"),

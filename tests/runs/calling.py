@@ -1,45 +1,153 @@
-"""Runs as the program is called: word lists, versions, help, and wrong words."""
-from steps import ACCEPTED, FAILED, REFUSED, USAGE, call, compare, holds, link, remove, run, write
+"""The command line: word lists, the version, help and wrong usage."""
+from steps import FAILED, REFUSED, USAGE, holds, link, remove, run, write
 
-
-def prints(words, status, stream, other):
-    """Ends so, with something on one stream and nothing on the other."""
-
-    def step(room, program):
-        ended = call(room, program, words)
-        compare("status", ended.returncode, status)
-        assert getattr(ended, stream) and not getattr(ended, other), ended
-
-    return step
-
-
-WRONG = """
-
-frob
-edit words.txt
-edit --dict
-edit --dict a --dict b
-edit --frob
-edit --to a --to b
-edit --from
-edit --from a --resume b
-edit --save a --save b
-convert
-convert a
-convert a b c
-check
-check a b
+EXAMPLE = b"""
+Example:
+  $ xw edit --dict words.txt --to mine.puz
+  size 3 1
+  ok
+  add cat
+  ok
+  words 1 across
+  1
+  CAT
+  ok
+  fill 10
+  filled
+  ok
+  clue 1 across It purrs
+  ok
 """
 
-ASK_FOR_HELP = """
--h
---help
-help
-edit -h
-edit --help
-convert -h
-check --help
+HELP = (
+    b"""A crossword construction engine
+
+Usage: xw <COMMAND>
+
+Commands:
+  edit     Answer the commands on standard input, a line each
+  convert  Read a puzzle file and write it in another format
+  check    Read a puzzle file and tell its format, size and number of lights
+  help     Print this message or the help of the given subcommand(s)
+
+Options:
+  -h, --help     Print help
+  -V, --version  Print version
 """
+    + EXAMPLE
+)
+
+EDIT_HELP = (
+    b"""Answer the commands on standard input, a line each
+
+Usage: xw edit [OPTIONS]
+
+Options:
+      --dict <FILE>    The word list to start with, a word a line
+      --from <FILE>    The puzzle to start with, .puz or text [default: 15 by 15 cells, all empty]
+      --resume <FILE>  Commands to do first, without answers, as --save wrote them
+      --to <FILE>      Where to write the puzzle at the end, as .puz if it is called so, else as text
+      --save <FILE>    Where to write the session at the end, as commands for --resume
+      --explain        Tell where a fault of a file is, in one more line
+  -h, --help           Print help
+"""
+    + EXAMPLE
+)
+
+CONVERT_HELP = b"""Read a puzzle file and write it in another format
+
+Usage: xw convert [OPTIONS] <FROM> <TO>
+
+Arguments:
+  <FROM>  The puzzle to read, .puz or text
+  <TO>    Where to write it, as .puz if it is called so, else as text
+
+Options:
+      --explain  Tell where a fault of a file is, in one more line
+  -h, --help     Print help
+"""
+
+CHECK_HELP = b"""Read a puzzle file and tell its format, size and number of lights
+
+Usage: xw check [OPTIONS] <FILE>
+
+Arguments:
+  <FILE>  The puzzle to read, .puz or text
+
+Options:
+      --explain  Tell where a fault of a file is, in one more line
+  -h, --help     Print help
+"""
+
+# The help that each call prints on standard output.
+HELPS = {
+    "-h": HELP,
+    "--help": HELP,
+    "help": HELP,
+    "edit -h": EDIT_HELP,
+    "edit --help": EDIT_HELP,
+    "help edit": EDIT_HELP,
+    "convert -h": CONVERT_HELP,
+    "convert --help": CONVERT_HELP,
+    "help convert": CONVERT_HELP,
+    "check -h": CHECK_HELP,
+    "check --help": CHECK_HELP,
+    "help check": CHECK_HELP,
+    # Help is printed whatever else is on the command line.
+    "edit --dict a --help": EDIT_HELP,
+}
+
+
+def wrong(fault, usage):
+    """The message for wrong usage: the fault, the usage line if there is one, and where to find help."""
+    parts = [f"error: {fault}", *([f"Usage: xw {usage}"] if usage else []), "For more information, try '--help'.\n"]
+    return "\n\n".join(parts).encode()
+
+
+def extra(word, usage):
+    return wrong(f"unexpected argument '{word}' found", usage)
+
+
+def missing(words, usage):
+    return wrong("\n  ".join(["the following required arguments were not provided:", *words]), usage)
+
+
+def twice(option):
+    return wrong(f"the argument '{option}' cannot be used multiple times", "edit [OPTIONS]")
+
+
+def valueless(option):
+    return wrong(f"a value is required for '{option} <FILE>' but none was supplied", None)
+
+
+# The message that each wrong call prints on standard error.
+WRONG = {
+    "": wrong("'xw' requires a subcommand but one was not provided\n  [subcommands: edit, convert, check, help]", "<COMMAND>"),
+    "frob": wrong("unrecognized subcommand 'frob'", "<COMMAND>"),
+    "help frob": wrong("unrecognized subcommand 'frob'", "<COMMAND>"),
+    "--frob": extra("--frob", "<COMMAND>"),
+    "edit words.txt": extra("words.txt", "edit [OPTIONS]"),
+    "edit --frob": wrong("unexpected argument '--frob' found\n\n  tip: a similar argument exists: '--from'", "edit --from <FILE>"),
+    "edit -x": extra("-x", "edit [OPTIONS]"),
+    "edit --version": extra("--version", "edit [OPTIONS]"),
+    "edit --dict": valueless("--dict"),
+    "edit --from": valueless("--from"),
+    "edit --resume": valueless("--resume"),
+    "edit --to": valueless("--to"),
+    "edit --save": valueless("--save"),
+    "edit --dict a --dict b": twice("--dict <FILE>"),
+    "edit --from a --from b": twice("--from <FILE>"),
+    "edit --resume a --resume b": twice("--resume <FILE>"),
+    "edit --to a --to b": twice("--to <FILE>"),
+    "edit --save a --save b": twice("--save <FILE>"),
+    "edit --explain --explain": twice("--explain"),
+    "edit --from a --resume b": b"xw: --from and --resume cannot be given together\n",
+    "convert": missing(["<FROM>", "<TO>"], "convert <FROM> <TO>"),
+    "convert a": missing(["<TO>"], "convert <FROM> <TO>"),
+    "convert a b c": extra("c", "convert [OPTIONS] <FROM> <TO>"),
+    "check": missing(["<FILE>"], "check <FILE>"),
+    "check a b": extra("b", "check [OPTIONS] <FILE>"),
+}
 
 CASES = {
     "word_list_of_five_lines": [
@@ -61,8 +169,8 @@ CASES = {
         run("edit --dict five.txt", b"add CAT\n", errors=b"xw: five.txt: cannot read\n", status=FAILED),
     ],
     "version_told": [
-        run("--version", output=b"xw 0.1.0\n"),
-        run("-V", output=b"xw 0.1.0\n"),
+        run("--version", output=b"xw 0.2.0 (protocol 1)\n"),
+        run("-V", output=b"xw 0.2.0 (protocol 1)\n"),
     ],
     # The word list is not replaced by the puzzle, whatever its name; nothing is read before that is told.
     "word_list_kept_apart": [
@@ -96,6 +204,8 @@ CASES = {
         ),
     ],
     "words_that_name_no_file": [run("edit")],
-    **{f"wrong_words: xw {words}": [prints(words, USAGE, "stderr", "stdout")] for words in WRONG[1:].splitlines()},
-    **{f"words_that_ask_for_help: xw {words}": [prints(words, ACCEPTED, "stdout", "stderr")] for words in ASK_FOR_HELP[1:].splitlines()},
+    # Words that are no text are wrong words.
+    "words_that_are_no_text": [run(b"check \xFF", errors=b"xw: the arguments are no text\n", status=USAGE)],
+    **{f"wrong_words: xw {words}": [run(words, errors=told, status=USAGE)] for words, told in WRONG.items()},
+    **{f"words_that_ask_for_help: xw {words}": [run(words, output=told)] for words, told in HELPS.items()},
 }

@@ -1,10 +1,10 @@
-"""Runs over devices that fail: an input that cannot be read, and an output that is full."""
+"""Runs with a broken input or a full output."""
 from samples import PLAIN
 from steps import FAILED, absent, compare, end, write
 
 
 def fails(words, fault, typed=b"", can_be_read=True):
-    """Runs the program with a full output, or an input that is open for writing alone; what is told of that."""
+    """Runs the program with a full output, or with an input that cannot be read, and checks the message and the exit status."""
 
     def step(room, program):
         (room / "input").write_bytes(typed)
@@ -16,7 +16,7 @@ def fails(words, fault, typed=b"", can_be_read=True):
 
 
 def is_saved_up_to_the_fault(room, program):
-    """Nothing is read after an answer that did not go out."""
+    """Checks that no line is executed after an answer that could not be written."""
     saved = (room / "saved.xw").read_bytes()
     assert b"add CAT\n" in saved and b"add DOG\n" not in saved, saved
 
@@ -27,6 +27,6 @@ CASES = {
     "input_fault": [fails("edit --to unwritten.puz", "input fault", can_be_read=False), absent("unwritten.puz")],
     "output_fault": [fails("edit --to unwritten.puz", "output fault", TWO_WORDS), absent("unwritten.puz")],
     "output_fault_of_a_check": [write("checked", PLAIN), fails("check checked", "output fault")],
-    # The session is saved.
+    # The session is saved although the output failed.
     "output_fault_of_a_flush": [fails("edit --save saved.xw", "output fault", TWO_WORDS), is_saved_up_to_the_fault],
 }

@@ -1,10 +1,10 @@
-"""Runs that tell the place of a fault too."""
+"""Runs with `--explain`, which prints the place of a fault."""
 from samples import CIRCLED, PLAIN, TEXT, WRONG_SUM
 from steps import FORMAT, run, write
 
 
 def told(data, fault, place):
-    """A file that is not read, and what is told of it, without its place and with it."""
+    """Checks the message for a file with a fault, without and with its place."""
     return [
         write("told", data),
         run("check told", errors=f"xw: told: {fault}\n".encode(), status=FORMAT),
@@ -13,7 +13,7 @@ def told(data, fault, place):
 
 
 def is_not_written(file, typed, fault, place=None):
-    """The plain puzzle after some commands, and why it does not go into a file."""
+    """Runs commands on the plain puzzle, and checks the fault of writing it."""
     errors = f"xw: {file}: {fault}\n" + (f"xw: {place}\n" if place else "")
     output = b"ok\n" * typed.count(b"\n")
     return [
@@ -23,25 +23,25 @@ def is_not_written(file, typed, fault, place=None):
 
 
 CASES = {
-    # A `.puz` file, cut at several places.
+    # A `.puz` file that is cut off at several places.
     "puz_faults_told, notes": told(PLAIN[:71], "NoNul", "notes"),
     "puz_faults_told, clue": told(PLAIN[:66], "NoNul", "clue 2 (1 down)"),
     "puz_faults_told, header": told(PLAIN[:51], "Short", "header"),
     "puz_faults_told, boards": told(PLAIN[:59], "Short", "boards"),
     "wrong_sum_told": told(WRONG_SUM, "BadSum", "file checksum"),
-    # The line at which a text file leaves its shape, and its end.
+    # The faulty line of a text file, or its end.
     "text_faults_told, line": told(TEXT[:20], "Tag", "line 2"),
     "text_faults_told, end": told(b"\n\n", "Header", "end of file"),
     "text_faults_told, byte": told(b"<ACROSS PUZZLE>\n\n<\0", "NulByte", "line 3"),
-    # A cell of a text file is told by its row and column.
+    # A cell of a text file is reported by row and column.
     "bad_cell_told": told(
         b"<ACROSS PUZZLE>\n<TITLE>\n<AUTHOR>\n<COPYRIGHT>\n<SIZE>\n2x2\n<GRID>\nAT\nS?\n", "BadCell", "row 2, column 2"
     ),
-    # Puzzles that the file cannot hold into which they are to be written.
+    # Puzzles that the output format cannot hold.
     "empty_cell_told": is_not_written("empty.puz", b"clear 2 1\nclear 2 2\n", "NotFilled", "row 2, column 1"),
     "unspelled_clue_told": is_not_written("clue.txt", b"clue 2 down\n", "Field", "clue 3 (2 down)"),
     "unspelled_title_told": is_not_written("title.txt", b"title <x>\n", "Field", "title"),
-    # A bar has no place in the fault.
+    # The fault of a bar has no place.
     "barred_told": is_not_written("barred.txt", b"bar 1 1 right\n", "Barred"),
     "circle_told": [
         write("circled", CIRCLED),

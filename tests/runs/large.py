@@ -1,38 +1,38 @@
-"""Runs on what is large: no call gives up for memory where there is memory."""
+"""Runs on large inputs: no call runs out of memory while there is memory."""
 from steps import holds, run, write
 
 
 def times(count):
-    """So many commands were accepted."""
+    """Returns the answers to this many accepted commands."""
     return b"ok\n" * count
 
 
 def numbers(first, last, before, after):
-    """A line for each number from one to another: what stands before the number, and after it."""
+    """Returns a line for each number of a range, with a text before and after the number."""
     return "".join(f"{before}{number}{after}\n" for number in range(first, last + 1)).encode()
 
 
 def cells(word, rows, cols):
-    """A line for each of these columns of each of these rows: a word, the row and the column."""
+    """Returns a line for each of these rows and columns: a word, the row and the column."""
     return "".join(f"{word} {row} {col}\n" for row in rows for col in cols).encode()
 
 
 def letter(number):
-    """A letter for each number from 0 to 25, and round again."""
+    """Returns the letter of a number, starting over after every 26 numbers."""
     return chr(ord("A") + number % 26)
 
 
 def words(count):
-    """So many words of five letters, at most 17,576."""
+    """Returns this many different words of five letters, at most 17,576."""
     return "".join(f"AB{letter(place // 676)}{letter(place // 26)}{letter(place)}\n" for place in range(count)).encode()
 
 
 def letters(lines, count):
-    """So many lines, each of a tab and so many letters, of which the first is that of the line's number."""
+    """Returns lines of a tab and `count` letters. Each line starts one letter later in the alphabet."""
     return "".join("\t" + "".join(letter(line + place) for place in range(count)) + "\n" for line in range(lines)).encode()
 
 
-# A text file of 255 by 255 letters with 510 clues and long texts.
+# A text file with 255 by 255 letters, 510 clues and long texts.
 LARGE = b"".join(
     [
         b"<ACROSS PUZZLE>\n<TITLE>\n",
@@ -51,8 +51,8 @@ LARGE = b"".join(
 )
 
 CASES = {
-    # A grid of 21 by 21 whose blocks leave 102 lights, four in a row and one in each open column; a bar set and taken away, a
-    # search, and another grid. No word is known, so the grid has no fill.
+    # A grid of 21 by 21 with 102 lights: four in each row, and one in each column without blocks. A bar is set and
+    # removed, a search runs, and the grid is replaced. No word is known, so the grid has no fill.
     "many_lights": [
         run(
             "edit",
@@ -60,8 +60,8 @@ CASES = {
             output=times(66) + b"nofill\nok\nok\n",
         )
     ],
-    # Five columns with fifteen lights that cross none, and 1,100 words: each light gets the first word that none before it has,
-    # and one of them a late word, so that more than a hundred placements are tried.
+    # A grid of 5 columns with 15 lights that do not cross, and 1,100 words. Each light takes the first word not used
+    # yet, and one takes a late word, so the fill needs more than a hundred placements.
     "many_choices": [
         write("words", words(1100)),
         run(
@@ -74,8 +74,8 @@ CASES = {
             errors=b"xw: words: 1100 added, 0 skipped\n",
         ),
     ],
-    # 120 rows of two cells, of a file: 122 lights. Then each cell has an A, and the lights repeat two words that are not known:
-    # of each row, and of each column of 120 cells.
+    # A grid of 120 rows of two cells, with 122 lights. When every cell is A, the lights spell two unknown words over
+    # and over: one in each row, and one in each column of 120 cells.
     "many_entries": [
         write(
             "rows.txt",

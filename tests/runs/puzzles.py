@@ -9,12 +9,12 @@ CASES = {
         write("checked", TEXT),
         run("check checked", output=b"text 2x2 4 lights\n"),
     ],
-    # One light is counted as `1 lights`; a file of less than four bytes in its name is text.
+    # One light is reported as `1 lights`. A file name of fewer than four bytes gives a text file.
     "one_light_checked": [
         run("edit --to one", b"size 2 1\nset 1 1 A\nset 1 2 T\nclue 1 across a\n", output=b"ok\nok\nok\nok\n"),
         run("check one", output=b"text 2x1 1 lights\n"),
     ],
-    # What a file is written as goes by its name, and what it is read as by its bytes.
+    # The name of a file decides in which format it is written, and its bytes decide in which format it is read.
     "puzzles_converted": [
         write("plain.puz", PLAIN),
         write("started", STARTED),
@@ -35,7 +35,7 @@ CASES = {
             status=FORMAT,
         ),
         absent("out.puz"),
-        # A file that is there stays as it is, also where commands were refused.
+        # An existing file stays unchanged, also if commands were refused.
         write("out.puz", b"old"),
         run(
             "edit --from barred.puz --to out.puz",
@@ -46,7 +46,7 @@ CASES = {
         ),
         holds("out.puz", b"old"),
     ],
-    # The puzzle is written though a command was refused.
+    # The puzzle is written although a command was refused.
     "circles_written": [
         write("circled", CIRCLED),
         run("edit --from circled --to circled.puz"),
@@ -61,7 +61,7 @@ CASES = {
         run("convert circled circled.txt", errors=b"xw: circled.txt: Circled\n", status=FORMAT),
         absent("circled.txt"),
     ],
-    # From an empty grid to a file that solvers open.
+    # From an empty grid to a finished file.
     "puzzle_made": [
         run(
             "edit --to made.puz",
@@ -70,7 +70,7 @@ CASES = {
         ),
         holds("made.puz", PLAIN),
     ],
-    # A fault of a file ends the run before any command is read; the word list is told first.
+    # A faulty file ends the run before any command is read. The message on the word list comes first.
     "files_refused": [
         write("cut.puz", PLAIN[:71]),
         write("magic.puz", PLAIN[1:]),
@@ -91,19 +91,19 @@ CASES = {
         write("plain", PLAIN),
         run("convert plain no/such/folder.puz", errors=b"xw: no/such/folder.puz: cannot write\n", status=FAILED),
     ],
-    # A `.puz` that is cut within its magic is taken for a text.
+    # A `.puz` file that is cut off within its magic is read as text.
     "cut_magic_is_text": [
         write("cut", PLAIN[:13]),
         run("check cut", errors=b"xw: cut: Header\n", status=FORMAT),
     ],
-    # A name that ends in `puz` alone is written as text; a session that is opened on a file has no symmetry.
+    # A name that ends in `puz` without a dot gives a text file. A session opened on a file has no symmetry.
     "opened_without_symmetry": [
         write("opened", PLAIN),
         run("convert opened xpuz"),
         holds("xpuz", TEXT),
         run("edit --from xpuz", b"clear 1 1\nblock 1 1\nshow\n", output=b"ok\nok\n# T\nS O\nok\n"),
     ],
-    # A fill enters letters in lights alone, so that a cell in none may still be empty.
+    # A fill enters letters only in lights, so a cell without a light may stay empty.
     "filled_but_for_a_lone_cell": [
         run(
             "edit --to lone.puz",

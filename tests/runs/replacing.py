@@ -1,4 +1,4 @@
-"""Files replaced whole, or left as they were."""
+"""Replacing files: a file is replaced whole, or stays unchanged."""
 import os
 
 from samples import PLAIN, TEXT
@@ -24,7 +24,7 @@ def is_link(name):
 
 
 def is_no_file(name):
-    """There is something of this name, and no regular file."""
+    """Checks that the name exists and is not a regular file."""
     return lambda room, program: compare(f"{name} is there, a file", ((room / name).exists(), (room / name).is_file()), (True, False))
 
 
@@ -33,7 +33,7 @@ def is_none(name):
 
 
 def replace(name):
-    """Puts the text of a puzzle into the file."""
+    """Writes the text of a puzzle to the file."""
     return run(f"convert plain.puz {name}")
 
 
@@ -42,7 +42,7 @@ def is_not_replaced(name):
 
 
 def rights_kept(room, program):
-    """What may not be written stays, unless the user has every right; each file of a folder that is closed for the second."""
+    """Checks that a file, or a folder, without write permission is left alone, unless the user may write everywhere."""
     has_every_right = os.access(room / "closed/shut", os.W_OK)
     replaced = replace if has_every_right else is_not_replaced
     for step in [
@@ -57,8 +57,8 @@ def rights_kept(room, program):
 
 
 CASES = {
-    # The file that a link leads to is replaced, with its mode, and the link stays; a link that leads nowhere gets its file;
-    # links in a ring lead to none.
+    # Links are followed: the target is replaced and keeps its mode, and the link stays. A dangling link gets its target
+    # created. A loop of links is refused.
     "links_followed": [
         write("plain.puz", PLAIN),
         folder("linked"),
@@ -79,7 +79,7 @@ CASES = {
         is_link("linked/none"),
         is_link("linked/ring"),
     ],
-    # A user's file of the name that a new one would have stays.
+    # An existing file with the name of the temporary file is left alone.
     "names_of_others_left": [
         write("plain.puz", PLAIN),
         folder("beside"),
@@ -97,6 +97,6 @@ CASES = {
         set_mode("closed/shut", 0o444),
         rights_kept,
     ],
-    # A full device is no file.
+    # A full device is not a regular file.
     "full_device": [write("plain.puz", PLAIN), is_not_replaced("/dev/full"), is_no_file("/dev/full")],
 }

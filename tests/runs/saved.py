@@ -4,18 +4,18 @@ from steps import FAILED, FORMAT, REFUSED, USAGE, absent, compare, differs, hold
 
 
 def resumed(lines, typed, **wanted):
-    """A session that starts with the lines of a file, which stays as it is."""
+    """Resumes a session from a file, and checks that the file stays unchanged."""
     return [write("mine.xw", lines), run("edit --resume mine.xw", typed, **wanted), holds("mine.xw", lines)]
 
 
-# A barred and unfinished grid, a word, a text, a clue and a circle, saved.
+# Saves an unfinished grid with a bar, a word, a text, a clue and a circle.
 BEGUN = run(
     "edit --save goes.xw",
     b"size 3 3\nsym half\nbar 1 1 right\nset 2 2 A\nadd CAT\ntitle Mine\ncircle 1 2\nclue 1 down Told\n",
     output=b"ok\n" * 8,
 )
 
-# What is asked of that session as it goes on, and its answers; and blocks with their images, taken away again.
+# Resumes that session, checks its contents, and toggles blocks with their images there and back.
 GOES_ON = run(
     "edit --resume goes.xw --save goes.xw",
     b"show\nmatch ...\ntexts\ncircles\nblock 1 3\nshow\nblock 3 1\n",
@@ -23,36 +23,86 @@ GOES_ON = run(
 )
 
 
+def stopped_at(number, name, line, told=b""):
+    """Checks that a line that is not a command ends the run: no input is read, and no file is written."""
+    lines = b"size 2 1\nadd cat\nadd CAT\n" + line + b"\nset 9 9 A\nfrob\n"
+    return [
+        write("mine.xw", lines),
+        write("kept.txt", b"old"),
+        run(
+            "edit --resume mine.xw --save mine.xw --to kept.txt",
+            b"show\n",
+            errors=b"xw: mine.xw: line 3: Known\n" + told + f"xw: mine.xw: line {number}: {name}\n".encode(),
+            status=FORMAT,
+        ),
+        holds("mine.xw", lines),
+        holds("kept.txt", b"old"),
+    ]
+
+
 def goes_on_as_saved(room, program):
-    """A session is resumed as it was saved, over and over; the words that were added are kept."""
+    """Checks that a session can be resumed and saved repeatedly without a change, including the added words."""
     saved = (room / "goes.xw").read_bytes()
     for _ in range(2):
         GOES_ON(room, program)
         compare("goes.xw", (room / "goes.xw").read_bytes(), saved)
 
 
-# Lines are done without answers, and those that are refused are told by their numbers.
+# Lines of the file get no answers. Refused lines are reported with their numbers.
 CASES = {
-    # The last line has no line feed.
+    # The last line has no LF.
     "lines_resumed, some refused": resumed(
-        b"size 3 1\r\nadd cat\n\n# a note\nadd cat\n frob\nset 9 9 A\ntitle \0\nshow\nset 1 1 c",
+        b"size 3 1\r\nadd cat\n\n# a note\nadd cat\n set 1 1 7\nset 9 9 A\ntitle \0\nshow\nset 1 1 c",
         b"show\nmatch ...\n",
         output=b"C - -\nok\nCAT\nok\n",
-        errors=b"xw: mine.xw: line 5: Known\nxw: mine.xw: line 6: Command\n"
+        errors=b"xw: mine.xw: line 5: Known\nxw: mine.xw: line 6: BadLetter\n"
         b"xw: mine.xw: line 7: OutOfGrid\nxw: mine.xw: line 8: NulByte\n",
         status=REFUSED,
     ),
     "lines_resumed, none refused": resumed(b"size 2 1\n\nwatch on\n", b"show\n", output=b"- -\nok\n"),
     "lines_resumed, none there": resumed(b"", b"frob\n", output=b"no Command\n", status=REFUSED),
-    # A line of 4,096 bytes is a command, and a longer one is not; its line feed is not counted, and a carriage return is.
+    # A line has at most 4,096 bytes, not counting its LF but counting its CR.
     "long_lines_resumed, 4,096 bytes": resumed(b" " * 4088 + b"add CAT\r\nadd DOG\r\n", b"match D..\n", output=b"DOG\nok\n"),
     "long_lines_resumed, 4,097 bytes": resumed(
         b" " * 4089 + b"add CAT\r\nadd DOG\r\n",
         b"match D..\n",
-        output=b"DOG\nok\n",
         errors=b"xw: mine.xw: line 1: LineTooLong\n",
-        status=REFUSED,
+        status=FORMAT,
     ),
+    # The first line that is no command ends the run, before any input is read.
+    "no_command_resumed, Command": stopped_at(4, "Command", b"frob"),
+    "no_command_resumed, Command, of another byte": stopped_at(4, "Command", b"\xff\r"),
+    "no_command_resumed, Arguments, too few": stopped_at(4, "Arguments", b"add"),
+    "no_command_resumed, Arguments, too many": stopped_at(4, "Arguments", b"show all"),
+    "no_command_resumed, Arguments, a number": stopped_at(4, "Arguments", b"size 2 x"),
+    "no_command_resumed, LineTooLong": stopped_at(4, "LineTooLong", b"title " + b"T" * 4091),
+    "no_command_resumed, Escape": stopped_at(4, "Escape", b"text title \\x"),
+    "no_command_resumed, Escape, cut": stopped_at(4, "Escape", b"more notes one\\"),
+    # A wrong escape is told before a cell that is not there, and no text has one where it is spelled without escapes.
+    "no_command_resumed, Escape, of a cell that is not there": stopped_at(4, "Escape", b"text clue 9 9 down \\x"),
+    "no_command_resumed, after blank lines and notes": stopped_at(7, "Command", b"\n# frob\ntitle \\x\nfrob"),
+    "no_command_resumed, after a refused line": stopped_at(5, "Command", b"block 9 9\nfrob", told=b"xw: mine.xw: line 4: OutOfGrid\n"),
+    # A word list that is resumed by mistake stays.
+    "word_list_resumed": [
+        write("words.txt", b"CAT\nCOT\n"),
+        run(
+            "edit --resume words.txt --save words.txt",
+            b"add DOG\n",
+            errors=b"xw: words.txt: line 1: Command\n",
+            status=FORMAT,
+        ),
+        holds("words.txt", b"CAT\nCOT\n"),
+        # The same with its place, which is told already.
+        run(
+            "edit --explain --resume words.txt --save words.txt",
+            b"add DOG\n",
+            errors=b"xw: words.txt: line 1: Command\n",
+            status=FORMAT,
+        ),
+        holds("words.txt", b"CAT\nCOT\n"),
+        run("edit --resume words.txt --save new.xw", errors=b"xw: words.txt: line 1: Command\n", status=FORMAT),
+        absent("new.xw"),
+    ],
     "session_goes_on": [BEGUN, goes_on_as_saved],
     "nothing_to_resume": [
         run(
@@ -63,7 +113,7 @@ CASES = {
         ),
         absent("gone.xw"),
     ],
-    # A session is saved though commands were refused and the puzzle cannot be written.
+    # A session is saved even if commands were refused or the puzzle cannot be written.
     "sessions_saved": [
         write("plain", PLAIN),
         write("kept.xw", b"old"),
@@ -85,7 +135,7 @@ CASES = {
         differs("kept.xw", b"old"),
         absent("kept.puz"),
     ],
-    # Where the session cannot be saved, no puzzle is written either.
+    # If the session cannot be saved, the puzzle is not written either.
     "sessions_unsaved": [
         write("plain", PLAIN),
         run(
@@ -97,7 +147,7 @@ CASES = {
         ),
         absent("kept.puz"),
     ],
-    # The record goes neither into the word list nor where the puzzle goes.
+    # The record must not replace the word list or the puzzle.
     "record_kept_apart": [
         write("here.txt", b"cat\n"),
         run(

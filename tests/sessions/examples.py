@@ -1,7 +1,7 @@
-"""Scripts on feasible words and letters, repeats, proposals and fills."""
+"""Scripts on feasible words and letters, repeats, suggestions and fills."""
 from steps import dialogues
 
-# Each in a session of no words.
+# Each script runs in a session without words.
 EXAMPLES = """\
 @ entered_word_outside_the_dictionary
 > size 3 1

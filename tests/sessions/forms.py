@@ -1,8 +1,8 @@
-"""Forms of lines, of any bytes and of any length."""
+"""The syntax of lines, with unusual bytes and lengths."""
 from steps import answers
 
 CASES = {
-    # Silent lines, names, and the count of words.
+    # Silent lines, command names, and the number of words.
     "forms_of_lines: silent": [answers(b"\n\r\n \t\r\n# note\n \t# note\n\r", b"")],
     "forms_of_lines: names": [answers(b"frob\nADD CAT\nadd# CAT\n\xEF\xBB\xBFadd CAT\n", b"no Command\n" * 4)],
     "forms_of_lines: count of words": [answers(b"add\nadd CAT DOG\nadd CAT # x\nmatch\nstrike A B\n", b"no Arguments\n" * 5)],
@@ -14,7 +14,7 @@ CASES = {
         b"no BadLetter\nno Command\nno BadLetter\nno BadLetter\nno Command\nno BadLetter\nno BadLetter\n",
     )],
     "forms_of_lines: other letters": [answers(b"add C\xC3\x84T\nadd \xC2\xA0CAT\n", b"no BadLetter\n" * 2)],
-    # At most 4,096 bytes belong to a line, a carriage return counted and the line feed not.
+    # A line has at most 4,096 bytes, not counting its LF but counting its CR.
     "long_lines: 4,096 bytes and LF": [answers(b"add " + b"a" * 4092 + b"\n", b"no Length\n")],
     "long_lines: 4,096 bytes": [answers(b"add " + b"a" * 4092, b"no Length\n")],
     "long_lines: 4,095 bytes and CR LF": [answers(b"add " + b"a" * 4091 + b"\r\n", b"no Length\n")],
@@ -26,7 +26,7 @@ CASES = {
     )],
     "long_lines: note of 4,097 bytes": [answers(b"# a " + b"a" * 4093, b"no LineTooLong\n")],
     "long_lines: note of 4,096 bytes": [answers(b"# a " + b"a" * 4092 + b"\n", b"")],
-    # A blank line may be too long as well.
+    # A blank line can be too long as well.
     "long_blank_line: 4,097 bytes": [answers(b" " * 4097 + b"\n", b"no LineTooLong\n")],
     "long_blank_line: 4,096 bytes": [answers(b" " * 4096 + b"\n", b"")],
 }

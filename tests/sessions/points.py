@@ -1,7 +1,7 @@
-"""Points that are easy to get wrong, as scripts."""
+"""Scripts on details that are easy to get wrong."""
 from steps import dialogues
 
-# Each in a session of no words.
+# Each script runs in a session without words.
 POINTS = """\
 @ words_of_no_form: A NUL, a digit of another script and a missing word are faults of form.
 > clue

@@ -1,10 +1,10 @@
-"""Records of sessions, and sessions that are made again from them."""
+"""Records of sessions, and sessions rebuilt from them."""
 from steps import call, compare, write
 
-# What a session is asked, and its copy after it.
+# The queries that a session and its copy must answer alike.
 QUESTIONS = b"show\nlights\ncells\ncounts\ntexts\ncircles\nstats\nmatch ..\nmatch ...\nunlisted\nrecord\n"
 
-# What a copy was before it became one: all of it goes.
+# The state of the copy before the record is replayed. None of it may remain.
 ELSEWHERE = (
     b"size 4 3\nsym leftright\nset 1 1 Q\nblock 2 4\nbar 3 1 right\ncircle 1 1\n"
     b"text clue 1 2 down gone\ntitle old\nauthor old\ncopyright old\nnotes old\nwatch on\n"
@@ -12,7 +12,7 @@ ELSEWHERE = (
 
 
 def told(room, program, before, lines):
-    """What a session with four words answers to lines, none of which is refused, after others."""
+    """Runs `before` and then `lines` in a session with four words, and returns the answers to `lines`. No line may be refused."""
     counted = call(room, program, "edit --dict words --save saved.xw", before + lines)
     compare("messages and status", (counted.stderr, counted.returncode), (b"xw: words: 4 added, 0 skipped\n", 0))
     begun = call(room, program, "edit --dict words", before)
@@ -21,7 +21,7 @@ def told(room, program, before, lines):
 
 
 def is_made_again(lines):
-    """The lines that a session's record has make another one the same."""
+    """Checks that the record of a session rebuilds it in another session."""
 
     def step(room, program):
         wanted = told(room, program, lines, QUESTIONS)
@@ -33,7 +33,7 @@ def is_made_again(lines):
 
 
 def more(field, count):
-    """A line that puts so many backslashes behind what a field has."""
+    """Returns a line that appends this many backslashes to a field."""
     return b"more " + field + b"\\\\" * count + b"\n"
 
 
@@ -53,7 +53,7 @@ CASES = {
         b"size 1 1\ncircle 1 1\nblock 1 1\nsym updown\ntext notes \\sone\\n\\ntwo\\t\n"
     ),
     "sessions_made_again: one long row": is_made_again(b"size 255 1\nblock 1 255\nbar 1 1 right\nset 1 254 e\n"),
-    # Texts of more bytes than a line has, of which each takes two in its spelling.
+    # Texts longer than a line, in which each byte takes two in its spelling.
     "long_texts_made_again": is_made_again(
         b"size 2 2\n"
         + b"".join(more(b"notes \\s", count) + more(b"clue 2 2 across \\n", count) for count in [1999, 2, 1998])

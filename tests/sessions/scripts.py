@@ -1,7 +1,7 @@
 """Scripts on words, sizes, grids and clues."""
 from steps import dialogues
 
-# Each in a session of no words.
+# Each script runs in a session without words.
 SCRIPTS = """\
 @ three_words_matched
 > add CAT

@@ -1,7 +1,7 @@
-"""Scripts on a square of two by two cells."""
+"""Scripts on a square of 2 by 2 cells."""
 from steps import dialogues
 
-# The square of AS, AT, SO, TO and IN.
+# The square with the words AS, AT, SO, TO and IN.
 SQUARE = """\
 > size 2 2
 ok
@@ -17,7 +17,7 @@ ok
 ok
 """
 
-# Each after the lines of the square.
+# Each script runs after the lines of the square.
 IN_THE_SQUARE = """\
 @ square_of_as_at_so_to_in
 > lights
@@ -229,6 +229,25 @@ ok
 3 across 2 down TO
 ok
 > unlisted
+ok
+@ words_left_without_so: Without SO each light has one word left, and each word two lights.
+> strike SO
+ok
+> words 1 across
+1
+AT
+ok
+> words 1 down
+1
+AT
+ok
+> words 2 down
+1
+TO
+ok
+> words 3 across
+1
+TO
 ok
 @ fill_with_limit_nought
 > fill 0

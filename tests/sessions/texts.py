@@ -1,16 +1,16 @@
-"""What a session keeps of texts and clues, step by step."""
+"""The texts and clues that a session keeps."""
 from steps import answers, run
 
 
 def keeps(*steps):
-    """Lines and their answers, and what is told of the texts after each step."""
+    """Runs lines, and checks the answers and the texts after each step."""
     lines = b"".join(lines + b"texts\n" for lines, answered, texts in steps)
     output = b"".join(answered + texts + b"ok\n" for lines, answered, texts in steps)
     return [answers(lines, output)]
 
 
 CASES = {
-    # A text is what is left of its line, without spaces and tabs at its ends; a refused one leaves the old one.
+    # A text is the rest of its line without spaces and tabs at its ends. A refused text leaves the old one.
     "texts_kept": keeps(
         (
             b"title \t two  words \t\r\nauthor #me\ncopyright \xA9 1\nnotes n\nnotes a\x00b\nsize 2 2\ncopyright\n",
@@ -26,7 +26,8 @@ CASES = {
         ),
         (b"clue 1 across\n", b"ok\n", b""),
     ),
-    # Another light that begins at a clue's cell and goes its way has the clue; a size takes it, and a refused one does not.
+    # A clue belongs to the start and direction of its light, so a longer or shorter light there has it too. A new size
+    # removes it, and a refused one does not.
     "clue_of_a_start": keeps(
         (
             b"size 4 1\nclue 1 across x\nbar 1 2 right\nsize 0 1\n",
@@ -39,7 +40,7 @@ CASES = {
     "text_of_odd_ends": keeps(
         (b"title \x0B a\xA0\nnotes \ra\r \r\n", b"ok\nok\n", b"title \x0B a\xA0\nnotes \\ra\\r\n")
     ),
-    # A line of 4,096 bytes is answered, and longer ones leave the title.
+    # A line of 4,096 bytes is executed. Longer lines leave the title unchanged.
     "longest_title": keeps(
         (
             b"title " + b"a" * 4090 + b"\ntitle " + b"a" * 4090 + b"\r\n" + b"b" * 5000 + b"\n",
@@ -47,7 +48,7 @@ CASES = {
             b"title " + b"a" * 4090 + b"\n",
         )
     ),
-    # A session that is opened with what another one kept goes on with it, and is not watched.
+    # A session opened on a file has the puzzle of the session that wrote it. The watch starts off.
     "opened_with_a_puzzle": [
         run(
             "edit --to made.puz",

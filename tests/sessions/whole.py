@@ -1,7 +1,7 @@
-"""Scripts on what is told of a whole puzzle, on records, and on texts with escapes."""
+"""Scripts on reports of the whole puzzle, on records, and on texts with escapes."""
 from steps import dialogues
 
-# Each in a session of no words.
+# Each script runs in a session without words.
 WHOLE = """\
 @ texts_told: Only texts that are not empty are told, and only clues of lights that there are.
 > size 3 1

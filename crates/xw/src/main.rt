@@ -1,12 +1,13 @@
-//! A crossword construction engine on the command line: what it does with its arguments, its files and its streams.
+//! A crossword construction engine on the command line.
 #![tactic(auto)]
 
-mod files;
-mod perform;
-mod start;
-
 use std::process::ExitCode;
+use xw_cli::start::start;
+use xw_live::Live;
+
+/// The engine that the program runs on.
+type Engine = Live;
 
 fn main(rt: HostRuntime) -> ExitCode {
-    start::start(&rt).exit_code()
+    start::<Engine>(&rt).exit_code()
 }

@@ -1,4 +1,4 @@
--- Neighbouring numbers that have no bit.
+-- Consecutive words that have no bit set.
 use Rattle.std.proofs.Common.{◌≡◌, ℕ, ◌+◌, ◌<◌, ◌≤◌, bit_or, ap, ◌∙◌, inl, inr, arith}
 use Rattle.std.proofs.lemmas.Bool.{cases_lt}
 use Rattle.std.proofs.lemmas.Nat.{le_or_l, le_or_r}
@@ -22,7 +22,8 @@ none_of_four f at none k low high =
       ]
     ]
 
--- neighbouring spans of four, each of which has no number where what is joined of it has no bit
+-- if the joined words of a span of four have no bit set, none of the four has one; extended to
+-- consecutive spans
 abbrev pub IsClearFrom : (ℕ → ℕ) → ℕ → ℕ → Type 0
 IsClearFrom f at span = (k : ℕ) → at ≤ k → k < at + span → f k ≡ 0
 

@@ -1,4 +1,4 @@
--- Rows of bits: their length, their places, and what an operation on words makes of them.
+-- Rows of bits: their length, their bits, and how an operation on words changes them.
 use Rattle.std.proofs.Common.{length-set, ◌≡◌, ◌≢◌, ℕ, zero, suc, ◌+◌, ◌-◌, ◌*◌, ◌/◌, ◌%◌, ◌^◌, ◌<◌, ◌≤◌, min, Bool, true, false, cond, not, ◌&&◌, eqb, ltb, set, bit_or, inl, inr, List, [], ◌∷◌, ◌++◌, map, length, get_or, take, sum_by, count_by, count_ones, bit_and, Fits, w64, refl, sym, ap, ◌∙◌, arith, add-zero, pow-suc}
 use Rattle.std.specs.Int.{bit_at, bit_not}
 use Rattle.std.specs.List.{range_with_len}
@@ -55,14 +55,14 @@ pub get_or-bits_of : (ws : List ℕ) (n i : ℕ) (d : Bool) → i < n → get_or
 unfolding bits_of
 get_or-bits_of ws n i d lt = get_or-map-range_with_len (λ i. words_have ws i) 0 n i i d lt (omega arith)
 
--- a row is known by its places
+-- a row is determined by its bits
 pub bits_of_is : (ws : List ℕ) (n : ℕ) (bs : List Bool) → length bs ≡ n → ((i : ℕ) → i < n → words_have ws i ≡ get_or bs i false) → bits_of ws n ≡ bs
 bits_of_is ws n bs long each =
     same_lists (bits_of ws n) bs (length-bits_of ws n ∙ sym long) (λ k d lt.
     let within : k < n = omega (arith, length-bits_of ws n) in
     get_or-bits_of ws n k d within ∙ each k within ∙ get_or_default bs k false d (omega arith))
 
--- words that are combined with those of another row
+-- a row whose words are combined with those of another row
 module _ (f : ℕ → ℕ → ℕ) (g : Bool → Bool → Bool) (one : (a b k : ℕ) → b < 2 ^ 64 → k < 64 → has_bit (f a b) k ≡ g (has_bit a k) (has_bit b k)) where
   pub words_have-combined : (ws xs ys : List ℕ) → ((k : ℕ) → Fits w64 (get_or ys k 0)) → ((k : ℕ) → get_or ws k 0 ≡ f (get_or xs k 0) (get_or ys k 0))
       → (i : ℕ) → words_have ws i ≡ g (words_have xs i) (words_have ys i)
@@ -70,7 +70,7 @@ module _ (f : ℕ → ℕ → ℕ) (g : Bool → Bool → Bool) (one : (a b k : 
   words_have-combined ws xs ys fit each i =
       ap (λ w. has_bit w (i % 64)) (each (i / 64)) ∙ one (get_or xs (i / 64) 0) (get_or ys (i / 64) 0) (i % 64) (fit (i / 64)).fits (omega arith)
 
--- rows that are combined bit by bit
+-- two rows combined bit by bit
 pub bits_of-combined : (g : Bool → Bool → Bool) (ws xs ys : List ℕ) (n : ℕ) → ((i : ℕ) → words_have ws i ≡ g (words_have xs i) (words_have ys i))
     → bits_of ws n ≡ zip2 g (bits_of xs n) (bits_of ys n)
 bits_of-combined g ws xs ys n each =
@@ -85,7 +85,7 @@ bits_of-combined g ws xs ys n each =
 
 -- ---- the count of a row
 
--- numbers from a + 1 on are those from a on, each one more
+-- the numbers from a + 1 on are those from a on, each one greater
 later : {X : Type 0} (f : ℕ → X) (a n : ℕ) → map f (range_with_len (a + 1) n) ≡ map (λ i. f (i + 1)) (range_with_len a n)
 later f a zero = refl
 later f a (suc n) = ap (λ l. f (a + 1) ∷ l) (later f (a + 1) n)
@@ -112,7 +112,7 @@ same_map f g a (suc n) e = ap (λ x. x ∷ map f (range_with_len (a + 1) n)) (e 
 half : (d w : ℕ) → w < 2 ^ suc d → w / 2 < 2 ^ d
 half d w lt = omega (arith, pow-suc 2 d)
 
--- the bits of one word
+-- the number of set bits of a word is that of ones among its bits
 pub ones_of_word : (d w : ℕ) → w < 2 ^ d → count_by (λ b. b) (map (λ i. has_bit w i) (range_with_len 0 d)) ≡ count_ones w
 unfolding ones
 ones_of_word zero w lt =
@@ -125,7 +125,7 @@ ones_of_word (suc d) w lt =
     ∙ ap (λ n. w % 2 + n) (ones_of_word d (w / 2) (half d w lt))
     ∙ sym (ones_step w)
 
--- a function of neighbouring numbers, in two parts
+-- splits a map over consecutive numbers in two
 split : {X : Type 0} (f : ℕ → X) (a n k : ℕ) → map f (range_with_len a (n + k)) ≡ map f (range_with_len a n) ++ map f (range_with_len (a + n) k)
 split f a zero k =
     let left : 0 + k ≡ k = omega arith in
@@ -149,7 +149,7 @@ moved f g a b (suc n) e =
     let right : b + suc i ≡ b + 1 + i = omega arith in
     ap f left ∙ e (suc i) (omega arith) ∙ ap g right))
 
--- the bits of word m stand from 64 * m on
+-- the bits of word m are those from 64 * m on
 word_part : (ws : List ℕ) (m : ℕ) → map (λ i. words_have ws i) (range_with_len (0 + 64 * m) 64) ≡ map (λ i. has_bit (get_or ws m 0) i) (range_with_len 0 64)
 unfolding words_have
 word_part ws m = moved (λ i. words_have ws i) (λ i. has_bit (get_or ws m 0) i) (0 + 64 * m) 0 64 (λ i lt.
@@ -157,7 +157,7 @@ word_part ws m = moved (λ i. words_have ws i) (λ i. has_bit (get_or ws m 0) i)
     let bit : (0 + 64 * m + i) % 64 ≡ 0 + i = omega arith in
     ap (λ k. has_bit (get_or ws k 0) ((0 + 64 * m + i) % 64)) word ∙ ap (has_bit (get_or ws m 0)) bit)
 
--- the bits of the first words
+-- the number of set bits in the first words
 ones_of_words : (ws : List ℕ) (m : ℕ) → ((k : ℕ) → Fits w64 (get_or ws k 0)) → m ≤ length ws → sum_by count_ones (take m ws) ≡ count_by (λ b. b) (bits_of ws (64 * m))
 unfolding bits_of
 ones_of_words ws zero fit le = refl
@@ -176,7 +176,7 @@ ones_of_words ws (suc m) fit le =
 pub ones_of_row : (ws : List ℕ) → ((k : ℕ) → Fits w64 (get_or ws k 0)) → sum_by count_ones ws ≡ count_by (λ b. b) (bits_of ws (64 * length ws))
 ones_of_row ws fit = ap (sum_by count_ones) (sym (take-length ws)) ∙ ones_of_words ws (length ws) fit (omega arith)
 
--- bits past the end that are not set add nothing
+-- clear bits past the end do not change the count
 pub count-nothing_past : (ws : List ℕ) (n k : ℕ) → ((i : ℕ) → n ≤ i → words_have ws i ≡ false) → count_by (λ b. b) (bits_of ws (n + k)) ≡ count_by (λ b. b) (bits_of ws n)
 unfolding bits_of
 count-nothing_past ws n zero none = let is : n + 0 ≡ n = omega arith in ap (λ m. count_by (λ b. b) (bits_of ws m)) is
@@ -208,7 +208,7 @@ zero_at_end [] (suc k) = refl
 zero_at_end (w ∷ ws) zero = refl
 zero_at_end (w ∷ ws) (suc k) = zero_at_end ws k
 
--- a word of no bits at the end
+-- appending a zero word
 pub words_have-push_none : (ws : List ℕ) (i : ℕ) → words_have (ws ++ 0 ∷ []) i ≡ words_have ws i
 unfolding words_have
 words_have-push_none ws i = ap (λ w. has_bit w (i % 64)) (zero_at_end ws (i / 64))
@@ -221,7 +221,7 @@ pub words_have-set_other : (ws : List ℕ) (q w i : ℕ) → (i / 64 ≡ q → �
 unfolding words_have
 words_have-set_other ws q w i differs = ap (λ x. has_bit x (i % 64)) (get_or-set_other ws q (i / 64) w 0 differs)
 
--- the bit at i is set
+-- setting bit i
 pub words_have-set_bit : (ws : List ℕ) (i j : ℕ) → i / 64 < length ws
     → words_have (set ws (i / 64) (bit_or (get_or ws (i / 64) 0) (1 * 2 ^ (i % 64) % 2 ^ 64))) j ≡ cond (eqb j i) true (words_have ws j)
 unfolding words_have has_bit
@@ -245,7 +245,7 @@ words_have-set_bit ws i j lt =
           ]
     ]
 
--- the lowest bits alone
+-- keeping only the lowest bits
 pub has_bit-low : (w count k : ℕ) → count < 64 → has_bit (bit_and w (1 * 2 ^ count % 2 ^ 64 - 1)) k ≡ (ltb k count && has_bit w k)
 unfolding has_bit
 has_bit-low w count k lt =
@@ -259,7 +259,7 @@ has_bit-low w count k lt =
           ∙ ap (λ t. t && has_bit w k) (sym (le-ltb k count above))
     ]
 
--- one bit more
+-- setting one bit of a word
 pub has_bit-set : (w i k : ℕ) → i < 64 → has_bit (bit_or w (1 * 2 ^ i % 2 ^ 64)) k ≡ cond (eqb k i) true (has_bit w k)
 unfolding has_bit
 has_bit-set w i k lt =
@@ -270,7 +270,7 @@ has_bit-set w i k lt =
       | inr n ↦ ap (λ x. eqb x 1) (bit_at_set_other w64 w i lt k n) ∙ sym (cond-false (eqb k i) true (has_bit w k) (ne_eqb k i n))
     ]
 
--- one bit less
+-- clearing one bit of a word
 pub has_bit-cleared : (w i k : ℕ) → i < 64 → k < 64 → has_bit (bit_and w (2 ^ 64 - 1 - 1 * 2 ^ i % 2 ^ 64)) k ≡ cond (eqb k i) false (has_bit w k)
 unfolding has_bit
 has_bit-cleared w i k lt in_word =
@@ -281,7 +281,7 @@ has_bit-cleared w i k lt in_word =
       | inr n ↦ ap (λ x. eqb x 1) (bit_at_clear_other w64 w i lt k in_word n) ∙ sym (cond-false (eqb k i) false (has_bit w k) (ne_eqb k i n))
     ]
 
--- a row with one bit replaced, chunk by chunk
+-- replacing one bit of a row by replacing its chunk
 pub put_in_chunk : (old new : List Bool) (i : ℕ) (bit : Bool) (chunk word : ℕ) → i < length old → length new ≡ length old
     → ((k : ℕ) → k < 64 → has_bit chunk k ≡ get_or old (64 * (i / 64) + k) false)
     → ((k : ℕ) → k < 64 → has_bit word k ≡ cond (eqb k (i % 64)) bit (has_bit chunk k))

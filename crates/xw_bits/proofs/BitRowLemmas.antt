@@ -1,4 +1,4 @@
--- What the view and the invariant of a row give.
+-- Consequences of the view and the invariant of a row.
 use Rattle.std.proofs.Common.{◌≡◌, Option, Some, None, IfSome, if◌then◌else◌, true, add-zero, ℕ, ◌+◌, ◌-◌, ◌*◌, ◌/◌, ◌<◌, ◌≤◌, Bool, false, List, length, get_or, vec_len, count_by, sym, ap, ◌∙◌, inl, inr, cond, eqb, ltb, min, set, ◌&&◌, refl, ◌%◌, [], ◌∷◌, ◌++◌, length-append, arith}
 use Rattle.std.proofs.lemmas.Bool.{cases_lt, cases_eq, cond-true, cond-false, eq-eqb, ne_eqb, lt-ltb, le-ltb}
 use Rattle.std.proofs.lemmas.List.{get_or_past, get_or_push, get_or_append_left}
@@ -21,11 +21,11 @@ same_len r s is is_other same = view_len r is ∙ same ∙ sym (view_len s is_ot
 pub same_words : (r s : Inside) → IsBitRow r → IsBitRow s → r.len ≡ s.len → vec_len r.words ≡ vec_len s.words
 same_words r s inv inv_other same = inv.words_len ∙ ap (λ n. (n + 63) / 64) same ∙ sym inv_other.words_len
 
--- a chunk of the row is a word of it
+-- a chunk of the row is one of its words
 pub chunk_within : (r : Inside) {v : RowOfBits} → row_of r ≡ v → IsBitRow r → (chunk : ℕ) → 64 * chunk < length v.bits → chunk < vec_len r.words
 chunk_within r is inv chunk lt = omega (arith, view_len r is, inv.words_len)
 
--- a place of the row, or past it, is a bit of the words
+-- a bit of the row, or past its end, is a bit of its words
 pub place_is : (r : Inside) {v : RowOfBits} → row_of r ≡ v → IsBitRow r → (i : ℕ) → get_or v.bits i false ≡ words_have r.words.items i
 place_is r {v} is inv i =
     elim (cases_lt i r.len) [
@@ -33,7 +33,7 @@ place_is r {v} is inv i =
       | inr le ↦ get_or_past v.bits i false (omega (arith, view_len r is)) ∙ sym (inv.nothing_past i le)
     ]
 
--- a row whose words are combined with those of another
+-- a row whose words are combined with those of another row
 pub view-combined : (g : Bool → Bool → Bool) (r s : Inside) {v w : RowOfBits} (ws : List ℕ) → row_of r ≡ v → row_of s ≡ w → r.len ≡ s.len
     → ((i : ℕ) → words_have ws i ≡ g (words_have r.words.items i) (words_have s.words.items i)) → bits_of ws r.len ≡ zip2 g v.bits w.bits
 view-combined g r s {v} {w} ws is is_other same each =
@@ -42,7 +42,7 @@ view-combined g r s {v} {w} ws is is_other same each =
     ∙ ap (λ n. zip2 g v.bits (bits_of s.words.items n)) same
     ∙ ap (zip2 g v.bits) (view_bits s is_other)
 
--- the same bit by bit, for a row of as many words
+-- the same bit by bit, for rows of the same length
 pub combined_bit : (g : Bool → Bool → Bool) (r s : Inside) {v w : RowOfBits} (ws : List ℕ) → row_of r ≡ v → row_of s ≡ w → IsBitRow r → IsBitRow s
     → ((i : ℕ) → words_have ws i ≡ g (words_have r.words.items i) (words_have s.words.items i)) → ((b : Bool) → g false b ≡ false)
     → (i : ℕ) → get_or (bits_of ws r.len) i false ≡ g (get_or v.bits i false) (get_or w.bits i false)
@@ -57,18 +57,18 @@ combined_bit g r s {v} {w} ws is is_other inv inv_other each none i =
           ∙ sym (ap (λ b. g b (get_or w.bits i false)) (get_or_past v.bits i false (omega (arith, le, view_len r is))) ∙ none (get_or w.bits i false))
     ]
 
--- where no bit is past a row, the count over all its words is that of its bits
+-- if no bit past the end is set, the count over all words is the count of the row
 pub counted_whole : (ws : List ℕ) (n : ℕ) → n ≤ 64 * length ws → ((i : ℕ) → n ≤ i → words_have ws i ≡ false) → count_by (λ b. b) (bits_of ws (64 * length ws)) ≡ count_by (λ b. b) (bits_of ws n)
 counted_whole ws n within none =
     let whole : 64 * length ws ≡ n + (64 * length ws - n) = omega arith in
     ap (λ m. count_by (λ b. b) (bits_of ws m)) whole ∙ count-nothing_past ws n (64 * length ws - n) none
 
--- the count over all words is that of the row
+-- the count over all words of a row is the count of its bits
 pub count_is : (r : Inside) {v : RowOfBits} → row_of r ≡ v → IsBitRow r → count_by (λ b. b) (bits_of r.words.items (64 * length r.words.items)) ≡ count_by (λ b. b) v.bits
 count_is r is inv =
     counted_whole r.words.items r.len (omega (arith, inv.words_len)) inv.nothing_past ∙ ap (count_by (λ b. b)) (view_bits r is)
 
--- a row with one bit more
+-- a row after a bit was appended
 pub pushed : (r : Inside) {v : RowOfBits} (ws : List ℕ) (bit : Bool) → row_of r ≡ v → IsBitRow r
     → ((j : ℕ) → words_have ws j ≡ cond (eqb j r.len) bit (words_have r.words.items j)) → bits_of ws (r.len + 1) ≡ v.bits ++ bit ∷ []
 pushed r {v} ws bit is inv each =
@@ -83,7 +83,7 @@ pushed r {v} ws bit is inv each =
           ∙ sym (get_or_append_left v.bits (bit ∷ []) false i (omega (arith, view_len r is)) ∙ place_is r is inv i)
     ])
 
--- where the count of a row was known, it is known with one bit more that is not set
+-- a cached count stays right after a clear bit is appended
 pub counted_pushed : (r : Inside) {v : RowOfBits} (ws : List ℕ) (bit : Bool) → row_of r ≡ v → IsBitRow r → bits_of ws (r.len + 1) ≡ v.bits ++ bit ∷ []
     → IfSome (if bit then None else r.counted) (λ count. count ≡ count_by (λ b. b) (bits_of ws (r.len + 1)))
 counted_pushed r ws true is inv each = tt
@@ -94,7 +94,7 @@ counted_pushed r {v} ws false is inv each = split r.counted inv.counted where
       known ∙ ap (count_by (λ b. b)) (view_bits r is) ∙ sym (add-zero (count_by (λ b. b) v.bits))
       ∙ sym (sum_by-append (λ b. cond b 1 0) v.bits (false ∷ [])) ∙ sym (ap (count_by (λ b. b)) each)
 
--- a row with one word replaced, by one without bits past the row
+-- a row after one word was replaced by one without bits past the end
 module _ (r : Inside) {v : RowOfBits} (is : row_of r ≡ v) (inv : IsBitRow r) (chunk word low : ℕ) (within : 64 * chunk < length v.bits)
     (is_low : (k : ℕ) → k < 64 → has_bit low k ≡ (ltb k (min (r.len - 64 * chunk) 64) && has_bit word k)) where
   in_words : chunk < length r.words.items

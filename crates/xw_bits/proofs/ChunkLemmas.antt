@@ -1,4 +1,4 @@
--- The chunks of a row that have a bit, and those that two rows have a bit in common in.
+-- Chunks that have a set bit, and chunks in which two rows have a set bit in common.
 use Rattle.std.proofs.Common.{◌≡◌, ℕ, ◌+◌, ◌*◌, ◌/◌, ◌%◌, ◌^◌, ◌<◌, ◌≤◌, ◌-◌, Bool, true, false, ◌&&◌, eqb, get_or, ap, sym, ◌∙◌, w64, bit_and, arith}
 use Rattle.std.specs.Int.{bit_at, trailing_zeros}
 use Rattle.std.proofs.lemmas.Bool.{eq-eqb}
@@ -10,7 +10,7 @@ use Rattle.xw_bits.proofs.BitRowLemmas.{place_is}
 use Rattle.xw_bits.proofs.BitLemmas.{has_bit-and, has_bit-none}
 
 module _ (r : Inside) {v : RowOfBits} (is : row_of r ≡ v) (inv : IsBitRow r) where
-  -- a bit of a chunk is that of a word
+  -- a bit of a chunk is a bit of a word
   pub chunk_bit : (chunk k : ℕ) → k < 64 → get_or v.bits (64 * chunk + k) false ≡ has_bit (get_or r.words.items chunk 0) k
   unfolding words_have
   chunk_bit chunk k lt =
@@ -18,7 +18,7 @@ module _ (r : Inside) {v : RowOfBits} (is : row_of r ≡ v) (inv : IsBitRow r) w
       let bit : (64 * chunk + k) % 64 ≡ k = omega arith in
       place_is r is inv (64 * chunk + k) ∙ ap (λ n. has_bit (get_or r.words.items n 0) ((64 * chunk + k) % 64)) at ∙ ap (has_bit (get_or r.words.items chunk 0)) bit
 
--- ---- a test of places, 64 at a time
+-- ---- a test of 64 indices at a time
 
 module _ (f : ℕ → Bool) (chunk word : ℕ) (bits : (k : ℕ) → k < 64 → has_bit word k ≡ f (64 * chunk + k)) where
   at_place : (i : ℕ) → 64 * chunk ≤ i → i < 64 * chunk + 64 → f i ≡ has_bit word (i - 64 * chunk)
@@ -31,7 +31,7 @@ module _ (f : ℕ → Bool) (chunk word : ℕ) (bits : (k : ℕ) → k < 64 → 
   none_in_chunk zero_word i low high =
       at_place i low high ∙ ap (λ w. has_bit w (i - 64 * chunk)) zero_word ∙ has_bit-none (i - 64 * chunk)
 
-  -- the lowest bit that is set
+  -- the lowest set bit
   pub lowest_within : 0 < word → word < 2 ^ 64 → trailing_zeros w64 word < 64
   lowest_within some fits = (bit_at-trailing_zeros w64 word some fits).0
 
@@ -53,14 +53,14 @@ module _ (r s : Inside) {v w : RowOfBits} (is : row_of r ≡ v) (is_other : row_
   abbrev both : ℕ → Bool
   both i = get_or v.bits i false && get_or w.bits i false
 
-  -- the bits that they have in common in a chunk, in words that are those of the chunk
+  -- the bits that two rows have in common in a chunk, as the conjunction of their words
   pub common_bits : (chunk one two k : ℕ) → one ≡ get_or r.words.items chunk 0 → two ≡ get_or s.words.items chunk 0 → k < 64 → has_bit (bit_and one two) k ≡ (get_or v.bits (64 * chunk + k) false && get_or w.bits (64 * chunk + k) false)
   common_bits chunk one two k one_is two_is lt =
       has_bit-and one two k
       ∙ ap (λ t. t && has_bit two k) (ap (λ n. has_bit n k) one_is ∙ sym (chunk_bit r is inv chunk k lt))
       ∙ ap (λ t. get_or v.bits (64 * chunk + k) false && t) (ap (λ n. has_bit n k) two_is ∙ sym (chunk_bit s is_other inv_other chunk k lt))
 
-  -- a place in a chunk where they have none
+  -- an index in a chunk where the rows have no bit in common
   pub apart_place : (i one two : ℕ) → one ≡ get_or r.words.items (i / 64) 0 → two ≡ get_or s.words.items (i / 64) 0 → bit_and one two ≡ 0 → (get_or v.bits i false && get_or w.bits i false) ≡ false
   apart_place i one two one_is two_is none =
       none_in_chunk both (i / 64) (bit_and one two) (λ k lt. common_bits (i / 64) one two k one_is two_is lt) none i (omega arith) (omega arith)

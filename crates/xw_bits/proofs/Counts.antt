@@ -1,4 +1,4 @@
--- How many bits are set in the first words.
+-- The number of set bits in the first words.
 use Rattle.std.proofs.Common.{◌≡◌, ◌^◌, length-set, count_by, set, inl, inr, refl, sym, subst, ℕ, zero, suc, ◌+◌, ◌-◌, ◌*◌, ◌≤◌, ◌<◌, List, length, [], ◌∷◌, take, drop, get_or, slice_range, sum_by, count_ones, Fits, w64, ap, ◌∙◌, arith}
 use Rattle.std.proofs.Math.Seq.{take-add, take-length}
 use Rattle.std.proofs.lemmas.Bool.{cases_eq}
@@ -9,14 +9,14 @@ use Rattle.xw_bits.proofs.BitLemmas.{ones_of_row}
 use Rattle.std.proofs.lemmas.List.Sums.{sum_by-append, sum_by-cons, sum_by_more, sum_by-set}
 use Rattle.std.proofs.lemmas.Nat.{ones-le}
 
--- 64 a word at the most
+-- at most 64 for each word
 pub ones_few : (xs : List ℕ) (n : ℕ) → ((k : ℕ) → Fits w64 (get_or xs k 0)) → sum_by count_ones (take n xs) ≤ 64 * n
 ones_few xs zero fit = omega arith
 ones_few [] (suc n) fit = omega arith
 ones_few (x ∷ xs) (suc n) fit =
     omega (arith, sum_by-cons count_ones x (take n xs), ones_few xs n (λ k. fit (suc k)), ones-le 64 x (fit 0).fits)
 
--- some words more
+-- the count after some more words
 pub ones_more : (xs : List ℕ) (at n : ℕ) → sum_by count_ones (take (at + n) xs) ≡ sum_by count_ones (take at xs) + sum_by count_ones (slice_range xs at (at + n))
 ones_more xs at n =
     let many : n ≡ at + n - at = omega arith in
@@ -27,7 +27,7 @@ ones_of_zero : count_ones 0 ≡ 0
 unfolding ones
 ones_of_zero = refl
 
--- none in words without a bit
+-- words without a set bit add nothing
 pub ones_none : (xs : List ℕ) (at n : ℕ) → at + n ≤ length xs → ((k : ℕ) → at ≤ k → k < at + n → get_or xs k 0 ≡ 0) → sum_by count_ones (slice_range xs at (at + n)) ≡ 0
 ones_none xs at n within none = omega (arith, ones_more xs at n, same n within none) where
   same : (m : ℕ) → at + m ≤ length xs → ((k : ℕ) → at ≤ k → k < at + m → get_or xs k 0 ≡ 0) → sum_by count_ones (take (at + m) xs) ≡ sum_by count_ones (take at xs)
@@ -45,7 +45,7 @@ ones_blocks xs at =
     let eight : at + 4 + 4 ≡ at + 8 = omega arith in
     omega (arith, ones_more xs at 4, ones_more xs (at + 4) 4, ones_more xs at 8, ap (λ k. sum_by count_ones (take k xs)) eight)
 
--- the count of a row of which a word is replaced
+-- the count of a row after a word was replaced
 module _ (xs : List ℕ) (at word : ℕ) (within : at < length xs) (fit : (k : ℕ) → Fits w64 (get_or xs k 0)) (fits : word < 2 ^ 64) where
   set_fits : (k : ℕ) → Fits w64 (get_or (set xs at word) k 0)
   set_fits k =

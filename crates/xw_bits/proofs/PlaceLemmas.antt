@@ -1,4 +1,4 @@
--- Places that are passed over, and the first that is set.
+-- Indices that are skipped, and the first one whose bit is set.
 use Rattle.std.proofs.Common.{◌≡◌, ℕ, zero, suc, ◌+◌, ◌-◌, ◌*◌, ◌/◌, ◌%◌, ◌^◌, ◌<◌, ◌≤◌, Bool, true, false, cond, eqb, List, [], ◌∷◌, length, filter, get_or, refl, sym, ap, ◌∙◌, inl, inr, w64, arith}
 use Rattle.std.specs.Int.{bit_at, trailing_zeros}
 use Rattle.std.specs.List.{range_with_len}
@@ -10,7 +10,7 @@ use Rattle.std.proofs.lemmas.List.{get_or_past}
 use Rattle.xw_bits.specs.Bits.{has_bit}
 use Rattle.xw_bits.specs.Places.{set_places}
 
--- a shifted word
+-- the bits of a shifted word
 pub has_bit-shifted : (w t i : ℕ) → has_bit (w / 2 ^ t) i ≡ has_bit w (t + i)
 unfolding has_bit
 has_bit-shifted w t i = ap (λ x. eqb (x % 2) 1) (shr-shr w t i)
@@ -36,12 +36,12 @@ filter_skip p a (suc k) n none =
 filter_first : (p : ℕ → Bool) (a n : ℕ) → p a ≡ true → filter p (range_with_len a (suc n)) ≡ a ∷ filter p (range_with_len (a + 1) n)
 filter_first p a n h = ap (λ t. cond t (a ∷ filter p (range_with_len (a + 1) n)) (filter p (range_with_len (a + 1) n))) h
 
--- nothing is set from a place on
+-- no bit from an index on is set
 pub set_places_none : (bits : List Bool) (from : ℕ) → ((i : ℕ) → from ≤ i → get_or bits i false ≡ false) → set_places bits from ≡ []
 unfolding set_places
 set_places_none bits from none = filter_none (λ i. get_or bits i false) from (length bits - from) (λ i low high. none i low)
 
--- a place that is set is in the row
+-- the index of a set bit is less than the length
 pub within_row : (bits : List Bool) (place : ℕ) → get_or bits place false ≡ true → place < length bits
 within_row bits place set =
     elim (cases_lt place (length bits)) [
@@ -49,7 +49,7 @@ within_row bits place set =
       | inr past ↦ absurd (both_ways (get_or bits place false) (get_or_past bits place false past) set)
     ]
 
--- the first set place, and those after it
+-- the first index of a set bit, and those after it
 pub set_places_first : (bits : List Bool) (from place : ℕ) → from ≤ place → get_or bits place false ≡ true → ((i : ℕ) → from ≤ i → i < place → get_or bits i false ≡ false)
     → set_places bits from ≡ place ∷ set_places bits (place + 1)
 unfolding set_places
@@ -69,7 +69,7 @@ module _ (bits : List Bool) (at word : ℕ) (of_chunk : (k : ℕ) → k < 64 →
       let is : 64 * (at / 64) + (at % 64 + i) ≡ at + i = omega arith in
       has_bit-shifted word (at % 64) i ∙ of_chunk (at % 64 + i) lt ∙ ap (λ n. get_or bits n false) is
 
-  -- a bit past the word is none of it
+  -- bits shifted in from past the word are clear
   past_word : (i : ℕ) → 64 ≤ at % 64 + i → has_bit (word / 2 ^ (at % 64)) i ≡ false
   unfolding has_bit
   past_word i le = has_bit-shifted word (at % 64) i ∙ ap (λ x. eqb x 1) (bit_at_above word 64 (at % 64 + i) fits le)

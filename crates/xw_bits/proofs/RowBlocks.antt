@@ -1,4 +1,4 @@
--- A row in which one block of words is left as another block says, and one that is cleared.
+-- A row after one block was intersected with another, and a cleared row.
 use Rattle.std.proofs.Common.{◌≡◌, ℕ, ◌+◌, ◌-◌, ◌*◌, ◌/◌, ◌%◌, ◌<◌, ◌≤◌, false, not, ◌&&◌, map, List, length, get_or, bit_and, sym, ap, ◌∙◌, inl, inr, arith, Fits, w64}
 use Rattle.std.specs.Prelude.{replicate}
 use Rattle.std.specs.Int.{bit_not}
@@ -10,7 +10,7 @@ use Rattle.std.proofs.Math.ListN.{get_or-map}
 use Rattle.xw_bits.specs.Bits.{has_bit, words_have, bits_of}
 use Rattle.xw_bits.proofs.BitLemmas.{length-bits_of, get_or-bits_of, has_bit-and, has_bit-none, has_bit-not}
 
--- the bits of words of which none lies past the row
+-- the bits of words that have no bit set past the row's end
 pub row_place : (words : List ℕ) (len i : ℕ) → ((k : ℕ) → len ≤ k → words_have words k ≡ false) → get_or (bits_of words len) i false ≡ words_have words i
 row_place words len i none = elim (cases_lt i len) [
   | inl lt ↦ get_or-bits_of words len i false lt
@@ -48,7 +48,7 @@ module _ (words new block : List ℕ) (at : ℕ) (below : (k : ℕ) → k < at �
       block_bit (64 * (at + chunk) + k) chunk (omega arith) in_block
       ∙ ap (λ n. words_have words (64 * (at + chunk) + k) && has_bit (get_or block chunk 0) n) is
 
-  -- no bit comes
+  -- no bit becomes set
   pub block_none : (i : ℕ) → words_have words i ≡ false → words_have new i ≡ false
   block_none i none = elim (cases_lt i (64 * at)) [
     | inl lt ↦ block_below i lt ∙ none

@@ -1,12 +1,14 @@
--- A row of bits in words.
+-- How a `BitRow` represents its bits.
 use Rattle.std.specs.Prelude.{◌≡◌, ℕ, ◌+◌, ◌*◌, ◌/◌, ◌<◌, ◌≤◌, ◌^◌, ◌-◌, min, false, count_by, IfSome, vec_len, vec_capacity}
 use Rattle.xw_bits.specs.Bits.{RowOfBits, words_have, bits_of}
 use Rattle.xw_bits.specs.declared.bit_row.BitRow.TheInside.{Inside}
 
+-- the bits and the room that the representation stands for
 abbrev pub row_of : Inside → RowOfBits
 row_of r = record { bits = bits_of r.words.items r.len; room = min (64 * vec_capacity r.words) (2 ^ 57 - 1) }
 
--- as few words as hold the bits, no bit past the row, and how many bits are set, where that is known
+-- the invariant of a row: it has exactly as many words as its bits need, every bit past the end is
+-- clear, and a cached count is right
 pub record IsBitRow (r : Inside) : Type 0 where
   pub small : r.len < 2 ^ 57
   pub words_len : vec_len r.words ≡ (r.len + 63) / 64

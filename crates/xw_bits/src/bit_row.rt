@@ -1,24 +1,28 @@
-//! A row of bits.
-ghost use Rattle.std.specs.Prelude.{◌≡◌, ℕ, ◌+◌, ◌-◌, ◌*◌, ◌/◌, ◌%◌, ◌^◌, ◌<◌, ◌≤◌, Bool, false, not, ◌&&◌, [], ◌∷◌, ◌++◌, length, min, slice_index, slice_index_or, slice_set, count_by, OnOk, OnErr, IfErr, IfSome, IfNone, None, true, if◌then◌else◌, nat_eq};
+//! A growable row of bits, packed into 64-bit words.
+//!
+//! A chunk is one word: chunk `c` holds the bits from `64 * c` to `64 * c + 63`, the lowest bit
+//! first. A block is eight consecutive chunks, as one SIMD vector.
+ghost use Rattle.std.specs.Prelude.{◌≡◌, ℕ, ◌+◌, ◌-◌, ◌*◌, ◌/◌, ◌%◌, ◌^◌, ◌<◌, ◌≤◌, Bool, false, not, ◌&&◌, [], ◌∷◌, ◌++◌, length, min, slice_index, slice_index_or, slice_set, count_by, OnOk, OnErr, IfSome, IfNone, None, true, if◌then◌else◌, nat_eq};
 ghost use Rattle.std.specs.Simd.Lanes.{zip2};
 ghost use Rattle.xw_bits.specs.Bits.{RowOfBits, has_bit};
 ghost use Rattle.xw_bits.specs.Places.{set_places};
 
-use crate::fault::WordFault;
 use crate::kernels::{
     and_not_words, and_words, block_at, count_after, count_words, is_clear_block, keep_at,
     low_bits, make_room_for_bit, next_common, put_bit, with_bit,
 };
 use crate::ones::{Ones, next_one};
-use std::alloc::Global;
+use std::alloc::{AllocError, Global};
 use std::marker::Model;
 use std::simd::prelude::*;
 
-/// The most bits that a row may be given room for.
+/// The largest number of bits a row can have room for.
 pub const MAX_BITS: usize = 0x1FF_FFFF_FFFF_FFFF;
 
-/// Bits in a row, packed 64 to a word. How many are set is known once they were counted, and stays known where
-/// one chunk is replaced, or a bit is added that is not set; any other change drops it.
+/// A row of bits, packed 64 to a word.
+///
+/// The row caches the number of set bits once `keep_count` has counted them. `set_chunk`, `put` and
+/// a `push` of a clear bit keep the cache up to date; every other change drops it.
 #[derive(Drop)]
 pub struct BitRow {
     words: Vec<u64>,
@@ -26,7 +30,7 @@ pub struct BitRow {
     counted: Option<usize>,
 }
 
-/// The count of a row with one bit more, where that is known.
+/// The cached count after `bit` is pushed: a set bit drops it.
 fn count_with(counted: Option<usize>, bit: bool) -> Option<usize>
     ensures { result ≡ (if bit then None else counted) }
 {
@@ -46,6 +50,7 @@ impl Model for BitRow {
 }
 
 impl BitRow {
+    /// An empty row.
     pub fn new(alloc: Global) -> Self
         ensures { result.bits ≡ [] }
     {
@@ -56,6 +61,7 @@ impl BitRow {
         }
     }
 
+    /// The number of bits, set or clear.
     pub fn len(&self) -> usize
         ensures value { result ≡ length self.now.bits }
         ensures small { result < 2 ^ 57 }
@@ -63,7 +69,7 @@ impl BitRow {
         self.len
     }
 
-    /// Keeps the bits that both rows have.
+    /// Intersects the row with `other`: clears each bit that `other` does not have set.
     pub fn and(&mut self, other: &BitRow)
         requires { length self.old.bits ≡ length other.now.bits }
         ensures bits { self.new.bits ≡ zip2 (λ x y. x && y) self.old.bits other.now.bits }
@@ -73,7 +79,7 @@ impl BitRow {
         and_words(&mut self.words, &other.words);
     }
 
-    /// Keeps the bits that the other row lacks.
+    /// Subtracts `other`: clears each bit that `other` has set.
     pub fn and_not(&mut self, other: &BitRow)
         requires { length self.old.bits ≡ length other.now.bits }
         ensures bits { self.new.bits ≡ zip2 (λ x y. x && not y) self.old.bits other.now.bits }
@@ -83,7 +89,7 @@ impl BitRow {
         and_not_words(&mut self.words, &other.words);
     }
 
-    /// Takes the bits of a row of the same length.
+    /// Copies the bits of `other`, a row of the same length.
     pub fn copy_from(&mut self, other: &BitRow)
         requires { length self.old.bits ≡ length other.now.bits }
         ensures bits { self.new.bits ≡ other.now.bits }
@@ -93,7 +99,7 @@ impl BitRow {
         self.words.as_mut_slice().copy_from_slice(&other.words);
     }
 
-    /// Clears all bits.
+    /// Clears all bits. The length stays.
     pub fn clear(&mut self)
         ensures len { length self.new.bits ≡ length self.old.bits }
         ensures bits { (i : ℕ) → slice_index_or self.new.bits i false ≡ false }
@@ -103,7 +109,7 @@ impl BitRow {
         self.words.as_mut_slice().fill(0);
     }
 
-    /// The bits of the eight chunks from one on.
+    /// The eight chunks from chunk `at` on. Bits past the end of the row are 0.
     pub fn block(&self, at: usize) -> u64x8
         requires { 64 * at + 448 < length self.now.bits }
         ensures { (chunk k : ℕ) → chunk < 8 → k < 64 → has_bit (slice_index result chunk) k ≡ slice_index_or self.now.bits (64 * (at + chunk) + k) false }
@@ -111,7 +117,8 @@ impl BitRow {
         block_at(&self.words, at)
     }
 
-    /// Whether the eight chunks from one on have no bit. Only what follows where they have none is promised.
+    /// Whether all bits of the block at chunk `at` are clear. The contract promises nothing for
+    /// `false`.
     pub fn is_clear(&self, at: usize) -> bool
         requires { 64 * at + 448 < length self.now.bits }
         ensures { result ≡ true → (i : ℕ) → 64 * at ≤ i → i < 64 * at + 512 → slice_index_or self.now.bits i false ≡ false }
@@ -119,7 +126,7 @@ impl BitRow {
         is_clear_block(&self.words, at)
     }
 
-    /// Keeps in the eight chunks from one on the bits that a block has.
+    /// Intersects the block at chunk `at` with `block`.
     pub fn keep_block(&mut self, at: usize, block: u64x8)
         requires { 64 * at + 448 < length self.old.bits }
         ensures len { length self.new.bits ≡ length self.old.bits }
@@ -132,7 +139,7 @@ impl BitRow {
         keep_at(&mut self.words, at, block);
     }
 
-    /// Clears in the eight chunks from one on the bits that a block has.
+    /// Clears, in the block at chunk `at`, each bit that `block` has set.
     pub fn strike_block(&mut self, at: usize, block: u64x8)
         requires { 64 * at + 448 < length self.old.bits }
         ensures len { length self.new.bits ≡ length self.old.bits }
@@ -144,7 +151,7 @@ impl BitRow {
         self.keep_block(at, !block);
     }
 
-    /// The first place from a chunk on that both rows have set.
+    /// The first index, from chunk `from` on, of a bit that is set in both rows.
     pub fn next_common(&self, other: &BitRow, from: usize) -> Option<usize>
         ensures found { IfSome result (λ place. (64 * from ≤ place) × ((slice_index_or self.now.bits place false && slice_index_or other.now.bits place false) ≡ true)) }
         ensures first { IfSome result (λ place. (i : ℕ) → 64 * from ≤ i → i < place → (slice_index_or self.now.bits i false && slice_index_or other.now.bits i false) ≡ false) }
@@ -159,7 +166,8 @@ impl BitRow {
         }
     }
 
-    /// How many bits are set.
+    /// The number of set bits. Takes constant time if the count is cached, else time linear in the
+    /// length.
     pub fn count(&self) -> usize
         ensures { result ≡ count_by (λ bit. bit) self.now.bits }
     {
@@ -169,18 +177,18 @@ impl BitRow {
         }
     }
 
-    /// Counts the bits that are set, so that `count` need not until one changes.
+    /// Counts the set bits and caches the count for `count`.
     pub fn keep_count(&mut self)
         ensures { self.new ≡ self.old }
     {
         self.counted = Some(self.count());
     }
 
-    /// Makes room for so many bits in all; `Memory` where that is refused.
-    /// No row has room for more than `MAX_BITS`.
-    pub fn reserve(&mut self, bits: usize) -> Result<(), WordFault>
+    /// Reserves room for `bits` bits in total, or for `MAX_BITS` if that is less. Returns `AllocError`
+    /// if the allocation fails.
+    pub fn reserve(&mut self, bits: usize) -> Result<(), AllocError>
         ensures room { OnOk result (min bits MAX_BITS ≤ self.new.room) }
-        ensures refused { IfErr result (λ fault. fault ≡ WordFault.Memory) }
+        ensures same { OnErr result (self.new ≡ self.old) }
         ensures bits { self.new.bits ≡ self.old.bits }
         ensures room_stays { self.old.room ≤ self.new.room }
     {
@@ -191,7 +199,7 @@ impl BitRow {
         Ok(())
     }
 
-    /// Adds a bit at the end.
+    /// Appends a bit. The caller reserves the room first.
     pub fn push(&mut self, bit: bool)
         requires { length self.old.bits < self.old.room }
         ensures bits { self.new.bits ≡ self.old.bits ++ bit ∷ [] }
@@ -204,7 +212,7 @@ impl BitRow {
         self.len += 1;
     }
 
-    /// Adds 64 bits at the end that are not set.
+    /// Appends 64 clear bits. The length must be a multiple of 64.
     pub fn push_chunk(&mut self)
         requires whole { length self.old.bits % 64 ≡ 0 }
         requires room { length self.old.bits < self.old.room }
@@ -218,7 +226,7 @@ impl BitRow {
         self.len += 64;
     }
 
-    /// The 64 bits from `64 * chunk` on, the first of them lowest. Bits past the row are 0.
+    /// The 64 bits from `64 * chunk` on, the first one lowest. Bits past the end of the row are 0.
     pub fn chunk(&self, chunk: usize) -> u64
         requires { 64 * chunk < length self.now.bits }
         ensures { (k : ℕ) → k < 64 → has_bit result k ≡ slice_index_or self.now.bits (64 * chunk + k) false }
@@ -226,7 +234,7 @@ impl BitRow {
         self.words[chunk]
     }
 
-    /// Replaces the 64 bits from `64 * chunk` on. Bits past the row are dropped.
+    /// Replaces the 64 bits from `64 * chunk` on. Drops the bits of `word` past the end of the row.
     pub fn set_chunk(&mut self, chunk: usize, word: u64)
         requires { 64 * chunk < length self.old.bits }
         ensures len { length self.new.bits ≡ length self.old.bits }
@@ -240,7 +248,7 @@ impl BitRow {
         self.words[chunk] = word;
     }
 
-    /// Sets the bit at a place, or clears it.
+    /// Sets or clears the bit at index `i`.
     pub fn put(&mut self, i: usize, bit: bool)
         requires { i < length self.old.bits }
         ensures bits { self.new.bits ≡ slice_set self.old.bits i bit }
@@ -250,14 +258,14 @@ impl BitRow {
         self.set_chunk(i / 64, with_bit(chunk, i % 64, bit));
     }
 
-    /// The places that are set, rising.
+    /// The indices of the set bits, in ascending order.
     pub fn ones(&self) -> Ones<'_>
         ensures { result ≡ set_places self.now.bits 0 }
     {
         Ones::new(self)
     }
 
-    /// The first place from one on that is set.
+    /// The first index from `from` on whose bit is set.
     pub fn next_one(&self, from: usize) -> Option<usize>
         ensures set { IfSome result (λ place. (from ≤ place) × (slice_index_or self.now.bits place false ≡ true)) }
         ensures small { IfSome result (λ place. place < 2 ^ 57) }
@@ -267,6 +275,7 @@ impl BitRow {
         next_one(self, from)
     }
 
+    /// Whether the bit at index `i` is set.
     pub fn has(&self, i: usize) -> bool
         requires { i < length self.now.bits }
         ensures { result ≡ slice_index_or self.now.bits i false }

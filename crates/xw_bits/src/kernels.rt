@@ -1,4 +1,5 @@
-//! Operations on whole words of bits: four words at a time, and one at a time for the rest.
+//! Bit operations on slices of 64-bit words. The loops take several words per step, then the rest
+//! one by one.
 ghost use Rattle.std.specs.Prelude.{◌≡◌, ℕ, ◌+◌, ◌*◌, ◌/◌, ◌^◌, ◌<◌, ◌≤◌, length, slice_index, bit_and, sum_by, count_by, count_ones, slice_range, slice_set, not, ◌&&◌, ◌==◌, nat_lt, if◌then◌else◌, true, false, vec_len, vec_capacity, IfSome, IfNone};
 ghost use Rattle.xw_bits.specs.Bits.{without, has_bit, words_have, bits_of};
 
@@ -17,7 +18,7 @@ fn and_block(words: &mut [u64], other: &[u64], at: usize)
     block.copy_to_slice(&mut words[at..]);
 }
 
-/// Keeps the bits that both have.
+/// Intersects `words` with `other`, bit by bit.
 pub fn and_words(words: &mut [u64], other: &[u64])
     requires { length words.old ≡ length other.now }
     ensures { (i : ℕ) → words_have words.new i ≡ (words_have words.old i && words_have other.now i) }
@@ -44,7 +45,7 @@ fn and_not_block(words: &mut [u64], other: &[u64], at: usize)
     block.copy_to_slice(&mut words[at..]);
 }
 
-/// Keeps the bits that the other lacks.
+/// Clears, in `words`, each bit that `other` has set.
 pub fn and_not_words(words: &mut [u64], other: &[u64])
     requires { length words.old ≡ length other.now }
     ensures { (i : ℕ) → words_have words.new i ≡ (words_have words.old i && not (words_have other.now i)) }
@@ -69,7 +70,7 @@ fn count_block(words: &[u64], at: usize) -> u64
         .strict_reduce_sum()
 }
 
-/// How many bits are set in eight neighbouring words. Where none has a bit, they are not counted.
+/// The number of set bits in the eight words from `at` on. Skips the count if they are all clear.
 fn count_span(words: &[u64], at: usize) -> u64
     requires within { at + 8 ≤ length words.now }
     requires small { length words.now < 2 ^ 57 }
@@ -81,7 +82,7 @@ fn count_span(words: &[u64], at: usize) -> u64
     count_block(words, at) + count_block(words, at + LANES)
 }
 
-/// How many bits are set.
+/// The number of set bits.
 pub fn count_words(words: &[u64]) -> u64
     requires { length words.now < 2 ^ 57 }
     ensures { result ≡ count_by (λ bit. bit) (bits_of words.now (64 * length words.now)) }
@@ -99,7 +100,7 @@ pub fn count_words(words: &[u64]) -> u64
     total
 }
 
-/// How many bits are set once a word is replaced, where it is known how many were.
+/// The number of set bits after `word` replaces the word at `at`, if the number before is known.
 pub fn count_after(words: &[u64], at: usize, word: u64, counted: Option<usize>) -> Option<usize>
     requires within { at < length words.now }
     requires small { length words.now < 2 ^ 57 }
@@ -114,10 +115,10 @@ pub fn count_after(words: &[u64], at: usize, word: u64, counted: Option<usize>) 
     }
 }
 
-/// How many words are looked at together.
+/// The number of words that a search tests in one step.
 const SPAN: usize = 16;
 
-/// The bits of four neighbouring words together.
+/// The bitwise OR of four consecutive words.
 fn joined(words: &[u64], at: usize) -> u64
     requires { at + 4 ≤ length words.now }
     ensures { result ≡ 0 → (k : ℕ) → at ≤ k → k < at + 4 → slice_index words.now k ≡ 0 }
@@ -125,7 +126,7 @@ fn joined(words: &[u64], at: usize) -> u64
     words[at] | words[at + 1] | words[at + 2] | words[at + 3]
 }
 
-/// Whether none of some neighbouring words has a bit.
+/// Whether the sixteen words from `at` on are all clear.
 fn is_clear_at(words: &[u64], at: usize) -> bool
     requires { at + 16 ≤ length words.now }
     ensures { result ≡ true → (k : ℕ) → at ≤ k → k < at + 16 → slice_index words.now k ≡ 0 }
@@ -135,7 +136,7 @@ fn is_clear_at(words: &[u64], at: usize) -> bool
     lower | upper == 0
 }
 
-/// The bits that four neighbouring words have in common with the other's, together.
+/// The bitwise OR of what four consecutive words have in common with those of `other`.
 fn joined_common(words: &[u64], other: &[u64], at: usize) -> u64
     requires words { at + 4 ≤ length words.now }
     requires other { at + 4 ≤ length other.now }
@@ -148,8 +149,8 @@ fn joined_common(words: &[u64], other: &[u64], at: usize) -> u64
     first | second | third | fourth
 }
 
-/// Whether none of some neighbouring words has a bit in common with the other's. Where none has a
-/// bit, the other's are not read.
+/// Whether the sixteen words from `at` on have no bit in common with those of `other`. If the words
+/// are all clear, it does not read `other`.
 fn is_apart_at(words: &[u64], other: &[u64], at: usize) -> bool
     requires words { at + 16 ≤ length words.now }
     requires other { at + 16 ≤ length other.now }
@@ -163,8 +164,8 @@ fn is_apart_at(words: &[u64], other: &[u64], at: usize) -> bool
     lower | upper == 0
 }
 
-/// A word from one on before which none has a bit in common with the other's, near to the first
-/// that has one.
+/// Skips sixteen words at a time from `from` on, as long as they have no bit in common with those
+/// of `other`. Returns the index where it stops.
 fn past_apart(words: &[u64], other: &[u64], from: usize) -> usize
     ensures on { from ≤ result }
     ensures passed { (k : ℕ) → from ≤ k → k < result → bit_and (slice_index words.now k) (slice_index other.now k) ≡ 0 }
@@ -177,7 +178,7 @@ fn past_apart(words: &[u64], other: &[u64], from: usize) -> usize
     at
 }
 
-/// The first word from one on that has a bit in common with the other's.
+/// The first index from `from` on where the words have a bit in common.
 pub fn next_common(words: &[u64], other: &[u64], from: usize) -> Option<usize>
     ensures found { IfSome result (λ at. (from ≤ at) × (at < length words.now) × (at < length other.now) × (0 < bit_and (slice_index words.now at) (slice_index other.now at))) }
     ensures passed { IfSome result (λ at. (k : ℕ) → from ≤ k → k < at → bit_and (slice_index words.now k) (slice_index other.now k) ≡ 0) }
@@ -191,7 +192,7 @@ pub fn next_common(words: &[u64], other: &[u64], from: usize) -> Option<usize>
     None
 }
 
-/// A block of eight neighbouring words.
+/// The eight words from `at` on.
 pub fn block_at(words: &[u64], at: usize) -> u64x8
     requires { at + 8 ≤ length words.now }
     ensures { (k : ℕ) → k < 8 → slice_index result k ≡ slice_index words.now (at + k) }
@@ -199,7 +200,7 @@ pub fn block_at(words: &[u64], at: usize) -> u64x8
     u64x8::from_slice(&words[at..])
 }
 
-/// Whether no word of a block has a bit.
+/// Whether the eight words from `at` on are all clear.
 pub fn is_clear_block(words: &[u64], at: usize) -> bool
     requires { at + 8 ≤ length words.now }
     ensures { result ≡ true → (k : ℕ) → at ≤ k → k < at + 8 → slice_index words.now k ≡ 0 }
@@ -207,7 +208,7 @@ pub fn is_clear_block(words: &[u64], at: usize) -> bool
     joined(words, at) | joined(words, at + 4) == 0
 }
 
-/// Keeps in a block of words the bits that another block has.
+/// Intersects the eight words from `at` on with `block`.
 pub fn keep_at(words: &mut [u64], at: usize, block: u64x8)
     requires { at + 8 ≤ length words.old }
     ensures below { (k : ℕ) → k < at → slice_index words.new k ≡ slice_index words.old k }
@@ -218,7 +219,7 @@ pub fn keep_at(words: &mut [u64], at: usize, block: u64x8)
     left.copy_to_slice(&mut words[at..]);
 }
 
-/// The lowest bits of the word, the others cleared.
+/// The `count` lowest bits of the word, with the others cleared.
 pub fn low_bits(word: u64, count: usize) -> u64
     requires { count ≤ 64 }
     ensures { (k : ℕ) → k < 64 → has_bit result k ≡ (nat_lt k count && has_bit word k) }
@@ -230,7 +231,7 @@ pub fn low_bits(word: u64, count: usize) -> u64
     }
 }
 
-/// Sets the bit, or leaves it clear.
+/// Sets bit `i` if `bit` is true. The bit must be clear before.
 pub fn put_bit(words: &mut [u64], i: usize, bit: bool)
     requires within { i / 64 < length words.old }
     requires clear { words_have words.old i ≡ false }
@@ -241,7 +242,7 @@ pub fn put_bit(words: &mut [u64], i: usize, bit: bool)
     }
 }
 
-/// Adds a word of no bits where the next bit needs one.
+/// Appends a zero word if bit `len` needs a new word.
 pub fn make_room_for_bit(words: &mut Vec<u64>, len: usize)
     requires words { vec_len words.old ≡ (len + 63) / 64 }
     requires room { len < 64 * vec_capacity words.old }
@@ -255,7 +256,7 @@ pub fn make_room_for_bit(words: &mut Vec<u64>, len: usize)
     }
 }
 
-/// The word with one bit set or cleared.
+/// The word with bit `i` set or cleared.
 pub fn with_bit(word: u64, i: usize, bit: bool) -> u64
     requires { i < 64 }
     ensures { (k : ℕ) → k < 64 → has_bit result k ≡ (if k == i then bit else has_bit word k) }

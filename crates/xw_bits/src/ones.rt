@@ -1,4 +1,4 @@
-//! The places of the bits that are set.
+//! An iterator over the indices of set bits.
 ghost use Rattle.std.specs.Prelude.{◌≡◌, ℕ, ◌+◌, ◌*◌, ◌/◌, ◌^◌, ◌<◌, ◌≤◌, true, false, length, slice_index_or, IfSome, IfNone};
 ghost use Rattle.std.specs.Iterator.{YieldsFirst, item_count};
 ghost use Rattle.xw_bits.specs.Bits.{RowOfBits};
@@ -7,7 +7,7 @@ ghost use Rattle.xw_bits.specs.Places.{set_places};
 use crate::bit_row::BitRow;
 use std::marker::Model;
 
-/// The first place from one on whose bit is set.
+/// The first index from `from` on whose bit is set.
 pub(crate) fn next_one(row: &BitRow, from: usize) -> Option<usize>
     ensures set { IfSome result (λ place. (from ≤ place) × (slice_index_or row.now.bits place false ≡ true)) }
     ensures small { IfSome result (λ place. place < 2 ^ 57) }
@@ -25,7 +25,7 @@ pub(crate) fn next_one(row: &BitRow, from: usize) -> Option<usize>
     None
 }
 
-/// The set places of a row, rising.
+/// The indices of the set bits of a row, in ascending order.
 #[derive(Drop)]
 pub struct Ones<'a> {
     row: &'a BitRow,
@@ -42,6 +42,7 @@ impl<'a> Model for Ones<'a> {
 }
 
 impl<'a> Ones<'a> {
+    /// An iterator over the set bits of `row`.
     pub(crate) fn new(row: &'a BitRow) -> Self
         ensures { result ≡ set_places row.now.bits 0 }
     {

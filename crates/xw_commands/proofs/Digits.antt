@@ -1,4 +1,4 @@
--- Digits, one after another.
+-- Reading digits one after another.
 use Rattle.std.proofs.Common.{◌≡◌, ℕ, ◌+◌, ◌*◌, ◌-◌, ◌^◌, ◌<◌, ◌≤◌, Bool, true, false, ◌&&◌, List, length, get_or, take, leb, lit<, add-one, pow-suc, refl, arith}
 use Rattle.std.proofs.Math.Nat.{pow-le-pow_right}
 use Rattle.std.specs.List.{list_all}
@@ -26,7 +26,7 @@ in_range c h = let e : (leb 48 c ≡ true) × (leb c 57 ≡ true) = both _ _ h i
 pub value_of : (c : ℕ) → is_digit c ≡ true → digit_value c ≡ c - 48
 value_of c h = let e = in_range c h in grind (arith, nat_tests, e)
 
--- eighteen digits fit a u64
+-- 18 digits fit in a u64
 pub small_enough : (digits : List ℕ) (i value : ℕ) → is_number digits ≡ true → i < length digits → value < 10 ^ i → value < 10 ^ 17
 small_enough digits i value h l v =
     let short = is_short digits h in

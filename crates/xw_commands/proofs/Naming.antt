@@ -1,4 +1,4 @@
--- Lemmas on the words of names.
+-- Lemmas on command words.
 use Rattle.std.proofs.Common.{◌≡◌, ℕ, true, List, [], ◌∷◌, Some, ap, ◌∙◌, inl, inr}
 use Rattle.std.specs.Prelude.{bytes_eq}
 use Rattle.std.specs.List.{list_all}
@@ -6,7 +6,7 @@ use Rattle.std.proofs.lemmas.Bool.{and_parts, cases_Bool}
 use Rattle.std.proofs.lemmas.Slice.Eq.{bytes_eq-Decides}
 use Rattle.xw_commands.specs.Reading.{lookup}
 
--- what stands beside a word in a table of values, each beside its own word
+-- a table that pairs every value with its own word
 pub own_word : {A : Type 0} (word_of : A → List ℕ) (table : List (List ℕ × A)) (word : List ℕ) (a : A) → list_all (λ row. bytes_eq row.0 (word_of row.1)) table ≡ true → lookup table word ≡ Some a → word ≡ word_of a
 own_word word_of [] word a own found = cc
 own_word word_of (row ∷ rows) word a own found =

@@ -1,16 +1,16 @@
--- What a line asks for.
+-- The command of a line.
 use Rattle.std.specs.Prelude.{ℕ, ◌==◌, nat_lt, List, [], ◌∷◌, length, codes, slice_index, Option, Some, None, Result, Ok, Err, if◌then◌else◌}
 use Rattle.xw_commands.specs.declared.command.Command.{Command}
 use Rattle.xw_commands.specs.declared.command.Command.TheVariants.{Size, Symmetry, Add, Strike, Match, Set, Clear, Place, Block, Bar, Clue, Write, Circle, Circles, Show, Lights, Words, Letters, Duplicates, Unlisted, Suggest, Fill, Watch, Tell, Put}
 use Rattle.xw_commands.specs.declared.command.TextField.TheVariants.{Title, Author, Copyright, Notes}
-use Rattle.xw_commands.specs.declared.command.Telling.TheVariants.{Cells, Counts, Texts, Stats, Record}
-use Rattle.xw_commands.specs.declared.command.Putting.TheVariants.{Instead, Behind}
+use Rattle.xw_commands.specs.declared.command.Report.TheVariants.{Cells, Counts, Texts, Stats, Record}
+use Rattle.xw_commands.specs.declared.command.TextMode.TheVariants.{Instead, Behind}
 use Rattle.xw_commands.specs.declared.command.SyntaxFault.{SyntaxFault}
 use Rattle.xw_commands.specs.declared.command.SyntaxFault.TheVariants as faults
 use Rattle.xw_commands.specs.Line.{without_cr, first_word}
 use Rattle.xw_commands.specs.Reading.{Reading, ◌>>=◌, given, fault, word, number, number_if_any, byte, text, symmetry, side, switch, spot, named, field, lookup, is_ended}
 
--- each command by its name, with its arguments
+-- every command word with the reading of its arguments
 abbrev pub commands : List (List ℕ × Reading Command)
 commands =
     (codes "size", do given (Size (← number) (← number)))
@@ -52,20 +52,21 @@ abbrev arguments_of : Option (Reading Command) → Reading Command
 arguments_of None = fault faults.Command
 arguments_of (Some arguments) = arguments
 
--- the command of a name, with its arguments
+-- the reading of the command with this name
 abbrev pub command_named : List ℕ → Reading Command
 command_named name = arguments_of (lookup commands name)
 
--- a command whose arguments are all that is left of its line
+-- the command, if no word of its line is left
 abbrev pub whole : Result (Command × List ℕ) SyntaxFault → Result (Option Command) SyntaxFault
 whole (Ok found) = if is_ended found.1 then Ok (Some found.0) else Err faults.Arguments
 whole (Err f) = Err f
 
--- The command of a line by its first word, if there is one. A word that begins with # begins a note.
+-- The command of a line that is split into its first word and the rest. A line whose first word begins with # is a
+-- comment.
 abbrev pub command_in : Option (List ℕ × List ℕ) → Result (Option Command) SyntaxFault
 command_in None = Ok None
 command_in (Some found) = if slice_index found.0 0 == 35 then Ok None else whole (command_named found.0 found.1)
 
--- the command of a line, which is handed in without its LF; a silent line has none
+-- the command of a line without its LF, or its fault; None for a blank line and for a comment
 abbrev pub command_of : List ℕ → Result (Option Command) SyntaxFault
 command_of line = if nat_lt 4096 (length line) then Err faults.LineTooLong else command_in (first_word (without_cr line))

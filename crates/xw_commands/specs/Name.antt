@@ -1,4 +1,4 @@
--- The names of commands.
+-- The words of the commands.
 use Rattle.std.specs.Prelude.{ℕ, List, codes}
 use Rattle.xw_commands.specs.declared.command.Name.{Name}
 use Rattle.xw_commands.specs.declared.command.Name.TheVariants.{Size, Symmetry, Word, Cell, Light, Text, Circles, Show, Lights, Duplicates, Unlisted, Suggest, Fill, Watch, Tell, Put}
@@ -6,10 +6,10 @@ use Rattle.xw_commands.specs.declared.command.WithWord.TheVariants.{Add, Strike,
 use Rattle.xw_commands.specs.declared.command.WithCell.TheVariants.{Set, Clear, Block, Bar, Circle, Letters}
 use Rattle.xw_commands.specs.declared.command.WithLight.TheVariants.{Place, Clue, Words}
 use Rattle.xw_commands.specs.declared.command.TextField.TheVariants.{Title, Author, Copyright, Notes}
-use Rattle.xw_commands.specs.declared.command.Telling.TheVariants.{Cells, Counts, Texts, Stats, Record}
-use Rattle.xw_commands.specs.declared.command.Putting.TheVariants.{Instead, Behind}
+use Rattle.xw_commands.specs.declared.command.Report.TheVariants.{Cells, Counts, Texts, Stats, Record}
+use Rattle.xw_commands.specs.declared.command.TextMode.TheVariants.{Instead, Behind}
 
--- the word of a name
+-- the word of a command name
 abbrev pub word_of : Name → List ℕ
 word_of Size = codes "size"
 word_of Symmetry = codes "sym"

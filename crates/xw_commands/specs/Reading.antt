@@ -1,13 +1,13 @@
--- Arguments read one after another.
+-- Reading the arguments of a command one after another.
 use Rattle.std.specs.Prelude.{◌≡◌, ℕ, Bool, true, false, ◌==◌, List, [], ◌∷◌, length, Option, Some, None, Result, Ok, Err, bytes_eq, codes, if◌then◌else◌}
-use Rattle.xw_cells.specs.declared.cell.Direction.{Direction}
-use Rattle.xw_cells.specs.declared.cell.Direction.TheVariants.{Across, Down}
-use Rattle.xw_cells.specs.declared.cell.Side.{Side}
-use Rattle.xw_cells.specs.declared.cell.Side.TheVariants.{Right, Below}
-use Rattle.xw_cells.specs.declared.cell.Symmetry.{Symmetry}
-use Rattle.xw_cells.specs.declared.cell.Symmetry.TheVariants as kinds
-use Rattle.xw_commands.specs.declared.command.Spot.{Spot}
-use Rattle.xw_commands.specs.declared.command.Named.{Named}
+use Rattle.xw_grid.specs.declared.cell.Direction.{Direction}
+use Rattle.xw_grid.specs.declared.cell.Direction.TheVariants.{Across, Down}
+use Rattle.xw_grid.specs.declared.cell.Side.{Side}
+use Rattle.xw_grid.specs.declared.cell.Side.TheVariants.{Right, Below}
+use Rattle.xw_grid.specs.declared.cell.Symmetry.{Symmetry}
+use Rattle.xw_grid.specs.declared.cell.Symmetry.TheVariants as kinds
+use Rattle.xw_commands.specs.declared.command.CellArg.{CellArg}
+use Rattle.xw_commands.specs.declared.command.LightArg.{LightArg}
 use Rattle.xw_commands.specs.declared.command.TextField.{TextField}
 use Rattle.xw_commands.specs.declared.command.TextField.TheVariants.{Title, Author, Copyright, Notes}
 use Rattle.xw_commands.specs.declared.command.Field.{Field}
@@ -16,16 +16,16 @@ use Rattle.xw_commands.specs.declared.command.SyntaxFault.{SyntaxFault}
 use Rattle.xw_commands.specs.declared.command.SyntaxFault.TheVariants as faults
 use Rattle.xw_commands.specs.Line.{first_word, trimmed, trimmed_start, number_in, byte_in}
 
--- Something is read off what is left of a line: it, and what is left then, or why it isn't there.
+-- a function from the rest of a line to a value and the new rest, or to a fault
 abbrev pub Reading : Type 0 → Type 0
 Reading A = List ℕ → Result (A × List ℕ) SyntaxFault
 
--- What a function returned, seen by view, and what is left after it, are what a reading gives.
+-- the code's result, seen through view, and the rest that it leaves equal the specified ones
 abbrev pub Reads : {X A : Type 0} → (X → A) → Result X SyntaxFault → List ℕ → Result (A × List ℕ) SyntaxFault → Type 0
 Reads view (Ok x) left reading = reading ≡ Ok (view x, left)
 Reads view (Err fault) left reading = reading ≡ Err fault
 
--- after one thing another
+-- the second reading runs on the value and the rest of the first
 abbrev then_others : {A B : Type 0} → Result (A × List ℕ) SyntaxFault → (A → Reading B) → Result (B × List ℕ) SyntaxFault
 then_others (Ok found) others = others found.0 found.1
 then_others (Err fault) others = Err fault
@@ -34,7 +34,7 @@ infixl 10 ◌>>=◌
 abbrev pub ◌>>=◌ : {A B : Type 0} → Reading A → (A → Reading B) → Reading B
 ◌>>=◌ read others rest = then_others (read rest) others
 
--- nothing more is read, and this is it
+-- reads nothing and returns this value
 abbrev pub given : {A : Type 0} → A → Reading A
 given x rest = Ok (x, rest)
 
@@ -54,29 +54,29 @@ next_word (Some found) = Ok found
 abbrev pub word : Reading (List ℕ)
 word rest = next_word (first_word rest)
 
--- a decimal number of 1 to 18 digits
+-- a number of 1 to 18 decimal digits
 abbrev pub number : Reading ℕ
 number = do wanted (number_in (← word))
 
--- a word of one byte
+-- a one-byte word
 abbrev pub byte : Reading ℕ
 byte = do wanted (byte_in (← word))
 
--- all that is left
+-- the whole rest, without spaces and tabs at its ends
 abbrev pub text : Reading (List ℕ)
 text rest = Ok (trimmed rest, [])
 
--- no further word
+-- no word is left
 abbrev pub is_ended : List ℕ → Bool
 is_ended rest = length (trimmed_start rest) == 0
 
--- a number, where there is a further word
+-- a number, if another word follows
 abbrev pub number_if_any : Reading (Option ℕ)
 number_if_any rest = if is_ended rest then given None rest else (do given (Some (← number))) rest
 
 -- ---- key words
 
--- what stands in a table beside a name
+-- the value of the table's first row with this name
 abbrev pub lookup : {A : Type 0} → List (List ℕ × A) → List ℕ → Option A
 lookup [] name = None
 lookup (row ∷ rows) name = if bytes_eq name row.0 then Some row.1 else lookup rows name
@@ -104,13 +104,13 @@ switch = key_word ((codes "on", true) ∷ (codes "off", false) ∷ [])
 
 -- ---- cells and lights
 
-abbrev pub spot : Reading Spot
+abbrev pub spot : Reading CellArg
 spot = do
   row ← number
   col ← number
   given (record { row = row; col = col })
 
-abbrev pub named : Reading Named
+abbrev pub named : Reading LightArg
 named = do
   count ← number
   way ← direction
@@ -118,7 +118,7 @@ named = do
 
 -- ---- texts by their names
 
--- the name of a text that is no clue, or none for a clue
+-- the name of a text field, or None for `clue`
 abbrev pub text_name : Reading (Option TextField)
 text_name = key_word (
     (codes "title", Some Title)

@@ -1,4 +1,4 @@
-//! What a line asks for.
+//! The commands, and the parser of a line.
 ghost use Rattle.std.specs.Prelude.{◌≡◌};
 ghost use Rattle.xw_commands.specs.Reading.{Reads};
 ghost use Rattle.xw_commands.specs.Name.{word_of};
@@ -7,10 +7,10 @@ ghost use Rattle.xw_commands.specs.Command.{command_named as command_named_so, c
 use crate::line;
 use crate::words::Words;
 use std::marker::Model;
-use xw_cells::{Direction, Side, Symmetry};
+use xw_grid::{Direction, Side, Symmetry};
 use xw_lines::run::LINE_LIMIT;
 
-/// Why a line is no command.
+/// Why a line is not a valid command.
 #[derive(Clone, Copy, Debug, PartialEq, Eq)]
 pub enum SyntaxFault {
     LineTooLong,
@@ -18,21 +18,21 @@ pub enum SyntaxFault {
     Arguments,
 }
 
-/// A cell as a line names it.
+/// A row and a column as written in a line. They may lie outside the grid.
 #[derive(Clone, Copy, Debug, PartialEq, Eq)]
-pub struct Spot {
+pub struct CellArg {
     pub row: u64,
     pub col: u64,
 }
 
-/// A light as a line names it.
+/// The number and direction of a light as written in a line. The grid may have no such light.
 #[derive(Clone, Copy, Debug, PartialEq, Eq)]
-pub struct Named {
+pub struct LightArg {
     pub number: u64,
     pub direction: Direction,
 }
 
-/// A text of the puzzle that is no clue.
+/// A text of the puzzle other than a clue.
 #[derive(Clone, Copy, Debug, PartialEq, Eq)]
 pub enum TextField {
     Title,
@@ -41,23 +41,23 @@ pub enum TextField {
     Notes,
 }
 
-/// A text of the puzzle, or the clue of a start cell and direction.
+/// A text of the puzzle, or the clue at a start cell and direction.
 #[derive(Clone, Copy, Debug, PartialEq, Eq)]
 pub enum Field {
     Text(TextField),
-    Clue(Spot, Direction),
+    Clue(CellArg, Direction),
 }
 
-/// Where a text is put: instead of what its field has, or behind it.
+/// How a text is put into a field: `Instead` replaces the field, `Behind` appends to it.
 #[derive(Clone, Copy, Debug, PartialEq, Eq)]
-pub enum Putting {
+pub enum TextMode {
     Instead,
     Behind,
 }
 
-/// What is told of the whole puzzle.
+/// The commands that report on the whole puzzle and take no arguments.
 #[derive(Clone, Copy, Debug, PartialEq, Eq)]
-pub enum Telling {
+pub enum Report {
     Cells,
     Counts,
     Texts,
@@ -65,7 +65,7 @@ pub enum Telling {
     Record,
 }
 
-/// Bytes of a line: a word, or a text.
+/// A word or text of a line.
 #[derive(Drop)]
 pub struct Text<'a> {
     bytes: &'a [u8],
@@ -93,7 +93,7 @@ impl<'a> Text<'a> {
     }
 }
 
-/// What a line asks for.
+/// A parsed command with its arguments.
 #[derive(Drop)]
 pub enum Command<'a> {
     Size(u64, u64),
@@ -101,29 +101,29 @@ pub enum Command<'a> {
     Add(Text<'a>),
     Strike(Text<'a>),
     Match(Text<'a>),
-    Set(Spot, u8),
-    Clear(Spot),
-    Place(Named, Text<'a>),
-    Block(Spot),
-    Bar(Spot, Side),
-    Clue(Named, Text<'a>),
+    Set(CellArg, u8),
+    Clear(CellArg),
+    Place(LightArg, Text<'a>),
+    Block(CellArg),
+    Bar(CellArg, Side),
+    Clue(LightArg, Text<'a>),
     Write(TextField, Text<'a>),
-    Circle(Spot),
+    Circle(CellArg),
     Circles,
     Show,
     Lights,
-    Words(Named, Option<u64>),
-    Letters(Spot),
+    Words(LightArg, Option<u64>),
+    Letters(CellArg),
     Duplicates,
     Unlisted,
     Suggest,
     Fill(u64),
     Watch(bool),
-    Tell(Telling),
-    Put(Putting, Field, Text<'a>),
+    Tell(Report),
+    Put(TextMode, Field, Text<'a>),
 }
 
-/// What a command does with a word.
+/// The commands whose argument is a word.
 #[derive(Clone, Copy)]
 pub enum WithWord {
     Add,
@@ -131,7 +131,7 @@ pub enum WithWord {
     Match,
 }
 
-/// What a command does with a cell.
+/// The commands whose first argument is a cell.
 #[derive(Clone, Copy)]
 pub enum WithCell {
     Set,
@@ -142,7 +142,7 @@ pub enum WithCell {
     Letters,
 }
 
-/// What a command does with a light.
+/// The commands whose first argument is a light.
 #[derive(Clone, Copy)]
 pub enum WithLight {
     Place,
@@ -150,7 +150,7 @@ pub enum WithLight {
     Words,
 }
 
-/// The name of a command, by what comes after it.
+/// The name of a command, grouped by the form of its arguments.
 #[derive(Clone, Copy)]
 pub enum Name {
     Size,
@@ -167,11 +167,11 @@ pub enum Name {
     Suggest,
     Fill,
     Watch,
-    Tell(Telling),
-    Put(Putting),
+    Tell(Report),
+    Put(TextMode),
 }
 
-/// The names, each beside its word.
+/// Every command word with its name.
 const NAMES: [(&str, Name); 33] = [
     ("size", Name::Size),
     ("sym", Name::Symmetry),
@@ -199,16 +199,16 @@ const NAMES: [(&str, Name); 33] = [
     ("suggest", Name::Suggest),
     ("fill", Name::Fill),
     ("watch", Name::Watch),
-    ("cells", Name::Tell(Telling::Cells)),
-    ("counts", Name::Tell(Telling::Counts)),
-    ("texts", Name::Tell(Telling::Texts)),
-    ("stats", Name::Tell(Telling::Stats)),
-    ("record", Name::Tell(Telling::Record)),
-    ("text", Name::Put(Putting::Instead)),
-    ("more", Name::Put(Putting::Behind)),
+    ("cells", Name::Tell(Report::Cells)),
+    ("counts", Name::Tell(Report::Counts)),
+    ("texts", Name::Tell(Report::Texts)),
+    ("stats", Name::Tell(Report::Stats)),
+    ("record", Name::Tell(Report::Record)),
+    ("text", Name::Put(TextMode::Instead)),
+    ("more", Name::Put(TextMode::Behind)),
 ];
 
-/// The command of a name that a word comes after.
+/// Reads the arguments of a command that takes a word.
 fn with_word<'a>(name: WithWord, words: &mut Words<'a>) -> Result<Command<'a>, SyntaxFault>
     ensures { Reads (λ command. command) result words.new (command_named_so (word_of (Name.Word name)) words.old) }
 {
@@ -220,7 +220,7 @@ fn with_word<'a>(name: WithWord, words: &mut Words<'a>) -> Result<Command<'a>, S
     }
 }
 
-/// The command of a name that a cell comes after, and a letter or a side after some.
+/// Reads the arguments of a command that takes a cell, and then a letter or a side for some.
 fn with_cell<'a>(name: WithCell, words: &mut Words<'a>) -> Result<Command<'a>, SyntaxFault>
     ensures { Reads (λ command. command) result words.new (command_named_so (word_of (Name.Cell name)) words.old) }
 {
@@ -235,7 +235,7 @@ fn with_cell<'a>(name: WithCell, words: &mut Words<'a>) -> Result<Command<'a>, S
     }
 }
 
-/// The command of a name that a light comes after, and more.
+/// Reads the arguments of a command that takes a light first.
 fn with_light<'a>(name: WithLight, words: &mut Words<'a>) -> Result<Command<'a>, SyntaxFault>
     ensures { Reads (λ command. command) result words.new (command_named_so (word_of (Name.Light name)) words.old) }
 {
@@ -247,7 +247,7 @@ fn with_light<'a>(name: WithLight, words: &mut Words<'a>) -> Result<Command<'a>,
     }
 }
 
-/// The command of a name, with its arguments.
+/// Reads the arguments of a command.
 fn arguments<'a>(name: Name, words: &mut Words<'a>) -> Result<Command<'a>, SyntaxFault>
     ensures { Reads (λ command. command) result words.new (command_named_so (word_of name) words.old) }
 {
@@ -271,7 +271,7 @@ fn arguments<'a>(name: Name, words: &mut Words<'a>) -> Result<Command<'a>, Synta
     }
 }
 
-/// The command of a name's word, with its arguments.
+/// Looks up a command word and reads its arguments. Returns `Command` if the word is unknown.
 fn command_named<'a>(word: &[u8], words: &mut Words<'a>) -> Result<Command<'a>, SyntaxFault>
     ensures { Reads (λ command. command) result words.new (command_named_so word.now words.old) }
 {
@@ -281,7 +281,9 @@ fn command_named<'a>(word: &[u8], words: &mut Words<'a>) -> Result<Command<'a>, 
     }
 }
 
-/// What a line asks for, which comes without its LF; a silent line asks for nothing.
+/// Parses a line, which must not contain its LF. Returns `None` for a blank line, and for a comment, whose first word
+/// starts with `#`. Returns `LineTooLong` for more than `LINE_LIMIT` bytes, then `Command` for an unknown command, then
+/// `Arguments` for missing, malformed or extra arguments.
 pub fn parse(line: &[u8]) -> Result<Option<Command<'_>>, SyntaxFault>
     ensures { result ≡ command_of line.now }
 {

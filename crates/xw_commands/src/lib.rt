@@ -1,4 +1,4 @@
-//! What a line asks for.
+//! Parses lines into commands.
 #![tactic(auto)]
 
 pub mod command;

@@ -1,4 +1,4 @@
-//! The words and the text of a line.
+//! Splits a line into words.
 ghost use Rattle.std.specs.Prelude.{◌≡◌, ◌+◌, ◌*◌, ◌^◌, ◌<◌, ◌≤◌, true, length, map, reverse, position, bytes_eq, Some, None};
 ghost use Rattle.std.specs.Option.{option_map};
 ghost use Rattle.std.specs.List.{list_all};
@@ -6,24 +6,24 @@ ghost use Rattle.std.specs.Str.Parse.{digits_value};
 ghost use Rattle.xw_commands.specs.Reading.{lookup as lookup_in};
 ghost use Rattle.xw_commands.specs.Line.{is_blank as is_blank_byte, is_ink as is_ink_byte, is_digit as is_digit_byte, is_number as is_number_word, number_in as number_in_word, byte_in as byte_in_word, without_cr as line_without_cr, trimmed as trimmed_text, trimmed_start as text_trimmed_at_start, trimmed_end as text_trimmed_at_end, first_word as first_word_of};
 
-/// The most decimal digits that a number may have.
+/// The maximum number of digits of a number.
 const MOST_DIGITS: usize = 18;
 
-/// Whether a byte parts words: a space or a tab.
+/// Returns whether a byte separates words: a space or a tab.
 fn is_blank(byte: u8) -> bool
     ensures { result ≡ is_blank_byte byte }
 {
     byte == b' ' || byte == b'\t'
 }
 
-/// Whether a word is a name.
+/// Returns whether a word is this name.
 pub fn is(word: &[u8], name: &str) -> bool
     ensures { result ≡ bytes_eq word.now name.now }
 {
     word == name.as_bytes()
 }
 
-/// What stands in a table beside a word.
+/// Returns the value of the table's first row with this word.
 pub fn lookup<T: Copy>(table: &[(&str, T)], word: &[u8]) -> Option<T>
     ensures { result ≡ lookup_in (map (λ row. (row.0.now, row.1)) table.now) word.now }
 {
@@ -35,7 +35,7 @@ pub fn lookup<T: Copy>(table: &[(&str, T)], word: &[u8]) -> Option<T>
     None
 }
 
-/// A line without one CR at its end.
+/// Removes one CR from the end of a line.
 pub fn without_cr(line: &[u8]) -> &[u8]
     ensures { result.now ≡ line_without_cr line.now }
 {
@@ -45,7 +45,7 @@ pub fn without_cr(line: &[u8]) -> &[u8]
     }
 }
 
-/// Whether a byte belongs to a word.
+/// Returns whether a byte is part of a word.
 fn is_ink(byte: u8) -> bool
     ensures { result ≡ is_ink_byte byte }
 {
@@ -58,7 +58,7 @@ fn first_ink(text: &[u8]) -> Option<usize>
     text.iter().position(|byte| is_ink(*byte))
 }
 
-/// Counted from the end.
+/// Returns the distance of the last non-blank byte from the end.
 fn last_ink(text: &[u8]) -> Option<usize>
     ensures { result ≡ position is_ink_byte (reverse text.now) }
 {
@@ -71,7 +71,7 @@ fn first_blank(text: &[u8]) -> Option<usize>
     text.iter().position(|byte| is_blank(*byte))
 }
 
-/// A text from its first byte that is no space or tab.
+/// Removes spaces and tabs from the start of a text.
 pub fn trimmed_start(text: &[u8]) -> &[u8]
     ensures { result.now ≡ text_trimmed_at_start text.now }
 {
@@ -81,7 +81,7 @@ pub fn trimmed_start(text: &[u8]) -> &[u8]
     }
 }
 
-/// A text to its last byte that is no space or tab.
+/// Removes spaces and tabs from the end of a text.
 fn trimmed_end(text: &[u8]) -> &[u8]
     ensures { result.now ≡ text_trimmed_at_end text.now }
 {
@@ -91,14 +91,14 @@ fn trimmed_end(text: &[u8]) -> &[u8]
     }
 }
 
-/// A text without the spaces and tabs at its ends.
+/// Removes spaces and tabs from both ends of a text.
 pub fn trimmed(text: &[u8]) -> &[u8]
     ensures { result.now ≡ trimmed_text text.now }
 {
     trimmed_end(trimmed_start(text))
 }
 
-/// The first word of a text, and what comes after it.
+/// Splits a text into its first word and what follows. Returns `None` for a blank text.
 pub fn first_word(text: &[u8]) -> Option<(&[u8], &[u8])>
     ensures { option_map (λ found. (found.0.now, found.1.now)) result ≡ first_word_of text.now }
 {
@@ -124,14 +124,14 @@ fn all_digits(word: &[u8]) -> bool
     word.iter().all(|byte| is_digit(*byte))
 }
 
-/// Whether a word is 1 to 18 decimal digits.
+/// Returns whether a word is 1 to 18 decimal digits.
 fn is_number(word: &[u8]) -> bool
     ensures { result ≡ is_number_word word.now }
 {
     (1..=MOST_DIGITS).contains(&word.len()) && all_digits(word)
 }
 
-/// The number that digits stand for.
+/// Returns the value of decimal digits.
 fn value(digits: &[u8]) -> u64
     requires { is_number_word digits.now ≡ true }
     ensures { result ≡ digits_value 10 digits.now }
@@ -143,7 +143,7 @@ fn value(digits: &[u8]) -> u64
     value
 }
 
-/// The number that a word is.
+/// Parses a word as a number of 1 to 18 decimal digits.
 pub fn number_in(word: &[u8]) -> Option<u64>
     ensures { result ≡ number_in_word word.now }
 {
@@ -154,7 +154,7 @@ pub fn number_in(word: &[u8]) -> Option<u64>
     }
 }
 
-/// The byte that a word is.
+/// Returns the byte of a one-byte word.
 pub fn byte_in(word: &[u8]) -> Option<u8>
     ensures { result ≡ byte_in_word word.now }
 {

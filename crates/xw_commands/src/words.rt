@@ -1,13 +1,13 @@
-//! Arguments read one after another.
+//! Reads the arguments of a command one after another.
 ghost use Rattle.std.specs.Prelude.{◌≡◌, Ok};
 ghost use Rattle.xw_commands.specs.Reading.{word as word_of, number as number_of, byte as byte_of, text as text_of, number_if_any as number_if_any_of, is_ended as is_ended_text, direction as direction_of, side as side_of, symmetry as symmetry_of, switch as switch_of, spot as spot_of, named as named_of, text_name as text_name_of, field as field_of, Reads};
 
-use crate::command::{Field, Named, Spot, SyntaxFault, Text, TextField};
+use crate::command::{CellArg, Field, LightArg, SyntaxFault, Text, TextField};
 use crate::line;
 use std::marker::Model;
-use xw_cells::{Direction, Side, Symmetry};
+use xw_grid::{Direction, Side, Symmetry};
 
-/// What is left of a line.
+/// The unread rest of a line.
 #[derive(Drop)]
 pub struct Words<'a> {
     rest: &'a [u8],
@@ -34,7 +34,7 @@ impl<'a> Words<'a> {
         line::trimmed_start(self.rest).is_empty()
     }
 
-    /// The next word's bytes.
+    /// Reads the next word. Returns `Arguments` if there is none.
     fn next(&mut self) -> Result<&'a [u8], SyntaxFault>
         ensures { Reads (λ word. word.now) result self.new (word_of self.old) }
     {
@@ -49,7 +49,7 @@ impl<'a> Words<'a> {
         Ok(Text::new(self.next()?))
     }
 
-    /// All that is left.
+    /// Takes the whole rest as a text, without spaces and tabs at its ends.
     pub fn text(&mut self) -> Text<'a>
         ensures { text_of self.old ≡ Ok (result, self.new) }
     {
@@ -64,7 +64,7 @@ impl<'a> Words<'a> {
         line::number_in(self.next()?).ok_or(SyntaxFault::Arguments)
     }
 
-    /// A number, where there is a further word.
+    /// Reads a number if another word follows.
     pub fn number_if_any(&mut self) -> Result<Option<u64>, SyntaxFault>
         ensures { Reads (λ number. number) result self.new (number_if_any_of self.old) }
     {
@@ -127,23 +127,23 @@ impl<'a> Words<'a> {
         }
     }
 
-    pub fn spot(&mut self) -> Result<Spot, SyntaxFault>
+    pub fn spot(&mut self) -> Result<CellArg, SyntaxFault>
         ensures { Reads (λ spot. spot) result self.new (spot_of self.old) }
     {
         let row = self.number()?;
         let col = self.number()?;
-        Ok(Spot { row, col })
+        Ok(CellArg { row, col })
     }
 
-    pub fn named(&mut self) -> Result<Named, SyntaxFault>
+    pub fn named(&mut self) -> Result<LightArg, SyntaxFault>
         ensures { Reads (λ named. named) result self.new (named_of self.old) }
     {
         let number = self.number()?;
         let direction = self.direction()?;
-        Ok(Named { number, direction })
+        Ok(LightArg { number, direction })
     }
 
-    /// The name of a text that is no clue, or none for a clue.
+    /// Reads the name of a text field, or `None` for `clue`.
     fn text_name(&mut self) -> Result<Option<TextField>, SyntaxFault>
         ensures { Reads (λ name. name) result self.new (text_name_of self.old) }
     {

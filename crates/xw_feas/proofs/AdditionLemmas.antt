@@ -1,10 +1,10 @@
--- What is known of a word that is new to a dictionary.
+-- Lemmas about a word that is new to a dictionary.
 use Rattle.std.proofs.Common.{◌≡◌, ℕ, ◌<◌, ◌≤◌, ◌+◌, Bool, true, false, cond, List, [], ◌∷◌, ◌++◌, map, length, get_or, set, take, None, Some, refl, sym, ◌∙◌, ap, subst, arith}
 use Rattle.std.specs.Prelude.{Option, Result, Ok, Err, position, nat_le}
 use Rattle.std.proofs.lemmas.Bool.Decides.{nat_tests}
 use Rattle.std.proofs.lemmas.List.{length-map, take_more, take_more_set}
-use Rattle.xw_bits.specs.declared.fault.WordFault.{WordFault}
-use Rattle.xw_bits.specs.declared.fault.WordFault.TheVariants.{Length, Full, Known}
+use Rattle.xw_words.specs.declared.fault.WordFault.{WordFault}
+use Rattle.xw_words.specs.declared.fault.WordFault.TheVariants.{Length, Full, Known}
 use Rattle.xw_words.specs.declared.bank.Added.{Added}
 use Rattle.xw_words.specs.declared.bank.Added.TheVariants.{New, Returned}
 use Rattle.xw_letters.specs.Letter.{folded}
@@ -12,7 +12,7 @@ use Rattle.xw_words.specs.Word.{is_bad_letter, is_word_length, judged, word_of}
 use Rattle.xw_words.specs.Dictionary.{Entry, Dictionary, row, entry_at, place_in, place_of, most_words, added_at, add_to, answer_on, add_answer, IsNew}
 use Rattle.xw_words.proofs.DictionaryLemmas.{judged-Ok}
 
--- a word of letters, of a length that words have, that is not known, where there is a place for it
+-- the bytes spell a word of a valid length that is not known, and the dictionary has room for it
 pub record IsNewWord (words : Dictionary) (bytes : List ℕ) : Type 0 where
   pub letters : position is_bad_letter bytes ≡ None
   pub low : 2 ≤ length bytes

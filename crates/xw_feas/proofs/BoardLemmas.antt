@@ -1,4 +1,4 @@
--- Lemmas on the board of a grid, on entries and on the words that agree with them.
+-- Lemmas about the board of a grid, and about words that agree with its letters.
 use Rattle.std.proofs.Common.{◌≡◌, ℕ, ◌+◌, ◌-◌, ◌*◌, ◌<◌, ◌≤◌, Bool, true, false, ◌&&◌, eqb, List, [], ◌∷◌, map, length, get_or, drop, Some, None, refl, sym, ◌∙◌, ap, subst, arith, inl, inr}
 use Rattle.std.specs.Prelude.{slice_get, All, is_some}
 use Rattle.xw_letters.specs.Letter.{is_capital}
@@ -10,14 +10,14 @@ use Rattle.std.proofs.lemmas.Bool.{cases_lt, cases_eq, ne_eqb}
 use Rattle.std.proofs.lemmas.List.{drop_more, drop_all, get_or-map, get_or_past, length-map}
 use Rattle.std.proofs.lemmas.List.FromFn.{length-map-range_with_len, get_or-map-range_with_len}
 use Rattle.std.proofs.lemmas.Option.{slice_get-get_or, get_or_from_slice_get, slice_get_cases}
-use Rattle.xw_cells.specs.declared.cell.Cell.{Cell}
-use Rattle.xw_cells.specs.declared.cell.Square.TheVariants.{Block}
-use Rattle.xw_cells.specs.declared.cell.Direction.{Direction}
-use Rattle.xw_cells.specs.declared.cell.Direction.TheVariants.{Across, Down}
+use Rattle.xw_grid.specs.declared.cell.Cell.{Cell}
+use Rattle.xw_grid.specs.declared.cell.Square.TheVariants.{Block}
+use Rattle.xw_grid.specs.declared.cell.Direction.{Direction}
+use Rattle.xw_grid.specs.declared.cell.Direction.TheVariants.{Across, Down}
 use Rattle.xw_grid.specs.declared.lights.Light.{Light}
-use Rattle.xw_cells.specs.Grid.{Grid, IsGrid, is_inside, index_of, is_open_square, letter_in}
+use Rattle.xw_grid.specs.Grid.{Grid, IsGrid, is_inside, index_of, is_open_square, letter_in}
 use Rattle.xw_grid.specs.Light.{step, lights_of, no_light}
-use Rattle.xw_cells.proofs.GridLemmas.{IsInside-is_inside, index_of-lt}
+use Rattle.xw_grid.proofs.GridLemmas.{IsInside-is_inside, index_of-lt}
 use Rattle.xw_grid.proofs.LightLemmas.{inside_from_open, cells_of_are_open, size_of_light}
 use Rattle.xw_feas.specs.Board.{Board, board_of, places_of, square_is_open, square_entry, entry, is_open, light_at, allows, agrees, is_wholly_entered}
 use Rattle.xw_feas.specs.Fits.{Fits, stride_of}
@@ -40,7 +40,7 @@ entered_all board cells k past = rw (drop_all k cells past) refl
 
 pub ruleset entered_steps = (entered_more, entered_not, entered_all)
 
--- an entry allows its letter alone
+-- a cell with a letter allows only that letter
 pub allowed_one : (entered letter : ℕ) → is_capital entered ≡ true → eqb letter entered ≡ (is_capital letter && eqb entered letter)
 allowed_one entered letter is = elim (cases_eq letter entered) [
   | inl e ↦ rw (e, is) refl
@@ -71,7 +71,7 @@ get_or-places first stride count k below = get_or-map-range_with_len (λ k. firs
 pub stride_small : (k stride : ℕ) → k ≤ 255 → stride ≤ 255 → k * stride ≤ 65025
 stride_small k stride small low = mul-le k stride 255 255 small low
 
--- the places of the steps from a first cell
+-- the indices of the steps from a first cell
 pub index_of-step : (grid : Grid) (direction : Direction) (first : Cell) (k : ℕ) → is_inside grid first ≡ true → index_of grid (step direction first k) ≡ index_of grid first + k * stride_of grid direction
 index_of-step grid Across first k inside =
     let at = IsInside-is_inside grid first inside in
@@ -102,7 +102,7 @@ pub length-entries : (grid : Grid) → length (board_of grid).entries ≡ length
 unfolding board_of
 length-entries grid = length-map grid.squares square_entry
 
--- a light that stands in the list at a place
+-- the light at an index of the list
 pub light_at-board : (grid : Grid) (place : ℕ) (d : Light) → place < length (lights_of grid) → light_at (board_of grid) place ≡ places_of grid (get_or (lights_of grid) place d)
 unfolding board_of
 light_at-board grid place d below = get_or-map (places_of grid) (lights_of grid) place d [] below
@@ -128,7 +128,7 @@ pub first_step : (direction : Direction) (first : Cell) → step direction first
 first_step Across first = ap (λ col. record { row = first.row; col = col }) (omega arith)
 first_step Down first = ap (λ row. record { row = row; col = first.col }) (omega arith)
 
--- the lights of a grid fit in it
+-- the lights of a grid lie inside it
 pub light_fits : (grid : Grid) (place : ℕ) (d : Light) → IsGrid grid → place < length (lights_of grid) → Fits grid (get_or (lights_of grid) place d)
 light_fits grid place d is within =
     let light = get_or (lights_of grid) place d in
@@ -163,7 +163,7 @@ light_in_board grid place is within =
 pub slice_get_past : {X : Type 0} (xs : List X) (i : ℕ) → length xs ≤ i → slice_get xs i ≡ None
 slice_get_past xs i past = elim (slice_get_cases xs i).1 [ inl found ↦ absurd (omega (arith, found.1)) | inr none ↦ none.1 ]
 
--- what a place has, by its square
+-- the state of a cell, by its square
 pub is_open-square : (grid : Grid) (place : ℕ) → is_open (board_of grid) place ≡ is_open_square (slice_get grid.squares place)
 unfolding board_of
 is_open-square grid place = elim (cases_lt place (length grid.squares)) [

@@ -4,13 +4,13 @@ use Rattle.std.specs.Prelude.{IfSome}
 use Rattle.std.proofs.lemmas.Bool.{and_parts, and_from, eq-eqb, ne_eqb, lt-ltb, both_ways}
 use Rattle.std.proofs.lemmas.Bool.Decides.{nat_tests}
 use Rattle.std.proofs.lemmas.List.Quantifiers.{position-Some}
-use Rattle.xw_cells.specs.declared.cell.Cell.{Cell}
-use Rattle.xw_cells.specs.declared.cell.Direction.{Direction}
-use Rattle.xw_cells.specs.declared.cell.Direction.TheVariants.{Across, Down}
+use Rattle.xw_grid.specs.declared.cell.Cell.{Cell}
+use Rattle.xw_grid.specs.declared.cell.Direction.{Direction}
+use Rattle.xw_grid.specs.declared.cell.Direction.TheVariants.{Across, Down}
 use Rattle.xw_grid.specs.declared.lights.Light.{Light}
-use Rattle.xw_cells.specs.Grid.{Grid, index_of, cell_at}
+use Rattle.xw_grid.specs.Grid.{Grid, index_of, cell_at}
 use Rattle.xw_grid.specs.Light.{step, lights_of, no_light, same_direction, is_on_line, holds, passes, place_through}
-use Rattle.xw_cells.proofs.GridLemmas.{cell_at-index_of, index_of-cell_at}
+use Rattle.xw_grid.proofs.GridLemmas.{cell_at-index_of, index_of-cell_at}
 use Rattle.xw_grid.proofs.OrderLemmas.{lights_are_apart}
 use Rattle.xw_grid.proofs.PlaceLemmas.{held_step, place_is as through_is}
 use Rattle.xw_feas.specs.Board.{Board, board_of, light_at, IsCrossing, other_than, first_found}
@@ -47,7 +47,7 @@ through_at grid light place cell below meets =
     through_is (lights_of grid) (lights_are_apart grid) (towards grid light) (cell_at grid cell) light no_light within
     (and_from (same_direction (towards grid light) (towards grid light)) (is_on_line (towards grid light) start size (cell_at grid cell)) (same_direction_itself (towards grid light)) there)
 
--- and a light that is found passes through the cell
+-- a light that is found passes through the cell
 pub found_at : (grid : Grid) (direction : Direction) (light other cell : ℕ) → place_through (lights_of grid) direction (cell_at grid cell) ≡ Some other → (other ≡ light → ⊥) → IsCrossing (board_of grid) light cell other
 found_at grid direction light other cell found apart =
     let at = position-Some (passes direction (cell_at grid cell)) (lights_of grid) other no_light found in
@@ -72,7 +72,7 @@ none_is light = rw (eq-eqb light light refl) refl
 some_same : {a b : ℕ} → Some a ≡ Some b → a ≡ b
 some_same e = cc
 
--- what is found that is another one
+-- the light that was found, if it is another one
 other_gives : (light other : ℕ) (found : Option ℕ) → other_than light found ≡ Some other → (found ≡ Some other) × (other ≡ light → ⊥)
 other_gives light other None h = absurd (grind arith)
 other_gives light other (Some one) h = go (eqb one light) refl h where
@@ -107,7 +107,7 @@ module _ (grid : Grid) (light place : ℕ) (below : place < length (light_at (bo
   crossing_only other crossing =
       by_directions (towards grid light) (towards grid other) other crossing.apart (through_at grid light place here below refl) (through_at grid other crossing.place here crossing.below crossing.meets)
 
--- the same of the board and the lights as they are kept
+-- the same for the board and the lights of an engine
 module _ (grid : Grid) (board : Board) (view : board_of grid ≡ board) (lights : List Light) (same : lights ≡ lights_of grid) (light place : ℕ) (below : place < length (light_at board light))
     (cell : Cell) (at : cell ≡ cell_at grid (get_or (light_at board light) place 0)) (across down : Option ℕ) (is_across : across ≡ place_through lights Across cell) (is_down : down ≡ place_through lights Down cell) where
   abbrev There : Board → Type 0
@@ -129,14 +129,14 @@ module _ (grid : Grid) (board : Board) (view : board_of grid ≡ board) (lights 
   pub only_crossing : (other : ℕ) → IsCrossing board light (get_or (light_at board light) place 0) other → first_found (other_than light across) (other_than light down) ≡ Some other
   only_crossing other = (crossing_there below at other).1
 
--- what is found in the first of two is found
+-- if the first search finds a light, that is the result
 pub found_first : (first second : Option ℕ) (other : ℕ) → first ≡ Some other → first_found first second ≡ Some other
 found_first first second other is = ap (λ o. first_found o second) is
 
 pub found_second : (first second : Option ℕ) → first ≡ None → first_found first second ≡ second
 found_second first second is = ap (λ o. first_found o second) is
 
--- what holds of each answer that is there holds of the answer
+-- a property of each light that may be found holds for the result
 pub each_some : (P : ℕ → Type 0) (found : Option ℕ) → ((other : ℕ) → found ≡ Some other → P other) → IfSome found P
 each_some P (Some other) h = h other refl
 each_some P None h = tt

@@ -1,15 +1,15 @@
--- One more edit of a list, from the left.
+-- One more edit at the end of a list.
 use Rattle.std.proofs.Common.{◌≡◌, ℕ, ◌+◌, ◌<◌, ◌≤◌, cond, List, [], ◌∷◌, ◌++◌, map, take, length, get_or, sym, ◌∙◌, ap, subst, arith, Some, inl, inr, ◌⊎◌}
 use Rattle.std.specs.Prelude.{Result, Ok, Err, is_err, IsOk, IfErr, IsErrAnd}
 use Rattle.std.proofs.lemmas.List.{take_more, take_all, map_push}
 use Rattle.xw_feas.specs.State.{State, Action, after, action_of, IsRefused, IsAfter, done, accepted, skipped, with_grid, by_fault, block_toggled, bar_toggled}
 use Rattle.xw_feas.specs.Shape.{IsGridRefused}
-use Rattle.xw_cells.specs.declared.cell.Cell.{Cell}
-use Rattle.xw_cells.specs.declared.cell.Side.{Side}
-use Rattle.xw_cells.specs.declared.fault.GridFault.{GridFault}
-use Rattle.xw_cells.specs.declared.fault.GridFault.TheVariants as grids
-use Rattle.xw_cells.specs.Grid.{Grid}
-use Rattle.xw_cells.specs.Edit.{toggle_block, toggle_bar}
+use Rattle.xw_grid.specs.declared.cell.Cell.{Cell}
+use Rattle.xw_grid.specs.declared.cell.Side.{Side}
+use Rattle.xw_grid.specs.declared.fault.GridFault.{GridFault}
+use Rattle.xw_grid.specs.declared.fault.GridFault.TheVariants as grids
+use Rattle.xw_grid.specs.Grid.{Grid}
+use Rattle.xw_grid.specs.Edit.{toggle_block, toggle_bar}
 use Rattle.xw_feas.specs.declared.edit.Refusal.TheVariants as refusals
 use Rattle.xw_feas.specs.Feasible.{Answers}
 use Rattle.xw_feas.specs.Engine.{IsEdited}
@@ -27,7 +27,7 @@ then_skipped _ _ _ _ action refusal (done state) stays = skipped state state act
 then_skipped _ _ _ _ action refusal (accepted state second last first actions refused e rest) stays = accepted state second last first (actions ++ action ∷ []) (refused + 1) e (then_skipped second last actions refused action refusal rest stays)
 then_skipped _ _ _ _ action refusal (skipped state last first actions refusal' refused e rest) stays = skipped state last first (actions ++ action ∷ []) refusal' (refused + 1) e (then_skipped state last actions refused action refusal rest stays)
 
--- the first n edits lead from the first state to the second, with so many refused
+-- the first n edits lead from one state to another, with this number of refusals
 pub record LeadsUpTo (edits : List Edit) (before now : State) (refused : ℕ) (n : ℕ) : Type 0 where
   pub few : refused ≤ n
   pub state : IsAfter before (map action_of (take n edits)) refused now
@@ -35,13 +35,13 @@ pub record LeadsUpTo (edits : List Edit) (before now : State) (refused : ℕ) (n
 pub LeadsUpTo-start : (edits : List Edit) (before : State) → LeadsUpTo edits before before 0 0
 LeadsUpTo-start edits before = record { few = omega arith; state = done before }
 
--- the edit at a place as the next action
+-- the edit at an index as the next action
 more_actions : (edits : List Edit) (n : ℕ) (edit : Edit) → n < length edits → edit ≡ get_or edits n edit → map action_of (take (n + 1) edits) ≡ map action_of (take n edits) ++ action_of edit ∷ []
 more_actions edits n edit below is =
     ap (map action_of) (take_more edits n edit below ∙ ap (λ e. take n edits ++ e ∷ []) (sym is))
     ∙ map_push action_of (take n edits) edit
 
--- by what an engine ensures of an edit
+-- the same from what an engine ensures about an edit
 pub LeadsUpTo-edit : (edits : List Edit) (before now after_it : State) (answers answers_after : Answers) (refused n : ℕ) (edit : Edit) (result : Result Changed Refusal) → n < length edits → edit ≡ get_or edits n edit → LeadsUpTo edits before now refused n → IsEdited now answers (action_of edit) result after_it answers_after → LeadsUpTo edits before after_it (refused + cond {A = ℕ} (is_err result) 1 0) (n + 1)
 LeadsUpTo-edit edits before now after_it answers answers_after refused n edit (Ok changed) below is so_far edited =
     let plus : refused ≡ refused + 0 = omega arith in
@@ -58,7 +58,7 @@ LeadsUpTo-edit edits before now after_it answers answers_after refused n edit (E
 pub IsAfter-all : (edits : List Edit) (before now : State) (refused n : ℕ) → length edits ≤ n → LeadsUpTo edits before now refused n → IsAfter before (map action_of edits) refused now
 IsAfter-all edits before now refused n all so_far = subst (λ es. IsAfter before (map action_of es) refused now) (take_all n edits all) so_far.state
 
--- what refuses a change of the grid refuses the edit
+-- a refusal of the grid's change is a refusal of the edit
 grid_refused : (state : State) (result : Result Grid GridFault) (fault : GridFault) → IsGridRefused result fault → (with_grid state (by_fault result) ≡ Err (refusals.Grid fault)) ⊎ (IsOk (with_grid state (by_fault result)) × (Some (refusals.Grid grids.Memory) ≡ Some (refusals.Grid fault)))
 grid_refused state (Ok grid) fault (inl refused) = absurd cc
 grid_refused state (Ok grid) fault (inr (ok, memory)) = inr (ok, ap (λ f. Some (refusals.Grid f)) (sym memory))

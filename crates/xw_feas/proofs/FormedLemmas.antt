@@ -1,4 +1,4 @@
--- The lights of a grid as the places of their cells.
+-- The lights of a grid as the indices of their cells.
 use Rattle.std.proofs.Common.{◌≡◌, ℕ, ◌+◌, ◌<◌, ◌≤◌, true, cond, [], map, length, get_or, sym, ◌∙◌, ap, arith, inl, inr}
 use Rattle.std.specs.List.{range_with_len}
 use Rattle.std.proofs.lemmas.Bool.{cases_lt}
@@ -6,15 +6,15 @@ use Rattle.std.proofs.lemmas.List.{get_or-map, get_or_past, length-map}
 use Rattle.std.proofs.lemmas.List.Elements.{Contains-get_or}
 use Rattle.std.proofs.lemmas.List.FromFn.{length-map-range_with_len, get_or-map-range_with_len}
 use Rattle.xw_words.specs.Dictionary.{Dictionary, IsDictionary}
-use Rattle.xw_cells.specs.declared.cell.Cell.{Cell}
-use Rattle.xw_cells.specs.declared.cell.Direction.{Direction}
-use Rattle.xw_cells.specs.declared.cell.Direction.TheVariants.{Across, Down}
+use Rattle.xw_grid.specs.declared.cell.Cell.{Cell}
+use Rattle.xw_grid.specs.declared.cell.Direction.{Direction}
+use Rattle.xw_grid.specs.declared.cell.Direction.TheVariants.{Across, Down}
 use Rattle.xw_grid.specs.declared.lights.Light.{Light}
-use Rattle.xw_cells.specs.Grid.{Grid, IsGrid, is_inside, is_open_square, index_of, cell_at}
-use Rattle.xw_cells.specs.Grid.{is_open as is_open_cell}
+use Rattle.xw_grid.specs.Grid.{Grid, IsGrid, is_inside, is_open_square, index_of, cell_at}
+use Rattle.xw_grid.specs.Grid.{is_open as is_open_cell}
 use Rattle.std.specs.Prelude.{slice_get, None}
 use Rattle.xw_grid.specs.Light.{step, lights_of, no_light}
-use Rattle.xw_cells.proofs.GridLemmas.{cell_at-index_of}
+use Rattle.xw_grid.proofs.GridLemmas.{cell_at-index_of}
 use Rattle.xw_grid.proofs.LightLemmas.{inside_from_open, cells_of_are_open, size_of_light}
 use Rattle.xw_grid.proofs.OrderLemmas.{lights_meet_once}
 use Rattle.xw_feas.specs.Board.{board_of, light_at, is_open}
@@ -28,7 +28,7 @@ light_in grid place = get_or (lights_of grid) place no_light
 abbrev pub cell_of : Grid → ℕ → ℕ → Cell
 cell_of grid place k = step (light_in grid place).name.direction (light_in grid place).start k
 
--- past the last light there is none
+-- there is no light past the last one
 light_past : (grid : Grid) (place : ℕ) → length (lights_of grid) ≤ place → light_at (board_of grid) place ≡ []
 light_past grid place past = get_or_past (board_of grid).lights place [] (omega (arith, length-lights grid))
 
@@ -65,7 +65,7 @@ inside_at grid place k below = inside_from_open grid (cell_of grid place k) (ope
 same_place : (grid : Grid) (a b : Cell) → is_inside grid a ≡ true → is_inside grid b ≡ true → index_of grid a ≡ index_of grid b → a ≡ b
 same_place grid a b inside inside' same = sym (cell_at-index_of grid a inside) ∙ ap (cell_at grid) same ∙ cell_at-index_of grid b inside'
 
--- the same place in two lights is the same cell
+-- the same index in two lights is the same cell
 pub same_cell_in : (grid : Grid) (light other i j : ℕ) → i < length (light_at (board_of grid) light) → j < length (light_at (board_of grid) other) → get_or (light_at (board_of grid) light) i 0 ≡ get_or (light_at (board_of grid) other) j 0 → cell_of grid light i ≡ cell_of grid other j
 same_cell_in grid light other i j below below' same =
     same_place grid (cell_of grid light i) (cell_of grid other j) (inside_at grid light i below) (inside_at grid other j below') (sym (place_is grid light i below) ∙ same ∙ place_is grid other j below')
@@ -94,7 +94,7 @@ open_in_board grid light k below =
     ∙ sym (ap (λ inside. is_open_square (cond inside (slice_get grid.squares (index_of grid (cell_of grid light k))) None)) (inside_at grid light k below))
     ∙ open_at grid light k below
 
--- the lights of a grid are as lights are to be
+-- the board of a grid is laid out
 pub laid_out : (grid : Grid) → IsGrid grid → HasLetterEntries (board_of grid) → IsLaidOut (board_of grid)
 laid_out grid is letters = record {
   entries = length-entries grid ∙ sym (length-open_cells grid);

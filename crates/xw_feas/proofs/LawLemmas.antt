@@ -1,18 +1,19 @@
--- Lemmas on families together, on lists of edits that want no memory, and on lists of cells that are written.
+-- Lemmas about unions of families, about lists of edits that do not allocate, and about lists of
+-- cells.
 use Rattle.std.proofs.Common.{◌≡◌, ℕ, ◌+◌, Bool, true, false, ◌||◌, List, [], ◌∷◌, map, refl, ap, sym, ◌∙◌, subst, inl, inr, ◌⊎◌, arith}
 use Rattle.std.specs.Prelude.{Option, Some, None, Result, Ok, Err, IsTrue, ◌↔◌}
 use Rattle.xw_words.specs.Dictionary.{Dictionary}
-use Rattle.xw_cells.specs.declared.cell.Cell.{Cell}
-use Rattle.xw_cells.specs.declared.fault.GridFault.{GridFault}
-use Rattle.xw_cells.specs.Grid.{Grid}
-use Rattle.xw_cells.specs.Edit.{set_entry}
+use Rattle.xw_grid.specs.declared.cell.Cell.{Cell}
+use Rattle.xw_grid.specs.declared.fault.GridFault.{GridFault}
+use Rattle.xw_grid.specs.Grid.{Grid}
+use Rattle.xw_grid.specs.Edit.{set_entry}
 use Rattle.xw_feas.specs.declared.edit.Refusal.{Refusal}
 use Rattle.xw_feas.specs.Board.{Board}
 use Rattle.xw_feas.specs.Feasible.{Family, IsSupported}
 use Rattle.xw_feas.specs.Laws.{together, next_of, WantNothing, write_at, write_of, IsRefusedInTurn}
 use Rattle.xw_feas.specs.State.{State, Action, list_written, after, want_of, with_grid, by_fault, then_write, write_list, IsRefused, IsAfter, done, accepted, skipped}
 
--- ---- families together
+-- ---- unions of families
 
 one_of : (a b : Bool) → IsTrue (a || b) → IsTrue a ⊎ IsTrue b
 one_of true b h = inl h
@@ -46,14 +47,14 @@ together_supported board dictionary one other first second = record {
   ];
 }
 
--- ---- lists of edits that want no memory
+-- ---- lists of edits that do not allocate
 
--- what an edit comes to where it can want nothing
+-- an edit that does not allocate is refused only by a rule
 refused_by_rule : (state : State) (action : Action) (refusal : Refusal) → want_of state action ≡ None → IsRefused state action refusal → after state action ≡ Err refusal
 refused_by_rule state action refusal none (inl h) = h
 refused_by_rule state action refusal none (inr h) = let bad : None ≡ Some refusal = sym none ∙ h.1 in cc
 
--- what a list of edits comes to, where it can want nothing
+-- the refusals and the state after a list of edits that do not allocate
 abbrev leads_to : State → List Action → ℕ × State
 leads_to state [] = (0, state)
 leads_to state (action ∷ actions) = elim (after state action) as (λ _. ℕ × State) [
@@ -74,7 +75,7 @@ one_end state one other actions m n want first second =
     let same : (m, one) ≡ (n, other) = sym (leads_to-IsAfter state one actions m want first) ∙ leads_to-IsAfter state other actions n want second in
     (ap (λ (p : ℕ × State). p.0) same, ap (λ (p : ℕ × State). p.1) same)
 
--- ---- lists of cells that are written
+-- ---- lists of cells
 
 written_as : (state : State) (cell : Cell) (letter : Option ℕ) → after state (write_at cell letter) ≡ with_grid state (by_fault (set_entry state.grid cell letter))
 written_as state cell (Some letter) = refl
@@ -91,7 +92,7 @@ other_grid : (state : State) (grid : Grid) (result : Result Grid Refusal) → wi
 other_grid state grid (Ok next) = refl
 other_grid state grid (Err refusal) = refl
 
--- the first cell of a list, if it is written
+-- the first cell of a list, if it can be written
 first_written : (state : State) (written : Cell × Option ℕ) (grid : Grid) → set_entry state.grid written.0 written.1 ≡ Ok grid → after state (write_of written) ≡ Ok (record state { grid = grid })
 first_written state written grid is = written_as state written.0 written.1 ∙ ap (λ r. with_grid state (by_fault r)) is
 

@@ -1,12 +1,12 @@
--- Each light of a grid has a name of its own.
+-- No two lights of a grid have the same name.
 use Rattle.std.proofs.Common.{◌≡◌, ℕ, ◌<◌, true, length, get_or, eqb, refl, sym, ap, ◌∙◌, arith, inl, inr, Some}
 use Rattle.std.proofs.lemmas.Bool.{cases_order, cases_eq, cases_Bool, and_parts, eq-eqb, ne_eqb, false≢true}
-use Rattle.xw_letters.proofs.Position.{position_is_some}
-use Rattle.xw_cells.specs.declared.cell.LightName.{LightName}
-use Rattle.xw_cells.specs.declared.cell.Direction.{Direction}
-use Rattle.xw_cells.specs.declared.cell.Direction.TheVariants.{Across, Down}
+use Rattle.xw_text.proofs.Position.{position_is_some}
+use Rattle.xw_grid.specs.declared.cell.LightName.{LightName}
+use Rattle.xw_grid.specs.declared.cell.Direction.{Direction}
+use Rattle.xw_grid.specs.declared.cell.Direction.TheVariants.{Across, Down}
 use Rattle.xw_grid.specs.declared.lights.Light.{Light}
-use Rattle.xw_cells.specs.Grid.{Grid}
+use Rattle.xw_grid.specs.Grid.{Grid}
 use Rattle.xw_grid.specs.Light.{lights_of, same_name, same_direction, place_named}
 use Rattle.xw_grid.specs.LightLaws.{IsBefore}
 use Rattle.xw_grid.proofs.OrderLemmas.{lights_are_ordered}
@@ -18,7 +18,7 @@ not_before_itself a b same (inr (number, across, down)) =
     let e : Across ≡ Down = sym across ∙ ap (λ (name : LightName). name.direction) same ∙ down in
     cc
 
--- lights of the same name stand at the same place
+-- lights with the same name have the same index
 pub names_apart : (grid : Grid) (a b : ℕ) (d : Light) → a < length (lights_of grid) → b < length (lights_of grid) → (get_or (lights_of grid) a d).name ≡ (get_or (lights_of grid) b d).name → a ≡ b
 names_apart grid a b d below below' same = elim (cases_order a b) [
   | inl is ↦ is

@@ -1,11 +1,11 @@
--- The lights through a cell are those that are found there.
+-- The lights through a cell are those that a search finds there.
 use Rattle.std.proofs.Common.{◌≡◌, ℕ, ◌+◌, sym, ◌∙◌, ap, subst, arith, inl, inr, List, Some}
 use Rattle.std.specs.Prelude.{◌⊎◌}
-use Rattle.xw_cells.specs.declared.cell.Cell.{Cell}
-use Rattle.xw_cells.specs.declared.cell.Direction.{Direction}
-use Rattle.xw_cells.specs.declared.cell.Direction.TheVariants.{Across, Down}
+use Rattle.xw_grid.specs.declared.cell.Cell.{Cell}
+use Rattle.xw_grid.specs.declared.cell.Direction.{Direction}
+use Rattle.xw_grid.specs.declared.cell.Direction.TheVariants.{Across, Down}
 use Rattle.xw_grid.specs.declared.lights.Light.{Light}
-use Rattle.xw_cells.specs.Grid.{Grid, cell_at}
+use Rattle.xw_grid.specs.Grid.{Grid, cell_at}
 use Rattle.xw_grid.specs.Light.{lights_of, place_through}
 use Rattle.xw_feas.specs.Board.{Board, board_of}
 use Rattle.xw_feas.specs.Passes.{Passes}

@@ -1,16 +1,16 @@
--- The feasible words of a light one after another, as the queries tell them.
+-- The feasible words of a light in order, as the queries return them.
 use Rattle.std.proofs.Common.{◌≡◌, ℕ, zero, suc, ◌+◌, ◌<◌, Bool, true, false, cond, ◌&&◌, List, [], ◌∷◌, map, length, get_or, drop, Some, None, refl, sym, ◌∙◌, ap, arith, inl, inr}
 use Rattle.std.specs.Prelude.{filter, position, Option, option_map, ◌==◌}
 use Rattle.std.proofs.lemmas.Bool.{cases_Bool, and_parts, and_from}
 use Rattle.std.proofs.lemmas.List.Quantifiers.{position-Some}
 use Rattle.std.proofs.lemmas.List.Elements.{filter_agree}
 use Rattle.std.proofs.lemmas.List.{get_or-drop, length-drop, drop-drop}
-use Rattle.xw_letters.proofs.Position.{position-None}
+use Rattle.xw_text.proofs.Position.{position-None}
 use Rattle.xw_words.specs.Dictionary.{Entry, Dictionary, no_entry, entry_at, row as known_words}
 use Rattle.std.specs.Prelude.{Ok}
-use Rattle.xw_cells.specs.declared.cell.LightName.{LightName}
+use Rattle.xw_grid.specs.declared.cell.LightName.{LightName}
 use Rattle.xw_grid.specs.declared.lights.Light.{Light}
-use Rattle.xw_cells.specs.Grid.{Grid}
+use Rattle.xw_grid.specs.Grid.{Grid}
 use Rattle.xw_grid.specs.Light.{lights_of, place_named, same_name, no_light}
 use Rattle.xw_feas.specs.State.{State}
 use Rattle.xw_feas.specs.Board.{Board, board_of, light_at, is_wholly_entered, spelled, agrees}
@@ -24,7 +24,7 @@ use Rattle.xw_feas.proofs.Support.{base_words_here}
 use Rattle.xw_feas.proofs.QueryLemmas.{feasible_agrees}
 use Rattle.xw_feas.proofs.BoardLemmas.{length-lights}
 
--- the first that passes, and those after it
+-- the first element that passes, and those after it
 filter_first : {X : Type 0} (test : X → Bool) (xs : List X) (i : ℕ) (d : X) → i < length xs → test (get_or xs i d) ≡ true → ((k : ℕ) → k < i → test (get_or xs k d) ≡ false) → filter test xs ≡ get_or xs i d ∷ filter test (drop (i + 1) xs)
 filter_first test [] i d below here before = absurd (omega arith)
 filter_first test (x ∷ xs) zero d below here before = rw here refl
@@ -39,7 +39,7 @@ filter_none test (x ∷ xs) d none =
     let fails : test x ≡ false = none 0 (omega arith) in
     rw fails (filter_none test xs d (λ k below. none (suc k) (omega arith)))
 
--- a filter of what a filter leaves
+-- a filter of a filtered list
 filter-map-filter : (first : Entry → Bool) (second : List ℕ → Bool) (words : List Entry) → filter second (map (λ (w : Entry). w.word) (filter first words)) ≡ map (λ (w : Entry). w.word) (filter (λ w. first w && second w.word) words)
 filter-map-filter first second [] = refl
 filter-map-filter first second (w ∷ ws) = elim (cases_Bool (first w)) [
@@ -50,7 +50,7 @@ filter-map-filter first second (w ∷ ws) = elim (cases_Bool (first w)) [
   | inr off ↦ rw off (filter-map-filter first second ws)
 ]
 
--- from the start they are all the feasible words of the light
+-- from index 0 on they are all feasible words of the light
 pub words_from_start : (board : Board) (dictionary : Dictionary) (answers : Answers) → AreAnswers board dictionary answers → (light : ℕ) → light < length board.lights → words_from board dictionary answers light 0 ≡ words_of answers light
 words_from_start board dictionary answers are light below = elim (cases_Bool (is_wholly_entered board (light_at board light))) [
   | inl entered ↦ ap (λ b. cond b (words_of answers light) (map (λ (w : Entry). w.word) (filter (is_active_answer answers light) (known_words dictionary (length (light_at board light)))))) entered
@@ -70,7 +70,7 @@ words_from_start board dictionary answers are light below = elim (cases_Bool (is
       known))
 ]
 
--- what a query for the next word says of the list that is left
+-- what a query for the next word means for the remaining words
 pub words_from_listed : (board : Board) (dictionary : Dictionary) (answers : Answers) (light from place : ℕ) → next_found board dictionary answers light from ≡ Some (Listed place) → (place < length (known_words dictionary (length (light_at board light)))) × (words_from board dictionary answers light from ≡ (entry_at (known_words dictionary (length (light_at board light))) place).word ∷ words_from board dictionary answers light (place + 1))
 words_from_listed board dictionary answers light from place found = split (is_wholly_entered board (light_at board light)) refl found where
   known : List Entry
@@ -103,7 +103,7 @@ words_from_listed board dictionary answers light from place found = split (is_wh
   split true is h = absurd (not_entered (from == 0 && answers_word answers light (spelled board (light_at board light))) (sym (ap found_with is) ∙ h))
   split false is h = by_place (position (is_active_answer answers light) (drop from (known_words dictionary (length (light_at board light))))) refl (sym (ap found_with is) ∙ h) is
 
--- where a light is wholly entered its feasible words are the one that it spells, or none
+-- a filled light has the word that it spells as its only feasible word, or none
 pub words_of_entered : (board : Board) (dictionary : Dictionary) (answers : Answers) → AreAnswers board dictionary answers → (light : ℕ) → light < length board.lights → is_wholly_entered board (light_at board light) ≡ true → words_of answers light ≡ cond (answers_word answers light (spelled board (light_at board light))) (spelled board (light_at board light) ∷ []) []
 words_of_entered board dictionary answers are light below entered =
     let base : base_words board dictionary (light_at board light) ≡ spelled board (light_at board light) ∷ [] = rw entered refl in
@@ -131,7 +131,7 @@ words_from_none board dictionary answers are light from below found = split (is_
       ∙ entered_none (from == 0) (answers_word answers light (spelled board (light_at board light))) (sym (ap found_with is) ∙ found))
   split false is = rw is (ap (map (λ (w : Entry). w.word)) (by_place (position (is_active_answer answers light) (drop from (known_words dictionary (length (light_at board light))))) refl (sym (ap found_with is) ∙ found)))
 
--- a light that is found by its name is one of the board
+-- the index of a light that is found by its name is on the board
 pub named_within : (grid : Grid) (name : LightName) (light : ℕ) → place_named (lights_of grid) name ≡ Some light → light < length (board_of grid).lights
 named_within grid name light found =
     let first = position-Some (λ (light : Light). same_name light.name name) (lights_of grid) light no_light found in
@@ -142,7 +142,7 @@ words_named state answers are name light found =
     ap Ok (words_from_start (board_of state.grid) state.words answers are light (named_within state.grid name light found))
     ∙ sym (ap (on_light (words_of answers)) found)
 
--- the step at the word that is entered, which is the only one
+-- the step over the entered word, which is the only one
 pub words_from_entered : (board : Board) (dictionary : Dictionary) (answers : Answers) → AreAnswers board dictionary answers → (light from : ℕ) → light < length board.lights → next_found board dictionary answers light from ≡ Some Entered → words_from board dictionary answers light from ≡ spelled board (light_at board light) ∷ words_from board dictionary answers light 1
 words_from_entered board dictionary answers are light from below found = split (is_wholly_entered board (light_at board light)) refl where
   found_with : Bool → Option Found

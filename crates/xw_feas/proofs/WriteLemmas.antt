@@ -1,21 +1,21 @@
--- Lists of cells that are written.
+-- Lemmas about writing lists of cells.
 use Rattle.std.proofs.Common.{◌≡◌, ℕ, zero, suc, ◌+◌, ◌<◌, Bool, true, false, cond, not, List, [], ◌∷◌, ◌++◌, drop, length, get_or, set, Some, None, refl, sym, ◌∙◌, ap, arith}
 use Rattle.std.specs.Prelude.{Option, Result, Ok, Err, slice_get}
 use Rattle.std.proofs.lemmas.List.{drop_more}
-use Rattle.xw_cells.specs.declared.cell.Cell.{Cell}
-use Rattle.xw_cells.specs.declared.cell.Square.{Square}
-use Rattle.xw_cells.specs.declared.cell.Square.TheVariants.{Open}
-use Rattle.xw_cells.specs.declared.fault.GridFault.{GridFault}
-use Rattle.xw_cells.specs.declared.fault.GridFault.TheVariants.{OutOfGrid, OnBlock}
-use Rattle.xw_cells.specs.Grid.{Grid, IsGrid, is_inside, is_open, is_block, is_block_square, index_of}
-use Rattle.xw_cells.specs.Edit.{set_entry, with_entry}
+use Rattle.xw_grid.specs.declared.cell.Cell.{Cell}
+use Rattle.xw_grid.specs.declared.cell.Square.{Square}
+use Rattle.xw_grid.specs.declared.cell.Square.TheVariants.{Open}
+use Rattle.xw_grid.specs.declared.fault.GridFault.{GridFault}
+use Rattle.xw_grid.specs.declared.fault.GridFault.TheVariants.{OutOfGrid, OnBlock}
+use Rattle.xw_grid.specs.Grid.{Grid, IsGrid, is_inside, is_open, is_block, is_block_square, index_of}
+use Rattle.xw_grid.specs.Edit.{set_entry, with_entry}
 use Rattle.xw_feas.specs.Shape.{fault_at}
 use Rattle.xw_feas.specs.State.{then_write, write_list}
 use Rattle.xw_grid.proofs.ChangeLemmas.{open_from_no_block}
 
 -- ---- one cell
 
--- what an entry comes to, by why the cell takes none
+-- the result of writing an entry, by the fault of the cell
 abbrev entered : Grid → Cell → Option ℕ → Option GridFault → Result Grid GridFault
 entered grid cell letter None = Ok (with_entry grid cell letter)
 entered grid cell letter (Some fault) = Err fault
@@ -33,7 +33,7 @@ entry_taken grid cell letter none = entry_by_fault grid cell letter ∙ ap (ente
 entry_refused : (grid : Grid) (cell : Cell) (letter : Option ℕ) (fault : GridFault) → fault_at grid cell ≡ Some fault → set_entry grid cell letter ≡ Err fault
 entry_refused grid cell letter fault found = entry_by_fault grid cell letter ∙ ap (entered grid cell letter) found
 
--- a cell that takes an entry is inside, and no block
+-- a cell that can be written is inside the grid and not a block
 taking : (grid : Grid) (cell : Cell) → fault_at grid cell ≡ None → (is_inside grid cell ≡ true) × (is_block grid cell ≡ false)
 taking grid cell none = by_tests (is_inside grid cell) (is_block grid cell) refl refl none where
   by_tests : (inside block : Bool) → is_inside grid cell ≡ inside → is_block grid cell ≡ block → cond {A = Option GridFault} (not inside) (Some OutOfGrid) (cond {A = Option GridFault} block (Some OnBlock) None) ≡ None → (is_inside grid cell ≡ true) × (is_block grid cell ≡ false)
@@ -44,7 +44,7 @@ taking grid cell none = by_tests (is_inside grid cell) (is_block grid cell) refl
 pub taking_is_open : (grid : Grid) (cell : Cell) → IsGrid grid → fault_at grid cell ≡ None → is_open grid cell ≡ true
 taking_is_open grid cell is none = let found = taking grid cell none in open_from_no_block grid cell is found.0 found.1
 
--- a write of what is no block leaves the blocks
+-- writing a square that is not a block keeps the blocks
 blocks_stay : (squares : List Square) (at place : ℕ) (letter : Option ℕ) → is_block_square (slice_get squares at) ≡ false → is_block_square (slice_get (set squares at (Open letter)) place) ≡ is_block_square (slice_get squares place)
 blocks_stay [] at place letter h = refl
 blocks_stay (square ∷ squares) zero zero letter h = sym h
@@ -52,7 +52,7 @@ blocks_stay (square ∷ squares) zero (suc place) letter h = refl
 blocks_stay (square ∷ squares) (suc at) zero letter h = refl
 blocks_stay (square ∷ squares) (suc at) (suc place) letter h = blocks_stay squares at place letter h
 
--- an entry leaves which cells take one
+-- writing an entry does not change which cells can be written
 pub fault_kept : (grid : Grid) (cell : Cell) (letter : Option ℕ) → fault_at grid cell ≡ None → (other : Cell) → fault_at (with_entry grid cell letter) other ≡ fault_at grid other
 fault_kept grid cell letter none other = ap (λ b. cond {A = Option GridFault} (not (is_inside grid other)) (Some OutOfGrid) (cond {A = Option GridFault} b (Some OnBlock) None)) (kept (is_inside grid other)) where
   no_block : is_block_square (slice_get grid.squares (index_of grid cell)) ≡ false
@@ -74,7 +74,7 @@ write_more list grid k written below is none =
     ∙ ap (λ w. then_write (write_list (drop (k + 1) list)) (set_entry grid w.0 w.1)) (sym is)
     ∙ ap (then_write (write_list (drop (k + 1) list))) (entry_taken grid written.0 written.1 none)
 
--- the first cell that takes no entry refuses the list
+-- the first cell that cannot be written refuses the list
 pub write_refused : (list : List (Cell × Option ℕ)) (grid : Grid) (k : ℕ) (fault : GridFault) (d : Cell × Option ℕ) → k < length list
     → ((j : ℕ) → j < k → fault_at grid (get_or list j d).0 ≡ None) → fault_at grid (get_or list k d).0 ≡ Some fault → write_list list grid ≡ Err fault
 write_refused [] grid k fault d below before here = absurd (omega (arith, below))

@@ -1,11 +1,11 @@
--- What the queries of an engine read from the answers.
+-- What the queries of an engine return, from the answers.
 use Rattle.std.specs.Prelude.{◌≡◌, ℕ, ◌+◌, Bool, not, cond, ◌&&◌, ◌==◌, List, [], drop, length, slice_index_or, position, Option, Some, None, option_map, Result, Ok, Err, if◌then◌else◌}
 use Rattle.xw_letters.specs.LetterSet.{letters_in}
 use Rattle.xw_words.specs.Dictionary.{Entry, Dictionary, row as known_words}
-use Rattle.xw_cells.specs.declared.cell.Cell.{Cell}
-use Rattle.xw_cells.specs.declared.cell.LightName.{LightName}
-use Rattle.xw_cells.specs.declared.fault.GridFault.TheVariants as grids
-use Rattle.xw_cells.specs.Grid.{Grid, is_inside, is_block, index_of}
+use Rattle.xw_grid.specs.declared.cell.Cell.{Cell}
+use Rattle.xw_grid.specs.declared.cell.LightName.{LightName}
+use Rattle.xw_grid.specs.declared.fault.GridFault.TheVariants as grids
+use Rattle.xw_grid.specs.Grid.{Grid, is_inside, is_block, index_of}
 use Rattle.xw_grid.specs.Light.{lights_of, place_named}
 use Rattle.xw_feas.specs.Board.{Board, board_of, light_at, is_wholly_entered, spelled}
 use Rattle.xw_feas.specs.Feasible.{Answers, answers_word}
@@ -16,43 +16,49 @@ use Rattle.xw_feas.specs.declared.edit.Found.TheVariants.{Listed, Entered}
 use Rattle.xw_feas.specs.declared.edit.Refusal.{Refusal}
 use Rattle.xw_feas.specs.declared.edit.Refusal.TheVariants as refusals
 
+-- the words of a light in the answers
 abbrev pub words_of : Answers → ℕ → List (List ℕ)
 words_of answers light = slice_index_or answers.words light []
 
--- a known word is active and one of the light's in the answers
+-- whether a known word is active and in the answers for the light
 abbrev pub is_active_answer : Answers → ℕ → Entry → Bool
 is_active_answer answers light word = word.active && answers_word answers light word.word
 
--- the first feasible word of the light among the known ones from a place on; where the light is wholly entered the one entered, at place 0 alone
+-- the first feasible word of the light whose index is at least `from`; a filled light has
+-- its entered word at index 0 only
 abbrev pub next_found : Board → Dictionary → Answers → ℕ → ℕ → Option Found
 next_found board dictionary answers light from =
     cond (is_wholly_entered board (light_at board light))
     (cond (from == 0 && answers_word answers light (spelled board (light_at board light))) (Some Entered) None)
     (option_map (λ place. Listed (from + place)) (position (is_active_answer answers light) (drop from (known_words dictionary (length (light_at board light))))))
 
--- an answer on the light of a name
+-- an answer about the light with a name; `NoLight` if there is none
 abbrev pub on_light : {X : Type 0} → (ℕ → X) → Option ℕ → Result X Refusal
 on_light answer None = Err refusals.NoLight
 on_light answer (Some light) = Ok (answer light)
 
+-- the number of feasible words of a light
 abbrev pub count_answer : State → Answers → LightName → Result ℕ Refusal
 count_answer state answers name = on_light (λ light. length (words_of answers light)) (place_named (lights_of state.grid) name)
 
+-- the feasible words of a light
 abbrev pub words_answer : State → Answers → LightName → Result (List (List ℕ)) Refusal
 words_answer state answers name = on_light (words_of answers) (place_named (lights_of state.grid) name)
 
+-- the first feasible word of a light whose index is at least `from`
 abbrev pub next_answer : State → Answers → LightName → ℕ → Result (Option Found) Refusal
 next_answer state answers name from =
     on_light (λ light. next_found (board_of state.grid) state.words answers light from) (place_named (lights_of state.grid) name)
 
--- why a cell has no feasible letters to be asked for
+-- the refusal of a query about a cell outside the grid or a block; else the answer
 abbrev pub cell_judged : {X : Type 0} → Grid → Cell → X → Result X Refusal
 cell_judged grid cell good =
     if not (is_inside grid cell) then Err (refusals.Grid grids.OutOfGrid)
     else if is_block grid cell then Err (refusals.Grid grids.OnBlock)
     else Ok good
 
--- the letters of a set are those of a cell, or the cell is none of the grid, or a block
+-- the result is the set of the cell's feasible letters, or the refusal of a cell outside the grid
+-- or a block
 abbrev pub AreLetters : State → Answers → Cell → Result ℕ Refusal → Type 0
 AreLetters state answers cell (Ok set) = cell_judged state.grid cell (letters_of answers (index_of state.grid cell)) ≡ Ok (letters_in set)
 AreLetters state answers cell (Err refusal) = cell_judged state.grid cell (letters_of answers (index_of state.grid cell)) ≡ Err refusal

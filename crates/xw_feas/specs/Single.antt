@@ -1,4 +1,5 @@
--- That the facts which engines keep have one proof each, so that they may stand in ghost fields.
+-- The facts that engines keep are propositions (two proofs of one are equal), so ghost fields can
+-- hold them.
 use Rattle.std.specs.Prelude.{◌≡◌, ℕ, ◌<◌, Bool, List, [], length, filter, slice_index_or, Some, None, IsTrue, ◌↔◌}
 use mathlib.Core.HLevel.{Π_prop, ×_prop, ⊥_prop}
 use mathlib.Core.Logic.{∥∥₁_prop, ↔_prop}
@@ -6,9 +7,9 @@ use mathlib.Core.Path.{refl}
 use mathlib.Core.Bool.{Bool-set}
 use Rattle.xw_feas.specs.Board.{Board, board_of}
 use Rattle.xw_words.specs.Dictionary.{Entry, Dictionary, row, AreWords, IsDictionary}
-use Rattle.xw_cells.specs.declared.cell.Square.{Square}
-use Rattle.xw_cells.specs.declared.cell.Square.TheVariants.{Block, Open}
-use Rattle.xw_cells.specs.Grid.{Grid, IsSquare, IsGrid}
+use Rattle.xw_grid.specs.declared.cell.Square.{Square}
+use Rattle.xw_grid.specs.declared.cell.Square.TheVariants.{Block, Open}
+use Rattle.xw_grid.specs.Grid.{Grid, IsSquare, IsGrid}
 use Rattle.xw_feas.specs.State.{State}
 use Rattle.xw_feas.specs.WellFormed.{IsLaidOut, IsWellFormed}
 use Rattle.xw_feas.specs.Choices.{IsExact, is_base_at, choice_at}

@@ -1,16 +1,17 @@
--- What is true of the grid and the dictionary of every engine.
+-- The invariants of the grid and the dictionary of every engine.
 use Rattle.std.specs.Prelude.{◌≡◌, ℕ, ◌<◌, ◌≤◌, true, length, slice_index, Some}
 use Rattle.xw_letters.specs.Letter.{IsLetter}
 use Rattle.xw_words.specs.Dictionary.{IsDictionary}
-use Rattle.xw_cells.specs.Grid.{IsGrid}
+use Rattle.xw_grid.specs.Grid.{IsGrid}
 use Rattle.xw_feas.specs.Board.{Board, board_of, entry, is_open, light_at}
 use Rattle.xw_feas.specs.State.{State}
 
--- what is entered are letters
+-- each entry is a letter A to Z
 abbrev pub HasLetterEntries : Board → Type 0
 HasLetterEntries board = (cell letter : ℕ) → entry board cell ≡ Some letter → IsLetter letter
 
--- each light is of several distinct cells, all open; no two lights meet in more than one; what is entered are letters
+-- a light has 2 to 255 distinct cells, all of them open; two lights share at most one cell; each
+-- entry is a letter
 pub record IsLaidOut (board : Board) : Type 0 where
   pub entries : length board.entries ≡ length board.open_cells
   pub several : (light : ℕ) → light < length board.lights → 2 ≤ length (light_at board light)
@@ -20,7 +21,7 @@ pub record IsLaidOut (board : Board) : Type 0 where
   pub cross_once : (light other i j k l : ℕ) → (light ≡ other → ⊥) → i < length (light_at board light) → k < length (light_at board light) → j < length (light_at board other) → l < length (light_at board other) → slice_index (light_at board light) i ≡ slice_index (light_at board other) j → slice_index (light_at board light) k ≡ slice_index (light_at board other) l → i ≡ k
   pub letters : HasLetterEntries board
 
--- a grid with its lights, and a dictionary
+-- the grid and the dictionary satisfy their invariants
 pub record IsWellFormed (state : State) : Type 0 where
   pub grid : IsGrid state.grid
   pub board : IsLaidOut (board_of state.grid)

@@ -1,12 +1,12 @@
-//! The sets of letters that an engine keeps for the cells.
+//! Creates the sets of letters that engines keep for the cells.
 ghost use Rattle.std.specs.Prelude.{◌≡◌, length, IfOk, IsOkUnless};
 
 use std::alloc::{AllocError, Global};
-use xw_cells::fault::GridFault;
-use xw_cells::grid::Grid;
+use xw_grid::fault::GridFault;
+use xw_grid::grid::Grid;
 use xw_letters::letter_set::LetterSet;
 
-/// A set of letters for each cell.
+/// Creates `count` empty sets.
 fn make_sets(alloc: Global, count: usize) -> Result<Vec<LetterSet>, AllocError>
     ensures { IfOk result (λ sets. length sets.items ≡ count) }
 {
@@ -17,7 +17,7 @@ fn make_sets(alloc: Global, count: usize) -> Result<Vec<LetterSet>, AllocError>
     Ok(sets)
 }
 
-/// A set of letters for each cell of a grid.
+/// Creates an empty set for each cell of a grid. Returns `Memory` if the allocation fails.
 pub fn make_grid_sets(alloc: Global, grid: &Grid) -> Result<Vec<LetterSet>, GridFault>
     ensures ok { IfOk result (λ sets. length sets.items ≡ length grid.now.squares) }
     ensures memory { IsOkUnless result GridFault.Memory }

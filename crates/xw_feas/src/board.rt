@@ -1,21 +1,23 @@
-//! What feasibility sees of a grid.
+//! The part of a grid that feasibility depends on: the open cells, the letters in them, and the
+//! lights. Cells are addressed by their index in reading order, and lights by their index in the
+//! grid's order of lights.
 ghost use Rattle.std.specs.Prelude.{◌≡◌, ◌⊎◌, ◌<◌, ◌≤◌, ◌&&◌, ℕ, Some, length, slice_index, slice_get, All, unwrap_or, IfSome};
 ghost use Rattle.xw_letters.specs.Letter.{IsLetter, is_capital};
 ghost use Rattle.xw_letters.specs.LetterSet.{has};
-ghost use Rattle.xw_cells.specs.Grid.{is_open_square as is_open_in, letter_in as letter_of};
+ghost use Rattle.xw_grid.specs.Grid.{is_open_square as is_open_in, letter_in as letter_of};
 ghost use Rattle.xw_grid.specs.Light.{lights_of};
 ghost use Rattle.xw_feas.specs.Board.{board_of, places_of, light_at, is_open as is_open_place, entry as entry_at, IsCrossing, other_than as other_than_light, allows, is_wholly_entered};
 ghost use Rattle.xw_feas.specs.Fits.{Fits, stride_of};
 ghost use Rattle.xw_feas.specs.Passes.{Passes};
 
 use std::marker::Model;
-use xw_cells::cell::{Direction, Square};
-use xw_cells::grid::Grid;
+use xw_grid::cell::{Direction, Square};
+use xw_grid::grid::Grid;
 use xw_grid::lights::{Light, Lights};
 use xw_letters::letter::Letter;
 use xw_letters::letter_set::LetterSet;
 
-/// The places of a light's cells, in reading order of the grid.
+/// The indices of a light's cells, in order.
 #[derive(Drop)]
 pub struct Cells {
     first: usize,
@@ -35,13 +37,14 @@ impl Model for Cells {
 }
 
 impl Cells {
+    /// The number of cells.
     pub fn len(&self) -> usize
         ensures { result ≡ length self.now }
     {
         self.count
     }
 
-    /// The place of one of the cells.
+    /// The index of cell `k` of the light.
     pub fn at(&self, k: usize) -> usize
         requires { k < length self.now }
         ensures { result ≡ slice_index self.now k }
@@ -50,7 +53,7 @@ impl Cells {
     }
 }
 
-/// A grid with its lights, seen by the places of cells.
+/// A grid with its lights, addressed by index.
 #[derive(Drop)]
 pub struct Board<'a> {
     grid: &'a Grid,
@@ -60,7 +63,7 @@ pub struct Board<'a> {
 
 impl<'a> Model for Board<'a> {
     ghost use Rattle.std.specs.Prelude.{◌≡◌};
-    ghost use Rattle.xw_cells.specs.Grid.{IsGrid};
+    ghost use Rattle.xw_grid.specs.Grid.{IsGrid};
     ghost use Rattle.xw_grid.specs.Light.{lights_of};
     ghost use Rattle.xw_feas.specs.Board.{Board as BoardOfPlaces, board_of};
 
@@ -73,6 +76,7 @@ impl<'a> Model for Board<'a> {
 
 #[tactic(auto, using(crate::proofs::BoardLemmas::board_steps))]
 impl<'a> Board<'a> {
+    /// A view of a grid and its lights.
     pub fn new(grid: &'a Grid, lights: &'a Lights) -> Board<'a>
         requires { lights.now ≡ lights_of grid.now }
         ensures { result ≡ board_of grid.now }
@@ -84,6 +88,7 @@ impl<'a> Board<'a> {
         }
     }
 
+    /// The number of cells of the grid.
     pub fn cell_count(&self) -> usize
         ensures open_cells { result ≡ length self.now.open_cells }
         ensures entries { result ≡ length self.now.entries }
@@ -91,6 +96,7 @@ impl<'a> Board<'a> {
         self.squares.len()
     }
 
+    /// The number of lights.
     pub fn light_count(&self) -> usize
         ensures { result ≡ length self.now.lights }
     {
@@ -109,7 +115,7 @@ impl<'a> Board<'a> {
         }
     }
 
-    /// The other light through a cell of a light.
+    /// The other light through cell `place` of a light.
     pub fn crossing(&self, light: usize, place: usize) -> Option<usize>
         requires light { light < length self.now.lights }
         requires place { place < length (light_at self.now light) }
@@ -123,7 +129,7 @@ impl<'a> Board<'a> {
         }
     }
 
-    /// The light across through a cell, and the one down.
+    /// The light across and the light down through a cell.
     pub fn lights_at(&self, cell: usize) -> (Option<usize>, Option<usize>)
         requires { cell < length self.now.open_cells }
         ensures across { IfSome result.0 (Passes self.now cell) }
@@ -134,13 +140,14 @@ impl<'a> Board<'a> {
         (self.lights.across_at(cell), self.lights.down_at(cell))
     }
 
+    /// Whether the cell is open.
     pub fn is_open(&self, cell: usize) -> bool
         ensures { result ≡ is_open_place self.now cell }
     {
         is_open_square(square_at(self.squares, cell))
     }
 
-    /// The letter entered in a cell.
+    /// The letter in a cell.
     pub fn entry(&self, cell: usize) -> Option<Letter>
         ensures entry { result ≡ entry_at self.now cell }
         ensures letter { IfSome result IsLetter }
@@ -148,7 +155,7 @@ impl<'a> Board<'a> {
         letter_in(square_at(self.squares, cell))
     }
 
-    /// The letter of a cell that has one.
+    /// The letter in a cell; A if the cell is empty.
     pub fn letter(&self, cell: usize) -> Letter
         ensures { result ≡ unwrap_or (entry_at self.now cell) 65 }
     {
@@ -159,7 +166,7 @@ impl<'a> Board<'a> {
     }
 }
 
-/// A light that was found, unless it is a given one.
+/// The light that was found, unless it is `light` itself.
 fn other_than(light: usize, found: Option<usize>) -> Option<usize>
     ensures { result ≡ other_than_light light found }
 {
@@ -191,7 +198,7 @@ fn letter_in(square: Option<Square>) -> Option<Letter>
     }
 }
 
-/// The places of the cells of a light that fits in a grid.
+/// The indices of the cells of a light that lies inside the grid.
 #[tactic(auto, using(crate::proofs::BoardLemmas::cells_steps))]
 fn cells_of(grid: &Grid, light: Light) -> Cells
     requires { Fits grid.now light }
@@ -207,7 +214,7 @@ fn cells_of(grid: &Grid, light: Light) -> Cells
     }
 }
 
-/// How far apart the cells of a light in a direction are.
+/// The difference between the indices of two consecutive cells of a light.
 fn stride(grid: &Grid, direction: Direction) -> usize
     ensures stride { result ≡ stride_of grid.now direction }
     ensures small { result ≤ 255 }
@@ -231,7 +238,8 @@ pub fn has_all_entries(board: &Board<'_>, cells: &Cells) -> bool
     true
 }
 
-/// The letters that may be at a cell.
+/// The letters that a cell allows: none if it is not open, the letter in it if it has one, and else
+/// all.
 #[tactic(auto, using(crate::proofs::BoardLemmas::allowed_steps))]
 pub fn allowed(is_open: bool, entry: Option<Letter>) -> LetterSet
     ensures { (letter : ℕ) →

@@ -1,14 +1,14 @@
-//! The cells whose feasible letters an edit changed.
+//! An iterator over the cells whose feasible letters an edit changed.
 ghost use Rattle.std.specs.Prelude.{◌≡◌, slice_index_or};
 ghost use Rattle.std.specs.Iterator.{YieldsFirst, item_count};
 ghost use Rattle.xw_feas.specs.Changes.{changed_sets};
 ghost use Rattle.xw_feas.specs.Changed.{changes_left};
 
-use xw_cells::cell::Cell;
-use xw_cells::grid::Grid;
+use xw_grid::cell::Cell;
+use xw_grid::grid::Grid;
 use xw_letters::letter_set::LetterSet;
 
-/// The open cells whose letters differ, in reading order, each with its letters now.
+/// The open cells whose feasible letters changed, in reading order, each with its new letters.
 #[derive(Drop)]
 pub struct Changed<'a> {
     grid: &'a Grid,
@@ -18,8 +18,8 @@ pub struct Changed<'a> {
 }
 
 impl<'a> Changed<'a> {
-    /// A walk over the cells of a grid after an edit, by a set of letters before and after it for
-    /// each cell in reading order; a set that is not there counts as empty.
+    /// Compares the feasible letters of each cell before and after an edit. The slices are in
+    /// reading order; a missing entry counts as an empty set.
     pub fn new(grid: &'a Grid, before: &'a [LetterSet], after: &'a [LetterSet]) -> Changed<'a>
         ensures { changes_left result ≡ changed_sets grid.now before.now after.now 0 }
     {
@@ -46,7 +46,7 @@ impl<'a> Iterator for Changed<'a> {
             let place = self.place;
             self.place += 1;
             let after = set_at(self.after, place);
-            // most sets are the same, and a cell takes a division to find
+            // Most sets are the same, and finding the cell costs a division.
             if set_at(self.before, place).is_same(after) {
                 continue;
             }
@@ -59,7 +59,7 @@ impl<'a> Iterator for Changed<'a> {
     }
 }
 
-/// The set at a place, empty where there is none.
+/// The set at an index; empty if there is none.
 fn set_at(sets: &[LetterSet], place: usize) -> LetterSet
     ensures { result ≡ slice_index_or sets.now place 0 }
 {

@@ -1,4 +1,4 @@
-//! Edits of the dictionary.
+//! The edits of the dictionary.
 ghost use Rattle.std.specs.Prelude.{◌≡◌, ◌≤◌, length, map, position, take, None, true, IfOk, IfErr, OnOk, OnErr, IsOkUnless, Ok, Err};
 ghost use Rattle.xw_words.specs.Bank.{has_room};
 ghost use Rattle.xw_words.specs.Dictionary.{add_answer, strike_answer, IsNew, IsDictionary};
@@ -12,14 +12,14 @@ use xw_words::WordFault;
 use xw_words::bank::Bank;
 use xw_words::word::{LONGEST, spell};
 
-/// What is true of every dictionary; it does nothing.
+/// Does nothing at run time; it gives the prover the invariant of a dictionary.
 pub fn known_distinct(bank: &Bank)
     ensures { IsDictionary bank.now.words }
 {
     let _ = bank.known(0);
 }
 
-/// Strikes a word of a dictionary, and answers its place.
+/// Strikes a word and returns its index.
 pub fn strike_in(bank: &mut Bank, word: &[u8]) -> Result<usize, WordFault>
     ensures place { IfOk result (λ place. strike_answer bank.old.words word.now ≡ Ok place) }
     ensures ok { OnOk result (strike_word bank.old.words word.now ≡ Ok bank.new.words) }
@@ -42,7 +42,7 @@ pub fn return_in(bank: &mut Bank, word: &[u8]) -> Result<(), WordFault>
     Ok(())
 }
 
-/// Makes room for a word that is not known.
+/// Reserves room for a word that is not known. Returns `Memory` if an allocation fails.
 pub fn reserve_in(bank: &mut Bank, word: &[u8]) -> Result<(), WordFault>
     requires { IsNew (add_answer bank.old.words word.now) }
     ensures words { bank.new.words ≡ bank.old.words }
@@ -53,7 +53,7 @@ pub fn reserve_in(bank: &mut Bank, word: &[u8]) -> Result<(), WordFault>
     bank.reserve(word.len())
 }
 
-/// Adds a word that is not known, in the room that was made for it.
+/// Adds a word that is not known, in reserved room.
 pub fn add_in(bank: &mut Bank, word: &[u8])
     requires new { IsNew (add_answer bank.old.words word.now) }
     requires room { has_room bank.old (length word.now) ≡ true }

@@ -1,4 +1,4 @@
-//! What an engine offers, and runs of edits.
+//! The interface of an engine, and running a list of edits.
 ghost use Rattle.std.specs.Prelude.{◌≡◌, ℕ, map, IfOk, IfErr, OnOk, OnErr};
 ghost use Rattle.std.specs.Borrow.{sem};
 ghost use Rattle.std.specs.Io.BufRead.{Rests};
@@ -14,40 +14,45 @@ ghost use Rattle.xw_feas.specs.Queries.{count_answer, next_answer, AreLetters};
 use crate::changed::Changed;
 use crate::edit::{Edit, Found, Refusal};
 use std::alloc::Global;
-use xw_cells::cell::{Cell, LightName};
-use xw_cells::fault::GridFault;
-use xw_cells::grid::Grid;
+use xw_grid::cell::{Cell, LightName};
+use xw_grid::fault::GridFault;
+use xw_grid::grid::Grid;
 use xw_grid::lights::Lights;
 use xw_letters::letter_set::LetterSet;
 use xw_words::bank::Bank;
 
-/// A grid and a dictionary that are edited, with the feasible words and letters.
+/// An engine: it owns a grid and a dictionary, applies edits to them, and keeps the feasible words
+/// and letters up to date.
 pub trait Feasible: Drop {
     /// The grid and the dictionary.
     ghost state: { Self → State };
 
-    /// What the queries answer.
+    /// The feasible words and letters.
     ghost answers: { Self → Answers };
 
-    /// An engine over a grid and a dictionary; want of memory is the only refusal.
+    /// Creates an engine for a grid and a dictionary. It is refused only if an allocation fails.
     fn open(alloc: Global, grid: Grid, bank: Bank) -> Result<Self, Refusal>
         ensures ok { IfOk result (λ engine. state engine ≡ record { grid = grid; words = bank.words }) }
         ensures err { IfErr result (λ refusal. refusal ≡ Refusal.Grid GridFault.Memory) };
 
-    /// Does an edit, and tells the cells whose feasible letters changed; a refused one changes nothing.
+    /// Applies an edit, and returns the cells whose feasible letters changed. A refused edit
+    /// changes nothing.
     fn edit(&mut self, edit: &Edit<'_>) -> Result<Changed<'_>, Refusal>
         ensures* edited { sem 𝓛 (Rests Self.row self.entry (λ now. IsEdited (state self.old) (answers self.old) (action_of edit.now) result (state now) (answers now))) };
 
-    /// Takes another grid and keeps the dictionary; want of memory is the only refusal, and changes nothing.
+    /// Replaces the grid and keeps the dictionary. It is refused only if an allocation fails, and
+    /// then changes nothing.
     fn regrid(&mut self, grid: Grid) -> Result<(), Refusal>
         ensures ok { OnOk result (state self.new ≡ record { grid = grid; words = (state self.old).words }) }
         ensures err { IfErr result (λ refusal. refusal ≡ Refusal.Grid GridFault.Memory) }
         ensures same { OnErr result (state self.new ≡ state self.old) }
         ensures answers_same { OnErr result (answers self.new ≡ answers self.old) };
 
+    /// The grid.
     fn grid(&self) -> &Grid
         ensures { result.now ≡ (state self.now).grid };
 
+    /// The dictionary.
     fn bank(&self) -> &Bank
         ensures { result.now.words ≡ (state self.now).words };
 
@@ -55,26 +60,27 @@ pub trait Feasible: Drop {
     fn lights(&self) -> &Lights
         ensures { result.now ≡ lights_of (state self.now).grid };
 
-    /// How many feasible words a light has.
+    /// The number of feasible words of a light. Returns `NoLight` if no light has this name.
     fn word_count(&self, name: LightName) -> Result<usize, Refusal>
         ensures { result ≡ count_answer (state self.now) (answers self.now) name };
 
-    /// The first feasible word of a light at a place or later.
+    /// The first feasible word of a light whose index is at least `from`; the entered word of a
+    /// filled light has index 0. Returns `NoLight` if no light has this name.
     fn next_word(&self, name: LightName, from: usize) -> Result<Option<Found>, Refusal>
         ensures { result ≡ next_answer (state self.now) (answers self.now) name from };
 
-    /// The feasible letters of a cell.
+    /// The feasible letters of a cell. Returns `OutOfGrid`, then `OnBlock` if the cell is a block.
     fn letters(&self, cell: Cell) -> Result<LetterSet, Refusal>
         ensures { AreLetters (state self.now) (answers self.now) cell result };
 
-    /// The answers are those of the definition, on the grid and the dictionary as they are.
+    /// The answers are exactly the feasible words and letters of the current grid and dictionary.
     ghost exact: { (engine : Self) → AreAnswers (board_of (state engine).grid) (state engine).words (answers engine) };
 
-    /// The grid is a grid with its lights, and the dictionary a dictionary.
+    /// The grid and the dictionary satisfy their invariants.
     ghost well_formed: { (engine : Self) → IsWellFormed (state engine) };
 }
 
-/// Does each edit in turn, passing over those that are refused, and answers how many were.
+/// Applies the edits in order, skips the refused ones, and returns their number.
 pub fn run<E: Feasible>(engine: &mut E, edits: &[Edit<'_>]) -> u64
     ensures state { IsAfter (E.state engine.old) (map action_of edits.now) result (E.state engine.new) }
     ensures answers { AreAnswers (board_of (E.state engine.new).grid) (E.state engine.new).words (E.answers engine.new) }

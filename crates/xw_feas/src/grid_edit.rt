@@ -1,6 +1,6 @@
-//! Edits of the grid.
+//! The edits of the grid.
 ghost use Rattle.std.specs.Prelude.{◌≡◌, length, true, IfOk, IfErr, OnOk, OnErr, Ok, Err};
-ghost use Rattle.xw_cells.specs.Edit.{toggle_block as block_toggled, toggle_bar as bar_toggled};
+ghost use Rattle.xw_grid.specs.Edit.{toggle_block as block_toggled, toggle_bar as bar_toggled};
 ghost use Rattle.xw_grid.specs.Light.{lights_of};
 ghost use Rattle.xw_grid.specs.EditLaws.{SameShape};
 ghost use Rattle.xw_feas.specs.Shape.{IsGridRefused};
@@ -9,12 +9,12 @@ ghost use Rattle.xw_feas.specs.State.{grid_after, is_of_letters, action_of};
 use crate::edit::{Edit, Refusal};
 use crate::place::place;
 use crate::write::write;
-use xw_cells::cell::{Cell, Side};
-use xw_cells::fault::GridFault;
-use xw_cells::grid::Grid;
+use xw_grid::cell::{Cell, Side};
+use xw_grid::fault::GridFault;
+use xw_grid::grid::Grid;
 use xw_grid::lights::Lights;
 
-/// A grid with one of its blocks toggled.
+/// A copy of the grid with a block toggled.
 pub fn with_block(grid: &Grid, cell: Cell) -> Result<Grid, GridFault>
     ensures ok { IfOk result (λ toggled. block_toggled grid.now cell ≡ Ok toggled) }
     ensures refused { IfErr result (λ fault. IsGridRefused (block_toggled grid.now cell) fault) }
@@ -27,7 +27,7 @@ pub fn with_block(grid: &Grid, cell: Cell) -> Result<Grid, GridFault>
     Ok(toggled)
 }
 
-/// A grid with one of its bars toggled.
+/// A copy of the grid with a bar toggled.
 pub fn with_bar(grid: &Grid, cell: Cell, side: Side) -> Result<Grid, GridFault>
     ensures ok { IfOk result (λ toggled. bar_toggled grid.now cell side ≡ Ok toggled) }
     ensures refused { IfErr result (λ fault. IsGridRefused (bar_toggled grid.now cell side) fault) }
@@ -39,7 +39,7 @@ pub fn with_bar(grid: &Grid, cell: Cell, side: Side) -> Result<Grid, GridFault>
     Ok(toggled)
 }
 
-/// An edit of letters, or of the symmetry, which leaves the lights as they are.
+/// Applies an edit that keeps the lights: one of letters, or of the symmetry.
 pub fn edit_letters(grid: &mut Grid, lights: &Lights, edit: &Edit<'_>) -> Result<(), Refusal>
     requires lights { lights.now ≡ lights_of grid.old }
     requires letters { is_of_letters (action_of edit.now) ≡ true }

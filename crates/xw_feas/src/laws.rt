@@ -1,24 +1,26 @@
-//! What the definitions come to in a setter's words.
+//! Laws that state consequences of the definitions.
 ghost use Rattle.std.specs.Prelude.{◌≡◌, ℕ, List, map, Option, Ok, Err, ◌↔◌};
 ghost use Rattle.xw_words.specs.Dictionary.{Dictionary};
-ghost use Rattle.xw_cells.specs.declared.cell.Cell.{Cell};
+ghost use Rattle.xw_grid.specs.declared.cell.Cell.{Cell};
 ghost use Rattle.xw_feas.specs.declared.edit.Refusal.{Refusal};
 ghost use Rattle.xw_feas.specs.Board.{Board};
 ghost use Rattle.xw_feas.specs.Feasible.{Family, IsSupported};
 ghost use Rattle.xw_feas.specs.State.{State, Action, list_written, after, IsAfter};
 ghost use Rattle.xw_feas.specs.Laws.{together, WantNothing, write_of, IsRefusedInTurn};
 
-/// Supported families together are one.
+/// The union of two supported families is supported.
 pub fn families_join()
     ensures { (board : Board) (dictionary : Dictionary) (one other : Family) → IsSupported board dictionary one → IsSupported board dictionary other → IsSupported board dictionary (together one other) }
 {}
 
-/// A list of edits without `Block`, `Bar` and new words leads to one state, with one count of the refused.
+/// If no edit of a list allocates, that is none is a `Block`, a `Bar` or the addition of a new
+/// word, then the list leads to exactly one state and one number of refused edits.
 pub fn edits_lead_to_one_state()
     ensures { (state one other : State) (actions : List Action) (m n : ℕ) → WantNothing state actions → IsAfter state actions m one → IsAfter state actions n other → (m ≡ n) × (one ≡ other) }
 {}
 
-/// A list of cells is written as they are one after another, where none of them is refused; else it is refused as the first of them that is.
+/// Writing a list of cells has the result of writing the cells one by one, if none is refused. Else
+/// the list is refused with the refusal of the first such cell.
 pub fn cells_are_written_in_turn()
     ensures accepted { (state next : State) (list : List (Cell × Option ℕ)) → (after state (list_written list) ≡ Ok next) ↔ IsAfter state (map write_of list) 0 next }
     ensures refused { (state : State) (list : List (Cell × Option ℕ)) (refusal : Refusal) → after state (list_written list) ≡ Err refusal → IsRefusedInTurn state list refusal }

@@ -1,4 +1,5 @@
-//! The feasible words and letters of a grid and a dictionary.
+//! The definition of the feasible words and letters of a grid and a dictionary, and the interface
+//! of the engines that compute them.
 #![tactic(auto)]
 
 pub mod arrays;
@@ -10,5 +11,10 @@ pub mod feasible;
 pub mod grid_edit;
 pub mod laws;
 mod place;
-pub mod words;
+pub mod word_iter;
 pub mod write;
+
+pub use changed::Changed;
+pub use edit::{Edit, Found, Refusal};
+pub use feasible::{Feasible, run};
+pub use word_iter::{Spelled, WordIter, words};

@@ -1,17 +1,17 @@
-//! Writing a list of cells, each with a letter or with none.
+//! Writing a list of cells, each with a letter or empty.
 ghost use Rattle.std.specs.Prelude.{◌≡◌, ℕ, true, All, Option, IfErr, OnOk, OnErr, Ok, Err, Some, None};
-ghost use Rattle.xw_cells.specs.declared.cell.Cell.{Cell as CellOfGrid};
-ghost use Rattle.xw_cells.specs.Edit.{with_entry};
+ghost use Rattle.xw_grid.specs.declared.cell.Cell.{Cell as CellOfGrid};
+ghost use Rattle.xw_grid.specs.Edit.{with_entry};
 ghost use Rattle.xw_grid.specs.EditLaws.{SameShape};
 ghost use Rattle.xw_feas.specs.Shape.{fault_at};
 ghost use Rattle.xw_feas.specs.State.{write_list};
 
-use xw_cells::cell::Cell;
-use xw_cells::fault::GridFault;
-use xw_cells::grid::Grid;
+use xw_grid::cell::Cell;
+use xw_grid::fault::GridFault;
+use xw_grid::grid::Grid;
 use xw_letters::letter::Letter;
 
-/// Whether a cell takes an entry, or why not.
+/// Whether a letter can be written into the cell, or why not.
 fn judge(grid: &Grid, cell: Cell) -> Result<(), GridFault>
     ensures ok { OnOk result (fault_at grid.now cell ≡ None) }
     ensures refused { IfErr result (λ fault. fault_at grid.now cell ≡ Some fault) }
@@ -25,7 +25,7 @@ fn judge(grid: &Grid, cell: Cell) -> Result<(), GridFault>
     Ok(())
 }
 
-/// Whether each cell of a list takes an entry, or why the first that takes none does not.
+/// Returns the fault of the first cell of the list that cannot be written.
 fn judge_list(grid: &Grid, list: &[(Cell, Option<Letter>)]) -> Result<(), GridFault>
     ensures ok { OnOk result (All (λ (written : CellOfGrid × Option ℕ). fault_at grid.now written.0 ≡ None) list.now) }
     ensures refused { IfErr result (λ fault. write_list list.now grid.now ≡ Err fault) }
@@ -36,7 +36,7 @@ fn judge_list(grid: &Grid, list: &[(Cell, Option<Letter>)]) -> Result<(), GridFa
     Ok(())
 }
 
-/// Enters a letter in a cell that takes one, or empties it.
+/// Writes a letter into a cell that can be written, or empties it.
 fn enter(grid: &mut Grid, cell: Cell, letter: Option<Letter>)
     requires { fault_at grid.old cell ≡ None }
     ensures { grid.new ≡ with_entry grid.old cell letter }
@@ -59,7 +59,7 @@ fn enter_list(grid: &mut Grid, list: &[(Cell, Option<Letter>)])
     }
 }
 
-/// Writes each cell of a list, one after another; none if one of them is refused.
+/// Writes each cell of a list, in order. If one of them is refused, nothing changes.
 pub fn write(grid: &mut Grid, list: &[(Cell, Option<Letter>)]) -> Result<(), GridFault>
     ensures ok { OnOk result (write_list list.now grid.old ≡ Ok grid.new) }
     ensures refused { IfErr result (λ fault. write_list list.now grid.old ≡ Err fault) }

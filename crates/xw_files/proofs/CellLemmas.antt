@@ -1,12 +1,12 @@
--- Loops over the cells of a grid, and over lights.
+-- Loops over the cells of a grid and over lights.
 use Rattle.std.proofs.Common.{◌≡◌, ℕ, zero, suc, ◌+◌, ◌*◌, ◌<◌, ◌≤◌, Bool, true, false, List, [], ◌∷◌, ◌++◌, map, take, drop, length, refl, sym, ap, ◌∙◌, arith}
 use Rattle.std.specs.List.{list_any}
 use Rattle.std.specs.Prelude.{find, Some, None, slice_get}
 use Rattle.std.proofs.lemmas.List.{at_drop_more, at_drop_all, map-append, length-map}
 use Rattle.std.proofs.lemmas.List.FromFn.{get_or-map-range_with_len}
-use Rattle.xw_cells.specs.declared.cell.Cell.{Cell}
-use Rattle.xw_cells.specs.Grid.{Grid, cells, cell_at}
-use Rattle.xw_cells.proofs.GridLemmas.{length-cells, take-cells, all-cells}
+use Rattle.xw_grid.specs.declared.cell.Cell.{Cell}
+use Rattle.xw_grid.specs.Grid.{Grid, cells, cell_at}
+use Rattle.xw_grid.proofs.GridLemmas.{length-cells, take-cells, all-cells}
 
 pub cells-step : {Y : Type 0} (F : List Cell → Y) (grid : Grid) (i : ℕ) → i < grid.width * grid.height → F (drop i (cells grid)) ≡ F (cell_at grid i ∷ drop (i + 1) (cells grid))
 cells-step F grid i h =
@@ -17,7 +17,7 @@ cells-step F grid i h =
 pub cells-end : {Y : Type 0} (F : List Cell → Y) (grid : Grid) (i : ℕ) → grid.width * grid.height ≤ i → F (drop i (cells grid)) ≡ F []
 cells-end F grid i h = at_drop_all F (cells grid) i (omega (arith, length-cells grid))
 
--- the cells from a place on
+-- the cells from an index on
 pub cells_drop : (grid : Grid) (size k : ℕ) (cell : Cell) → size ≡ grid.width * grid.height → k < size → cell ≡ cell_at grid k → drop k (cells grid) ≡ cell ∷ drop (k + 1) (cells grid)
 cells_drop grid size k cell is lt at = cells-step (λ cs. cs) grid k (omega (arith, is)) ∙ ap (λ c. c ∷ drop (k + 1) (cells grid)) (sym at)
 

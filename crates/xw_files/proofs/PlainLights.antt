@@ -1,22 +1,22 @@
--- A grid with no bars has the lights of the grid that its squares make.
+-- A grid without bars has the same lights as the grid built from its squares.
 use Rattle.std.proofs.Common.{◌≡◌, ℕ, zero, suc, ◌+◌, ◌*◌, ◌<◌, Bool, true, false, not, cond, ◌&&◌, ◌||◌, List, [], ◌∷◌, ◌++◌, take, length, get_or, replicate, refl, sym, ap, ◌∙◌, arith}
 use Rattle.std.specs.Prelude.{flat_map, count_by}
 use Rattle.std.specs.List.{list_any, prefix_len}
 use Rattle.std.proofs.lemmas.List.FromFn.{get_or-map-range_with_len}
-use Rattle.xw_cells.specs.declared.cell.Cell.{Cell}
-use Rattle.xw_cells.specs.declared.cell.Square.{Square}
-use Rattle.xw_cells.specs.declared.cell.Side.{Side}
-use Rattle.xw_cells.specs.declared.cell.Side.TheVariants.{Right, Below}
-use Rattle.xw_cells.specs.declared.cell.Direction.{Direction}
-use Rattle.xw_cells.specs.declared.cell.Direction.TheVariants.{Across, Down}
+use Rattle.xw_grid.specs.declared.cell.Cell.{Cell}
+use Rattle.xw_grid.specs.declared.cell.Square.{Square}
+use Rattle.xw_grid.specs.declared.cell.Side.{Side}
+use Rattle.xw_grid.specs.declared.cell.Side.TheVariants.{Right, Below}
+use Rattle.xw_grid.specs.declared.cell.Direction.{Direction}
+use Rattle.xw_grid.specs.declared.cell.Direction.TheVariants.{Across, Down}
 use Rattle.xw_grid.specs.declared.lights.Light.{Light}
-use Rattle.xw_cells.specs.Grid.{Grid, cells, cell_at, index_of, is_inside, is_edge, is_barred, is_open, beyond, bars}
-use Rattle.xw_cells.specs.Edit.{grid_of}
+use Rattle.xw_grid.specs.Grid.{Grid, cells, cell_at, index_of, is_inside, is_edge, is_barred, is_open, beyond, bars}
+use Rattle.xw_grid.specs.Edit.{grid_of}
 use Rattle.xw_grid.specs.Light.{next, previous, side_towards, is_joined, line, extent, lights_of}
-use Rattle.xw_cells.proofs.GridLemmas.{length-cells, index_of-lt, cell_at-index_of}
+use Rattle.xw_grid.proofs.GridLemmas.{length-cells, index_of-lt, cell_at-index_of}
 use Rattle.xw_files.specs.Finished.{has_bar, is_barred_cell}
 
--- the grid of the same squares with no bar and no symmetry
+-- the grid with the same squares, without bars and symmetry
 abbrev pub plain_of : Grid → Grid
 plain_of grid = grid_of grid.width grid.height grid.squares
 
@@ -58,7 +58,7 @@ none-pass : (p : Cell → Bool) → ((c : Cell) → p c ≡ false) → (cs : Lis
 none-pass p fails [] = refl
 none-pass p fails (c ∷ cs) = rw (fails c) (none-pass p fails cs)
 
--- a grid that is made of its squares has no bar
+-- a grid built from squares has no bar
 pub no_bar_made : (width height : ℕ) (squares : List Square) → has_bar (grid_of width height squares) ≡ false
 no_bar_made width height squares =
     let grid : Grid = grid_of width height squares in
@@ -68,7 +68,7 @@ joined-same : (grid : Grid) → ((cell : Cell) (side : Side) → is_barred grid 
 joined-same grid none direction cell =
     ap (λ b. (is_open grid cell && is_open grid (next direction cell)) && not b) (none cell (side_towards direction) ∙ sym (plain_bar grid cell (side_towards direction)))
 
--- the lights by which cells are joined
+-- lights, given by which cells are joined
 abbrev begins_by : (Direction → Cell → Bool) → Direction → Cell → Bool
 begins_by joined direction cell = joined direction cell && not (joined direction (previous direction cell))
 

@@ -17,5 +17,13 @@ pub mod CircleLemmas
 pub mod LightClues
 pub mod SumsAndSquares
 pub mod Related
+pub mod RebusLemmas
 pub mod Refused
 pub mod Again
+pub mod Ranks
+pub mod HeaderFaults
+pub mod TextFaults
+pub mod SumFaults
+pub mod CellFaults
+pub mod FirstFaults
+pub mod Examples

@@ -19,3 +19,8 @@ pub mod Whole
 pub mod Writer
 pub mod Takes
 pub mod Found
+pub mod FaultOrder
+pub mod FaultSteps
+pub mod FaultRows
+pub mod FirstFault
+pub mod OneFault

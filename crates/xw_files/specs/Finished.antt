@@ -1,11 +1,11 @@
--- What a puzzle must be to be written, without a bar and without an empty cell, and the byte of a square.
+-- What both writers require (no bar, no empty cell), and the byte of a square.
 use Rattle.std.specs.Prelude.{ℕ, Bool, true, false, ◌||◌, find, Option, Some, None}
 use Rattle.std.specs.List.{list_any}
-use Rattle.xw_cells.specs.declared.cell.Cell.{Cell}
-use Rattle.xw_cells.specs.declared.cell.Square.{Square}
-use Rattle.xw_cells.specs.declared.cell.Square.TheVariants.{Block, Open}
-use Rattle.xw_cells.specs.declared.cell.Side.TheVariants.{Right, Below}
-use Rattle.xw_cells.specs.Grid.{Grid, cells, is_barred, square_at}
+use Rattle.xw_grid.specs.declared.cell.Cell.{Cell}
+use Rattle.xw_grid.specs.declared.cell.Square.{Square}
+use Rattle.xw_grid.specs.declared.cell.Square.TheVariants.{Block, Open}
+use Rattle.xw_grid.specs.declared.cell.Side.TheVariants.{Right, Below}
+use Rattle.xw_grid.specs.Grid.{Grid, cells, is_barred, square_at}
 
 abbrev pub is_barred_cell : Grid → Cell → Bool
 is_barred_cell grid cell = is_barred grid cell Right || is_barred grid cell Below
@@ -26,7 +26,7 @@ is_empty_cell grid cell = is_empty_square (square_at grid cell)
 abbrev pub empty_cell : Grid → Option Cell
 empty_cell grid = find (is_empty_cell grid) (cells grid)
 
--- a square in the solution of a `.puz` file and in a row of a text
+-- the byte of a square, in the solution of a `.puz` file and in a row of a text file
 abbrev pub square_byte : Square → ℕ
 square_byte Block = 46
 square_byte (Open None) = 45

@@ -1,5 +1,6 @@
 pub mod Part
 pub mod Finished
 pub mod Steps
+pub mod Order
 pub mod Puz
 pub mod Text

@@ -2,8 +2,10 @@ pub mod Reading
 pub mod Spelling
 pub mod Sums
 pub mod Sections
+pub mod Rebus
 pub mod Board
 pub mod Relation
 pub mod Writing
 pub mod View
+pub mod Faults
 pub mod Laws

@@ -1,4 +1,4 @@
--- Text files.
+-- The text format.
 pub mod Lines
 pub mod Tag
 pub mod Starts
@@ -6,3 +6,4 @@ pub mod Shape
 pub mod Written
 pub mod Relation
 pub mod Place
+pub mod Faults

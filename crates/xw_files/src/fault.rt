@@ -1,16 +1,16 @@
-//! Why a file is not read, and why a puzzle is not written.
+//! Faults of reading and writing puzzle files.
 use std::alloc::{AllocError, AllocFailed};
-use xw_cells::cell::Cell;
-use xw_cells::fault::GridFault;
+use xw_grid::cell::Cell;
+use xw_grid::fault::GridFault;
 
-/// A piece of a `.puz` file of a length that is known beforehand.
+/// A part of a `.puz` file whose length is known before it is read.
 #[derive(Clone, Copy, Debug, PartialEq, Eq)]
 pub enum Piece {
     Header,
     Boards,
 }
 
-/// A text of a puzzle; a clue by the place of its light in light order, from 1.
+/// A text of a puzzle. A clue is given by the position of its light in light order, from 1.
 #[derive(Clone, Copy, Debug, PartialEq, Eq)]
 pub enum TextName {
     Title,
@@ -20,7 +20,7 @@ pub enum TextName {
     Notes,
 }
 
-/// A sum of a `.puz` file; a masked byte by its place, from 1 to 8.
+/// A checksum of a `.puz` file. A masked byte is given by its position, from 1 to 8.
 #[derive(Clone, Copy, Debug, PartialEq, Eq)]
 pub enum SumName {
     Cib,
@@ -28,7 +28,7 @@ pub enum SumName {
     Masked(usize),
 }
 
-/// A line that opens a part of a text file.
+/// A tag line of a text file.
 #[derive(Clone, Copy, Debug, PartialEq, Eq)]
 pub enum Tag {
     Title,
@@ -41,35 +41,35 @@ pub enum Tag {
     Notepad,
 }
 
-/// Why a file is not read: the first fault in the order of its format, or want of memory.
+/// Why a file cannot be read: the first fault in the order of its format, or `Memory` if an allocation fails.
 #[derive(Clone, Copy, Debug, PartialEq, Eq)]
 pub enum ReadFault {
-    /// The bytes end within this piece.
+    /// The bytes end before the end of this part.
     Short(Piece),
     Magic,
     Version,
     Scrambled,
     Size,
-    /// No NUL ends this text.
+    /// This text has no terminating NUL.
     NoNul(TextName),
-    /// This sum is not the one of the bytes.
+    /// This checksum does not match the bytes.
     BadSum(SumName),
-    /// This cell has a byte that stands for nothing.
+    /// This cell has a byte that is not a square.
     BadCell(Cell),
-    /// There are more clues than lights, or fewer.
+    /// The number of clues differs from the number of lights.
     ClueCount,
     Memory,
     Header,
-    /// This tag is due.
+    /// This tag is missing.
     Tag(Tag),
     SizeLine,
-    /// This row, from 1, has no line of its width, or one that begins with `<`.
+    /// This row, from 1, has no line, a line of another length than the width, or a tag line.
     GridLine(u32),
     AcrossCount,
     DownCount,
-    /// The byte at this offset, from 0, is NUL.
+    /// The file has a NUL at this offset, from 0.
     NulByte(usize),
-    /// The section of circles has another length than the board.
+    /// The length of the GEXT section differs from the number of cells.
     GextSize,
     GextSum,
 }
@@ -96,7 +96,7 @@ impl<T: Drop> From<AllocFailed<T>> for ReadFault {
     }
 }
 
-/// What makes the parts of a puzzle fails by memory alone, once their sizes are tested.
+/// After the size tests, building the parts of a puzzle fails only if an allocation fails.
 impl From<GridFault> for ReadFault {
     ghost use Rattle.std.specs.Prelude.{◌≡◌};
     ghost use Rattle.xw_files.specs.declared.fault.ReadFault.TheVariants.{Memory};
@@ -108,16 +108,16 @@ impl From<GridFault> for ReadFault {
     }
 }
 
-/// Why a puzzle is not written: the first that holds, or want of memory.
+/// Why a puzzle cannot be written: the first fault that applies, or `Memory` if an allocation fails.
 #[derive(Clone, Copy, Debug, PartialEq, Eq)]
 pub enum WriteFault {
     Barred,
     /// This cell is empty.
     NotFilled(Cell),
-    /// This text cannot be spelled.
+    /// The format cannot hold this text.
     Field(TextName),
     Memory,
-    /// This open cell is circled, which a text file cannot hold.
+    /// This open cell is circled, and the text format has no circles.
     Circled(Cell),
 }
 
@@ -143,7 +143,7 @@ impl<T: Drop> From<AllocFailed<T>> for WriteFault {
     }
 }
 
-/// What makes the parts of a file fails by memory alone.
+/// Building the parts of a file fails only if an allocation fails.
 impl From<GridFault> for WriteFault {
     ghost use Rattle.std.specs.Prelude.{◌≡◌};
     ghost use Rattle.xw_files.specs.declared.fault.WriteFault.TheVariants.{Memory};

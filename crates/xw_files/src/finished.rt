@@ -1,15 +1,15 @@
-//! What a puzzle must be to be written, and what its squares and circles are in a file; none of it takes memory.
+//! What both writers test and write: bars, empty cells, circles and square bytes. Nothing here allocates.
 ghost use Rattle.std.specs.Prelude.{◌≡◌, find};
 ghost use Rattle.std.specs.List.{list_any};
-ghost use Rattle.xw_cells.specs.Grid.{cells};
+ghost use Rattle.xw_grid.specs.Grid.{cells};
 ghost use Rattle.xw_files.specs.Part.{is_circled_open};
 ghost use Rattle.xw_files.specs.Finished.{is_barred_cell, has_bar, is_empty_cell, empty_cell, square_byte};
 
-use xw_cells::cell::{Cell, Side, Square};
-use xw_cells::grid::Grid;
+use xw_grid::cell::{Cell, Side, Square};
 use xw_grid::circles::Circles;
+use xw_grid::grid::Grid;
 
-/// Whether a bar is in a grid.
+/// Returns whether the grid has a bar.
 pub(crate) fn has_bar(grid: &Grid) -> bool
     ensures { result ≡ has_bar grid.now }
 {
@@ -27,7 +27,7 @@ fn is_barred(grid: &Grid, cell: Cell) -> bool
     grid.is_barred(cell, Side::Right) || grid.is_barred(cell, Side::Below)
 }
 
-/// The first empty cell in reading order.
+/// Returns the first empty cell in reading order.
 pub(crate) fn empty_cell(grid: &Grid) -> Option<Cell>
     ensures { result ≡ empty_cell grid.now }
 {
@@ -46,7 +46,7 @@ fn is_empty(grid: &Grid, cell: Cell) -> bool
     grid.is_open(cell) && grid.entry(cell).is_none()
 }
 
-/// Whether a cell is open and circled.
+/// Returns whether a cell is open and circled.
 pub(crate) fn is_circled(grid: &Grid, circles: &Circles, cell: Cell) -> bool
     ensures { result ≡ is_circled_open grid.now circles.now cell }
 {

@@ -1,18 +1,18 @@
-//! Which format a file is of.
+//! Tells the two file formats apart.
 ghost use Rattle.std.specs.Prelude.{◌≡◌, ◌↔◌, take, drop};
 ghost use Rattle.xw_files.specs.Puz.Reading.{magic};
 ghost use Rattle.xw_files.specs.declared.kind.Kind.TheVariants as kinds;
 
 use crate::puz;
 
-/// A format of puzzle files.
+/// A puzzle file format.
 #[derive(Clone, Copy, Debug, PartialEq, Eq)]
 pub enum Kind {
     Puz,
     Text,
 }
 
-/// The format of a file: `.puz` where its magic stands after two bytes, text where it does not.
+/// Returns the format of a file: `Puz` if it has the `.puz` magic at offset 2, and `Text` otherwise.
 pub fn kind_of(bytes: &[u8]) -> Kind
     ensures { (result ≡ kinds.Puz) ↔ (take 12 (drop 2 bytes.now) ≡ magic) }
 {

@@ -1,4 +1,4 @@
-//! Puzzle files, `.puz` and text: read into puzzles, and written from them.
+//! Reads and writes puzzle files in two formats: `.puz` and text.
 #![tactic(auto)]
 
 pub mod fault;
@@ -7,7 +7,10 @@ pub mod kind;
 pub mod puz;
 pub mod text;
 
+pub use fault::{ReadFault, WriteFault};
 pub use kind::{Kind, kind_of};
-pub use puz::{grid_of_puz, read_puz, write_puz};
-pub use text::{TextPlace, read_text, text_has_one_part, text_place, write_text};
+pub use puz::{grid_of_puz, has_rebus, read_puz, write_puz};
+pub use text::{
+    TextPlace, read_text, text_has_one_first_fault, text_has_one_part, text_place, write_text,
+};
 pub use xw_grid::puzzle::{Puzzle, Texts};

@@ -1,10 +1,11 @@
-//! The `.puz` format.
+//! The `.puz` format: reading, writing, and its laws.
 mod board;
 mod circles;
 mod fields;
 mod header;
 pub mod laws;
 mod read;
+mod rebus;
 mod refusal;
 mod sections;
 mod spell;
@@ -15,4 +16,5 @@ mod write;
 pub use board::grid_of_puz;
 pub(crate) use header::has_magic;
 pub use read::read_puz;
+pub use rebus::has_rebus;
 pub use write::write_puz;

@@ -1,4 +1,4 @@
-//! Text files: read into puzzles, and written from them.
+//! The text format: reading, writing, and the line of a fault.
 mod judging;
 mod lines;
 pub mod place;
@@ -7,5 +7,5 @@ mod tag;
 mod writing;
 
 pub use place::{TextPlace, text_place};
-pub use reading::{read_text, text_has_one_part};
+pub use reading::{read_text, text_has_one_first_fault, text_has_one_part};
 pub use writing::write_text;

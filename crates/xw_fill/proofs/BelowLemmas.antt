@@ -1,4 +1,4 @@
--- Lemmas on tests of each number below another, and on lists that a test looks through.
+-- Lemmas on tests of numbers below a bound, and on searches through lists.
 use Rattle.std.proofs.Common.{◌≡◌, ℕ, zero, suc, ◌+◌, ◌<◌, length, get_or, Bool, true, false, cond, List, [], ◌∷◌, ◌++◌, map, Option, Some, None, refl, sym, ◌∙◌, ap, subst, arith, inl, inr, add-one}
 use Rattle.std.specs.Prelude.{filter, Contains, ◌⊎◌, is_some}
 use Rattle.std.specs.List.{list_any, list_all}
@@ -46,7 +46,7 @@ all_below-at test (suc n) k below h =
       | inr ne ↦ all_below-at test n k (omega arith) parts.0
     ]
 
--- the value is in the list
+-- the value is a member of the list
 abbrev pub Among : {X : Type 0} → X → List X → Type 0
 Among x [] = ⊥
 Among x (y ∷ ys) = (y ≡ x) ⊎ Among x ys
@@ -114,7 +114,7 @@ Among-map f x [] h = absurd h
 Among-map f x (y ∷ ys) (inl e) = inl (ap f e)
 Among-map f x (y ∷ ys) (inr h) = inr (Among-map f x ys h)
 
--- what a filter leaves is a part
+-- a filtered list is a sublist
 pub any_part-from : {X : Type 0} (test : List X → Bool) (keep : X → Bool) (xs : List X) → test (filter keep xs) ≡ true → any_part test xs ≡ true
 any_part-from test keep [] h = h
 any_part-from {X} test keep (x ∷ xs) h = split (λ g. any_part-from (λ ys. test (x ∷ ys)) keep xs g) (λ g. any_part-from test keep xs g) (keep x) h where
@@ -168,7 +168,7 @@ first_below-some test (suc n) k h = split (first_below-some test n k) (first_bel
   split before None e false here g = cc
   split before (Some x) e b here g = let found = before (e ∙ g) in (omega (arith, found.0), found.1)
 
--- some number passes where there is a first
+-- some number passes if and only if there is a first one
 pub any_below-first : (test : ℕ → Bool) (n : ℕ) → any_below test n ≡ is_some (first_below test n)
 any_below-first test n = split (first_below test n) refl where
   split : (o : Option ℕ) → first_below test n ≡ o → any_below test n ≡ is_some o
@@ -192,7 +192,7 @@ last_below-none test (suc n) h k below = split (last_below-none test n) (test n)
   split before true here g = cc
   split before false here g = elim (cases_eq k n) [ inl same ↦ ap test same ∙ here | inr ne ↦ before g k (omega arith) ]
 
--- the first place that passes
+-- the first index that passes
 pub position-here : {X : Type 0} (p : X → Bool) (xs : List X) (i : ℕ) (d : X) → i < length xs → ((k : ℕ) → k < i → p (get_or xs k d) ≡ false) → p (get_or xs i d) ≡ true → position p xs ≡ Some i
 position-here p xs i d below before here =
     let at : position_or_len p xs ≡ i = position_or_len_is p xs i d (omega arith) before (λ under. here) in

@@ -1,4 +1,4 @@
--- The feasible letters that are looked for are those of the definition.
+-- The computed feasible letters are those of the definition of feasibility.
 use Rattle.std.proofs.Common.{◌≡◌, ℕ, true, ◌∙◌, length}
 use Rattle.std.specs.List.{list_all}
 use Rattle.std.proofs.lemmas.Bool.{and_parts, and_from}
@@ -32,7 +32,7 @@ answers_letter-is state answers exact cell letter =
     (λ h. ∥∥₁_elim ((exact.letters cell letter).0 h) (Bool-set _ _) (λ feasible. is_feasible_letter-from state cell letter feasible.0 feasible.1 feasible.2))
     (λ h. (exact.letters cell letter).1 ∣ is_feasible_letter-gives state cell letter h ∣₁)
 
--- the letters that an engine answers
+-- the letters that an engine answers are the computed ones
 pub answered_letters : (state : Position) (answers : Answers) → AreAnswers state.board state.words answers → (cell : ℕ) → letters_of answers cell ≡ feasible_letters state cell
 unfolding feasible_letters
 answered_letters state answers exact cell = exact.letters_in_order cell ∙ filter-same (answers_letter answers cell) (is_feasible_letter state cell) (answers_letter-is state answers exact cell) alphabet

@@ -1,4 +1,4 @@
--- The feasible words that are looked for are those of the definition.
+-- The computed feasible words are those of the definition of feasibility.
 use Rattle.std.proofs.Common.{◌≡◌, ℕ, zero, suc, ◌<◌, Bool, true, false, not, ◌||◌, List, [], ◌∷◌, map, length, refl, sym, ◌∙◌, ap, subst, arith, inl, inr}
 use Rattle.std.specs.Prelude.{filter, Contains, ◌==◌, slice_index, bytes_eq}
 use Rattle.std.specs.List.{list_any, list_all}
@@ -23,11 +23,11 @@ same_words a b h = (bytes_eq-Decides a b).0 h
 equal_words : (a b : List ℕ) → a ≡ b → bytes_eq a b ≡ true
 equal_words a b e = (bytes_eq-Decides a b).1 e
 
--- the family of some pairs and the letters that they leave
+-- the family of some pairs, and of the letters that they leave
 abbrev pub family_of : Board → List Pair → Family
 family_of board pairs = record { words = λ light word. list_any (is_pair light word) pairs; letters = leaves_letter board pairs }
 
--- where each of them is kept, it is supported
+-- if every pair is kept, the family is supported
 pub family_is_supported : (board : Board) (dictionary : Dictionary) (pairs : List Pair) → list_all (is_kept board dictionary pairs) pairs ≡ true → IsSupported board dictionary (family_of board pairs)
 family_is_supported board dictionary pairs all = record {
   words_are_base = λ light word h. (kept_pair light word h).0;
@@ -60,7 +60,7 @@ family_is_supported board dictionary pairs all = record {
       let is = and_parts (found.0.0 == light) (slice_index found.0.1 k == letter) found.2 in
       (found.0.1, list_any-from (is_pair light found.0.1) pairs found.0 found.1 (and_from _ _ is.0 (equal_words found.0.1 found.0.1 refl)), eqb-true (slice_index found.0.1 k) letter is.1)
 
--- each base word is among the pairs
+-- every base word of a light is among the pairs
 base_pairs-among : (board : Board) (dictionary : Dictionary) (n light : ℕ) (word : List ℕ) → light < n → Contains (base_words_at board dictionary light) word → Among {X = Pair} (light, word) (base_pairs board dictionary n)
 base_pairs-among board dictionary zero light word below base = absurd (omega arith)
 base_pairs-among board dictionary (suc n) light word below base =
@@ -69,7 +69,7 @@ base_pairs-among board dictionary (suc n) light word below base =
       | inr ne ↦ Among-append_left (light, word) (base_pairs board dictionary n) _ (base_pairs-among board dictionary n light word (omega arith) base)
     ]
 
--- a base word is one of a light of the board
+-- only lights of the board have base words
 base_in_grid : (board : Board) (dictionary : Dictionary) (light : ℕ) (word : List ℕ) → Contains (base_words_at board dictionary light) word → light < length board.lights
 base_in_grid board dictionary light word (k, below, at) =
     elim (cases_lt light (length board.lights)) [
@@ -77,7 +77,7 @@ base_in_grid board dictionary light word (k, below, at) =
       | inr past ↦ absurd (let none : length (base_words_at board dictionary light) ≡ 0 = ap length (get_or_past (map (base_words board dictionary) board.lights) light [] (omega (arith, length-map board.lights (base_words board dictionary)))) in omega arith)
     ]
 
--- the pairs of a supported family
+-- the pairs of a family
 abbrev pub pairs_of : Board → Dictionary → Family → List Pair
 pairs_of board dictionary family = filter (λ (pair : Pair). family.words pair.0 pair.1) (base_pairs board dictionary (length board.lights))
 
@@ -120,7 +120,7 @@ is_feasible_word-from state light word family supported h =
     (and_from _ _ (family_is_kept state.board state.words family supported)
     (list_any-from (is_pair light word) (pairs_of state.board state.words family) (light, word) (pair_of_family state.board state.words family supported light word h) (and_from _ _ (eq-eqb light light refl) (equal_words word word refl))))
 
--- two tests that pass together are one
+-- two tests are equal if each implies the other
 pub same_tests : (a b : Bool) → (a ≡ true → b ≡ true) → (b ≡ true → a ≡ true) → a ≡ b
 same_tests true b f g = sym (f refl)
 same_tests false true f g = g refl
@@ -136,12 +136,12 @@ pub filter-same : {X : Type 0} (p q : X → Bool) → ((x : X) → p x ≡ q x) 
 filter-same p q same [] = refl
 filter-same p q same (x ∷ xs) = rw (same x, filter-same p q same xs) refl
 
--- the words that an engine answers
+-- the words that an engine answers are the computed ones
 pub answered_words : (state : Position) (answers : Answers) → AreAnswers state.board state.words answers → (light : ℕ) → words_of answers light ≡ feasible_words state light
 unfolding feasible_words
 answered_words state answers exact light = exact.words_in_order light ∙ filter-same (answers_word answers light) (is_feasible_word state light) (answers_word-is state answers exact light) (base_words_at state.board state.words light)
 
--- a word is among them where a supported family has it
+-- the computed words are the base words that some supported family has
 pub feasible-gives : (state : Position) (light : ℕ) (word : List ℕ) → Among word (feasible_words state light) → Among word (base_words_at state.board state.words light) × (is_feasible_word state light word ≡ true)
 unfolding feasible_words
 feasible-gives state light word among = Among-filtered (is_feasible_word state light) (base_words_at state.board state.words light) word among
@@ -151,7 +151,7 @@ unfolding feasible_words
 feasible-from state light word family supported h =
     Among-filter (is_feasible_word state light) (base_words_at state.board state.words light) word (Among-contained word (base_words_at state.board state.words light) (supported.words_are_base light word h)) (is_feasible_word-from state light word family supported h)
 
--- a state has one list of answers
+-- all lists of answers of one state are equal
 answers_letter-same : (state : Position) (answers others : Answers) → AreAnswers state.board state.words answers → AreAnswers state.board state.words others → (cell letter : ℕ) → answers_letter answers cell letter ≡ answers_letter others cell letter
 answers_letter-same state answers others exact exact' cell letter =
     same_tests _ _

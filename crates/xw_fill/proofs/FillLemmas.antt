@@ -1,4 +1,4 @@
--- A fill is there exactly where one is found, and the end of the search is one.
+-- The search finds a fill exactly if one exists, and it ends at one.
 use Rattle.std.proofs.Common.{◌≡◌, ℕ, zero, suc, ◌<◌, ◌≤◌, Bool, true, false, cond, not, ◌&&◌, ◌||◌, List, [], ◌∷◌, map, length, get_or, Option, Some, None, refl, sym, ◌∙◌, ap, subst, arith, inl, inr}
 use Rattle.std.specs.Prelude.{filter, Contains, ◌==◌, nat_lt, is_none, bytes_eq}
 use Rattle.std.specs.List.{list_any}
@@ -21,7 +21,7 @@ use Rattle.xw_fill.proofs.FeasibleWordsLemmas.{feasible-gives, feasible-from, is
 use Rattle.xw_fill.proofs.PlacingLemmas.{entered-at, empty-at, length-spelled, spelled-at, spelled-same, spelled-is, agrees-length, agrees-at, agrees-from, allowed, allows-from, cell_in, entries_with-other, length-entries_with}
 use Rattle.xw_fill.proofs.SearchLemmas.{chosen-Some, chosen-None, chosen-counted, alive-distinct, alive-from, open_base, open_feasible, placed-laid, placed-kept, placed-at, placed-entered, placed-fewer}
 
--- ---- Every fill is a supported family.
+-- ---- Every fill gives a supported family.
 
 abbrev is_letter : Option ℕ → ℕ → Bool
 is_letter None letter = false
@@ -43,7 +43,7 @@ family_of_fill position entries = record {
   letters = λ cell letter. is_open position.board cell && is_letter (entry (with_entries position.board entries) cell) letter;
 }
 
--- what a light that was wholly entered spells stays
+-- a light that was wholly entered spells the same in the fill
 pub fill-spells : (position : Position) (entries : List (Option ℕ)) → IsFill position entries → (light : ℕ) → is_entered position light ≡ true → spelled (with_entries position.board entries) (light_at position.board light) ≡ spelling position light
 fill-spells position entries fill light entered =
     spelled-same (with_entries position.board entries) position.board (light_at position.board light) (λ k below.
@@ -55,7 +55,7 @@ fill-at position entries fill light k in_grid below =
     let found = entered-at (with_entries position.board entries) (light_at position.board light) (fill.entered light in_grid) k below in
     found.1 ∙ ap Some (sym (spelled-at (with_entries position.board entries) (light_at position.board light) k found.0 below found.1))
 
--- it agrees with what is entered
+-- the word of a light in the fill agrees with the light's entries
 fill-agrees : (position : Position) (entries : List (Option ℕ)) → IsFill position entries → (light : ℕ) → light < light_count position → agrees position.board (light_at position.board light) (spelled (with_entries position.board entries) (light_at position.board light)) ≡ true
 fill-agrees position entries fill light in_grid =
     agrees-from position.board (light_at position.board light) (spelled (with_entries position.board entries) (light_at position.board light)) (length-spelled (with_entries position.board entries) (light_at position.board light)) (λ k below.
@@ -108,12 +108,12 @@ fill_is_supported position entries laid fill = record {
       );
 }
 
--- so each of its words is feasible, and no fill is lost
+-- every word of a fill is feasible, so the search misses no fill
 pub fill_is_feasible : (position : Position) (entries : List (Option ℕ)) → IsShaped position.board → IsFill position entries → (light : ℕ) → light < light_count position → Among (spelled (with_entries position.board entries) (light_at position.board light)) (feasible_words position light)
 fill_is_feasible position entries laid fill light in_grid =
     feasible-from position light _ (family_of_fill position entries) (fill_is_supported position entries laid fill) (and_from _ _ (lt-ltb light (light_count position) in_grid) (same_as_itself (spelled (with_entries position.board entries) (light_at position.board light))))
 
--- ---- Where there is a fill, one is found.
+-- ---- If a fill exists, one is found.
 
 has_words : (position : Position) (light : ℕ) (word : List ℕ) → Among word (feasible_words position light) → lacks_words position light ≡ false
 has_words position light word among =
@@ -127,7 +127,7 @@ fill-alive position entries laid fill =
     (λ other light below in_grid entered entered_other same. fill.distinct other light below in_grid
     (fill-spells position entries fill other entered_other ∙ sym same ∙ sym (fill-spells position entries fill light entered)))
 
--- it stays a fill when one of its words is placed
+-- a fill is still a fill after one of its words is placed
 fill-placed : (position : Position) (entries : List (Option ℕ)) → IsShaped position.board → IsFill position entries → (light : ℕ) → light < light_count position → IsFill (placed position light (spelled (with_entries position.board entries) (light_at position.board light))) entries
 fill-placed position entries laid fill light in_grid = record {
   letters = fill.letters;
@@ -169,7 +169,7 @@ fill_is_found (suc fuel) position entries laid enough fill = and_from _ _ (ap no
 
 -- ---- What is found is a fill.
 
--- entries to which placements have led
+-- the entries after some placements
 pub record IsReached (start : Position) (entries : List (Option ℕ)) : Type 0 where
   pub long : length entries ≡ length start.board.entries
   pub letters : HasLetterEntries (with_entries start.board entries)
@@ -193,7 +193,7 @@ reached-laid start entries laid reached = record {
   cross_once = laid.cross_once;
 }
 
--- a light that a feasible word across completes spells an active word
+-- a light that is completed by a feasible crossing word spells an active word
 crossing_spells : (position : Position) (light other : ℕ) (word : List ℕ) → IsShaped position.board → (family : Family) → IsSupported position.board position.words family → family.words light word ≡ true → length word ≡ length (light_at position.board light) → other < light_count position → (light ≡ other → ⊥) → is_entered position other ≡ false → is_entered (placed position light word) other ≡ true → IsActive position.words (spelling (placed position light word) other)
 crossing_spells position light other word laid family supported has long in_grid apart not_entered entered =
     let cells = light_at position.board light in
@@ -255,7 +255,7 @@ reached-placed start entries laid reached light word in_grid not_entered among =
       ];
     }
 
--- a position that is not dead, with all lights wholly entered
+-- a position that is not dead and has every light wholly entered is a fill
 pub reached-fill : (start : Position) (entries : List (Option ℕ)) → IsReached start entries → is_dead (holding start entries) ≡ false → chosen (holding start entries) ≡ None → IsFill start entries
 reached-fill start entries reached alive none = record {
   letters = reached.letters;
@@ -274,7 +274,7 @@ end_of-first found end position (word ∷ words) h = split (λ g. end_of-first f
   split later true e g = (word, inl refl, e, refl)
   split later false e g = let further = later g in (further.0, inr further.1, further.2, further.3)
 
--- the end is the start with a fill in it
+-- the end is the start with the entries of a fill
 abbrev pub EndsIn : Position → Position → Type 0
 EndsIn start position = (entries : List (Option ℕ)) × (position ≡ holding start entries) × IsFill start entries
 

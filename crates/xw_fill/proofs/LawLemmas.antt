@@ -1,4 +1,5 @@
--- The search does not depend on the bound on placements, the chosen light is the first with the fewest words, and an answer is the only one.
+-- The search does not depend on the bound on placements, the chosen light is the first with the fewest words, and the
+-- answer is unique.
 use Rattle.std.proofs.Common.{◌≡◌, ℕ, zero, suc, ◌+◌, ◌-◌, ◌<◌, ◌≤◌, Bool, true, false, cond, not, ◌&&◌, List, [], ◌∷◌, length, Option, Some, None, refl, sym, ◌∙◌, ap, subst, arith, inl, inr}
 use Rattle.std.specs.Prelude.{nat_lt}
 use Rattle.std.specs.List.{list_any}
@@ -25,7 +26,7 @@ end_of-same : (f g : List ℕ → Bool) (d e : List ℕ → Position) (position 
 end_of-same f g d e position [] same = refl
 end_of-same f g d e position (word ∷ words) same = let here = same word (inl refl) in rw (here.0, here.1, end_of-same f g d e position words (λ w among. same w (inr among))) refl
 
--- the same is found within two bounds
+-- two bounds give the same result
 pub record AreSame (position : Position) (m n : ℕ) : Type 0 where
   pub found_same : found_in m position ≡ found_in n position
   pub due_same : due_in m position ≡ due_in n position
@@ -37,7 +38,7 @@ AreSame-refl position m n e = record { found_same = ap (λ k. found_in k positio
 AreSame-then : (position : Position) (k m n : ℕ) → AreSame position k m → AreSame position m n → AreSame position k n
 AreSame-then position k m n a b = record { found_same = a.found_same ∙ b.found_same; due_same = a.due_same ∙ b.due_same; end_same = a.end_same ∙ b.end_same }
 
--- what is found by the positions after one placement
+-- two bounds give the same result at every position after one placement
 abbrev AfterOne : Position → (Position → ℕ) → (Position → ℕ) → Type 0
 AfterOne position m n = (light : ℕ) → chosen position ≡ Some light → (word : List ℕ) → Among word (feasible_words position light) → AreSame (placed position light word) (m (placed position light word)) (n (placed position light word))
 
@@ -49,7 +50,7 @@ found_by-same position m n same (Some light) e = (
   end_of-same _ _ _ _ position (feasible_words position light) (λ word among. let is = same light e word among in (is.found_same, is.end_same)),
 )
 
--- a placement leaves fewer lights
+-- a placement leaves fewer lights to enter
 after_fewer : (position : Position) → IsShaped position.board → (light : ℕ) → chosen position ≡ Some light → (word : List ℕ) → Among word (feasible_words position light) → unentered_count (placed position light word) < unentered_count position
 after_fewer position laid light e word among =
     let is = chosen-Some position light e in
@@ -61,7 +62,7 @@ none_chosen position none = split (chosen position) refl where
   split None e = refl
   split (Some light) e = let counted = chosen-counted position light e in absurd (omega arith)
 
--- one more changes nothing where there are enough
+-- a bound that is already large enough may grow by one
 one_more : (n : ℕ) (position : Position) → IsShaped position.board → unentered_count position ≤ n → AreSame position (suc n) n
 unfolding found_in due_in end_in
 one_more zero position laid enough =
@@ -116,9 +117,9 @@ search_is position laid = split (unentered_count position) refl where
         end_is = ap (λ k. end_in k position) some ∙ same.2;
       }
 
--- ---- The chosen light
+-- ---- the chosen light
 
--- the same of the first n lights
+-- the same among the first n lights
 pub record IsChosenBelow (position : Position) (n light : ℕ) : Type 0 where
   pub in_grid : light < n
   pub not_entered : is_entered position light ≡ false
@@ -187,7 +188,7 @@ choice_is position = split (chosen_below position (light_count position)) refl w
   split None e = chosen_below-None position (light_count position) e
   split (Some light) e = let is = chosen_below-is position (light_count position) light e in record { in_grid = is.in_grid; not_entered = is.not_entered; fewest = is.fewest; first = is.first }
 
--- ---- The answer
+-- ---- the answer
 
 limit_not : (limit : ℕ) (before other : State) → position_of before ≡ position_of other → due (position_of before) ≤ limit → limit < due (position_of other) → ⊥
 limit_not limit before other same few many =

@@ -1,4 +1,4 @@
--- The lights of each size that are wholly entered, linked: how they are looked through, and one light more.
+-- Walks along linked lights of one length, and how the links grow by one light.
 use Rattle.std.proofs.Common.{◌≡◌, ◌≢◌, ℕ, set, ◌+◌, ◌<◌, true, false, ◌&&◌, List, length, get_or, Option, Some, None, refl, sym, ◌∙◌, ap, subst, arith, inl, inr, add-one}
 use Rattle.std.specs.Prelude.{◌==◌, bytes_eq}
 use Rattle.std.proofs.lemmas.Bool.{and_parts, and_from, cases_order, false≢true, false_from_ne_true, eq-eqb, eqb-true, cases_eq}
@@ -11,17 +11,17 @@ use Rattle.xw_fill.specs.Linked.{size_of, is_entered_of_size, last_of_size, AreL
 use Rattle.xw_fill.proofs.BelowLemmas.{any_below-from, any_below-gives, last_below-some, last_below-none}
 use Rattle.xw_fill.proofs.PlacingLemmas.{length-spelled}
 
--- the place is past the light that the walk is at
+-- the index is past the light that the walk has reached
 abbrev pub IsPast : Option ℕ → ℕ → Type 0
 IsPast None place = Unit {0}
 IsPast (Some next) place = next < place
 
--- a walk back over the lights before one, of its size: none that it has passed spells the same
+-- a walk back over the earlier lights of this light's length; no light passed so far spells the same
 pub record IsWalking (position : Position) (light : ℕ) (next : Option ℕ) : Type 0 where
   pub at : (other : ℕ) → next ≡ Some other → (other < light) × (is_entered_of_size position (size_of position light) other ≡ true)
   pub passed : (other : ℕ) → other < light → IsPast next other → spell_same position light other ≡ false
 
--- lights that spell the same are of one size
+-- lights that spell the same have the same length
 same_size : (position : Position) (light other : ℕ) → spell_same position light other ≡ true → is_entered_of_size position (size_of position light) other ≡ true
 same_size position light other h =
     let first = and_parts (is_entered position light) (is_entered position other && bytes_eq (spelling position light) (spelling position other)) h in
@@ -29,7 +29,7 @@ same_size position light other h =
     let same = (bytes_eq-Decides (spelling position light) (spelling position other)).0 second.1 in
     and_from _ _ second.0 (eq-eqb (size_of position other) (size_of position light) (sym (length-spelled position.board (light_at position.board other)) ∙ ap length (sym same) ∙ length-spelled position.board (light_at position.board light)))
 
--- what lies past the last light of its size spells something else
+-- lights after the last one of this length spell something else
 past_last : (position : Position) (light before : ℕ) (last : Option ℕ) → last_of_size position (size_of position light) before ≡ last → (other : ℕ) → other < before → IsPast last other → spell_same position light other ≡ false
 past_last position light before None is other below past = false_from_ne_true _ (λ h.
     false≢true (sym (last_below-none (is_entered_of_size position (size_of position light)) before is other below) ∙ same_size position light other h))
@@ -68,7 +68,7 @@ walk-end position light next walking over = false_from_ne_true _ (λ h.
     let found = any_below-gives (spell_same position light) light h in
     false≢true (sym (walking.passed found.0 found.1 (subst (λ link. IsPast link found.0) (sym over) tt)) ∙ found.2))
 
--- how many lights may be left of a walk
+-- a bound on the number of steps left
 abbrev pub lights_left : Option ℕ → ℕ
 lights_left None = 0
 lights_left (Some other) = other + 1
@@ -85,11 +85,11 @@ walk-shorter position light other next earlier walking here linked = subst (λ l
 
 -- ---- one more light
 
--- for each size the last light of it before one
+-- for each length, the last light of it before this one
 abbrev pub AreLast : Position → ℕ → List (Option ℕ) → Type 0
 AreLast position light last = (size : ℕ) → size < length last → get_or last size None ≡ last_of_size position size light
 
--- a light that is not wholly entered is linked to none
+-- a light that is not wholly entered leaves the links as they are
 pub linked-pass : (position : Position) (light : ℕ) (earlier : List (Option ℕ)) → is_entered position light ≡ false → AreLinked position light earlier → AreLinked position (light + 1) earlier
 linked-pass position light earlier gap linked = λ other below entered. elim (cases_eq other light) [
   | inl same ↦ absurd (false≢true (sym gap ∙ ap (is_entered position) (sym same) ∙ entered))
@@ -102,7 +102,7 @@ linked-put position light earlier last is within linked = λ other below entered
   | inr apart ↦ get_or-set_other earlier light other last None apart ∙ linked other (omega arith) entered
 ]
 
--- the last light of a size stays where the next one is not of it
+-- the last light of a length stays the same if the next light has another length
 last_of_size-kept : (position : Position) (size light : ℕ) → (is_entered position light ≡ true → size_of position light ≢ size) → last_of_size position size (light + 1) ≡ last_of_size position size light
 last_of_size-kept position size light other =
     let fails : is_entered_of_size position size light ≡ false = false_from_ne_true _ (λ h.

@@ -1,4 +1,4 @@
--- Lemmas on which words are active.
+-- Lemmas on active words and on lists of lights.
 use Rattle.std.proofs.Common.{◌≡◌, ℕ, ◌+◌, ◌<◌, Bool, true, false, ◌&&◌, List, [], ◌∷◌, ◌++◌, length, get_or, set, take, map, append-nil, Some, None, sym, ◌∙◌, ap, arith, inl, inr, add-one}
 use Rattle.std.specs.Prelude.{bytes_eq, unwrap_or}
 use Rattle.std.proofs.lemmas.Bool.{and_parts, and_from, cases_Bool, false≢true, false_from_ne_true}
@@ -15,7 +15,7 @@ use Rattle.xw_fill.specs.Listing.{is_listed}
 use Rattle.xw_fill.proofs.BelowLemmas.{Contains-among, Among-contained, list_any-from, list_any-gives}
 use Rattle.xw_fill.proofs.WordsLemmas.{no_place}
 
--- a known word that is active and spelled so, by its place
+-- the index of an active word with this spelling
 listed_at : (state : Position) (word : List ℕ) → is_listed state word ≡ true → (k : ℕ) × (k < length (known_words state.words (length word))) × ((get_or (known_words state.words (length word)) k no_entry).active ≡ true) × ((get_or (known_words state.words (length word)) k no_entry).word ≡ word)
 listed_at state word h =
     let known = known_words state.words (length word) in
@@ -51,15 +51,15 @@ listed-some state word place dictionary h =
           ∙ sym struck
     ]
 
--- one light more that passes
+-- the list after one more light that passes
 pub named-more : {X : Type 0} (name : ℕ → X) (test : ℕ → Bool) (n : ℕ) → test n ≡ true → map name (those_below test (n + 1)) ≡ map name (those_below test n) ++ name n ∷ []
 named-more name test n passes = rw (add-one, passes) (map-append name (those_below test n) (n ∷ []))
 
--- one that does not
+-- the list after one more light that fails
 pub named-same : {X : Type 0} (name : ℕ → X) (test : ℕ → Bool) (n : ℕ) → test n ≡ false → map name (those_below test (n + 1)) ≡ map name (those_below test n)
 named-same name test n fails = rw (add-one, fails) (ap (map name) (append-nil (those_below test n)))
 
--- one letter more of what a light spells
+-- the letters of a light after one more cell
 pub spelled-more : (board : Board) (cells letters : List ℕ) (k letter : ℕ) → k < length cells → k < length letters → letter ≡ unwrap_or (entry board (get_or cells k 0)) 65 → take k letters ≡ take k (spelled board cells) → take (k + 1) (set letters k letter) ≡ take (k + 1) (spelled board cells)
 spelled-more board cells letters k letter below within is so_far =
     let long : length (spelled board cells) ≡ length cells = length-map cells (λ cell. unwrap_or (entry board cell) 65) in

@@ -1,11 +1,11 @@
--- Notes of the lights that are wholly entered, from placement to placement.
+-- Lemmas on the notes of wholly entered lights.
 use Rattle.std.proofs.Common.{◌≡◌, ℕ, suc, ◌≤◌, Bool, true, false, List, get_or, Option, Some, None, refl, sym, ◌∙◌, arith}
 use Rattle.std.specs.Prelude.{is_some, IfSome}
 use Rattle.std.proofs.lemmas.Bool.{true≢false, lt-ltb, le-ltb, ltb-true, ltb-false}
 use Rattle.xw_fill.specs.Position.{Position}
 use Rattle.xw_fill.specs.Noted.{within, noted, SpellApart, StayNoted}
 
--- a light that is noted again
+-- the note of a light after an update
 pub record IsNotedAgain (before after : Option ℕ) (placements : ℕ) (entered : Bool) : Type 0 where
   pub stay : (fewer : ℕ) → fewer ≤ placements → within after fewer ≡ within before fewer
   pub now : within after (suc placements) ≡ entered
@@ -33,7 +33,7 @@ noted-new before after placements entered h any at = record { stay = λ fewer be
   now None none is = none
   now (Some since) some is = lt-ltb since (suc placements) (omega (arith, is)) ∙ some
 
--- no light is noted of fewer than no placements
+-- no note is from fewer than 0 placements
 pub noted-none : (since : List (Option ℕ)) (light : ℕ) → noted since 0 light ≡ true → ⊥
 noted-none since light h = split (get_or since light None) h where
   split : (o : Option ℕ) → within o 0 ≡ true → ⊥

@@ -1,4 +1,4 @@
--- Lemmas on entries, on what a light spells, and on the placing of a word.
+-- Lemmas on entries, on the letters of a light, and on placing a word.
 use Rattle.std.proofs.Common.{◌≡◌, ◌≢◌, ℕ, zero, suc, ◌<◌, true, false, ◌&&◌, List, [], ◌∷◌, length, get_or, set, Option, Some, None, refl, sym, ◌∙◌, ap, arith, inl, inr}
 use Rattle.std.specs.Prelude.{◌⊎◌, is_some, unwrap_or}
 use Rattle.std.proofs.lemmas.Bool.{and_parts, and_from, true≢false, false≢true, cases_eq, eqb-true, eq-eqb}
@@ -6,7 +6,7 @@ use Rattle.std.proofs.lemmas.List.{length-map, length-set, get_or-set_same, get_
 use Rattle.xw_feas.specs.Board.{Board, entry, allows, agrees, is_wholly_entered, spelled}
 use Rattle.xw_fill.specs.Position.{entries_with}
 
--- the value of an option that has one
+-- the value of an option that is not None
 pub has_value : {A : Type 0} (o : Option A) → is_some o ≡ true → (x : A) × (o ≡ Some x)
 has_value None h = absurd (false≢true h)
 has_value (Some x) h = (x, refl)
@@ -14,7 +14,7 @@ has_value (Some x) h = (x, refl)
 pub value_at : (o : Option ℕ) (x : ℕ) → o ≡ Some x → unwrap_or o 65 ≡ x
 value_at o x e = ap (λ p. unwrap_or p 65) e
 
--- each cell of a light that is wholly entered has a letter
+-- each cell of a wholly entered light has a letter
 pub entered-at : (board : Board) (cells : List ℕ) → is_wholly_entered board cells ≡ true → (k : ℕ) → k < length cells → (letter : ℕ) × (entry board (get_or cells k 0) ≡ Some letter)
 entered-at board [] h k below = absurd (omega arith)
 entered-at board (cell ∷ cells) h zero below = has_value (entry board cell) (and_parts (is_some (entry board cell)) (is_wholly_entered board cells) h).0
@@ -24,7 +24,7 @@ pub entered-from : (board : Board) (cells : List ℕ) → ((k : ℕ) → k < len
 entered-from board [] h = refl
 entered-from board (cell ∷ cells) h = and_from _ _ (ap is_some (h 0 (omega arith)).1) (entered-from board cells (λ k below. h (suc k) (omega arith)))
 
--- an empty cell of a light that is not
+-- a light that is not wholly entered has an empty cell
 pub empty-at : (board : Board) (cells : List ℕ) → is_wholly_entered board cells ≡ false → (k : ℕ) × (k < length cells) × (entry board (get_or cells k 0) ≡ None)
 empty-at board [] h = absurd (true≢false h)
 empty-at board (cell ∷ cells) h = split (λ g. empty-at board cells g) (entry board cell) refl h where
@@ -38,19 +38,19 @@ length-spelled board cells = length-map cells (λ cell. unwrap_or (entry board c
 pub spelled-at : (board : Board) (cells : List ℕ) (k letter : ℕ) → k < length cells → entry board (get_or cells k 0) ≡ Some letter → get_or (spelled board cells) k 0 ≡ letter
 spelled-at board cells k letter below e = get_or-map (λ cell. unwrap_or (entry board cell) 65) cells k 0 0 below ∙ value_at _ letter e
 
--- two grids with the same letters at the cells
+-- two boards with the same entries at the cells spell the same there
 pub spelled-same : (board other : Board) (cells : List ℕ) → ((k : ℕ) → k < length cells → entry board (get_or cells k 0) ≡ entry other (get_or cells k 0)) → spelled board cells ≡ spelled other cells
 spelled-same board other [] h = refl
 spelled-same board other (cell ∷ cells) h = rw (h 0 (omega arith), spelled-same board other cells (λ k below. h (suc k) (omega arith))) refl
 
--- a word that is spelled, letter by letter
+-- the letters of cells, from their entries
 pub spelled-is : (board : Board) (cells word : List ℕ) → length word ≡ length cells → ((k : ℕ) → k < length cells → entry board (get_or cells k 0) ≡ Some (get_or word k 0)) → spelled board cells ≡ word
 spelled-is board [] [] long h = refl
 spelled-is board [] (letter ∷ word) long h = absurd (omega arith)
 spelled-is board (cell ∷ cells) [] long h = absurd (omega arith)
 spelled-is board (cell ∷ cells) (letter ∷ word) long h = rw (h 0 (omega arith), spelled-is board cells word (omega arith) (λ k below. h (suc k) (omega arith))) refl
 
--- where a word agrees it is as long as the light, and each entry allows its letter
+-- a word that agrees is as long as the light, and each entry allows its letter
 pub agrees-length : (board : Board) (cells word : List ℕ) → agrees board cells word ≡ true → length word ≡ length cells
 agrees-length board [] [] h = refl
 agrees-length board [] (letter ∷ word) h = absurd (false≢true h)
@@ -76,7 +76,7 @@ pub allows-from : (o : Option ℕ) (letter : ℕ) → ((entered : ℕ) → o ≡
 allows-from None letter h = refl
 allows-from (Some entered) letter h = eq-eqb entered letter (h entered refl)
 
--- a cell is one of the list, or none
+-- a cell has an index in the list, or does not occur in it
 pub cell_in : (cells : List ℕ) (cell : ℕ) → ((k : ℕ) × (k < length cells) × (get_or cells k 0 ≡ cell)) ⊎ ((k : ℕ) → k < length cells → get_or cells k 0 ≢ cell)
 cell_in [] cell = inr (λ k below at. absurd (omega arith))
 cell_in (c ∷ cells) cell = elim (cases_eq c cell) [
@@ -99,7 +99,7 @@ entries_with-other entries (c ∷ cells) (letter ∷ word) cell none =
     entries_with-other (set entries c (Some letter)) cells word cell (λ k below. none (suc k) (omega arith))
     ∙ get_or-set_other entries c cell (Some letter) None (λ e. none 0 (omega arith) (sym e))
 
--- no cell stands twice
+-- no cell occurs twice
 abbrev pub AreDistinct : List ℕ → Type 0
 AreDistinct cells = (j k : ℕ) → j < length cells → k < length cells → get_or cells j 0 ≡ get_or cells k 0 → j ≡ k
 

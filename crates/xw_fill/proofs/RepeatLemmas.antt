@@ -1,4 +1,4 @@
--- Two lights that spell the same, looked for among those that a placement completed.
+-- To find repeats after a placement, it is enough to test the lights that it completed.
 use Rattle.std.proofs.Common.{◌≡◌, ◌≢◌, ℕ, ◌<◌, Bool, true, false, not, ◌&&◌, List, get_or, None, sym, ◌∙◌, ap, arith, inl, inr}
 use Rattle.std.specs.Prelude.{◌==◌, bytes_eq, is_some}
 use Rattle.std.proofs.lemmas.Bool.{and_parts, and_from, and_left, and_right, cases_Bool, cases_order, false≢true, false_from_ne_true, ne_eqb, eq-eqb}
@@ -13,7 +13,7 @@ use Rattle.xw_fill.proofs.BelowLemmas.{any_below-from, any_below-gives, any_belo
 use Rattle.xw_fill.proofs.PlacingLemmas.{entered-at, spelled-same}
 use Rattle.xw_fill.proofs.SearchLemmas.{alive-distinct, placed-kept}
 
--- a light that is not wholly entered repeats none
+-- a light that is not wholly entered repeats no other
 not_same : (position : Position) (light other : ℕ) → is_entered position light ≡ false → spell_same position light other ≡ false
 not_same position light other gap = and_left _ _ gap
 
@@ -45,7 +45,7 @@ repeat_from position light other apart in_grid other_in h = elim (cases_order li
   ]
 ]
 
--- a light that is spelled again
+-- the light spells the same as another light
 pub again-from : (position : Position) (light other : ℕ) → other ≢ light → other < light_count position → spell_same position light other ≡ true → is_spelled_again position light ≡ true
 again-from position light other apart in_grid h =
     any_below-from (λ place. not (place == light) && spell_same position light place) (light_count position) other in_grid (and_from _ _ (ap not (ne_eqb other light apart)) h)
@@ -56,7 +56,7 @@ repeat_again position light in_grid h =
     let parts = and_parts (not (found.0 == light)) (spell_same position light found.0) found.2 in
     repeat_from position light found.0 (λ same. false≢true (sym (ap not (eq-eqb found.0 light (sym same))) ∙ parts.0)) in_grid found.1 parts.1
 
--- where no light that is not noted is spelled again, and none of the noted ones spell the same
+-- no repeat exists if the lights with notes all differ and no other light is spelled again
 pub no_new_repeat : (position : Position) (is_noted : ℕ → Bool) → SpellApart position is_noted → ((light : ℕ) → light < light_count position → is_noted light ≡ false → is_spelled_again position light ≡ false) → any_below (is_repeat position) (light_count position) ≡ false
 no_new_repeat position is_noted apart none = false_from_ne_true _ (λ h.
     let light = any_below-gives (is_repeat position) (light_count position) h in
@@ -70,14 +70,14 @@ no_new_repeat position is_noted apart none = false_from_ne_true _ (λ h.
       ]
     ])
 
--- what was wholly entered spells what it did
+-- placing a word does not change the letters of wholly entered lights
 placed-spells : (position : Position) (light : ℕ) (word : List ℕ) → IsShaped position.board → agrees position.board (light_at position.board light) word ≡ true → (other : ℕ) → is_entered position other ≡ true → spelling (placed position light word) other ≡ spelling position other
 placed-spells position light word shape agree other entered =
     spelled-same (placed position light word).board position.board (light_at position.board other) (λ k under.
     let found = entered-at position.board (light_at position.board other) entered k under in
     placed-kept position light word shape agree (get_or (light_at position.board other) k 0) found.0 found.1 ∙ sym found.1)
 
--- so a word placed leaves the lights apart that were wholly entered, where no two of them spelled the same
+-- after a placement at a position that is not dead, the lights that were wholly entered before still all differ
 pub placed-apart : (position : Position) (is_noted : ℕ → Bool) (light : ℕ) (word : List ℕ) → IsShaped position.board → agrees position.board (light_at position.board light) word ≡ true → is_dead position ≡ false → AreEntered position is_noted → SpellApart (placed position light word) is_noted
 placed-apart position is_noted light word shape agree alive noted = λ one other before in_grid first second.
     let other_in : other < light_count position = omega arith in

@@ -1,14 +1,14 @@
--- Lemmas on what the scans of an engine find.
+-- Lemmas on the scans of an engine's lights.
 use Rattle.std.proofs.Common.{◌≡◌, ℕ, zero, suc, ◌+◌, ◌<◌, ◌≤◌, Bool, true, false, cond, not, ◌||◌, List, [], ◌∷◌, ◌++◌, length, get_or, set, drop, Option, Some, None, refl, sym, ◌∙◌, ap, subst, arith, add-one}
 use Rattle.std.specs.Prelude.{Result, Ok, is_some, is_none, unwrap_or, bytes_eq}
 use Rattle.std.proofs.lemmas.Bool.{true≢false, false≢true, eq-eqb, ne_eqb, false_from_ne_true, lt-ltb, le-ltb}
 use Rattle.std.proofs.lemmas.List.{get_or-map, length-map}
 use Rattle.std.proofs.lemmas.Slice.Eq.{bytes_eq-Decides}
-use Rattle.xw_cells.specs.declared.cell.Cell.{Cell}
+use Rattle.xw_grid.specs.declared.cell.Cell.{Cell}
 use Rattle.xw_grid.specs.declared.lights.Light.{Light}
-use Rattle.xw_cells.specs.Grid.{Grid, IsGrid, is_open}
+use Rattle.xw_grid.specs.Grid.{Grid, IsGrid, is_open}
 use Rattle.xw_grid.specs.Light.{lights_of, step, no_light}
-use Rattle.xw_cells.specs.Edit.{set_entry, with_entry}
+use Rattle.xw_grid.specs.Edit.{set_entry, with_entry}
 use Rattle.xw_feas.specs.State.{State, list_written, with_grid, by_fault, then_write, write_list}
 use Rattle.xw_feas.proofs.ShapeLemmas.{open_takes}
 use Rattle.xw_feas.proofs.WriteLemmas.{write_list-push}
@@ -30,14 +30,14 @@ use Rattle.xw_fill.specs.declared.search.Next.TheVariants.{Spent}
 use Rattle.xw_fill.specs.Tries.{without_letters, taken_back, all_taken_back}
 use Rattle.xw_fill.proofs.BelowLemmas.{any_below-from}
 
--- a light without feasible words
+-- a light with 0 feasible words
 pub lacks_words-none : (state : Position) (light count : ℕ) → count ≡ length (feasible_words state light) → count ≡ 0 → lacks_words state light ≡ true
 lacks_words-none state light count e none = eq-eqb (length (feasible_words state light)) 0 (sym e ∙ none)
 
 pub lacks_words-some : (state : Position) (light count : ℕ) → count ≡ length (feasible_words state light) → (count ≡ 0 → ⊥) → lacks_words state light ≡ false
 lacks_words-some state light count e some = ne_eqb (length (feasible_words state light)) 0 (λ none. some (e ∙ none))
 
--- a light more among which one is chosen
+-- the chosen light among one more light
 pub chosen-entered : (state : Position) (n : ℕ) → is_entered state n ≡ true → chosen_below state (n + 1) ≡ chosen_below state n
 chosen-entered state n e = rw add-one (rw e refl)
 
@@ -58,7 +58,7 @@ pub chosen-as_good : (state : Position) (n : ℕ) (best : Option ℕ) (fewest co
 chosen-as_good state n None fewest count e before known is some more = absurd (false≢true some)
 chosen-as_good state n (Some light) fewest count e before known is some more = chosen-kept state n light e before (omega (arith, known light refl, is, more))
 
--- whether two lists of cells spell the same
+-- comparing two lists of cells letter by letter
 pub spelled_letter : (board : Board) (cells : List ℕ) (k : ℕ) → k < length cells → get_or (spelled board cells) k 0 ≡ unwrap_or (entry board (get_or cells k 0)) 65
 spelled_letter board cells k below = get_or-map (λ cell. unwrap_or (entry board cell) 65) cells k 0 0 below
 
@@ -81,7 +81,7 @@ same_letters board (cell ∷ cells) (other ∷ others) long h = rw (h 0 (omega a
 pub same-all : (board : Board) (cells others : List ℕ) (n : ℕ) → length cells ≡ length others → length cells ≤ n → ((k : ℕ) → k < n → unwrap_or (entry board (get_or cells k 0)) 65 ≡ unwrap_or (entry board (get_or others k 0)) 65) → bytes_eq (spelled board cells) (spelled board others) ≡ true
 same-all board cells others n long all h = (bytes_eq-Decides (spelled board cells) (spelled board others)).1 (same_letters board cells others long (λ k below. h k (omega arith)))
 
--- what a scan finds
+-- the result of a scan
 pub scanned-blocked : (state : Position) (light : ℕ) → light < light_count state → lacks_words state light ≡ true → scanned state ≡ Blocked
 scanned-blocked state light in_grid lacks = ap (λ b. cond b Blocked (Open (chosen state))) (any_below-from (lacks_words state) (light_count state) light in_grid lacks)
 
@@ -89,7 +89,7 @@ pub scanned-open : (state : Position) (n : ℕ) (best : Option ℕ) → n ≡ li
 unfolding chosen
 scanned-open state n best all none is = ap (λ b. cond b Blocked (Open (chosen_below state (light_count state)))) (ap (any_below (lacks_words state)) (sym all) ∙ none) ∙ ap Open (ap (chosen_below state) (sym all) ∙ is)
 
--- what is to be done, as the scans find it
+-- the next step, from the result of a scan
 abbrev chosen_by : Scan → Option ℕ
 chosen_by Blocked = None
 chosen_by (Open found) = found
@@ -117,7 +117,7 @@ outlook-open state found best repeats is e again = outlook_parts state ∙ split
   split true h = absurd (true≢false (ap is_blocked h))
   split false h = rw (again, ap chosen_by h) refl
 
--- one more place of a light is cleared
+-- clearing one more cell
 drop_nil : {X : Type 0} (k : ℕ) → drop {A = X} k [] ≡ []
 drop_nil zero = refl
 drop_nil (suc k) = refl
@@ -132,13 +132,13 @@ without_letters-suc entries (cell ∷ cells) (blank ∷ blanks) (suc k) below = 
 without_letters-more : (entries : List (Option ℕ)) (cells : List ℕ) (blanks : List Bool) (k : ℕ) → k < length cells → without_letters entries (drop k cells) (drop k blanks) ≡ without_letters (cond (get_or blanks k false) (set entries (get_or cells k 0) None) entries) (drop (k + 1) cells) (drop (k + 1) blanks)
 without_letters-more entries cells blanks k below = rw add-one (without_letters-suc entries cells blanks k below)
 
--- no place of it is left
+-- no cell is left to clear
 pub without_letters-end : (entries : List (Option ℕ)) (cells : List ℕ) (k : ℕ) (blanks : List Bool) → length cells ≤ k → without_letters entries (drop k cells) blanks ≡ entries
 without_letters-end entries [] k blanks all = rw (drop_nil {X = ℕ} k) refl
 without_letters-end entries (cell ∷ cells) zero blanks all = absurd (omega arith)
 without_letters-end entries (cell ∷ cells) (suc k) blanks all = without_letters-end entries cells k blanks (omega arith)
 
--- a list of cells that are cleared, those of the first places of a light that were empty
+-- the list of cells to clear, after the first cells of the light
 pub record IsTakingBack (before : State) (light : ℕ) (blanks : List Bool) (list : List (Cell × Option ℕ)) (place : ℕ) : Type 0 where
   pub grid : Grid
   pub written : write_list list before.grid ≡ Ok grid
@@ -149,7 +149,7 @@ pub record IsTakingBack (before : State) (light : ℕ) (blanks : List Bool) (lis
 pub take_back-init : (before : State) (light : ℕ) (blanks : List Bool) → IsGrid before.grid → IsTakingBack before light blanks [] 0
 take_back-init before light blanks is = record { grid = before.grid; written = refl; is = is; entries = refl; partly = IsPartly-itself before }
 
--- the light's cell at a place is cleared
+-- one more cell of the light is added to the list
 pub take_back-step : (before : State) (light place : ℕ) (found : Light) (blanks : List Bool) (list : List (Cell × Option ℕ)) (cell : Cell) → IsTakingBack before light blanks list place
     → light < length (lights_of before.grid) → found ≡ get_or (lights_of before.grid) light no_light → place < found.size → cell ≡ step found.name.direction found.start place
     → get_or blanks place false ≡ true → IsTakingBack before light blanks (list ++ (cell, None) ∷ []) (place + 1)
@@ -188,7 +188,7 @@ take_back-pass before light place blanks list so_far below not_blank =
       partly = so_far.partly;
     }
 
--- the list is written
+-- writing the list undoes the placement
 pub take_back-end : (before now : State) (answers_before answers_now : Answers) (tried : Try) (list : List (Cell × Option ℕ)) (place : ℕ) (result : Result Changed Refusal) → IsTakingBack before tried.light tried.blanks list place
     → length (light_at (board_of before.grid) tried.light) ≤ place → IsEdited before answers_before (list_written list) result now answers_now
     → (position_of now ≡ taken_back (position_of before) tried) × DiffersInEntries before now
@@ -198,12 +198,12 @@ take_back-end before now answers_before answers_now tried list place result so_f
       subst (DiffersInEntries before) (sym done) so_far.partly.1,
     )
 
--- the last of several tries is taken back first
+-- the last of several placements is undone first
 pub all_taken_back-last : (position : Position) (tries : List Try) (tried : Try) → all_taken_back position (tries ++ tried ∷ []) ≡ all_taken_back (taken_back position tried) tries
 all_taken_back-last position [] tried = refl
 all_taken_back-last position (first ∷ tries) tried = ap (λ s. taken_back s first) (all_taken_back-last position tries tried)
 
--- whether there is nothing
+-- an option that is None
 pub none_is : {A : Type 0} (o : Option A) (b : Bool) → is_some o ≡ not b → b ≡ is_none o
 none_is None true h = refl
 none_is None false h = absurd (false≢true h)

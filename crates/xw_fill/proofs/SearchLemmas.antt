@@ -1,4 +1,4 @@
--- Lemmas on dead positions, the chosen light, and how many lights are not wholly entered.
+-- Lemmas on dead positions, the chosen light, and the number of lights that are not wholly entered.
 use Rattle.std.proofs.Common.{◌≡◌, ◌≢◌, ℕ, zero, suc, ◌<◌, ◌≤◌, Bool, true, false, cond, not, ◌&&◌, List, [], ◌∷◌, map, length, get_or, Option, Some, None, refl, sym, ◌∙◌, ap, subst, arith, inl, inr}
 use Rattle.std.specs.Prelude.{filter, Contains, nat_lt, bytes_eq}
 use Rattle.std.proofs.lemmas.Bool.{and_parts, and_from, cases_Bool, false≢true, cases_lt, cases_eq, or_parts, or_from, cond_both, false_from_ne_true}
@@ -58,7 +58,7 @@ count_below-most test (suc n) =
     let here = one_or_none (test n) true (λ e. refl) in
     omega arith
 
--- what is chosen
+-- the chosen light
 abbrev IsOpenBelow : Position → ℕ → ℕ → Type 0
 IsOpenBelow position n light = (light < n) × (is_entered position light ≡ false)
 
@@ -90,13 +90,13 @@ pub chosen-None : (position : Position) → chosen position ≡ None → (k : �
 unfolding chosen
 chosen-None position h k below = chosen_below-None position (light_count position) h k below
 
--- a light that is chosen is one of those that are not wholly entered
+-- if a light is chosen, some light is not wholly entered
 pub chosen-counted : (position : Position) (light : ℕ) → chosen position ≡ Some light → 0 < unentered_count position
 chosen-counted position light h =
     let is = chosen-Some position light h in
     count_below-positive (λ other. not (is_entered position other)) (light_count position) light is.0 (ap not is.1)
 
--- a position that is not dead
+-- consequences of a position that is not dead
 pub alive-words : (position : Position) → is_dead position ≡ false → (light : ℕ) → light < light_count position → lacks_words position light ≡ false
 unfolding is_dead
 alive-words position h light below = any_below-none (lacks_words position) (light_count position) (or_parts (any_below (lacks_words position) (light_count position)) (any_below (is_repeat position) (light_count position)) h).0 light below
@@ -118,7 +118,7 @@ alive-from position words distinct = or_from _ _
     let second = and_parts (is_entered position earlier.0) (bytes_eq (spelling position found.0) (spelling position earlier.0)) first.1 in
     distinct earlier.0 found.0 earlier.1 found.1 first.0 second.0 ((bytes_eq-Decides (spelling position found.0) (spelling position earlier.0)).0 second.1)))
 
--- the base words of a light that is not wholly entered are active and agree
+-- the base words of a light that is not wholly entered are active and agree with its entries
 known_word : (dictionary : Dictionary) (test : Entry → Bool) (words : List Entry) (word : List ℕ) → Among word (map (λ (known : Entry). known.word) words) → (known : Entry) × Among known words × (known.word ≡ word)
 known_word dictionary test [] word h = absurd h
 known_word dictionary test (known ∷ words) word (inl e) = (known, inl refl, e)
@@ -140,7 +140,7 @@ open_base board dictionary light word below not_entered among =
 pub open_feasible : (position : Position) (light : ℕ) (word : List ℕ) → light < light_count position → is_entered position light ≡ false → Among word (feasible_words position light) → IsActive position.words word × (agrees position.board (light_at position.board light) word ≡ true)
 open_feasible position light word below not_entered among = open_base position.board position.words light word below not_entered (feasible-gives position light word among).0
 
--- the cells of a light lie in the board
+-- the cells of a light are on the board
 pub cells_within : (board : Board) → IsShaped board → (light k : ℕ) → k < length (light_at board light) → get_or (light_at board light) k 0 < length board.entries
 cells_within board laid light k below =
     elim (cases_lt (get_or (light_at board light) k 0) (length board.open_cells)) [
@@ -151,7 +151,7 @@ cells_within board laid light k below =
 pub cells_distinct : (board : Board) → IsShaped board → (light : ℕ) → AreDistinct (light_at board light)
 cells_distinct board laid light j k below_j below_k e = laid.distinct light j k below_j below_k e
 
--- the board stays laid out
+-- a placement keeps the shape of the board
 pub placed-laid : (position : Position) (light : ℕ) (word : List ℕ) → IsShaped position.board → IsShaped (placed position light word).board
 placed-laid position light word laid = record {
   entries = length-entries_with position.board.entries (light_at position.board light) word ∙ laid.entries;
@@ -161,15 +161,15 @@ placed-laid position light word laid = record {
   cross_once = laid.cross_once;
 }
 
--- an entry stays
+-- a placement keeps every entry
 pub placed-kept : (position : Position) (light : ℕ) (word : List ℕ) → IsShaped position.board → agrees position.board (light_at position.board light) word ≡ true → (cell letter : ℕ) → entry position.board cell ≡ Some letter → entry (placed position light word).board cell ≡ Some letter
 placed-kept position light word laid agree = entries_with-kept position.board (light_at position.board light) word (cells_distinct position.board laid light) agree (cells_within position.board laid light)
 
--- the cells of the light have the word's letters
+-- after a placement the cells of the light hold the word's letters
 pub placed-at : (position : Position) (light : ℕ) (word : List ℕ) → IsShaped position.board → length word ≡ length (light_at position.board light) → (k : ℕ) → k < length (light_at position.board light) → entry (placed position light word).board (get_or (light_at position.board light) k 0) ≡ Some (get_or word k 0)
 placed-at position light word laid long k below = entries_with-at position.board.entries (light_at position.board light) word (cells_distinct position.board laid light) long k below (cells_within position.board laid light k below)
 
--- a light that was wholly entered still is
+-- a wholly entered light stays wholly entered
 pub placed-entered : (position : Position) (light : ℕ) (word : List ℕ) → IsShaped position.board → agrees position.board (light_at position.board light) word ≡ true → (other : ℕ) → is_entered position other ≡ true → is_entered (placed position light word) other ≡ true
 placed-entered position light word laid agree other entered =
     entered-from (placed position light word).board (light_at position.board other) (λ k below.
@@ -180,7 +180,7 @@ pub placed-enters : (position : Position) (light : ℕ) (word : List ℕ) → Is
 placed-enters position light word laid long =
     entered-from (placed position light word).board (light_at position.board light) (λ k below. (get_or word k 0, placed-at position light word laid long k below))
 
--- so one light less is not
+-- a placement leaves fewer lights to enter
 pub placed-fewer : (position : Position) (light : ℕ) (word : List ℕ) → IsShaped position.board → agrees position.board (light_at position.board light) word ≡ true → light < light_count position → is_entered position light ≡ false → unentered_count (placed position light word) < unentered_count position
 placed-fewer position light word laid agree below not_entered =
     count_below-less (λ other. not (is_entered (placed position light word) other)) (λ other. not (is_entered position other)) (light_count position) light

@@ -1,4 +1,4 @@
--- What a search for a fill keeps, from one step to the next.
+-- The invariant of a search for a fill, and how each step keeps it.
 use Rattle.std.proofs.Common.{◌≡◌, ℕ, zero, suc, ◌+◌, ◌<◌, ◌≤◌, Bool, true, false, cond, not, List, [], ◌∷◌, ◌++◌, map, length, get_or, Option, Some, None, refl, sym, ◌∙◌, ap, subst, arith}
 use Rattle.std.specs.Prelude.{All, is_none, Result, Ok, Err, MatchResult, IsErrAnd, IfOk}
 use Rattle.std.specs.Option.{option_to_list}
@@ -26,14 +26,14 @@ use Rattle.xw_fill.specs.Words.{spellings_at, words_before, IsNextWord, HasNoMor
 use Rattle.xw_fill.proofs.WordsLemmas.{next_before, no_more_before}
 use Rattle.xw_fill.proofs.Trail.{IsSound, IsUnderWay, spent_on, found_after, due_after, IsTried, after_try, cost_of, Trail, trail-found, trail-due, trail-more, trail-last, trail-sound, trail-depth, trail-enough, trail-lights, trail-back, tried-failed, taken_back-placed, way-spent}
 
--- what is known of the position where the search is, and what was spent on it
+-- what is known at the current position, and the placements spent on it
 abbrev pub IsAt : ℕ → Position → ℕ → Next → Type 0
 IsAt left current spent Done = (is_dead current ≡ false) × (chosen current ≡ None) × (spent ≡ 0)
 IsAt left current spent Spent = (found_in left current ≡ false) × (spent ≡ due_in left current)
 IsAt zero current spent (Words light from) = ⊥
 IsAt (suc left) current spent (Words light from) = IsUnderWay left current light from × (spent ≡ spent_on left current light from)
 
--- the search has come from the start by these tries, with so many placements
+-- the search reached this position from the start by these tries, with this many placements in total
 pub record IsSearching (start : Position) (tries : List Try) (used : ℕ) (current : Position) (next : Next) : Type 0 where
   pub cost : ℕ
   pub left : ℕ
@@ -45,7 +45,7 @@ pub record IsSearching (start : Position) (tries : List Try) (used : ℕ) (curre
 pub IsSound-formed : (state : State) → IsWellFormed state → IsSound (position_of state)
 IsSound-formed state formed = record { board = shaped (board_of state.grid) formed.board; dictionary = distinct_words state.words formed.dictionary }
 
--- a position that is new
+-- at a new position
 IsAt-outlook : (left : ℕ) (current : Position) → unentered_count current ≤ left → IsAt left current 0 (outlook current)
 unfolding found_in due_in
 IsAt-outlook left current enough = split left (is_dead current) refl (chosen current) refl enough where
@@ -66,7 +66,7 @@ searching-start start = record {
   used_is = omega arith;
 }
 
--- a try that is taken back
+-- undoing a try
 pub searching-back : (start current : Position) (tries : List Try) (tried : Try) (used : ℕ) → IsSound start → IsSearching start (tries ++ tried ∷ []) used current Spent → IsSearching start tries used (taken_back current tried) (Words tried.light (tried.place + 1))
 searching-back start current tries tried used sound s =
     let last = trail-last tries (unentered_count start) start s.cost s.left current tried s.trail in
@@ -83,7 +83,7 @@ searching-back start current tries tried used sound s =
       used_is = omega (arith, s.used_is, last.cost_is, failed.1, s.at.1);
     })
 
--- no word is left
+-- no word is left to try
 pub searching-spent : (start current : Position) (tries : List Try) (used light from : ℕ) → IsSound start → IsSearching start tries used current (Words light from) → HasNoMore current light from → IsSearching start tries used current Spent
 searching-spent start current tries used light from sound s all = split s.left s.trail s.at where
   split : (left : ℕ) → Trail (unentered_count start) start tries s.cost left current → IsAt left current s.spent (Words light from) → IsSearching start tries used current Spent
@@ -92,21 +92,21 @@ searching-spent start current tries used light from sound s all = split s.left s
       let over = way-spent left current light from (trail-sound tries (unentered_count start) start s.cost (suc left) current sound trail) at.0 (no_more_before current light from all) in
       record { cost = s.cost; left = suc left; spent = s.spent; trail = trail; at = (over.0, omega (arith, at.1, over.1)); used_is = s.used_is }
 
--- the light whose words are tried
+-- the light whose words are tried is in the grid and not wholly entered
 pub searching-open : (start current : Position) (tries : List Try) (used light from : ℕ) → IsSearching start tries used current (Words light from) → (light < light_count current) × (is_entered current light ≡ false)
 searching-open start current tries used light from s = split s.left s.at where
   split : (left : ℕ) → IsAt left current s.spent (Words light from) → (light < light_count current) × (is_entered current light ≡ false)
   split zero at = absurd at
   split (suc left) at = chosen-Some current light at.0.chosen_is
 
--- at a position that is not dead
+-- the position is not dead
 pub searching-alive : (start current : Position) (tries : List Try) (used light from : ℕ) → IsSearching start tries used current (Words light from) → is_dead current ≡ false
 searching-alive start current tries used light from s = split s.left s.at where
   split : (left : ℕ) → IsAt left current s.spent (Words light from) → is_dead current ≡ false
   split zero at = absurd at
   split (suc left) at = at.0.alive
 
--- the next word is a try
+-- the next word makes a valid try
 next_try : (left : ℕ) (current : Position) (light from place : ℕ) (tried : Try) → IsUnderWay left current light from → IsNextWord current light from place → tried.light ≡ light → tried.place ≡ place → AreBlanks current.board (light_at current.board light) tried.blanks → IsTried left current tried × (spent_on left current tried.light tried.place ≡ spent_on left current light from)
 next_try left current light from place tried way next is at blanks = (
   record {
@@ -135,7 +135,7 @@ searching-place start current tries used light from place tried sound s next is 
         used_is = omega (arith, s.used_is, here.1, made.1);
       }
 
--- there is room for it
+-- the stack of tries has room for one more
 pub searching-room : (start current : Position) (tries : List Try) (used light from : ℕ) → IsSearching start tries used current (Words light from) → length tries < light_count start
 searching-room start current tries used light from s = split s.left s.trail s.at where
   split : (left : ℕ) → Trail (unentered_count start) start tries s.cost left current → IsAt left current s.spent (Words light from) → length tries < light_count start
@@ -145,7 +145,7 @@ searching-room start current tries used light from s = split s.left s.trail s.at
       let few = count_below-most (λ light. not (is_entered start light)) (light_count start) in
       omega arith
 
--- where the limit is reached and a word is left, more is due
+-- if the limit is reached and a word is left, more placements are due than the limit allows
 pub searching-limit : (start current : Position) (tries : List Try) (used light from place : ℕ) (tried : Try) → IsSound start → IsSearching start tries used current (Words light from) → IsNextWord current light from place → tried.light ≡ light → tried.place ≡ place → AreBlanks current.board (light_at current.board light) tried.blanks → used < due start
 searching-limit start current tries used light from place tried sound s next is at blanks = split s.left s.trail s.at where
   split : (left : ℕ) → Trail (unentered_count start) start tries s.cost left current → IsAt left current s.spent (Words light from) → used < due start
@@ -167,15 +167,15 @@ searching-count start current tries used next s = (trail-lights tries (unentered
 pub searching-all_back : (start current : Position) (tries : List Try) (used : ℕ) (next : Next) → IsSound start → IsSearching start tries used current next → all_taken_back current tries ≡ start
 searching-all_back start current tries used next sound s = trail-back tries (unentered_count start) start s.cost s.left current sound s.trail
 
--- ---- How it ends
+-- ---- the end of the search
 
--- what an answer says of the positions before and after
+-- what an answer means for the positions before and after
 abbrev pub IsOutcome : ℕ → Position → Position → Filling → Type 0
 IsOutcome limit start now Filled = (due start ≤ limit) × (found start ≡ true) × (now ≡ end start)
 IsOutcome limit start now NoFill = (due start ≤ limit) × (found start ≡ false) × (now ≡ start)
 IsOutcome limit start now Limit = (limit < due start) × (now ≡ start)
 
--- and so of the states
+-- the same for the states
 pub outcome_filling : (limit : ℕ) (before now : State) (filling : Filling) → DiffersInEntries before now → IsOutcome limit (position_of before) (position_of now) filling → IsFilling limit before now filling
 outcome_filling limit before now Filled differs h = (h.0, h.1, differs ∙ ap (λ position. filled_in before position.board.entries) h.2)
 outcome_filling limit before now NoFill differs h = (h.0, h.1, same_state before now differs h.2)
@@ -200,7 +200,7 @@ searching-none start current used limit s few =
     let paid : due start ≡ due_in s.left current = ap (λ p. due_in (unentered_count start) p) (sym same) ∙ ap (λ n. due_in n current) (sym full) in
     (omega (arith, s.used_is, s.at.1, paid, s.trail.0), none, same)
 
--- and what that says of fills
+-- the same in terms of fills
 pub filling-fill : (limit : ℕ) (before now : State) (filling : Filling) → IsWellFormed before → IsFilling limit before now filling → HasFill before now filling
 filling-fill limit before now Filled formed h =
     let start = position_of before in
@@ -209,9 +209,9 @@ filling-fill limit before now Filled formed h =
 filling-fill limit before now NoFill formed h = λ entries fill. false≢true (sym h.1 ∙ fill_is_found (unentered_count (position_of before)) (position_of before) entries (shaped (board_of before.grid) formed.board) (omega arith) fill)
 filling-fill limit before now Limit formed h = tt
 
--- ---- What the code has, in these words
+-- ---- the terms of the code
 
--- a value that was made, with its error changed
+-- a property of a value that was returned, with its error type changed
 pub made : {T E D : Type 0} (r : Result T E) (m : Result T D) (x : T) (P : E → D → Type 0) (Q : T → Type 0) → MatchResult r (λ y. m ≡ Ok y) (λ e. IsErrAnd m (P e)) → m ≡ Ok x → IfOk r Q → Q x
 made (Ok y) m x P Q cases is q = let same : y ≡ x = cc in subst Q same q
 made (Err e) m x P Q cases is q = absurd (subst (λ r. IsErrAnd r (P e)) is cases)
@@ -224,7 +224,7 @@ pub searching-empty : (start current : Position) (tries rest : List Try) (popped
 searching-empty start current tries rest popped used next s is items none long =
     subst (λ n. IsSearching start [] used current n) is (subst (λ ts. IsSearching start ts used current next) (nil_from_length tries long) s)
 
--- the place of the last try is one of the dictionary
+-- the index of the last try is in the dictionary
 pub last-place : (start current : Position) (tries : List Try) (tried : Try) (used : ℕ) → IsSound start → IsSearching start (tries ++ tried ∷ []) used current Spent → tried.place < 1048576
 last-place start current tries tried used sound s =
     let last = trail-last tries (unentered_count start) start s.cost s.left current tried s.trail in
@@ -237,7 +237,7 @@ pub last-light : (start current : Position) (tries : List Try) (tried : Try) (us
 last-light start current tries tried used s =
     subst (λ t. t.light < light_count current) (get_or_push tries tried tried (length tries) refl) (searching-lights start current (tries ++ tried ∷ []) used Spent s (length tries) tried (omega (arith, length-append tries (tried ∷ []))))
 
--- the try that would come next
+-- the try of this word in this light
 abbrev pub try_at : Position → ℕ → ℕ → Try
 try_at position light place = record { light = light; place = place; blanks = map (λ cell. is_none (entry position.board cell)) (light_at position.board light) }
 

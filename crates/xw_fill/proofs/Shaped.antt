@@ -1,4 +1,4 @@
--- What no placing of a word changes.
+-- Properties that placing words does not change.
 use Rattle.std.proofs.Common.{◌≡◌, ℕ, ◌<◌, ◌≤◌, true, [], length, get_or, sym, ◌∙◌, arith, inl, inr}
 use Rattle.std.proofs.lemmas.Bool.{cases_order}
 use Rattle.std.proofs.lemmas.List.{get_or-map, length-map}
@@ -7,7 +7,7 @@ use Rattle.xw_feas.specs.WellFormed.{IsLaidOut}
 use Rattle.xw_feas.specs.Board.{Board, is_open, light_at}
 use Rattle.xw_feas.specs.Known.{spellings}
 
--- lights are runs of open cells, of which no two have more than one cell in common
+-- lights are runs of open cells, and two lights share at most one cell
 pub record IsShaped (board : Board) : Type 0 where
   pub entries : length board.entries ≡ length board.open_cells
   pub short : (light : ℕ) → length (light_at board light) ≤ 255
@@ -15,7 +15,7 @@ pub record IsShaped (board : Board) : Type 0 where
   pub distinct : (light j k : ℕ) → j < length (light_at board light) → k < length (light_at board light) → get_or (light_at board light) j 0 ≡ get_or (light_at board light) k 0 → j ≡ k
   pub cross_once : (light other i j k l : ℕ) → (light ≡ other → ⊥) → i < length (light_at board light) → k < length (light_at board light) → j < length (light_at board other) → l < length (light_at board other) → get_or (light_at board light) i 0 ≡ get_or (light_at board other) j 0 → get_or (light_at board light) k 0 ≡ get_or (light_at board other) l 0 → i ≡ k
 
--- no word is known twice, and not too many of a length
+-- no word is known twice, and the number of words of each length is bounded
 pub record HasDistinctWords (dictionary : Dictionary) : Type 0 where
   pub distinct : (len j k : ℕ) → j < length (spellings dictionary len) → k < length (spellings dictionary len) → get_or (spellings dictionary len) j [] ≡ get_or (spellings dictionary len) k [] → j ≡ k
   pub few : (len : ℕ) → length (spellings dictionary len) ≤ 1048576

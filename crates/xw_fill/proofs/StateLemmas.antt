@@ -1,4 +1,4 @@
--- What an edit of letters makes of a state, and of its position.
+-- How letter edits change a state and its position.
 use Rattle.std.proofs.Common.{◌≡◌, ℕ, zero, suc, ◌-◌, ◌<◌, ◌≤◌, Bool, true, false, cond, not, List, [], ◌∷◌, map, length, get_or, set, drop, Option, Some, None, refl, sym, ◌∙◌, ap, subst, arith, inl, inr, length-set}
 use Rattle.std.specs.Prelude.{◌⊎◌, Result, Ok, Err, All, IsOk, slice_get, position, nat_le}
 use Rattle.std.proofs.lemmas.Bool.{false≢true, or_left, eq-eqb, leb-true}
@@ -9,14 +9,14 @@ use Rattle.xw_fill.specs.Words.{spellings_at}
 use Rattle.xw_letters.specs.Letter.{IsLetter, folded}
 use Rattle.xw_words.specs.Word.{is_bad_letter}
 use Rattle.xw_letters.proofs.LetterSetLemmas.{letter_is_capital}
-use Rattle.xw_cells.specs.declared.cell.Cell.{Cell}
-use Rattle.xw_cells.specs.declared.cell.Square.{Square}
-use Rattle.xw_cells.specs.declared.cell.Square.TheVariants.{Block, Open}
+use Rattle.xw_grid.specs.declared.cell.Cell.{Cell}
+use Rattle.xw_grid.specs.declared.cell.Square.{Square}
+use Rattle.xw_grid.specs.declared.cell.Square.TheVariants.{Block, Open}
 use Rattle.xw_grid.specs.declared.lights.Light.{Light}
 use Rattle.std.proofs.lemmas.List.Elements.{All-set}
-use Rattle.xw_cells.specs.Grid.{Grid, IsSquare, IsGrid, is_inside, is_open, is_open_square, index_of}
+use Rattle.xw_grid.specs.Grid.{Grid, IsSquare, IsGrid, is_inside, is_open, is_open_square, index_of}
 use Rattle.xw_grid.specs.Light.{lights_of, cells_of, step, no_light}
-use Rattle.xw_cells.specs.Edit.{with_entry}
+use Rattle.xw_grid.specs.Edit.{with_entry}
 use Rattle.xw_grid.proofs.LightLemmas.{inside_from_open, cells_of_are_open, length-line, get_or-line}
 use Rattle.xw_feas.specs.declared.edit.Refusal.{Refusal}
 use Rattle.xw_feas.specs.declared.edit.Refusal.TheVariants as refusals
@@ -27,7 +27,7 @@ use Rattle.xw_feas.specs.Queries.{words_of, on_light, count_answer, next_answer,
 use Rattle.xw_fill.specs.FeasibleWords.{feasible_words}
 use Rattle.xw_fill.proofs.FeasibleWordsLemmas.{answered_words}
 use Rattle.std.proofs.lemmas.Option.{slice_get-get_or, get_or_from_slice_get}
-use Rattle.xw_cells.specs.declared.cell.LightName.{LightName}
+use Rattle.xw_grid.specs.declared.cell.LightName.{LightName}
 use Rattle.xw_feas.specs.Engine.{IsEdited}
 use Rattle.xw_feas.specs.State.{State, Action, word_placed, after, want_of, placed_in, spelled_in, with_letters as grid_with_letters, with_grid}
 use Rattle.xw_feas.proofs.BoardLemmas.{length-lights, light_at-board}
@@ -36,7 +36,7 @@ use Rattle.xw_grid.proofs.ChangeLemmas.{SameShape-entry}
 use Rattle.xw_fill.proofs.BelowLemmas.{position-none}
 use Rattle.xw_fill.specs.Position.{position_of, holding, placed, with_entries, entries_with, squares_with, square_with, filled_in, DiffersInEntries, name_at}
 
--- ---- lights by places and names
+-- ---- lights by index and by name
 
 pub in_grid_light : (grid : Grid) (light : ℕ) → light < length (board_of grid).lights → light < length (lights_of grid)
 in_grid_light grid light below = rw (← length-lights grid) below
@@ -98,7 +98,7 @@ DiffersInEntries-then first second third a b =
     ∙ ap (λ state. filled_in state (board_of third.grid).entries) a
     ∙ ap (λ squares. record first { grid = record (first.grid) { squares = squares } }) (squares_with-twice first.grid.squares (board_of second.grid).entries (board_of third.grid).entries)
 
--- with the same position it is the same state
+-- such states with the same position are equal
 pub same_state : (start now : State) → DiffersInEntries start now → position_of now ≡ position_of start → now ≡ start
 same_state start now differs same = differs ∙ ap (λ position. filled_in start position.board.entries) same ∙ sym (DiffersInEntries-itself start)
 
@@ -131,7 +131,7 @@ entry_board grid cell letter is open_cell =
     let entries : map square_entry (set grid.squares (index_of grid cell) (Open letter)) ≡ set (map square_entry grid.squares) (index_of grid cell) letter = map-set square_entry grid.squares (index_of grid cell) (Open letter) in
     λ i. record { lights = map (places_of grid) (shape.lights i); open_cells = opens i; entries = entries i }
 
--- the letters of a word in open cells
+-- entering the letters of a word in open cells
 letters_board : (grid : Grid) (cells : List Cell) (word : List ℕ) (d : Cell) → All IsLetter word → IsGrid grid → ((k : ℕ) → k < length cells → is_open grid (get_or cells k d) ≡ true)
     → board_of (grid_with_letters grid cells word) ≡ with_entries (board_of grid) (entries_with (board_of grid).entries (map (index_of grid) cells) word)
 letters_board grid [] word d letters is open_cells = refl
@@ -142,20 +142,20 @@ letters_board grid (cell ∷ cells) (letter ∷ word) d letters is open_cells =
     letters_board (with_entry grid cell (Some letter)) cells word d (λ k e below. letters (suc k) e (omega arith)) (IsGrid-entry grid cell (Some letter) (letters 0 0 (omega arith)) is) (λ k below. shape.opens (get_or cells k d) ∙ open_cells (suc k) (omega arith))
     ∙ ap (λ board. with_entries board (entries_with board.entries (map (index_of grid) cells) word)) one
 
--- they change squares alone
+-- entering letters changes only the squares
 letters_squares : (grid : Grid) (cells : List Cell) (word : List ℕ) → grid_with_letters grid cells word ≡ record grid { squares = (grid_with_letters grid cells word).squares }
 letters_squares grid [] word = refl
 letters_squares grid (cell ∷ cells) [] = refl
 letters_squares grid (cell ∷ cells) (letter ∷ word) = letters_squares (with_entry grid cell (Some letter)) cells word
 
--- a grid whose squares alone have changed, with the same open cells
+-- a grid that differs only in its squares and has the same open cells
 differs_in_squares : (state : State) (grid : Grid) → grid ≡ record (state.grid) { squares = grid.squares } → (board_of grid).open_cells ≡ (board_of state.grid).open_cells → DiffersInEntries state (record state { grid = grid })
 unfolding board_of
 differs_in_squares state grid squares opens =
     ap (λ g. record state { grid = g }) squares
     ∙ ap (λ s. record state { grid = record (state.grid) { squares = s } }) (sym (squares_with-opens state.grid.squares grid.squares opens))
 
--- ---- edits that are accepted
+-- ---- accepted edits
 
 pub edit_done : (before now target : State) (answers_before answers_now : Answers) (action : Action) (result : Result Changed Refusal) → after before action ≡ Ok target → want_of before action ≡ None → IsEdited before answers_before action result now answers_now → now ≡ target
 edit_done before now target answers_before answers_now action (Ok changed) e none edited = let is = edited.state in cc
@@ -166,14 +166,14 @@ edit_done before now target answers_before answers_now action (Err refusal) e no
 
 -- ---- placing a word
 
--- a state that has come from one before by changes of entries
+-- the state came from the one before by changing entries
 abbrev pub IsPartly : State → State → Type 0
 IsPartly before now = (position_of now ≡ holding (position_of before) (board_of now.grid).entries) × DiffersInEntries before now
 
 pub IsPartly-itself : (state : State) → IsPartly state state
 IsPartly-itself state = (refl, DiffersInEntries-itself state)
 
--- and one more change of entries
+-- one more change of entries
 pub IsPartly-then : (before now after_it : State) {entries : List (Option ℕ)} → IsPartly before now → (position_of after_it ≡ holding (position_of now) entries) × DiffersInEntries now after_it → IsPartly before after_it
 IsPartly-then before now after_it {entries} partly done =
     let there : (board_of after_it.grid).entries ≡ entries = ap (λ p. p.board.entries) done.0 in (
@@ -204,7 +204,7 @@ folded_letters : (word : List ℕ) → All IsLetter word → map folded word ≡
 folded_letters [] letters = refl
 folded_letters (letter ∷ word) letters = rw (folded_letter letter (letters 0 0 (omega arith)), folded_letters word (λ k d below. letters (suc k) d (omega arith))) refl
 
--- what placing a word of letters in a light makes of the grid
+-- the grid after placing a word of letters in a light
 place_accepted : (state : State) (light : ℕ) (word : List ℕ) → light < length (lights_of state.grid) → All IsLetter word → length word ≡ (get_or (lights_of state.grid) light no_light).size
     → after state (word_placed (name_at state light) word) ≡ Ok (record state { grid = grid_with_letters state.grid (cells_of (get_or (lights_of state.grid) light no_light)) word })
 place_accepted state light word in_grid letters long =
@@ -230,14 +230,14 @@ placing before now answers_before answers_now light word result is in_grid lette
       subst (DiffersInEntries before) (sym done) (differs_in_squares before new (letters_squares grid (cells_of found) word) (ap (λ b. b.open_cells) board)),
     )
 
--- how long a light is
+-- the length of a light
 pub light_size : (grid : Grid) (light : ℕ) (found : Light) → light < length (lights_of grid) → found ≡ get_or (lights_of grid) light no_light → length (light_at (board_of grid) light) ≡ found.size
 light_size grid light found in_grid is =
     ap length (light_at-board grid light no_light in_grid ∙ ap (places_of grid) (sym is))
     ∙ length-map (cells_of found) (index_of grid)
     ∙ length-line found.name.direction found.start found.size
 
--- a known word in its light
+-- placing a known word in a light
 pub placing_known : (before now : State) (answers_before answers_now : Answers) (light place : ℕ) (found : Light) (bytes : List ℕ) (result : Result Changed Refusal) → IsWellFormed before → light < length (board_of before.grid).lights → place < length (spellings_at (position_of before) light) → found ≡ get_or (lights_of before.grid) light no_light
     → bytes ≡ (entry_at (row before.words found.size) place).word
     → IsEdited before answers_before (word_placed found.name bytes) result now answers_now
@@ -266,7 +266,7 @@ clearing state cell is open_cell =
       differs_in_squares state (with_entry state.grid cell None) refl (ap (λ b. b.open_cells) board),
     )
 
--- a cell of a light by its step from the first one
+-- the cell at an index of a light
 pub light_cell_at : (grid : Grid) (light place : ℕ) (found : Light) (cell : Cell) → light < length (lights_of grid) → found ≡ get_or (lights_of grid) light no_light → place < found.size → cell ≡ step found.name.direction found.start place
     → (is_open grid cell ≡ true) × (index_of grid cell ≡ get_or (light_at (board_of grid) light) place 0)
 light_cell_at grid light place found cell in_grid found_is within cell_is =
@@ -277,7 +277,7 @@ light_cell_at grid light place found cell in_grid found_is within cell_is =
           ∙ ap (index_of grid) (get_or-line found.name.direction found.start found.size place found.start within ∙ sym cell_is)),
     )
 
--- entries leave the open cells
+-- changing entries keeps the open cells
 open_with : (squares : List Square) (entries : List (Option ℕ)) (at : ℕ) → is_open_square (slice_get (squares_with squares entries) at) ≡ is_open_square (slice_get squares at)
 open_with [] entries at = refl
 open_with (Block ∷ squares) entries zero = refl

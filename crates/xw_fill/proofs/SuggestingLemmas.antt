@@ -1,4 +1,4 @@
--- Lemmas on what is proposed.
+-- Lemmas on suggestions.
 use Rattle.std.proofs.Common.{◌≡◌, ℕ, ◌+◌, ◌<◌, true, false, [], get_or, Some, None, subst, arith, inl, inr}
 use Rattle.std.specs.Prelude.{is_none}
 use Rattle.std.proofs.lemmas.Bool.{and_left, and_right, and_from, cases_lt}
@@ -7,7 +7,7 @@ use Rattle.xw_fill.specs.Words.{spellings_at, IsNextWord, HasNoMore}
 use Rattle.xw_fill.proofs.BelowLemmas.{position-here, position-none}
 use Rattle.xw_fill.specs.Suggesting.{can_be_tried, first_blocked, place_to_try}
 
--- none can be tried up to the next feasible word
+-- no word before the next feasible word can be tried
 pub none_before : (state : Position) (light from place : ℕ) → ((k : ℕ) → k < from → can_be_tried state light (get_or (spellings_at state light) k []) ≡ false) → IsNextWord state light from place → (k : ℕ) → k < place → can_be_tried state light (get_or (spellings_at state light) k []) ≡ false
 none_before state light from place failed next k below =
     elim (cases_lt k from) [

@@ -1,4 +1,5 @@
--- The tries under way lead from the start of a search to where it is, and what has been placed on the way is a part of what is due.
+-- The tries under way lead from the start of a search to the current position, and the placements so far are part of
+-- those due.
 use Rattle.std.proofs.Common.{◌≡◌, ◌≢◌, ℕ, zero, suc, ◌+◌, ◌<◌, ◌≤◌, Bool, true, false, cond, ◌||◌, List, [], ◌∷◌, ◌++◌, length, get_or, set, drop, Option, Some, None, refl, sym, ◌∙◌, ap, subst, arith, inl, inr}
 use Rattle.std.specs.Prelude.{filter, All, is_none}
 use Rattle.std.specs.List.{list_any}
@@ -21,7 +22,7 @@ use Rattle.xw_fill.proofs.PlacingLemmas.{AreDistinct, cell_in, agrees-length, ag
 use Rattle.xw_fill.proofs.SearchLemmas.{chosen-Some, open_base, cells_within, cells_distinct, placed-laid, placed-at, placed-fewer}
 use Rattle.xw_fill.proofs.WordsLemmas.{feasible_known_words, words_before-more, words_parted}
 
--- ---- Going through the words of a light
+-- ---- going through the words of a light
 
 due_of-append : (found : List ℕ → Bool) (due : List ℕ → ℕ) (xs ys : List (List ℕ)) → list_any found xs ≡ false → due_of found due (xs ++ ys) ≡ due_of found due xs + due_of found due ys
 due_of-append found due [] ys none = omega arith
@@ -47,17 +48,17 @@ due_after fuel position light word = due_in fuel (placed position light word)
 abbrev pub end_after : ℕ → Position → ℕ → List ℕ → Position
 end_after fuel position light word = end_in fuel (placed position light word)
 
--- the words of the chosen light that stand before a place have been tried, and none led to a fill
+-- the words of the chosen light before an index have been tried, and none led to a fill
 pub record IsUnderWay (fuel : ℕ) (position : Position) (light from : ℕ) : Type 0 where
   pub alive : is_dead position ≡ false
   pub chosen_is : chosen position ≡ Some light
   pub failed : list_any (found_after fuel position light) (words_before position light from) ≡ false
 
--- what that took
+-- the placements that this took
 abbrev pub spent_on : ℕ → Position → ℕ → ℕ → ℕ
 spent_on fuel position light from = due_of (found_after fuel position light) (due_after fuel position light) (words_before position light from)
 
--- what is true of each position
+-- properties of every position of a search
 pub record IsSound (position : Position) : Type 0 where
   pub board : IsShaped position.board
   pub dictionary : HasDistinctWords position.words
@@ -86,7 +87,7 @@ way-spent fuel position light from sound way all =
       due_chosen fuel position light way.alive way.chosen_is ∙ ap (due_of (found_after fuel position light) (due_after fuel position light)) same,
     )
 
--- ---- A try
+-- ---- one try
 
 abbrev pub word_of : Position → Try → List ℕ
 word_of position tried = get_or (spellings_at position tried.light) tried.place []
@@ -114,7 +115,7 @@ tried_agrees fuel position tried t =
     let feasible = is_feasible_word-gives position tried.light (word_of position tried) t.feasible in
     (open_base position.board position.words tried.light (word_of position tried) is.0 is.1 (Among-contained (word_of position tried) _ (feasible.1.words_are_base tried.light (word_of position tried) feasible.2))).1
 
--- it leads to a fill
+-- a try that leads to a fill
 tried-found : (fuel : ℕ) (position : Position) (tried : Try) → IsSound position → IsTried fuel position tried → found_in fuel (after_try position tried) ≡ true
     → (found_in (suc fuel) position ≡ true) × (due_in (suc fuel) position ≡ cost_of fuel position tried + due_in fuel (after_try position tried)) × (end_in (suc fuel) position ≡ end_in fuel (after_try position tried))
 tried-found fuel position tried sound t h =
@@ -132,7 +133,7 @@ tried-found fuel position tried sound t h =
       end_chosen fuel position tried.light t.way.chosen_is ∙ ap (end_of found end position) parted ∙ end_of-append found end position before (word_of position tried ∷ rest) t.way.failed ∙ ap (λ b. cond b (end (word_of position tried)) (end_of found end position rest)) h,
     )
 
--- what is due after it is due
+-- the placements due after a try are part of those due before it
 tried-due : (fuel : ℕ) (position : Position) (tried : Try) → IsSound position → IsTried fuel position tried → cost_of fuel position tried + due_in fuel (after_try position tried) ≤ due_in (suc fuel) position
 tried-due fuel position tried sound t =
     let found = found_after fuel position tried.light in
@@ -144,7 +145,7 @@ tried-due fuel position tried sound t =
     let here : due_of found due (word_of position tried ∷ rest) ≡ 1 + due (word_of position tried) + cond (found (word_of position tried)) 0 (due_of found due rest) = refl in
     omega (arith, all, split, here)
 
--- it fails, and the words from the next place on are left
+-- after a failed try, the words from the next index on are left
 pub tried-failed : (fuel : ℕ) (position : Position) (tried : Try) → IsTried fuel position tried → found_in fuel (after_try position tried) ≡ false
     → IsUnderWay fuel position tried.light (tried.place + 1) × (spent_on fuel position tried.light (tried.place + 1) ≡ cost_of fuel position tried + due_in fuel (after_try position tried))
 tried-failed fuel position tried t h =
@@ -163,7 +164,7 @@ tried-failed fuel position tried t h =
       omega (arith, all, split, here),
     )
 
--- ---- Taking it back
+-- ---- undoing a try
 
 length-without_letters : (entries : List (Option ℕ)) (cells : List ℕ) (blanks : List Bool) → length (without_letters entries cells blanks) ≡ length entries
 length-without_letters entries [] blanks = refl
@@ -231,7 +232,7 @@ taken_back-agreed position tried word laid agree blanks = ap (holding position) 
     | inr none ↦ without_letters-other now cells tried.blanks cell none ∙ entries_with-other position.board.entries cells word cell none
   ]
 
--- a feasible word agrees
+-- a feasible word agrees with the entries of its light
 pub feasible_agrees : (position : Position) (light : ℕ) (word : List ℕ) → light < light_count position → is_entered position light ≡ false → is_feasible_word position light word ≡ true → agrees position.board (light_at position.board light) word ≡ true
 feasible_agrees position light word in_grid not_entered h =
     let feasible = is_feasible_word-gives position light word h in
@@ -240,7 +241,7 @@ feasible_agrees position light word in_grid not_entered h =
 pub taken_back-placed : (fuel : ℕ) (position : Position) (tried : Try) → IsSound position → IsTried fuel position tried → taken_back (after_try position tried) tried ≡ position
 taken_back-placed fuel position tried sound t = taken_back-agreed position tried (word_of position tried) sound.board (tried_agrees fuel position tried t) t.blanks
 
--- ---- The tries under way, from the first on
+-- ---- the tries under way, in order
 
 abbrev pub Trail : ℕ → Position → List Try → ℕ → ℕ → Position → Type 0
 Trail fuel start [] cost left current = (cost ≡ 0) × (left ≡ fuel) × (current ≡ start)
@@ -273,7 +274,7 @@ trail-more (first ∷ tries) zero start cost left current tried t is = absurd t
 trail-more (first ∷ tries) (suc fuel) start cost left current tried t is =
     (t.0 + cost_of left current tried, t.1, omega (arith, t.2), trail-more tries fuel (after_try start first) t.0 left current tried t.3 is)
 
--- where the last of them began
+-- the position before the last try
 pub record IsLast (fuel : ℕ) (start : Position) (tries : List Try) (tried : Try) (cost left : ℕ) (current : Position) : Type 0 where
   pub before : Position
   pub paid : ℕ
@@ -305,7 +306,7 @@ trail-sound [] fuel start cost left current sound t = rw t.2 sound
 trail-sound (tried ∷ tries) zero start cost left current sound t = absurd t
 trail-sound (tried ∷ tries) (suc fuel) start cost left current sound t = trail-sound tries fuel (after_try start tried) t.0 left current (IsSound-placed start tried.light (word_of start tried) sound) t.3
 
--- each placement enters a light
+-- each try uses up one placement of the bound
 pub trail-depth : (tries : List Try) (fuel : ℕ) (start : Position) (cost left : ℕ) (current : Position) → Trail fuel start tries cost left current → length tries + left ≡ fuel
 trail-depth [] fuel start cost left current t = omega (arith, t.1)
 trail-depth (tried ∷ tries) zero start cost left current t = absurd t
@@ -319,7 +320,7 @@ trail-lights (tried ∷ tries) (suc fuel) start cost left current t =
     let here = chosen-Some start tried.light t.1.way.chosen_is in
     (further.0, λ k. elim k as (λ n. (d : Try) → n < length (tried ∷ tries) → (get_or (tried ∷ tries) n d).light < light_count start) [ zero ↦ λ d below. here.0 | suc j ↦ λ d below. further.1 j d (omega arith) ])
 
--- all of them are taken back
+-- undoing all tries leads back to the start
 pub trail-back : (tries : List Try) (fuel : ℕ) (start : Position) (cost left : ℕ) (current : Position) → IsSound start → Trail fuel start tries cost left current → all_taken_back current tries ≡ start
 trail-back [] fuel start cost left current sound t = t.2
 trail-back (tried ∷ tries) zero start cost left current sound t = absurd t
@@ -327,7 +328,7 @@ trail-back (tried ∷ tries) (suc fuel) start cost left current sound t =
     ap (λ s. taken_back s tried) (trail-back tries fuel (after_try start tried) t.0 left current (IsSound-placed start tried.light (word_of start tried) sound) t.3)
     ∙ taken_back-placed fuel start tried sound t.1
 
--- fewer lights are left to enter
+-- a try leaves fewer lights to enter
 pub tried-fewer : (fuel : ℕ) (position : Position) (tried : Try) → IsSound position → IsTried fuel position tried → unentered_count (after_try position tried) < unentered_count position
 tried-fewer fuel position tried sound t =
     let is = chosen-Some position tried.light t.way.chosen_is in
@@ -340,9 +341,9 @@ trail-enough (tried ∷ tries) (suc fuel) start cost left current sound enough t
     let fewer = tried-fewer fuel start tried sound t.1 in
     trail-enough tries fuel (after_try start tried) t.0 left current (IsSound-placed start tried.light (word_of start tried) sound) (omega arith) t.3
 
--- ---- Which lights are noted
+-- ---- notes along the tries
 
--- at each position of the way the lights are entered that are noted of its placements or fewer
+-- at each position along the tries, the wholly entered lights are those with a note from its placements or fewer
 abbrev pub AreNotedAlong : Position → List Try → List (Option ℕ) → ℕ → Type 0
 AreNotedAlong start [] since placements = AreEntered start (noted since (suc placements))
 AreNotedAlong start (tried ∷ tries) since placements = AreEntered start (noted since (suc placements)) × AreNotedAlong (after_try start tried) tries since (suc placements)

@@ -1,4 +1,4 @@
--- The feasible words of a light by their places in the dictionary.
+-- The feasible words of a light, by their indices in the dictionary.
 use Rattle.std.proofs.Common.{◌≡◌, ℕ, zero, suc, ◌+◌, ◌-◌, ◌<◌, ◌≤◌, Bool, true, false, cond, ◌&&◌, List, [], ◌∷◌, ◌++◌, map, length, get_or, take, drop, Option, Some, None, refl, sym, ◌∙◌, ap, subst, arith, add-zero, append_assoc, inl, inr}
 use Rattle.std.specs.Prelude.{filter, Contains, nat_lt, position, option_map}
 use Rattle.std.specs.List.{position_or_len}
@@ -23,7 +23,7 @@ use Rattle.xw_fill.proofs.FeasibleWordsLemmas.{is_feasible_word-gives, answers_w
 use Rattle.xw_fill.proofs.PlacingLemmas.{agrees-length}
 use Rattle.xw_fill.proofs.SearchLemmas.{open_base}
 
--- where each word that passes is picked, picking first changes nothing
+-- if every word that passes is also picked, picking first changes nothing
 filter_picked : (test : List ℕ → Bool) (pick : Entry → Bool) (words : List Entry) → ((k : ℕ) → k < length words → test (get_or words k no_entry).word ≡ true → pick (get_or words k no_entry) ≡ true) → filter test (map (λ (word : Entry). word.word) (filter pick words)) ≡ filter test (map (λ (word : Entry). word.word) words)
 filter_picked test pick [] h = refl
 filter_picked test pick (word ∷ words) h = split (filter_picked test pick words (λ k below. h (suc k) (omega arith))) (pick word) refl (test word.word) refl where
@@ -34,7 +34,7 @@ filter_picked test pick (word ∷ words) h = split (filter_picked test pick word
   split rest false missed true passes = absurd (false≢true (sym missed ∙ h 0 (omega arith) passes))
   split rest false missed false fails = rest
 
--- a feasible word at a place is the active word there, which agrees
+-- a known word that is feasible is active and agrees with the entries
 feasible_known : (position : Position) (light k : ℕ) → HasDistinctWords position.words → light < light_count position → is_entered position light ≡ false → k < length (known_words position.words (length (light_at position.board light)))
     → is_feasible_word position light (get_or (known_words position.words (length (light_at position.board light))) k no_entry).word ≡ true
     → ((get_or (known_words position.words (length (light_at position.board light))) k no_entry).active && agrees position.board (light_at position.board light) (get_or (known_words position.words (length (light_at position.board light))) k no_entry).word) ≡ true
@@ -57,7 +57,7 @@ feasible_known position light k dictionary in_grid not_entered below h =
       at_default (x ∷ xs) zero d e under = refl
       at_default (x ∷ xs) (suc i) d e under = at_default xs i d e (omega arith)
 
--- the feasible words of a light that is not wholly entered are those known words that are feasible
+-- the feasible words of a light that is not wholly entered are the known words that are feasible
 pub feasible_known_words : (position : Position) (light : ℕ) → HasDistinctWords position.words → light < light_count position → is_entered position light ≡ false → feasible_words position light ≡ filter (is_feasible_word position light) (spellings_at position light)
 unfolding feasible_words
 feasible_known_words position light dictionary in_grid not_entered =
@@ -68,7 +68,7 @@ feasible_known_words position light dictionary in_grid not_entered =
     ap (filter (is_feasible_word position light)) here
     ∙ filter_picked (is_feasible_word position light) pick known (λ k below. feasible_known position light k dictionary in_grid not_entered below)
 
--- ---- Lists and places
+-- ---- lists and indices
 
 filter-none : {X : Type 0} (p : X → Bool) (xs : List X) (d : X) → ((k : ℕ) → k < length xs → p (get_or xs k d) ≡ false) → filter p xs ≡ []
 filter-none p [] d h = refl
@@ -83,7 +83,7 @@ filter-pass p xs i d below passes = filter-take_more p xs i d below ∙ ap (λ b
 filter-skip : {X : Type 0} (p : X → Bool) (xs : List X) (i : ℕ) (d : X) → i < length xs → p (get_or xs i d) ≡ false → filter p (take (i + 1) xs) ≡ filter p (take i xs)
 filter-skip p xs i d below fails = filter-take_more p xs i d below ∙ ap (λ b. filter p (take i xs) ++ cond b (get_or xs i d ∷ []) []) fails ∙ append-nil (filter p (take i xs))
 
--- nothing passes in between
+-- no element between two indices passes
 filter-gap : {X : Type 0} (p : X → Bool) (xs : List X) (d : X) (from k : ℕ) → from + k ≤ length xs → ((j : ℕ) → j < k → p (get_or xs (from + j) d) ≡ false) → filter p (take (from + k) xs) ≡ filter p (take from xs)
 filter-gap p xs d from zero within h = rw add-zero refl
 filter-gap p xs d from (suc k) within h =
@@ -92,7 +92,7 @@ filter-gap p xs d from (suc k) within h =
     ∙ filter-skip p xs (from + k) d (omega arith) (h k (omega arith))
     ∙ filter-gap p xs d from k (omega arith) (λ j below. h j (omega arith))
 
--- the first that passes from a place on
+-- the first element at `from` or later that passes
 abbrev pub IsFirstFrom : {X : Type 0} → (X → Bool) → List X → X → ℕ → ℕ → Type 0
 IsFirstFrom p xs d from place = (from ≤ place) × (place < length xs) × (p (get_or xs place d) ≡ true) × ((k : ℕ) → from ≤ k → k < place → p (get_or xs k d) ≡ false)
 
@@ -116,7 +116,7 @@ no_place p xs d from h k above below =
       split true e g = cc
       split false e g = ltb-false (position_or_len p (drop from xs)) (length (drop from xs)) e
 
--- so nothing else is feasible up to it
+-- no other word up to the next one is feasible
 pub next_before : (state : Position) (light from place : ℕ) → IsNextWord state light from place → words_before state light place ≡ words_before state light from
 next_before state light from place next =
     let up : from + (place - from) ≡ place = omega (arith, next.above) in
@@ -131,7 +131,7 @@ no_more_before state light from none =
     let rest : filter test (drop from sp) ≡ [] = filter-none test (drop from sp) [] (λ k below. ap test (get_or-drop from sp k []) ∙ none (from + k) (omega arith) (omega arith)) in
     sym (append-nil (filter test (take from sp))) ∙ ap (λ ys. filter test (take from sp) ++ ys) (sym rest) ∙ sym (filter-append test (take from sp) (drop from sp)) ∙ ap (filter test) (take-append-drop from sp)
 
--- ---- What an engine answers as the next word
+-- ---- the next word that an engine answers
 
 listed_at : (o : Option ℕ) (from place : ℕ) → option_map (λ k. Listed (from + k)) o ≡ Some (Listed place) → (k : ℕ) × (o ≡ Some k) × (from + k ≡ place)
 listed_at None from place h = cc
@@ -145,7 +145,7 @@ none_entered : (o : Option ℕ) (from : ℕ) → option_map (λ k. Listed (from 
 none_entered None from h = cc
 none_entered (Some k) from h = cc
 
--- of the known words those are active answers that are feasible
+-- a known word is an active answer if and only if it is feasible
 active_answer : (state : Position) (answers : Answers) (light k : ℕ) → AreAnswers state.board state.words answers → HasDistinctWords state.words → light < light_count state → is_entered state light ≡ false → k < length (known_words state.words (length (light_at state.board light)))
     → is_active_answer answers light (get_or (known_words state.words (length (light_at state.board light))) k no_entry) ≡ is_feasible_word state light (get_or (spellings_at state light) k [])
 active_answer state answers light k exact dictionary in_grid not_entered below =
@@ -189,11 +189,11 @@ pub next_not_entered : (state : Position) (answers : Answers) (light from : ℕ)
 next_not_entered state answers light from not_entered h =
     none_entered (position (is_active_answer answers light) (drop from (known_words state.words (length (light_at state.board light))))) from (sym (next_found_open state answers light from not_entered) ∙ h)
 
--- the word at a place is next after those before it
+-- one more feasible word before the next index
 pub words_before-more : (state : Position) (light place : ℕ) → place < length (spellings_at state light) → is_feasible_word state light (get_or (spellings_at state light) place []) ≡ true → words_before state light (place + 1) ≡ words_before state light place ++ get_or (spellings_at state light) place [] ∷ []
 words_before-more state light place below passes = filter-pass (is_feasible_word state light) (spellings_at state light) place [] below passes
 
--- all feasible words, parted at a place
+-- the feasible words split at an index
 pub words_parted : (state : Position) (light place : ℕ) → HasDistinctWords state.words → light < light_count state → is_entered state light ≡ false → place < length (spellings_at state light) → is_feasible_word state light (get_or (spellings_at state light) place []) ≡ true
     → feasible_words state light ≡ words_before state light place ++ (get_or (spellings_at state light) place [] ∷ words_left state light (place + 1))
 words_parted state light place dictionary in_grid not_entered below passes =

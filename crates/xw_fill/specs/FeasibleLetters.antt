@@ -1,4 +1,5 @@
--- The feasible letters of a cell as a list: those that some family leaves which supports itself. Such a family is looked for as for a word.
+-- The feasible letters of a cell as a computed list: a letter is feasible if some supported family of pairs leaves it
+-- at the cell. The family is searched for as in FeasibleWords.
 use Rattle.std.specs.Prelude.{ℕ, Bool, ◌&&◌, List, filter, length}
 use Rattle.std.specs.List.{list_all}
 use Rattle.xw_letters.specs.Letter.{alphabet}

@@ -1,4 +1,4 @@
--- A fill of a board.
+-- The definition of a fill.
 use Rattle.std.specs.Prelude.{◌≡◌, ℕ, ◌<◌, ◌≢◌, true, false, List, length, Contains, Option, Some}
 use Rattle.xw_feas.specs.Board.{entry, light_at, is_wholly_entered, spelled}
 use Rattle.xw_words.specs.Dictionary.{Dictionary, row as known_words}
@@ -6,11 +6,12 @@ use Rattle.xw_feas.specs.WellFormed.{HasLetterEntries}
 use Rattle.xw_fill.specs.Position.{Position, with_entries}
 use Rattle.xw_fill.specs.Search.{is_entered}
 
--- the word is an active one
+-- the word is active in the dictionary
 abbrev pub IsActive : Dictionary → List ℕ → Type 0
 IsActive dictionary word = Contains (known_words dictionary (length word)) (record { word = word; active = true })
 
--- the entries are letters, and keep those of the position; each light is wholly entered with an active word, or was wholly entered before; and no two lights spell the same
+-- The entries are letters and keep every entry of the position. Each light is wholly entered with an active word,
+-- unless it was wholly entered before. No two lights spell the same.
 pub record IsFill (position : Position) (entries : List (Option ℕ)) : Type 0 where
   pub letters : HasLetterEntries (with_entries position.board entries)
   pub kept : (cell letter : ℕ) → entry position.board cell ≡ Some letter → entry (with_entries position.board entries) cell ≡ Some letter

@@ -1,4 +1,4 @@
--- What the answer of a search for a fill says.
+-- What each answer of a search for a fill means.
 use Rattle.std.specs.Prelude.{◌≡◌, ℕ, ◌<◌, ◌≤◌, Bool, true, false, cond, List, Option, Some, None}
 use Rattle.xw_feas.specs.State.{State}
 use Rattle.xw_fill.specs.Position.{Position, position_of, filled_in}
@@ -12,34 +12,35 @@ use Rattle.xw_fill.specs.declared.search.Filling.TheVariants.{Filled, NoFill, Li
 use Rattle.xw_fill.specs.declared.search.Next.{Next}
 use Rattle.xw_fill.specs.declared.search.Next.TheVariants.{Done, Spent, Words}
 
--- by the search that the definition describes: the grid has the entries of the search's end, or all is as before
+-- By the search that Search defines: Filled leaves the entries of its end, NoFill and Limit leave the state as it was,
+-- and Limit means that more placements are due than the limit allows.
 abbrev pub IsFilling : ℕ → State → State → Filling → Type 0
 IsFilling limit before after Filled = (due (position_of before) ≤ limit) × (found (position_of before) ≡ true) × (after ≡ filled_in before (end (position_of before)).board.entries)
 IsFilling limit before after NoFill = (due (position_of before) ≤ limit) × (found (position_of before) ≡ false) × (after ≡ before)
 IsFilling limit before after Limit = (limit < due (position_of before)) × (after ≡ before)
 
--- what it says of fills
+-- In terms of fills: after Filled the state holds a fill, and NoFill means that no fill exists.
 abbrev pub HasFill : State → State → Filling → Type 0
 HasFill before after Filled = (entries : List (Option ℕ)) × IsFill (position_of before) entries × (after ≡ filled_in before entries)
 HasFill before after NoFill = (entries : List (Option ℕ)) → IsFill (position_of before) entries → ⊥
 HasFill before after Limit = Unit {0}
 
--- a fact for the answers that change nothing
+-- P, for the answers that leave the state as it was
 abbrev pub UnlessFilled : Filling → Type 0 → Type 0
 UnlessFilled Filled P = Unit {0}
 UnlessFilled NoFill P = P
 UnlessFilled Limit P = P
 
--- what a scan of the lights finds: that some light has no feasible word, or which is chosen
+-- The result of one scan: Blocked if some light has no feasible word, and otherwise the chosen light.
 abbrev pub scanned : Position → Scan
 scanned position = cond (any_below (lacks_words position) (light_count position)) Blocked (Open (chosen position))
 
--- what is to be done at a position that is new
+-- the next step for a chosen light
 abbrev pub next_of : Option ℕ → Next
 next_of None = Done
 next_of (Some light) = Words light 0
 
--- where each light has a feasible word
+-- the next step where every light has a feasible word
 abbrev pub unless_repeated : Bool → Option ℕ → Next
 unless_repeated repeats chosen = cond repeats Spent (next_of chosen)
 

@@ -1,4 +1,4 @@
--- What the definitions of the search come to, without a bound on placements, and what they say of fills.
+-- Laws of the search definitions: they hold without a bound on placements, and they relate the search to fills.
 use Rattle.std.specs.Prelude.{◌≡◌, ℕ, ◌<◌, ◌≤◌, true, false, cond, ◌&&◌, not, length, List, Contains, Option, Some, None}
 use Rattle.xw_feas.specs.Board.{light_at, spelled}
 use Rattle.xw_feas.specs.State.{State}
@@ -10,40 +10,40 @@ use Rattle.xw_fill.specs.declared.search.Filling.{Filling}
 use Rattle.xw_fill.specs.FeasibleWords.{feasible_words}
 use Rattle.xw_fill.specs.Search.{light_count, is_entered, is_dead, chosen, found_by, due_by, end_by, found, due, end}
 
--- each of the three goes by the positions after one placement
+-- found, due and end of a position follow from those of the positions after one placement
 pub record IsSearched (position : Position) : Type 0 where
   pub found_is : found position ≡ (not (is_dead position) && found_by found position (chosen position))
   pub due_is : due position ≡ cond (is_dead position) 0 (due_by found due position (chosen position))
   pub end_is : end position ≡ end_by found end position (chosen position)
 
--- of the lights that are not wholly entered none has fewer feasible words, and none before it as few
+-- of the lights that are not wholly entered, the first with the fewest feasible words
 pub record IsChosen (position : Position) (light : ℕ) : Type 0 where
   pub in_grid : light < light_count position
   pub not_entered : is_entered position light ≡ false
   pub fewest : (other : ℕ) → other < light_count position → is_entered position other ≡ false → length (feasible_words position light) ≤ length (feasible_words position other)
   pub first : (other : ℕ) → other < light → is_entered position other ≡ false → length (feasible_words position light) < length (feasible_words position other)
 
--- none is chosen where all are wholly entered
+-- the choice is right: a light that IsChosen, or None if all lights are wholly entered
 abbrev pub IsChoice : Position → Option ℕ → Type 0
 IsChoice position None = (light : ℕ) → light < light_count position → is_entered position light ≡ true
 IsChoice position (Some light) = IsChosen position light
 
--- each fill has for each light one of its feasible words, so that trying these alone loses none
+-- In every fill each light spells one of its feasible words, so a search that tries only these misses no fill.
 abbrev pub FillsAreFeasible : Type 0
 FillsAreFeasible = (position : Position) (entries : List (Option ℕ)) → IsLaidOut position.board → IsFill position entries → (light : ℕ) → light < light_count position → Contains (feasible_words position light) (spelled (with_entries position.board entries) (light_at position.board light))
 
--- where one is found the end is the position with a fill in it
+-- if the search finds something, its end is the position with a fill in it
 abbrev pub FoundIsFill : Type 0
 FoundIsFill = (position : Position) → IsLaidOut position.board → found position ≡ true → (entries : List (Option ℕ)) × IsFill position entries × (end position ≡ holding position entries)
 
--- and where there is a fill one is found
+-- if a fill exists, the search finds one
 abbrev pub FillIsFound : Type 0
 FillIsFound = (position : Position) (entries : List (Option ℕ)) → IsLaidOut position.board → IsFill position entries → found position ≡ true
 
--- the answer goes by the position and the limit alone
+-- the answer depends only on the position and the limit
 abbrev pub AnswerIsOne : Type 0
 AnswerIsOne = (limit : ℕ) (before other now other_now : State) (filling other_filling : Filling) → position_of before ≡ position_of other → IsFilling limit before now filling → IsFilling limit other other_now other_filling → filling ≡ other_filling
 
--- and so does what is left in the grid
+-- for one state, limit and answer, the state after it is the same
 abbrev pub EndIsOne : Type 0
 EndIsOne = (limit : ℕ) (before now other_now : State) (filling : Filling) → IsFilling limit before now filling → IsFilling limit before other_now filling → now ≡ other_now

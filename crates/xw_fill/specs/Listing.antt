@@ -1,8 +1,8 @@
--- Repeated words, and words that the dictionary lacks.
+-- Repeated words, and words that are not active in the dictionary.
 use Rattle.std.specs.Prelude.{ℕ, zero, suc, Bool, ◌&&◌, not, List, [], ◌∷◌, ◌++◌, map, length, Option, Some, None, bytes_eq}
 use Rattle.std.specs.List.{list_any}
 use Rattle.xw_words.specs.Dictionary.{Entry, row as known_words}
-use Rattle.xw_cells.specs.declared.cell.LightName.{LightName}
+use Rattle.xw_grid.specs.declared.cell.LightName.{LightName}
 use Rattle.xw_feas.specs.State.{State}
 use Rattle.xw_fill.specs.Position.{Position, position_of, name_at}
 use Rattle.xw_fill.specs.Below.{those_below}
@@ -13,7 +13,7 @@ abbrev pub duplicate_of : State → ℕ → Option ℕ → List Duplicate
 duplicate_of state light None = []
 duplicate_of state light (Some first) = record { light = name_at state light; first = name_at state first } ∷ []
 
--- of the first lights those that spell what one before them does, each with the first of those
+-- of the first n lights, those that spell the same as an earlier light, each with the first such earlier light
 abbrev pub duplicates_below : State → ℕ → List Duplicate
 duplicates_below state zero = []
 duplicates_below state (suc n) = duplicates_below state n ++ duplicate_of state n (first_same (position_of state) n)
@@ -21,13 +21,13 @@ duplicates_below state (suc n) = duplicates_below state n ++ duplicate_of state 
 abbrev pub duplicates_of : State → List Duplicate
 duplicates_of state = duplicates_below state (light_count (position_of state))
 
--- the word is an active one
+-- the word is active in the dictionary
 abbrev pub is_listed : Position → List ℕ → Bool
 is_listed position word = list_any (λ (known : Entry). known.active && bytes_eq known.word word) (known_words position.words (length word))
 
 abbrev pub is_unlisted : Position → ℕ → Bool
 is_unlisted position light = is_entered position light && not (is_listed position (spelling position light))
 
--- the lights that are wholly entered with another word
+-- the wholly entered lights whose words are not active
 abbrev pub unlisted_of : State → List LightName
 unlisted_of state = map (name_at state) (those_below (is_unlisted (position_of state)) (light_count (position_of state)))

@@ -1,14 +1,15 @@
--- Which lights are wholly entered, noted from placement to placement: the note of a light is how many placements had been made when it was first seen so.
+-- Notes of the wholly entered lights. The note of a light is the number of placements after which it was first seen
+-- wholly entered.
 use Rattle.std.specs.Prelude.{◌≡◌, ℕ, ◌<◌, ◌≤◌, Bool, true, false, not, nat_lt, ◌&&◌, ◌==◌, List, slice_index_or, Option, Some, None, is_some}
 use Rattle.xw_fill.specs.Position.{Position}
 use Rattle.xw_fill.specs.Below.{any_below}
 use Rattle.xw_fill.specs.Search.{light_count, is_entered, spell_same}
 
--- another light spells what this one does
+-- another light spells the same as this one
 abbrev pub is_spelled_again : Position → ℕ → Bool
 is_spelled_again position light = any_below (λ other. not (other == light) && spell_same position light other) (light_count position)
 
--- noted of fewer placements than these
+-- the note was made after fewer placements than these
 abbrev pub within : Option ℕ → ℕ → Bool
 within None placements = false
 within (Some since) placements = nat_lt since placements
@@ -16,18 +17,18 @@ within (Some since) placements = nat_lt since placements
 abbrev pub noted : List (Option ℕ) → ℕ → ℕ → Bool
 noted since placements light = within (slice_index_or since light None) placements
 
--- noted of any
+-- the light has a note
 abbrev pub has_note : List (Option ℕ) → ℕ → Bool
 has_note since light = is_some (slice_index_or since light None)
 
--- what is noted of fewer placements is noted still
+-- notes from fewer placements stay as they were
 abbrev pub StayNoted : ℕ → List (Option ℕ) → List (Option ℕ) → Type 0
 StayNoted placements before after = (light fewer : ℕ) → fewer ≤ placements → noted after fewer light ≡ noted before fewer light
 
--- the lights that are noted are those that are wholly entered
+-- the lights with a note are exactly the wholly entered lights
 abbrev pub AreEntered : Position → (ℕ → Bool) → Type 0
 AreEntered position is_noted = (light : ℕ) → light < light_count position → is_noted light ≡ is_entered position light
 
--- no two of the lights that are noted spell the same
+-- no two lights with a note spell the same
 abbrev pub SpellApart : Position → (ℕ → Bool) → Type 0
 SpellApart position is_noted = (light other : ℕ) → other < light → light < light_count position → is_noted light ≡ true → is_noted other ≡ true → spell_same position light other ≡ false

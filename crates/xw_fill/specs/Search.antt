@@ -1,4 +1,4 @@
--- What the search for a fill finds from a position, and after how many placements.
+-- The search for a fill: whether it finds one from a position, how many placements it takes, and where it ends.
 use Rattle.std.specs.Prelude.{ℕ, zero, suc, ◌+◌, Bool, true, cond, ◌&&◌, ◌||◌, not, nat_lt, ◌==◌, List, [], ◌∷◌, length, bytes_eq, Option, Some, None, is_none}
 use Rattle.std.specs.List.{list_any}
 use Rattle.xw_feas.specs.Board.{light_at, is_wholly_entered, spelled}
@@ -12,7 +12,7 @@ light_count position = length position.board.lights
 abbrev pub is_entered : Position → ℕ → Bool
 is_entered position light = is_wholly_entered position.board (light_at position.board light)
 
--- what a wholly entered light spells
+-- the letters of a light, which are its word if it is wholly entered
 abbrev pub spelling : Position → ℕ → List ℕ
 spelling position light = spelled position.board (light_at position.board light)
 
@@ -20,11 +20,11 @@ spelling position light = spelled position.board (light_at position.board light)
 abbrev pub spell_same : Position → ℕ → ℕ → Bool
 spell_same position light other = is_entered position light && (is_entered position other && bytes_eq (spelling position light) (spelling position other))
 
--- the light spells what one before it does
+-- the light spells the same as an earlier light
 abbrev pub is_repeat : Position → ℕ → Bool
 is_repeat position light = any_below (spell_same position light) light
 
--- the first of those
+-- the first earlier light that spells the same
 abbrev pub first_same : Position → ℕ → Option ℕ
 first_same position light = first_below (spell_same position light) light
 
@@ -35,12 +35,12 @@ lacks_words position light = length (feasible_words position light) == 0
 unfoldable pub is_dead : Position → Bool
 is_dead position = any_below (lacks_words position) (light_count position) || any_below (is_repeat position) (light_count position)
 
--- the light with the fewest feasible words, the first of these
+-- the light if it has fewer feasible words than the best so far, and otherwise the best so far
 abbrev pub with_fewer : Position → Option ℕ → ℕ → ℕ
 with_fewer position None light = light
 with_fewer position (Some best) light = cond (nat_lt (length (feasible_words position light)) (length (feasible_words position best))) light best
 
--- among the first lights that are not wholly entered
+-- the chosen light among the first n: of those not wholly entered, the first with the fewest feasible words
 abbrev pub chosen_below : Position → ℕ → Option ℕ
 chosen_below position zero = None
 chosen_below position (suc n) = cond (is_entered position n) (chosen_below position n) (Some (with_fewer position (chosen_below position n) n))
@@ -48,17 +48,18 @@ chosen_below position (suc n) = cond (is_entered position n) (chosen_below posit
 unfoldable pub chosen : Position → Option ℕ
 chosen position = chosen_below position (light_count position)
 
--- some of the words leads to a fill
+-- placing some feasible word of the chosen light leads to a fill, or no light is left to choose
 abbrev pub found_by : (Position → Bool) → Position → Option ℕ → Bool
 found_by found position None = true
 found_by found position (Some light) = list_any (λ word. found (placed position light word)) (feasible_words position light)
 
--- within so many placements on each way
+-- a fill is found with at most this many placements in a row
 unfoldable pub found_in : ℕ → Position → Bool
 found_in zero position = not (is_dead position) && is_none (chosen position)
 found_in (suc n) position = not (is_dead position) && found_by (found_in n) position (chosen position)
 
--- one placement for each word up to the first that leads to a fill, and what is due after it
+-- The placements for a list of words: one for each word up to the first that leads to a fill, and the placements due
+-- after each of these.
 abbrev pub due_of : (List ℕ → Bool) → (List ℕ → ℕ) → List (List ℕ) → ℕ
 due_of found due [] = 0
 due_of found due (word ∷ words) = 1 + due word + cond (found word) 0 (due_of found due words)
@@ -71,7 +72,7 @@ unfoldable pub due_in : ℕ → Position → ℕ
 due_in zero position = 0
 due_in (suc n) position = cond (is_dead position) 0 (due_by (found_in n) (due_in n) position (chosen position))
 
--- what the first word leads to that leads to a fill
+-- the end after the first word that leads to a fill
 abbrev pub end_of : (List ℕ → Bool) → (List ℕ → Position) → Position → List (List ℕ) → Position
 end_of found end position [] = position
 end_of found end position (word ∷ words) = cond (found word) (end word) (end_of found end position words)
@@ -84,7 +85,7 @@ unfoldable pub end_in : ℕ → Position → Position
 end_in zero position = position
 end_in (suc n) position = end_by (found_in n) (end_in n) position (chosen position)
 
--- each placement enters one more light wholly, so there are no more of them on a way than lights to enter
+-- Each placement makes one more light wholly entered, so no path has more placements than there are lights to enter.
 abbrev pub unentered_count : Position → ℕ
 unentered_count position = count_below (λ light. not (is_entered position light)) (light_count position)
 

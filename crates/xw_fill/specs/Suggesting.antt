@@ -1,6 +1,6 @@
--- What is proposed at a position.
+-- What is suggested at a position.
 use Rattle.std.specs.Prelude.{◌≡◌, ℕ, ◌<◌, length, slice_index_or, [], Bool, true, false, ◌&&◌, List, Option, Some, None, is_none, position}
-use Rattle.xw_cells.specs.declared.cell.LightName.{LightName}
+use Rattle.xw_grid.specs.declared.cell.LightName.{LightName}
 use Rattle.xw_feas.specs.State.{State}
 use Rattle.xw_fill.specs.Position.{Position, position_of, placed, name_at}
 use Rattle.xw_fill.specs.Below.{first_below}
@@ -14,11 +14,11 @@ use Rattle.xw_fill.specs.declared.suggesting.Suggestion.TheVariants.{Dead, Done,
 abbrev pub first_blocked : Position → Option ℕ
 first_blocked state = first_below (lacks_words state) (light_count state)
 
--- the word is feasible, and each light still has a feasible word once it is placed
+-- the word is feasible, and every light still has a feasible word once it is placed
 abbrev pub can_be_tried : Position → ℕ → List ℕ → Bool
 can_be_tried state light word = is_feasible_word state light word && is_none (first_blocked (placed state light word))
 
--- the place of the first such word
+-- the index of the first such word
 abbrev pub place_to_try : Position → ℕ → Option ℕ
 place_to_try state light = position (can_be_tried state light) (spellings_at state light)
 
@@ -34,11 +34,12 @@ abbrev pub suggestion_unless : State → Option ℕ → Suggestion
 suggestion_unless state None = suggestion_at state (chosen (position_of state))
 suggestion_unless state (Some light) = Dead (name_at state light)
 
--- the first of these that holds: some light has no feasible word; no light is left to choose; some word of the chosen light can be tried; none can
+-- The first case that applies: Dead if some light has no feasible word, Done if no light is left to choose, Try with
+-- the first word that can be tried, and otherwise NoWord.
 abbrev pub suggestion : State → Suggestion
 suggestion state = suggestion_unless state (first_blocked (position_of state))
 
--- a feasible word, by its place, for a light that is not wholly entered
+-- a feasible word, given by its index, of a light that is not wholly entered
 pub record IsTriedAt (state : Position) (light place : ℕ) : Type 0 where
   pub light_in : light < light_count state
   pub not_entered : is_entered state light ≡ false

@@ -1,4 +1,4 @@
-//! What the definitions of the search come to.
+//! Laws of the search definitions: they do nothing at run time and give callers proved facts.
 ghost use Rattle.std.specs.Prelude.{◌≡◌, ℕ};
 ghost use Rattle.xw_feas.specs.WellFormed.{IsLaidOut};
 ghost use Rattle.xw_feas.specs.Feasible.{Answers, AreAnswers};
@@ -8,33 +8,33 @@ ghost use Rattle.xw_fill.specs.FeasibleWords.{feasible_words};
 ghost use Rattle.xw_fill.specs.Search.{chosen};
 ghost use Rattle.xw_fill.specs.Laws.{IsSearched, IsChoice, FillsAreFeasible, FoundIsFill, FillIsFound, AnswerIsOne, EndIsOne};
 
-/// What is found, what is due and where it ends go by the positions after one placement.
+/// `found`, `due` and `end` of a position follow from those of the positions after one placement.
 pub fn search_law()
     ensures { (position : Position) → IsLaidOut position.board → IsSearched position }
 {}
 
-/// Which light is chosen.
+/// Of the lights that are not wholly entered, the chosen light is the first with the fewest feasible words.
 pub fn choice_law()
     ensures { (position : Position) → IsChoice position (chosen position) }
 {}
 
-/// The lists of feasible words are those that engines answer.
+/// The feasible words of the search definitions are the ones that an engine answers.
 pub fn words_law()
     ensures { (position : Position) (answers : Answers) → AreAnswers position.board position.words answers → (light : ℕ) → words_of answers light ≡ feasible_words position light }
 {}
 
-/// No fill is lost by trying feasible words alone.
+/// Every fill uses only feasible words, so a search that tries only these misses no fill.
 pub fn feasible_law()
     ensures { FillsAreFeasible }
 {}
 
-/// What a search finds is a fill, and it finds one wherever there is one.
+/// A search that finds something ends at a fill, and it finds one if there is one.
 pub fn fill_law()
     ensures end { FoundIsFill }
     ensures found { FillIsFound }
 {}
 
-/// How a search for a fill ends is a function of the position and the limit.
+/// The answer of `fill` and the grid it leaves are functions of the position and the limit.
 pub fn answer_law()
     ensures answer { AnswerIsOne }
     ensures end { EndIsOne }

@@ -1,4 +1,5 @@
-//! Lists repeats and words that the dictionary lacks, proposes words, and fills grids.
+//! Finds repeated and unlisted words, suggests words, and fills grids. Works over any engine that implements
+//! `Feasible`.
 #![tactic(auto)]
 
 pub mod laws;
@@ -9,3 +10,7 @@ mod scan;
 pub mod search;
 pub mod suggesting;
 mod tries;
+
+pub use listing::{Duplicate, duplicates, unlisted};
+pub use search::{Filling, fill};
+pub use suggesting::{Suggestion, suggest};

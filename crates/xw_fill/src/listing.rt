@@ -1,4 +1,4 @@
-//! Repeated words, and words that the dictionary lacks.
+//! Lists repeated words, and words that are not in the dictionary.
 ghost use Rattle.std.specs.Prelude.{◌≡◌, ◌<◌, ◌≤◌, length, IfOk, IfErr, take};
 ghost use Rattle.xw_feas.specs.Board.{spelled};
 ghost use Rattle.xw_fill.specs.Position.{position_of};
@@ -7,22 +7,23 @@ ghost use Rattle.xw_fill.specs.Listing.{duplicates_of, is_listed, is_unlisted, u
 
 use crate::scan::{board, first_same, is_entered, light_count, name_at};
 use std::alloc::Global;
-use xw_cells::cell::LightName;
-use xw_cells::fault::GridFault;
 use xw_feas::board::{Board, Cells};
 use xw_feas::edit::Refusal;
 use xw_feas::feasible::Feasible;
+use xw_grid::cell::LightName;
+use xw_grid::fault::GridFault;
 use xw_letters::letter::Letter;
 use xw_words::word::LONGEST;
 
-/// A light that spells what an earlier one does, and the first such.
+/// A light that spells the same as an earlier light, and the first such earlier light.
 #[derive(Clone, Copy, Debug, PartialEq, Eq)]
 pub struct Duplicate {
     pub light: LightName,
     pub first: LightName,
 }
 
-/// The lights that spell what an earlier light does, in order.
+/// Returns every light that spells the same as an earlier light, in light order, each with the first such earlier
+/// light. Only wholly entered lights count. Returns `Memory` if an allocation fails.
 pub fn duplicates<E: Feasible>(alloc: Global, engine: &E) -> Result<Vec<Duplicate>, Refusal>
     ensures lists { IfOk result (λ found. found.items ≡ duplicates_of (E.state engine.now)) }
     ensures memory { IfErr result (λ refusal. refusal ≡ Refusal.Grid GridFault.Memory) }
@@ -41,7 +42,7 @@ pub fn duplicates<E: Feasible>(alloc: Global, engine: &E) -> Result<Vec<Duplicat
     Ok(found)
 }
 
-/// The letters of a light, at the front.
+/// Copies the letters of a light to the front of an array.
 fn spell(board: &Board<'_>, cells: &Cells) -> [Letter; LONGEST]
     requires { length cells.now ≤ 255 }
     ensures { take (length cells.now) result ≡ spelled board.now cells.now }
@@ -53,7 +54,7 @@ fn spell(board: &Board<'_>, cells: &Cells) -> [Letter; LONGEST]
     letters
 }
 
-/// Whether what a light spells is an active word.
+/// Returns whether the word that a light spells is active in the dictionary.
 fn is_listed<E: Feasible>(engine: &E, light: usize) -> bool
     requires { light < light_count (position_of (E.state engine.now)) }
     ensures { result ≡ is_listed (position_of (E.state engine.now)) (spelling (position_of (E.state engine.now)) light) }
@@ -68,7 +69,7 @@ fn is_listed<E: Feasible>(engine: &E, light: usize) -> bool
     }
 }
 
-/// Whether a light is wholly entered with a word that is not active.
+/// Returns whether a light is wholly entered and its word is not active.
 fn is_unlisted<E: Feasible>(engine: &E, light: usize) -> bool
     requires { light < light_count (position_of (E.state engine.now)) }
     ensures { result ≡ is_unlisted (position_of (E.state engine.now)) light }
@@ -76,7 +77,8 @@ fn is_unlisted<E: Feasible>(engine: &E, light: usize) -> bool
     is_entered(engine, light) && !is_listed(engine, light)
 }
 
-/// The wholly entered lights whose words are not active, in order.
+/// Returns the wholly entered lights whose words are not active (unknown or struck), in light order. Returns `Memory`
+/// if an allocation fails.
 pub fn unlisted<E: Feasible>(alloc: Global, engine: &E) -> Result<Vec<LightName>, Refusal>
     ensures lists { IfOk result (λ lights. lights.items ≡ unlisted_of (E.state engine.now)) }
     ensures memory { IfErr result (λ refusal. refusal ≡ Refusal.Grid GridFault.Memory) }

@@ -1,4 +1,4 @@
-//! Which lights are wholly entered, noted from placement to placement.
+//! Notes when each light became wholly entered, so that a search tests only new words for repeats.
 ghost use Rattle.std.specs.Prelude.{◌≡◌, ◌<◌, length, ℕ, suc, true, is_some, IfSome};
 ghost use Rattle.xw_fill.specs.Position.{position_of};
 ghost use Rattle.xw_fill.specs.Below.{any_below};
@@ -8,7 +8,7 @@ ghost use Rattle.xw_fill.specs.Noted.{within, noted, has_note, is_spelled_again,
 use crate::scan::{agree, is_entered, light_count};
 use xw_feas::feasible::Feasible;
 
-/// Whether a light was wholly entered with fewer placements than these.
+/// Returns whether a light became wholly entered after fewer than `placements` placements.
 pub fn is_within(since: Option<usize>, placements: usize) -> bool
     ensures { result ≡ within since placements }
 {
@@ -18,7 +18,8 @@ pub fn is_within(since: Option<usize>, placements: usize) -> bool
     }
 }
 
-/// Notes which lights are wholly entered after so many placements. Those that fewer had entered stay as they are noted, and are not looked at.
+/// Sets the note of each light that is wholly entered after `placements` placements. Notes from fewer placements stay,
+/// and their lights are not read again.
 pub fn note_entered<E: Feasible>(engine: &E, since: &mut [Option<usize>], placements: usize)
     requires long { length since.old ≡ light_count (position_of (E.state engine.now)) }
     requires before { (light : ℕ) → light < light_count (position_of (E.state engine.now)) → noted since.old placements light ≡ true → is_entered (position_of (E.state engine.now)) light ≡ true }
@@ -34,7 +35,7 @@ pub fn note_entered<E: Feasible>(engine: &E, since: &mut [Option<usize>], placem
     }
 }
 
-/// The note of a light that fewer placements had not entered.
+/// Returns the new note of a light without an earlier note.
 fn note_of<E: Feasible>(engine: &E, light: usize, placements: usize) -> Option<usize>
     requires { light < light_count (position_of (E.state engine.now)) }
     ensures entered { is_some result ≡ is_entered (position_of (E.state engine.now)) light }
@@ -47,7 +48,7 @@ fn note_of<E: Feasible>(engine: &E, light: usize, placements: usize) -> Option<u
     }
 }
 
-/// Whether another light is wholly entered and spells the same as this one, which is wholly entered.
+/// Returns whether another wholly entered light spells the same as this one.
 fn has_same<E: Feasible>(engine: &E, since: &[Option<usize>], light: usize) -> bool
     requires long { length since.now ≡ light_count (position_of (E.state engine.now)) }
     requires noted { AreEntered (position_of (E.state engine.now)) (has_note since.now) }
@@ -65,7 +66,8 @@ fn has_same<E: Feasible>(engine: &E, since: &[Option<usize>], light: usize) -> b
     false
 }
 
-/// Whether two wholly entered lights spell the same, where of those that fewer placements had entered none do: only the others are looked for among all.
+/// Returns whether two wholly entered lights spell the same. The lights with notes from fewer placements must all
+/// differ; only the others are compared with all lights.
 pub fn has_new_repeat<E: Feasible>(engine: &E, since: &[Option<usize>], placements: usize) -> bool
     requires long { length since.now ≡ light_count (position_of (E.state engine.now)) }
     requires noted { AreEntered (position_of (E.state engine.now)) (has_note since.now) }

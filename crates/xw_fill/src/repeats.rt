@@ -1,4 +1,4 @@
-//! Whether the grid repeats a word: a light is compared with the earlier ones of its size alone.
+//! Finds whether the grid repeats a word. Each light is compared only with earlier lights of the same length.
 ghost use Rattle.std.specs.Prelude.{◌≡◌, ◌<◌, ◌≤◌, length, IfOk};
 ghost use Rattle.xw_fill.specs.Position.{position_of};
 ghost use Rattle.xw_fill.specs.Below.{any_below};
@@ -10,7 +10,7 @@ use std::alloc::{AllocError, Global};
 use xw_feas::feasible::Feasible;
 use xw_words::word::LONGEST;
 
-/// How many cells a light has.
+/// Returns the number of cells of a light.
 fn size<E: Feasible>(engine: &E, light: usize) -> usize
     requires { light < light_count (position_of (E.state engine.now)) }
     ensures size { result ≡ size_of (position_of (E.state engine.now)) light }
@@ -19,7 +19,8 @@ fn size<E: Feasible>(engine: &E, light: usize) -> usize
     board(engine).light(light).len()
 }
 
-/// Whether a light spells what an earlier one does; `last` is the last one before it of its size that is wholly entered, and `earlier` has that of each of these.
+/// Returns whether a light spells the same as an earlier one. `last` is the previous wholly entered light of its
+/// length; `earlier` links each of these to the previous one.
 fn is_repeat<E: Feasible>(
     engine: &E,
     light: usize,
@@ -42,7 +43,7 @@ fn is_repeat<E: Feasible>(
     false
 }
 
-/// Whether two wholly entered lights spell the same; want of memory is the only refusal.
+/// Returns whether two wholly entered lights spell the same. Fails only if the allocation fails.
 pub fn has_repeat<E: Feasible>(alloc: Global, engine: &E) -> Result<bool, AllocError>
     ensures { IfOk result (λ repeats. repeats ≡ any_below (is_repeat (position_of (E.state engine.now))) (light_count (position_of (E.state engine.now)))) }
 {

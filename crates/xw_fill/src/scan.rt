@@ -1,4 +1,4 @@
-//! What the scans of an engine's lights find.
+//! Queries over the lights of an engine. A light is given by its index in light order.
 ghost use Rattle.std.specs.Prelude.{◌≡◌, ◌<◌, length, bytes_eq, unwrap_or, slice_index_or, ℕ, true, false, MatchOption, is_some};
 ghost use Rattle.xw_grid.specs.Light.{lights_of, no_light};
 ghost use Rattle.xw_feas.specs.Board.{board_of, is_wholly_entered, spelled, entry};
@@ -11,13 +11,13 @@ ghost use Rattle.xw_fill.specs.Search.{is_entered, spelling, spell_same, first_s
 ghost use Rattle.xw_fill.specs.Noted.{has_note, AreEntered};
 ghost use Rattle.xw_fill.specs.Filling.{scanned};
 
-use xw_cells::cell::LightName;
 use xw_feas::board::{Board, Cells, has_all_entries};
 use xw_feas::edit::Found;
 use xw_feas::feasible::Feasible;
+use xw_grid::cell::LightName;
 use xw_grid::lights::Light;
 
-/// The engine's grid with its lights, seen by the places of cells.
+/// Returns the engine's grid with its lights, as a view that addresses cells by index.
 pub fn board<E: Feasible>(engine: &E) -> Board<'_>
     ensures { result ≡ board_of (E.state engine.now).grid }
 {
@@ -31,7 +31,7 @@ pub fn light_count<E: Feasible>(engine: &E) -> usize
     engine.lights().len()
 }
 
-/// The light at a place.
+/// Returns the light at an index.
 #[tactic(auto, using(crate::proofs::StateLemmas::light_steps))]
 pub fn light_at<E: Feasible>(engine: &E, light: usize) -> Light
     requires { light < light_count (position_of (E.state engine.now)) }
@@ -43,7 +43,7 @@ pub fn light_at<E: Feasible>(engine: &E, light: usize) -> Light
     }
 }
 
-/// The name of the light at a place.
+/// Returns the name of the light at an index.
 pub fn name_at<E: Feasible>(engine: &E, light: usize) -> LightName
     requires { light < light_count (position_of (E.state engine.now)) }
     ensures { result ≡ name_at (E.state engine.now) light }
@@ -51,7 +51,7 @@ pub fn name_at<E: Feasible>(engine: &E, light: usize) -> LightName
     light_at(engine, light).name
 }
 
-/// How many feasible words the light at a place has.
+/// Returns the number of feasible words of a light.
 fn word_count<E: Feasible>(engine: &E, light: usize) -> usize
     requires { light < light_count (position_of (E.state engine.now)) }
     ensures { result ≡ length (feasible_words (position_of (E.state engine.now)) light) }
@@ -62,7 +62,7 @@ fn word_count<E: Feasible>(engine: &E, light: usize) -> usize
     }
 }
 
-/// Whether two lists of cells have the same letters.
+/// Returns whether two lists of cells hold the same letters.
 fn have_same_letters(board: &Board<'_>, cells: &Cells, others: &Cells) -> bool
     ensures { result ≡ bytes_eq (spelled board.now cells.now) (spelled board.now others.now) }
 {
@@ -77,7 +77,7 @@ fn have_same_letters(board: &Board<'_>, cells: &Cells, others: &Cells) -> bool
     true
 }
 
-/// Whether a light is wholly entered.
+/// Returns whether a light is wholly entered.
 pub fn is_entered<E: Feasible>(engine: &E, light: usize) -> bool
     requires { light < light_count (position_of (E.state engine.now)) }
     ensures { result ≡ is_entered (position_of (E.state engine.now)) light }
@@ -86,7 +86,7 @@ pub fn is_entered<E: Feasible>(engine: &E, light: usize) -> bool
     has_all_entries(&board, &board.light(light))
 }
 
-/// Whether two lights have the same letters, wholly entered or not.
+/// Returns whether two lights have the same letters, whether or not they are wholly entered.
 pub fn agree<E: Feasible>(engine: &E, light: usize, other: usize) -> bool
     requires light { light < light_count (position_of (E.state engine.now)) }
     requires other { other < light_count (position_of (E.state engine.now)) }
@@ -96,7 +96,7 @@ pub fn agree<E: Feasible>(engine: &E, light: usize, other: usize) -> bool
     have_same_letters(&board, &board.light(light), &board.light(other))
 }
 
-/// Whether two lights are wholly entered and spell the same.
+/// Returns whether two lights are wholly entered and spell the same.
 pub fn spell_same<E: Feasible>(engine: &E, light: usize, other: usize) -> bool
     requires light { light < light_count (position_of (E.state engine.now)) }
     requires other { other < light_count (position_of (E.state engine.now)) }
@@ -105,7 +105,7 @@ pub fn spell_same<E: Feasible>(engine: &E, light: usize, other: usize) -> bool
     agree(engine, light, other) && is_entered(engine, light) && is_entered(engine, other)
 }
 
-/// The first light before this one that is wholly entered and spells the same, where this one is wholly entered.
+/// Returns the first earlier light that spells the same. Returns `None` if this light is not wholly entered.
 pub fn first_same<E: Feasible>(engine: &E, light: usize) -> Option<usize>
     requires { light < light_count (position_of (E.state engine.now)) }
     ensures { result ≡ first_same (position_of (E.state engine.now)) light }
@@ -121,7 +121,7 @@ pub fn first_same<E: Feasible>(engine: &E, light: usize) -> Option<usize>
     None
 }
 
-/// The first light without a feasible word.
+/// Returns the first light without a feasible word.
 pub fn first_without_words<E: Feasible>(engine: &E) -> Option<usize>
     ensures { result ≡ first_below (lacks_words (position_of (E.state engine.now))) (light_count (position_of (E.state engine.now))) }
 {
@@ -133,7 +133,8 @@ pub fn first_without_words<E: Feasible>(engine: &E) -> Option<usize>
     None
 }
 
-/// Of the lights that are not wholly entered the first with the fewest feasible words.
+/// Returns the chosen light: of the lights that are not wholly entered, the first with the fewest feasible words.
+/// Returns `None` if all lights are wholly entered.
 pub fn chosen<E: Feasible>(engine: &E) -> Option<usize>
     ensures { result ≡ chosen (position_of (E.state engine.now)) }
 {
@@ -151,16 +152,16 @@ pub fn chosen<E: Feasible>(engine: &E) -> Option<usize>
     best
 }
 
-/// What a scan of the lights finds.
+/// The result of one scan of all lights.
 #[derive(Clone, Copy)]
 pub enum Scan {
     /// Some light has no feasible word.
     Blocked,
-    /// Each has one; of those that are not wholly entered the first with the fewest.
+    /// Each light has a feasible word. The value is the chosen light, if any.
     Open(Option<usize>),
 }
 
-/// Asks for the count of each light once; those that are wholly entered have a note.
+/// Scans all lights, with one count of words per light. `since` must have a note for exactly the wholly entered lights.
 pub fn scan_lights<E: Feasible>(engine: &E, since: &[Option<usize>]) -> Scan
     requires long { length since.now ≡ light_count (position_of (E.state engine.now)) }
     requires entered { AreEntered (position_of (E.state engine.now)) (has_note since.now) }
@@ -184,7 +185,7 @@ pub fn scan_lights<E: Feasible>(engine: &E, since: &[Option<usize>]) -> Scan
     Scan::Open(best)
 }
 
-/// The first feasible word of the light at a place, from a place of the dictionary on.
+/// Returns the first feasible word of a light whose index in the dictionary is at least `from`.
 fn found_from<E: Feasible>(engine: &E, light: usize, from: usize) -> Option<Found>
     requires { light < light_count (position_of (E.state engine.now)) }
     ensures { result ≡ next_found (board_of (E.state engine.now).grid) (E.state engine.now).words (E.answers engine.now) light from }
@@ -195,7 +196,7 @@ fn found_from<E: Feasible>(engine: &E, light: usize, from: usize) -> Option<Foun
     }
 }
 
-/// The place of the first feasible word at a place or later, of a light that is not wholly entered.
+/// Returns the index of the first feasible word at `from` or later. The light must not be wholly entered.
 pub fn next_place<E: Feasible>(engine: &E, light: usize, from: usize) -> Option<usize>
     requires light { light < light_count (position_of (E.state engine.now)) }
     requires not_entered { is_entered (position_of (E.state engine.now)) light ≡ false }

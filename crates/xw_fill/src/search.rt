@@ -1,4 +1,4 @@
-//! The search for a fill.
+//! The search for a fill: depth first, with the words of each light in dictionary order.
 ghost use Rattle.std.specs.Prelude.{◌≡◌, false, suc, [], length, slice_index_or, IfOk, IfErr, OnErr};
 ghost use Rattle.xw_fill.specs.Position.{position_of, placed, DiffersInEntries};
 ghost use Rattle.xw_fill.specs.Search.{is_dead, light_count};
@@ -12,11 +12,14 @@ use crate::repeats::has_repeat;
 use crate::scan::{Scan, light_count, next_place, scan_lights};
 use crate::tries::{Try, make_try, place_word, take_all_back, take_back};
 use std::alloc::Global;
-use xw_cells::fault::GridFault;
 use xw_feas::edit::Refusal;
 use xw_feas::feasible::Feasible;
+use xw_grid::fault::GridFault;
 
 /// How a search for a fill ended.
+/// - `Filled`: the grid holds a fill.
+/// - `NoFill`: no fill exists.
+/// - `Limit`: the search needs more placements than the limit.
 #[derive(Clone, Copy, Debug, PartialEq, Eq)]
 pub enum Filling {
     Filled,
@@ -24,7 +27,10 @@ pub enum Filling {
     Limit,
 }
 
-/// What is to be done at a position: nothing, since it is a fill; nothing, since no word is left; or to try the words of a light from a place on.
+/// The next step of the search.
+/// - `Done`: the position is a fill.
+/// - `Spent`: go back, no word is left to try here.
+/// - `Words(light, from)`: try the feasible words of `light` from index `from` on.
 #[derive(Clone, Copy)]
 pub enum Next {
     Done,
@@ -32,7 +38,8 @@ pub enum Next {
     Words(usize, usize),
 }
 
-/// What is to be done at a position where each light has a feasible word and this one is chosen, and which repeats a word or not.
+/// Returns the next step at a position where every light has a feasible word. `chosen` is the chosen light; `repeats`
+/// says whether the grid repeats a word.
 fn open_outlook(chosen: Option<usize>, repeats: bool) -> Next
     ensures { result ≡ unless_repeated repeats chosen }
 {
@@ -45,7 +52,7 @@ fn open_outlook(chosen: Option<usize>, repeats: bool) -> Next
     }
 }
 
-/// What is to be done where the search begins; what the notes were is passed over.
+/// Returns the first step of the search, and notes which lights are wholly entered. The old notes do not matter.
 fn begin<E: Feasible>(
     alloc: Global,
     engine: &E,
@@ -67,7 +74,8 @@ fn begin<E: Feasible>(
     }
 }
 
-/// Places a feasible word at a position that is not dead, and says what is to be done then. It is the placement of this number, from 1.
+/// Places a feasible word at a position that is not dead, and returns the next step. `placement` counts the placements
+/// under way from 1.
 fn try_word<E: Feasible>(
     engine: &mut E,
     since: &mut [Option<usize>],
@@ -94,7 +102,8 @@ fn try_word<E: Feasible>(
     }
 }
 
-/// Fills the grid, with no more placements than the limit.
+/// Fills the grid with at most `limit` placements. The engine changes only for `Filled`. Returns `Memory` if an
+/// allocation fails, and then leaves the engine unchanged.
 pub fn fill<E: Feasible>(alloc: Global, engine: &mut E, limit: u64) -> Result<Filling, Refusal>
     ensures found { IfOk result (IsFilling limit (E.state engine.old) (E.state engine.new)) }
     ensures fill { IfOk result (HasFill (E.state engine.old) (E.state engine.new)) }

@@ -1,4 +1,4 @@
-//! Proposals of a next word.
+//! Suggests the next word to place.
 ghost use Rattle.std.specs.Prelude.{◌≡◌, ◌<◌, false, is_none, slice_index_or, []};
 ghost use Rattle.xw_fill.specs.Position.{position_of, placed, DiffersInEntries};
 ghost use Rattle.xw_fill.specs.Search.{light_count, is_entered};
@@ -7,23 +7,23 @@ ghost use Rattle.xw_fill.specs.Words.{spellings_at};
 
 use crate::scan::{chosen, first_without_words, name_at, next_place};
 use crate::tries::{make_try, place_word, take_back};
-use xw_cells::cell::LightName;
 use xw_feas::feasible::Feasible;
+use xw_grid::cell::LightName;
 
-/// What is proposed.
+/// A suggestion.
 #[derive(Clone, Copy, Debug, PartialEq, Eq)]
 pub enum Suggestion {
     /// This light has no feasible word.
     Dead(LightName),
     /// All lights are wholly entered.
     Done,
-    /// A word for a light, by its place among those of the light's length.
+    /// A word for a light. `word` is its index among the known words of the light's length.
     Try { light: LightName, word: usize },
-    /// No word of this light leaves each light a feasible word.
+    /// Every feasible word of this light leaves some light without a feasible word.
     NoWord(LightName),
 }
 
-/// Whether each light still has a feasible word when the word at a place is in the light.
+/// Returns whether every light still has a feasible word after a word is placed in a light. Leaves the state as it was.
 fn can_be_placed<E: Feasible>(engine: &mut E, light: usize, place: usize) -> bool
     requires tried { IsTriedAt (position_of (E.state engine.old)) light place }
     ensures found { result ≡ is_none (first_blocked (placed (position_of (E.state engine.old)) light (slice_index_or (spellings_at (position_of (E.state engine.old)) light) place []))) }
@@ -36,7 +36,7 @@ fn can_be_placed<E: Feasible>(engine: &mut E, light: usize, place: usize) -> boo
     !blocked
 }
 
-/// The place of the light's first feasible word that can be placed so that each light still has a feasible word.
+/// Returns the index of the light's first feasible word after whose placement every light has a feasible word.
 fn find_place<E: Feasible>(engine: &mut E, light: usize) -> Option<usize>
     requires light { light < light_count (position_of (E.state engine.old)) }
     requires not_entered { is_entered (position_of (E.state engine.old)) light ≡ false }
@@ -53,7 +53,7 @@ fn find_place<E: Feasible>(engine: &mut E, light: usize) -> Option<usize>
     None
 }
 
-/// Proposes a next word; it takes no memory.
+/// Suggests the next word. Allocates no memory, and leaves the engine's state and answers as they were.
 pub fn suggest<E: Feasible>(engine: &mut E) -> Suggestion
     ensures suggestion { result ≡ suggestion (E.state engine.old) }
     ensures unchanged { E.state engine.new ≡ E.state engine.old }

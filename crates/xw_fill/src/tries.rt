@@ -1,4 +1,4 @@
-//! Tries of words, and how they are taken back.
+//! Trial placements of words, and how to undo them.
 ghost use Rattle.std.specs.Prelude.{◌≡◌, ◌<◌, ◌≤◌, length, slice_index_or, [], All};
 ghost use Rattle.xw_feas.specs.Board.{board_of, light_at};
 ghost use Rattle.xw_fill.specs.Position.{position_of, placed, DiffersInEntries};
@@ -7,13 +7,14 @@ ghost use Rattle.xw_fill.specs.Tries.{taken_back, all_taken_back, AreBlanks};
 ghost use Rattle.xw_fill.specs.Words.{spellings_at};
 
 use crate::scan::{board, light_at};
-use xw_cells::cell::Cell;
 use xw_feas::board::{Board, Cells};
 use xw_feas::edit::Edit;
 use xw_feas::feasible::Feasible;
+use xw_grid::cell::Cell;
 use xw_words::word::LONGEST;
 
-/// A try under way: a light, the place of the word that was placed, and which of the light's cells were empty before.
+/// A placement that can be undone: the light, the index of the placed word, and which of the light's cells were empty
+/// before.
 #[derive(Clone, Copy)]
 pub struct Try {
     pub light: usize,
@@ -21,7 +22,7 @@ pub struct Try {
     pub blanks: [bool; LONGEST],
 }
 
-/// Which of the cells are empty.
+/// Returns which of the cells are empty.
 fn blanks_of(board: &Board<'_>, cells: &Cells) -> [bool; LONGEST]
     requires { length cells.now ≤ 255 }
     ensures { AreBlanks board.now cells.now result }
@@ -33,7 +34,7 @@ fn blanks_of(board: &Board<'_>, cells: &Cells) -> [bool; LONGEST]
     blanks
 }
 
-/// The try of a word at a place in a light, before it is placed.
+/// Returns the record of a placement. Call it before the word is placed.
 pub fn make_try<E: Feasible>(engine: &E, light: usize, place: usize) -> Try
     requires { light < light_count (position_of (E.state engine.now)) }
     ensures light { result.light ≡ light }
@@ -49,7 +50,7 @@ pub fn make_try<E: Feasible>(engine: &E, light: usize, place: usize) -> Try
     }
 }
 
-/// Places a known word in a light.
+/// Places the known word with this index in a light.
 pub fn place_word<E: Feasible>(engine: &mut E, light: usize, place: usize)
     requires light { light < light_count (position_of (E.state engine.old)) }
     requires place { place < length (spellings_at (position_of (E.state engine.old)) light) }
@@ -66,7 +67,7 @@ pub fn place_word<E: Feasible>(engine: &mut E, light: usize, place: usize)
     let _ = engine.edit(&Edit::Place(named.name, &bytes[..len]));
 }
 
-/// Takes a try back, all its cells at once.
+/// Undoes a placement: clears the cells that were empty before it, in one edit.
 pub fn take_back<E: Feasible>(engine: &mut E, tried: &Try)
     requires { tried.now.light < light_count (position_of (E.state engine.old)) }
     ensures back { position_of (E.state engine.new) ≡ taken_back (position_of (E.state engine.old)) tried.now }
@@ -85,7 +86,7 @@ pub fn take_back<E: Feasible>(engine: &mut E, tried: &Try)
     let _ = engine.edit(&Edit::Write(&list[..count]));
 }
 
-/// Takes all tries back, the last one first.
+/// Undoes all placements, the last one first.
 pub fn take_all_back<E: Feasible>(engine: &mut E, tries: &mut Vec<Try>)
     requires { All (λ tried. tried.light < light_count (position_of (E.state engine.old))) tries.old.items }
     ensures back { position_of (E.state engine.new) ≡ all_taken_back (position_of (E.state engine.old)) tries.old.items }

@@ -1,29 +1,29 @@
--- What edits change, and that letters and symmetries leave the lights and the open cells as they are.
+-- What edits change. Edits of letters and of the symmetry keep the lights and the open cells.
 use Rattle.std.proofs.Common.{◌≡◌, ℕ, ◌+◌, ◌*◌, ◌<◌, Bool, true, false, cond, not, ◌&&◌, ◌||◌, List, [], ◌∷◌, ◌++◌, map, take, length, get_or, set, Some, None, refl, sym, ◌∙◌, ap, subst, arith, inl, inr, length-set}
 use Rattle.std.specs.Prelude.{Option, Result, Ok, Err, slice_get, flat_map, count_by}
 use Rattle.std.specs.List.{prefix_len}
 use Rattle.std.proofs.lemmas.Bool.{cases_lt, cases_eq, cases_Bool, false≢true}
 use Rattle.std.proofs.lemmas.List.{get_or-set_same, get_or-set_other, length-map}
 use Rattle.std.proofs.lemmas.Option.{slice_get-get_or, slice_get_past}
-use Rattle.xw_cells.specs.declared.cell.Cell.{Cell}
-use Rattle.xw_cells.specs.declared.cell.Square.{Square}
-use Rattle.xw_cells.specs.declared.cell.Square.TheVariants.{Block, Open}
-use Rattle.xw_cells.specs.declared.cell.Side.{Side}
-use Rattle.xw_cells.specs.declared.cell.Side.TheVariants.{Right, Below}
-use Rattle.xw_cells.specs.declared.cell.Direction.{Direction}
-use Rattle.xw_cells.specs.declared.cell.Direction.TheVariants.{Across, Down}
-use Rattle.xw_cells.specs.declared.fault.GridFault.{GridFault}
-use Rattle.xw_cells.specs.declared.fault.GridFault.TheVariants.{OutOfGrid, OnBlock, NotSquare, Occupied, Border}
+use Rattle.xw_grid.specs.declared.cell.Cell.{Cell}
+use Rattle.xw_grid.specs.declared.cell.Square.{Square}
+use Rattle.xw_grid.specs.declared.cell.Square.TheVariants.{Block, Open}
+use Rattle.xw_grid.specs.declared.cell.Side.{Side}
+use Rattle.xw_grid.specs.declared.cell.Side.TheVariants.{Right, Below}
+use Rattle.xw_grid.specs.declared.cell.Direction.{Direction}
+use Rattle.xw_grid.specs.declared.cell.Direction.TheVariants.{Across, Down}
+use Rattle.xw_grid.specs.declared.fault.GridFault.{GridFault}
+use Rattle.xw_grid.specs.declared.fault.GridFault.TheVariants.{OutOfGrid, OnBlock, NotSquare, Occupied, Border}
 use Rattle.xw_grid.specs.declared.lights.Light.{Light}
-use Rattle.xw_cells.specs.Grid.{Grid, IsGrid, is_inside, is_open, is_block, is_open_square, is_block_square, is_barred, bars, index_of, cells, square_at}
+use Rattle.xw_grid.specs.Grid.{Grid, IsGrid, is_inside, is_open, is_block, is_open_square, is_block_square, is_barred, bars, index_of, cells, square_at}
 use Rattle.xw_grid.specs.Light.{side_towards, next, previous, line, extent, lights_of}
-use Rattle.xw_cells.specs.Edit.{with_entry, set_entry, with_orbit, with_edges, bars_with, turned, square_of}
-use Rattle.xw_cells.specs.Orbit.{is_in_orbit, is_in_edge_orbit}
+use Rattle.xw_grid.specs.Edit.{with_entry, set_entry, with_orbit, with_edges, bars_with, turned, square_of}
+use Rattle.xw_grid.specs.Orbit.{is_in_orbit, is_in_edge_orbit}
 use Rattle.xw_grid.specs.EditLaws.{SameShape, LettersKeepShape, SymmetryKeepsShape, BlocksChangeOrbits, BarsChangeOrbits}
-use Rattle.xw_cells.proofs.GridLemmas.{and-true, index_of-lt, length-cells, get_or-map-cells, cell_at-index_of}
+use Rattle.xw_grid.proofs.GridLemmas.{and-true, index_of-lt, length-cells, get_or-map-cells, cell_at-index_of}
 use Rattle.xw_grid.proofs.LightLemmas.{inside_from_open}
 
--- ---- the lights by a test of open cells
+-- ---- the lights as a function of the open cells
 
 abbrev joined_with : (Cell → Bool) → Grid → Direction → Cell → Bool
 joined_with opens grid direction cell = (opens cell && opens (next direction cell)) && not (is_barred grid cell (side_towards direction))
@@ -50,13 +50,13 @@ lights_with opens grid = flat_map (λ cell. light_from_with opens grid cell Acro
 lights_are_with : (grid : Grid) → lights_of grid ≡ lights_with (is_open grid) grid
 lights_are_with grid = refl
 
--- with the same open cells the lights are the same
+-- the same open cells give the same lights
 same_opens : (grid : Grid) (opens : Cell → Bool) → ((cell : Cell) → opens cell ≡ is_open grid cell) → lights_with opens grid ≡ lights_of grid
 same_opens grid opens same = ap (λ test. lights_with test grid) (λ i cell. same cell i)
 
--- ---- an entry
+-- ---- writing an entry
 
--- what a write of an open square leaves open
+-- writing an open square over another keeps which squares are open
 open_after : (squares : List Square) (at place : ℕ) (letter : Option ℕ) → at < length squares → is_open_square (slice_get squares at) ≡ true → is_open_square (slice_get (set squares at (Open letter)) place) ≡ is_open_square (slice_get squares place)
 open_after squares at place letter below was = elim (cases_lt place (length squares)) [
   | inl inside ↦
@@ -95,7 +95,7 @@ SameShape-entry grid cell letter is open_cell =
       cells = length-set grid.squares (index_of grid cell) (Open letter);
     }
 
--- a cell inside that is no block is open
+-- a cell inside the grid that is not a block is open
 pub open_from_no_block : (grid : Grid) (cell : Cell) → IsGrid grid → is_inside grid cell ≡ true → is_block grid cell ≡ false → is_open grid cell ≡ true
 open_from_no_block grid cell is inside no_block =
     let below : index_of grid cell < length grid.squares = omega (arith, index_of-lt grid cell inside, is.squares) in
@@ -105,7 +105,7 @@ open_from_no_block grid cell is inside no_block =
       by_square (Open entered) h = refl
       by_square Block h = absurd (false≢true (sym h))
 
--- an entry that is accepted is one of an open cell
+-- an entry is accepted only for an open cell
 accepted_entry : (grid new : Grid) (cell : Cell) (letter : Option ℕ) → IsGrid grid → set_entry grid cell letter ≡ Ok new → (is_open grid cell ≡ true) × (with_entry grid cell letter ≡ new)
 accepted_entry grid new cell letter is ok = by_tests (is_inside grid cell) (is_block grid cell) refl refl ok where
   by_tests : (inside block : Bool) → is_inside grid cell ≡ inside → is_block grid cell ≡ block → cond (not inside) (Err OutOfGrid) (cond block (Err OnBlock) (Ok (with_entry grid cell letter))) ≡ Ok new → (is_open grid cell ≡ true) × (with_entry grid cell letter ≡ new)
@@ -118,7 +118,7 @@ letters_keep_shape grid new cell letter is ok =
     let found = accepted_entry grid new cell letter is ok in
     subst (SameShape grid) found.1 (SameShape-entry grid cell letter is found.0)
 
--- ---- a symmetry
+-- ---- setting the symmetry
 
 pub symmetry_keeps_shape : SymmetryKeepsShape
 symmetry_keeps_shape grid new kind ok = by_test _ ok where
@@ -130,7 +130,7 @@ symmetry_keeps_shape grid new kind ok = by_test _ ok where
 
 -- ---- orbits
 
--- a square after its orbit was painted
+-- a square after its orbit was toggled
 painted : (grid : Grid) (cell other : Cell) (blocked : Bool) → is_inside grid other ≡ true → square_at (with_orbit grid cell blocked) other ≡ Some (cond (is_in_orbit grid cell other) (turned blocked (square_of grid other)) (square_of grid other))
 painted grid cell other blocked inside =
     let value = λ (at : Cell). cond (is_in_orbit grid cell at) (turned blocked (square_of grid at)) (square_of grid at) in

@@ -1,4 +1,4 @@
--- Lemmas on texts by their cells.
+-- Lemmas about maps from cells to texts.
 use Rattle.std.proofs.Common.{◌≡◌, ℕ, ◌<◌, Bool, true, false, cond, not, ◌&&◌, ◌||◌, eqb, List, [], ◌∷◌, map, length, refl, ap, sym, ◌∙◌, arith}
 use Rattle.std.specs.Prelude.{filter, Option, Some, None, option_map}
 use Rattle.std.specs.List.{list_any, AllZip}
@@ -11,18 +11,18 @@ use Rattle.std.specs.Map.{lookup, remove_entry}
 use Rattle.std.specs.Set.{remove_key}
 use Rattle.std.specs.BTreeMap.{BTreeMap, insert_entry, is_at}
 use Rattle.std.specs.declared.vec.Vec.{Vec}
-use Rattle.xw_cells.specs.declared.cell.Cell.{Cell}
-use Rattle.xw_cells.specs.Grid.{same_cell, cell_cmp}
+use Rattle.xw_grid.specs.declared.cell.Cell.{Cell}
+use Rattle.xw_grid.specs.Grid.{same_cell, cell_cmp}
 use Rattle.xw_grid.specs.Clue.{text_at, with_text}
 use Rattle.xw_grid.specs.ClueView.{texts_in}
-use Rattle.xw_cells.proofs.GridLemmas.{map-filter}
+use Rattle.xw_grid.proofs.GridLemmas.{map-filter}
 
 is_eq-then : (first second : Ordering) → is_eq (ordering_then first second) ≡ (is_eq first && is_eq second)
 is_eq-then Less second = refl
 is_eq-then Equal second = refl
 is_eq-then Greater second = refl
 
--- the order tells cells apart
+-- two cells compare as equal if and only if they are the same
 pub same_at : (cell other : Cell) → is_at (cell_cmp cell) other ≡ same_cell cell other
 same_at cell other =
     is_eq-then (nat_cmp cell.row other.row) (nat_cmp cell.col other.col)
@@ -42,7 +42,7 @@ none_there test (e ∷ es) h =
       | false ↦ λ none. ap (λ rest. e ∷ rest) (none_there test es none)
     ] h
 
--- where no entry passes once one was taken out, none that passes is left
+-- if no entry is left that passes, removing one entry removed all that pass
 pub removed_all : {K X : Type 0} (test : K → Bool) (es : List (K × X)) → lookup test (remove_entry test es) ≡ None → remove_entry test es ≡ filter (λ e. not (test e.0)) es
 removed_all test [] h = refl
 removed_all test (e ∷ es) h =
@@ -67,7 +67,7 @@ removed_all_keys test (k ∷ ks) h =
       | false ↦ λ other none. ap (λ rest. k ∷ rest) (removed_all_keys test ks (ap (λ b. b || list_any test (remove_key test ks)) (sym other) ∙ none))
     ] refl h
 
--- ---- texts as they are kept
+-- ---- texts in memory
 
 module _ {Z : Type 0} where
   abbrev seen : Cell × Vec ℕ Z → Cell × List ℕ
@@ -86,7 +86,7 @@ module _ {Z : Type 0} where
   lookup-seen test [] = refl
   lookup-seen test (e ∷ es) = elim (test e.0) as (λ b. unwrap_or (cond b (Some e.1.items) (lookup test (map seen es))) [] ≡ unwrap_or (option_map (λ text. text.items) (cond b (Some e.1) (lookup test es))) []) [ true ↦ refl | false ↦ lookup-seen test es ]
 
-  -- what was looked up is the text
+  -- the result of a lookup is the text of the cell
   pub text_found : (texts : BTreeMap Cell (Vec ℕ Z)) (cell : Cell) (found : Option (Vec ℕ Z)) → found ≡ lookup (is_at (cell_cmp cell)) texts.entries → unwrap_or (option_map (λ text. text.items) found) [] ≡ text_at (texts_in texts) cell
   text_found texts cell found e =
       ap (λ o. unwrap_or (option_map (λ text. text.items) o) []) e
@@ -105,7 +105,7 @@ module _ {Z : Type 0} where
   text_kept old new cell kept (byte ∷ bytes) some same now =
       ap (map seen) now ∙ map-insert old.entries cell kept ∙ ap (insert_entry cell_cmp (texts_in old) cell) same
 
-  -- equal cells and equal texts
+  -- copies of equal cells and texts are equal
   pub texts_copied : (C : Cell → Cell → Type 0) (D : Vec ℕ Z → Vec ℕ Z → Type 0) → ((x y : Cell) → C x y → y ≡ x) → ((v w : Vec ℕ Z) → D v w → w.items ≡ v.items) → (es fs : List (Cell × Vec ℕ Z)) → AllZip (λ e f. C e.0 f.0 × D e.1 f.1) es fs → map seen fs ≡ map seen es
   texts_copied C D cells texts [] [] h = refl
   texts_copied C D cells texts [] (f ∷ fs) h = elim h [ ]

@@ -1,4 +1,4 @@
--- How many lights a grid has at most.
+-- An upper bound for the number of lights.
 use Rattle.std.proofs.Common.{◌≡◌, ℕ, zero, suc, ◌+◌, ◌-◌, ◌*◌, ◌%◌, ◌<◌, ◌≤◌, true, false, cond, not, [], ◌∷◌, map, length, refl, ap, sym, ◌∙◌, arith}
 use Rattle.std.specs.Prelude.{flat_map}
 use Rattle.std.specs.List.{range_with_len}
@@ -6,13 +6,13 @@ use Rattle.std.proofs.Math.Nat.{suc-mul, mul_comm}
 use Rattle.std.proofs.lemmas.Bool.{both_ways, false_from_ne_true}
 use Rattle.std.proofs.lemmas.List.{length-append}
 use Rattle.std.proofs.lemmas.Nat.{div-mul-add, mod-mul-add}
-use Rattle.xw_cells.specs.declared.cell.Cell.{Cell}
-use Rattle.xw_cells.specs.declared.cell.Direction.{Direction}
-use Rattle.xw_cells.specs.declared.cell.Direction.TheVariants.{Across, Down}
-use Rattle.xw_cells.specs.Grid.{Grid, IsGrid, is_inside, cell_at}
+use Rattle.xw_grid.specs.declared.cell.Cell.{Cell}
+use Rattle.xw_grid.specs.declared.cell.Direction.{Direction}
+use Rattle.xw_grid.specs.declared.cell.Direction.TheVariants.{Across, Down}
+use Rattle.xw_grid.specs.Grid.{Grid, IsGrid, is_inside, cell_at}
 use Rattle.xw_grid.specs.Light.{is_joined, next, previous, begins, light_from, light_starting, lights_at}
 use Rattle.xw_grid.specs.LightLaws.{LightsAreFew}
-use Rattle.xw_cells.proofs.GridLemmas.{and-true, IsInside-is_inside}
+use Rattle.xw_grid.proofs.GridLemmas.{and-true, IsInside-is_inside}
 use Rattle.xw_grid.proofs.LightLemmas.{joined_inside, not_true, previous-next}
 
 -- ---- sums
@@ -63,7 +63,8 @@ total_rows f width (suc h) s =
     ∙ ap (λ k. total (λ c. f (s * width + c)) 0 width + total f k (h * width)) past
     ∙ ap (λ t. total (λ c. f (s * width + c)) 0 width + t) (total_rows f width h (s + 1))
 
--- where two neighbours have at most so many together, and the last none, half of them count
+-- if any two consecutive numbers add up to at most `most`, and the last is 0, the sum is at most
+-- half as many times `most`
 halves : (f : ℕ → ℕ) (most : ℕ) → ((k : ℕ) → f k + f (k + 1) ≤ most) → (m n a : ℕ) → n ≤ 2 * m + 1 → (0 < n → f (a + n - 1) ≡ 0) → total f a n ≤ m * most
 halves f most pair m zero a le last = omega arith
 halves f most pair m (suc zero) a le last =
@@ -96,7 +97,7 @@ length-lights grid (suc n) a =
     length-append (lights_at grid (cell_at grid a)) (flat_map (lights_at grid) (map (cell_at grid) (range_with_len (a + 1) n)))
     ∙ rw (length-lights_at grid (cell_at grid a), length-lights grid n (a + 1)) (omega arith)
 
--- no two neighbours begin a light in the line of that light
+-- of two consecutive cells in a direction, at most one begins a light in that direction
 pair_small : (grid : Grid) (direction : Direction) (cell : Cell) → one grid direction cell + one grid direction (next direction cell) ≤ 1
 pair_small grid direction cell =
     elim (begins grid direction cell) as (λ b. begins grid direction cell ≡ b → cond b 1 0 + one grid direction (next direction cell) ≤ 1) [

@@ -1,4 +1,4 @@
--- What is kept when a clue or a circle is set.
+-- What setting a clue or a circle keeps.
 use Rattle.std.proofs.Common.{◌≡◌, ℕ, true, false, cond, not, ◌||◌, List, [], ◌∷◌, refl, ap, sym, ◌∙◌, inl, inr}
 use Rattle.std.specs.Prelude.{filter, Some, None}
 use Rattle.std.specs.List.{list_any}
@@ -9,15 +9,15 @@ use Rattle.std.specs.Map.{lookup}
 use Rattle.std.specs.BTreeMap.{insert_entry}
 use Rattle.std.specs.BTreeSet.{insert_key}
 use Rattle.std.proofs.lemmas.Bool.{both_ways, false_from_ne_true, cases_Bool}
-use Rattle.xw_cells.specs.declared.cell.Cell.{Cell}
-use Rattle.xw_cells.specs.declared.cell.Direction.TheVariants.{Across, Down}
-use Rattle.xw_cells.specs.Grid.{same_cell, cell_cmp}
+use Rattle.xw_grid.specs.declared.cell.Cell.{Cell}
+use Rattle.xw_grid.specs.declared.cell.Direction.TheVariants.{Across, Down}
+use Rattle.xw_grid.specs.Grid.{same_cell, cell_cmp}
 use Rattle.xw_grid.specs.Clue.{Texts, text_at, with_text}
 use Rattle.xw_grid.specs.EditLaws.{CluesAreKept, CirclesAreKept}
-use Rattle.xw_cells.proofs.GridLemmas.{cells_same, same_cell_itself}
+use Rattle.xw_grid.proofs.GridLemmas.{cells_same, same_cell_itself}
 use Rattle.xw_grid.proofs.ClueLemmas.{same_at}
 
--- what two tests of one cell tell of two others
+-- two cells that equal a third are equal
 same_both : (cell other at : Cell) → same_cell cell at ≡ true → same_cell other at ≡ true → same_cell cell other ≡ true
 same_both cell other at h k = ap (λ c. same_cell c other) (cells_same cell at h ∙ sym (cells_same other at k)) ∙ same_cell_itself other
 
@@ -33,7 +33,7 @@ same_swapped cell other =
 
 -- ---- texts
 
--- a text taken away
+-- removing a text
 taken : (texts : Texts) (cell other : Cell) → text_at (filter (λ entry. not (same_cell cell entry.0)) texts) other ≡ cond (same_cell cell other) [] (text_at texts other)
 taken [] cell other = elim (same_cell cell other) as (λ b. ◌≡◌ {A = List ℕ} [] (cond b [] [])) [ true ↦ refl | false ↦ refl ]
 taken (e ∷ es) cell other =
@@ -49,7 +49,7 @@ taken (e ∷ es) cell other =
       ])
     ]
 
--- a text put in its place
+-- inserting a text
 placed : (texts : Texts) (cell other : Cell) (text : List ℕ) → text_at (insert_entry cell_cmp texts cell text) other ≡ cond (same_cell cell other) text (text_at texts other)
 placed [] cell other text = rw (same_swapped cell other) (elim (same_cell cell other) as (λ b. unwrap_or (cond b (Some text) None) [] ≡ cond b text []) [ true ↦ refl | false ↦ refl ])
 placed (e ∷ es) cell other text =

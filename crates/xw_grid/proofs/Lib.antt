@@ -1,3 +1,8 @@
+pub mod EdgeLemmas
+pub mod EdgeOrbitLemmas
+pub mod GridLemmas
+pub mod OrbitLemmas
+pub mod OrbitCellLemmas
 pub mod Examples
 pub mod LightLemmas
 pub mod ClueLemmas

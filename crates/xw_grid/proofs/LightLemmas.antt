@@ -1,4 +1,4 @@
--- What the lights are.
+-- Lemmas about the lights of a grid.
 use Rattle.std.proofs.Common.{◌≡◌, ℕ, zero, suc, ◌+◌, ◌-◌, ◌*◌, ◌<◌, ◌≤◌, Bool, true, false, cond, not, leb, ◌&&◌, List, [], ◌∷◌, length, get_or, lit<, refl, ap, sym, subst, ◌∙◌, arith}
 use Rattle.std.proofs.lemmas.List.FromFn.{length-map-range_with_len, get_or-map-range_with_len}
 use Rattle.std.proofs.lemmas.List.Sums.{prefix_len_is, prefix_len_passes, prefix_len_stops, prefix_len-le-length}
@@ -8,16 +8,16 @@ use Rattle.std.specs.List.{prefix_len}
 use Rattle.std.specs.Prelude.{None, slice_get, All, Contains, flat_map}
 use Rattle.std.proofs.lemmas.List.{same_lists, get_or_default}
 use Rattle.std.proofs.lemmas.List.Elements.{All-nil, All-cons, All-append, Contains-append_left, Contains-append_right}
-use Rattle.xw_cells.specs.declared.cell.Cell.{Cell}
-use Rattle.xw_cells.specs.declared.cell.Direction.{Direction}
-use Rattle.xw_cells.specs.declared.cell.Direction.TheVariants.{Across, Down}
-use Rattle.xw_cells.specs.Grid.{Grid, is_inside, is_open, is_open_square, index_of, cells, cell_at}
+use Rattle.xw_grid.specs.declared.cell.Cell.{Cell}
+use Rattle.xw_grid.specs.declared.cell.Direction.{Direction}
+use Rattle.xw_grid.specs.declared.cell.Direction.TheVariants.{Across, Down}
+use Rattle.xw_grid.specs.Grid.{Grid, is_inside, is_open, is_open_square, index_of, cells, cell_at}
 use Rattle.xw_grid.specs.LightLaws.{LightsBegin, IsLightOf, LightsAreLights, LightsAreAll}
 use Rattle.xw_grid.specs.Light.{no_cell, is_joined, next, previous, step, line, extent, run_from, begins, IsLight, light_from, light_starting, lights_at, lights_of}
 use Rattle.xw_grid.specs.declared.lights.Light.{Light}
-use Rattle.xw_cells.proofs.GridLemmas.{and-true, IsInside-is_inside, index_of-lt, length-cells, cell_at-index_of}
+use Rattle.xw_grid.proofs.GridLemmas.{and-true, IsInside-is_inside, index_of-lt, length-cells, cell_at-index_of}
 
--- the cell after so many steps
+-- the cell after one more step
 pub step-next : (direction : Direction) (first : Cell) (k : ℕ) → step direction first (k + 1) ≡ next direction (step direction first k)
 step-next Across first k = ap (λ col. record { row = first.row; col = col }) (omega arith)
 step-next Down first k = ap (λ row. record { row = row; col = first.col }) (omega arith)
@@ -26,19 +26,19 @@ pub step-zero : (direction : Direction) (first : Cell) → step direction first 
 step-zero Across first = ap (λ col. record { row = first.row; col = col }) (omega arith)
 step-zero Down first = ap (λ row. record { row = row; col = first.col }) (omega arith)
 
--- an open cell is inside
+-- an open cell is inside the grid
 pub inside_from_open : (grid : Grid) (cell : Cell) → is_open grid cell ≡ true → is_inside grid cell ≡ true
 inside_from_open grid cell open_cell =
     elim (is_inside grid cell) as (λ b. is_inside grid cell ≡ b → is_open_square (cond b (slice_get grid.squares (index_of grid cell)) None) ≡ true → b ≡ true) [ true ↦ λ _ _. refl | false ↦ λ _ h. cc ] refl open_cell
 
--- what is joined to the next one is inside, with the next one
+-- if a cell is joined to the next one, both are inside the grid
 pub joined_inside : (grid : Grid) (direction : Direction) (cell : Cell) → is_joined grid direction cell ≡ true → (is_inside grid cell ≡ true) × (is_inside grid (next direction cell) ≡ true)
 joined_inside grid direction cell joined =
     let open_both = and-true (is_open grid cell && is_open grid (next direction cell)) _ joined in
     let opens = and-true (is_open grid cell) (is_open grid (next direction cell)) open_both.0 in
     (inside_from_open grid cell opens.0, inside_from_open grid (next direction cell) opens.1)
 
--- no cell so far on is joined to a next one
+-- a cell past the end of the row or column is not joined to the next one
 past_end : (grid : Grid) (direction : Direction) (first : Cell) → is_inside grid first ≡ true → is_joined grid direction (step direction first (extent grid direction)) ≡ true → ⊥
 past_end grid Across first inside joined =
     let there = IsInside-is_inside grid _ (joined_inside grid Across _ joined).1 in
@@ -55,7 +55,7 @@ length-line direction first n = length-map-range_with_len (step direction first)
 pub get_or-line : (direction : Direction) (first : Cell) (n k : ℕ) (d : Cell) → k < n → get_or (line direction first n) k d ≡ step direction first k
 get_or-line direction first n k d within = get_or-map-range_with_len (step direction first) 0 n k k d within (omega arith)
 
--- how long a run is
+-- the length of a run
 pub run_is : (grid : Grid) (direction : Direction) (first : Cell) (n : ℕ) → n ≤ extent grid direction → ((k : ℕ) → k < n → is_joined grid direction (step direction first k) ≡ true) → (n < extent grid direction → is_joined grid direction (step direction first n) ≡ false) → run_from grid direction first ≡ n + 1
 run_is grid direction first n within joined ends =
     let cells = line direction first (extent grid direction) in
@@ -65,7 +65,7 @@ run_is grid direction first n within joined ends =
     (λ k h. ap (is_joined grid direction) (at k (omega arith)) ∙ joined k h)
     (λ h. ap (is_joined grid direction) (at n (omega arith)) ∙ ends (omega arith)))
 
--- the cell before a next cell
+-- the cell before the next one
 pub previous-next : (direction : Direction) (before cell : Cell) → next direction before ≡ cell → previous direction cell ≡ before
 previous-next Across before cell e =
     ap (previous Across) (sym e) ∙ ap (λ col. record { row = before.row; col = col }) (let h : before.col + 1 - 1 ≡ before.col = omega arith in h)
@@ -76,7 +76,7 @@ pub not_true : (b : Bool) → not b ≡ true → b ≡ false
 not_true true h = sym h
 not_true false h = refl
 
--- the cells from where a light begins on, as many as are joined and one more, are a light
+-- where a light begins, the consecutive cells that are joined are a light
 pub light_is : (grid : Grid) (direction : Direction) (first : Cell) → begins grid direction first ≡ true → IsLight grid direction (line direction first (run_from grid direction first))
 light_is grid direction first begin =
     let joined = is_joined grid direction in
@@ -154,7 +154,7 @@ pub next-previous : (grid : Grid) (direction : Direction) (cell : Cell) → is_i
 next-previous grid Across cell inside = let at = IsInside-is_inside grid cell inside in ap (λ col. record { row = cell.row; col = col }) (let h : cell.col - 1 + 1 ≡ cell.col = omega (arith, at.col_low) in h)
 next-previous grid Down cell inside = let at = IsInside-is_inside grid cell inside in ap (λ row. record { row = row; col = cell.col }) (let h : cell.row - 1 + 1 ≡ cell.row = omega (arith, at.row_low) in h)
 
--- no light is longer than its row or column
+-- a light is not longer than its row or column
 short : (grid : Grid) (direction : Direction) (first : Cell) (k : ℕ) → is_inside grid first ≡ true → is_joined grid direction (step direction first k) ≡ true → k + 1 ≤ extent grid direction
 short grid Across first k inside joined =
     let there = IsInside-is_inside grid (next Across (step Across first k)) (joined_inside grid Across (step Across first k) joined).1 in
@@ -165,7 +165,7 @@ short grid Down first k inside joined =
     let here = IsInside-is_inside grid first inside in
     omega (arith, there.row_high, here.row_low)
 
--- what a light's first cell begins is that light
+-- the light that begins at a light's first cell is that light
 light_from_first : (grid : Grid) (direction : Direction) (light : List Cell) → IsLight grid direction light →
     (is_inside grid (first_of light) ≡ true) × (begins grid direction (first_of light) ≡ true) × (line direction (first_of light) (run_from grid direction (first_of light)) ≡ light)
 light_from_first grid direction light is =
@@ -224,7 +224,7 @@ light_is_open grid direction light is (suc k) d within =
     let here = (and-true (is_open grid (get_or light k d)) (is_open grid (next direction (get_or light k d))) (and-true (is_open grid (get_or light k d) && is_open grid (next direction (get_or light k d))) _ joined).0).1 in
     ap (λ n. is_open grid (get_or light n d)) (sym plus) ∙ ap (is_open grid) (is.follow k d (omega arith)) ∙ here
 
--- each cell of a light of the list is open
+-- each cell of a listed light is open
 pub cells_of_are_open : (grid : Grid) (place : ℕ) (d : Light) → place < length (lights_of grid) → (k : ℕ) → k < (get_or (lights_of grid) place d).size → is_open grid (step (get_or (lights_of grid) place d).name.direction (get_or (lights_of grid) place d).start k) ≡ true
 cells_of_are_open grid place d within k below =
     let light = get_or (lights_of grid) place d in
@@ -234,14 +234,14 @@ cells_of_are_open grid place d within k below =
     ap (is_open grid) (sym (get_or-line light.name.direction light.start light.size k light.start below))
     ∙ light_is_open grid light.name.direction cells is k light.start (omega arith)
 
--- such a light has two cells at least
+-- a listed light has at least two cells
 pub size_of_light : (grid : Grid) (place : ℕ) (d : Light) → place < length (lights_of grid) → 2 ≤ (get_or (lights_of grid) place d).size
 size_of_light grid place d within =
     let light = get_or (lights_of grid) place d in
     let is = (lights_are_lights grid place d within).0 in
     omega (arith, is.several, length-line light.name.direction light.start light.size)
 
--- a light begins where the scan says so
+-- a light begins where `begins` says so
 pub lights_begin : LightsBegin
 lights_begin grid direction cell = (
   λ begin.

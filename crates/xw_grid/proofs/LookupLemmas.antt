@@ -1,4 +1,4 @@
--- Looking lights up by name, by the cell where they begin and by their cells.
+-- Finding lights by name, by first cell, and by their cells.
 use Rattle.std.proofs.Common.{◌≡◌, ℕ, zero, suc, ◌+◌, ◌*◌, ◌<◌, ◌≤◌, Bool, true, false, cond, ◌&&◌, eqb, ltb, List, [], ◌∷◌, length, get_or, refl, ap, sym, subst, ◌∙◌, inl, inr, arith}
 use Rattle.std.specs.Prelude.{Some, None, Option, find, option_map, slice_get}
 use Rattle.std.specs.Cmp.Lexicographic.{pointwise}
@@ -7,22 +7,22 @@ use Rattle.std.proofs.lemmas.Bool.{false≢true, cases_lt, cases_eq, both_ways, 
 use Rattle.std.proofs.lemmas.Bool.Decides.{nat_tests}
 use Rattle.std.proofs.lemmas.List.Quantifiers.{position-Some}
 use Rattle.std.proofs.lemmas.Option.{slice_get-get_or}
-use Rattle.xw_letters.proofs.Position.{position_is_some, position_is_none}
-use Rattle.xw_cells.specs.declared.cell.Cell.{Cell}
-use Rattle.xw_cells.specs.declared.cell.Direction.{Direction}
-use Rattle.xw_cells.specs.declared.cell.Direction.TheVariants.{Across, Down}
-use Rattle.xw_cells.specs.declared.cell.LightName.{LightName}
+use Rattle.xw_text.proofs.Position.{position_is_some, position_is_none}
+use Rattle.xw_grid.specs.declared.cell.Cell.{Cell}
+use Rattle.xw_grid.specs.declared.cell.Direction.{Direction}
+use Rattle.xw_grid.specs.declared.cell.Direction.TheVariants.{Across, Down}
+use Rattle.xw_grid.specs.declared.cell.LightName.{LightName}
 use Rattle.xw_grid.specs.declared.lights.Light.{Light}
-use Rattle.xw_cells.specs.Grid.{Grid, same_cell}
+use Rattle.xw_grid.specs.Grid.{Grid, same_cell}
 use Rattle.xw_grid.specs.Light.{step, line, cells_of, lights_of, no_light, number_at, same_direction, same_name, name_before, is_on_line, holds, passes, place_named, place_through, have_same_cells, place_with_cells, number_in}
 use Rattle.xw_grid.specs.LightLaws.{AreApart, AreOrdered, IsBefore}
 use Rattle.xw_grid.specs.Places.{number_of_start, is_such}
-use Rattle.xw_cells.proofs.GridLemmas.{and-true, cells_same, same_cell_itself}
+use Rattle.xw_grid.proofs.GridLemmas.{and-true, cells_same, same_cell_itself}
 use Rattle.xw_grid.proofs.LightLemmas.{size_of_light, length-line, get_or-line, step-zero}
 use Rattle.xw_grid.proofs.OrderLemmas.{part, part_small, lights_are_made, lights_are_apart, lights_are_ordered, made_number}
 use Rattle.xw_grid.proofs.PlaceLemmas.{place_is, direction_is}
 
--- what look-ups rest on
+-- the facts that searches depend on
 pub record AreGood (lights : List Light) : Type 0 where
   pub apart : AreApart lights
   pub ordered : AreOrdered lights
@@ -121,7 +121,7 @@ module _ (lights : List Light) (name : LightName) (place : ℕ) (good : AreGood 
         ]
       ])))
 
--- ---- by the cell where a light begins
+-- ---- by first cell
 
 same_direction_itself : (direction : Direction) → same_direction direction direction ≡ true
 same_direction_itself Across = refl
@@ -190,7 +190,7 @@ number_down lights good cell across down None is_across none is_down h =
       by_direction i within Across e = not_start lights good Across cell across is_across none i within e
       by_direction i within Down e = not_start lights good Down cell down is_down (sym h) i within e
 
--- ---- by the cells
+-- ---- by all cells
 
 pointwise_same : (xs ys : List Cell) → pointwise same_cell xs ys ≡ true → xs ≡ ys
 pointwise_same [] [] h = refl
@@ -210,7 +210,7 @@ one_step Across Down first e = let row : first.row ≡ first.row + 1 = ap (λ (c
 one_step Down Across first e = let row : first.row + 1 ≡ first.row = ap (λ (c : Cell). c.row) e in absurd (omega arith)
 one_step Down Down first e = refl
 
--- lights of the same cells go the same way from the same one
+-- lights with the same cells have the same direction, start and size
 pub alike : (a b : Light) → 2 ≤ a.size → have_same_cells a b ≡ true → (a.name.direction ≡ b.name.direction) × (a.start ≡ b.start) × (a.size ≡ b.size)
 alike a b several h =
     let e : cells_of a ≡ cells_of b = pointwise_same (cells_of a) (cells_of b) h in

@@ -1,20 +1,20 @@
--- The order of the lights, and that no two of one direction share a cell.
+-- The order of the lights. No two lights of the same direction share a cell.
 use Rattle.std.proofs.Common.{◌≡◌, ℕ, zero, suc, ◌+◌, ◌-◌, ◌*◌, ◌<◌, ◌≤◌, Bool, true, false, cond, not, ◌||◌, List, [], ◌∷◌, ◌++◌, map, length, get_or, take, refl, ap, sym, subst, ◌∙◌, inl, inr, ◌⊎◌, arith}
 use Rattle.std.specs.Prelude.{All, flat_map, count_by}
 use Rattle.std.specs.List.{range_with_len}
 use Rattle.std.proofs.lemmas.Bool.{cases_lt, both_ways}
 use Rattle.std.proofs.lemmas.List.Elements.{All-nil, All-cons, All-append}
-use Rattle.xw_cells.specs.declared.cell.Cell.{Cell}
-use Rattle.xw_cells.specs.declared.cell.Direction.{Direction}
-use Rattle.xw_cells.specs.declared.cell.Direction.TheVariants.{Across, Down}
+use Rattle.xw_grid.specs.declared.cell.Cell.{Cell}
+use Rattle.xw_grid.specs.declared.cell.Direction.{Direction}
+use Rattle.xw_grid.specs.declared.cell.Direction.TheVariants.{Across, Down}
 use Rattle.xw_grid.specs.declared.lights.Light.{Light}
-use Rattle.xw_cells.specs.Grid.{Grid, is_inside, index_of, cells, cell_at}
+use Rattle.xw_grid.specs.Grid.{Grid, is_inside, index_of, cells, cell_at}
 use Rattle.xw_grid.specs.Light.{is_joined, previous, step, begins, begins_some, number_at, run_from, light_from, light_starting, lights_at, lights_of}
 use Rattle.xw_grid.specs.LightLaws.{LightsAreOrdered, LightsAreApart, LightsMeetOnce, IsBefore}
-use Rattle.xw_cells.proofs.GridLemmas.{and-true, index_of-lt, index_of-cell_at, cell_at-index_of, count_by-cells}
+use Rattle.xw_grid.proofs.GridLemmas.{and-true, index_of-lt, index_of-cell_at, cell_at-index_of, count_by-cells}
 use Rattle.xw_grid.proofs.LightLemmas.{all_flat_map, joined_inside, light_is, step-next, step-zero, previous-next, not_true, length-line, get_or-line}
 
--- ---- numbers that rise along a list
+-- ---- numbers that increase along a list
 
 module _ {X : Type 0} (key : X → ℕ) where
   abbrev Rises : ℕ → List X → Type 0
@@ -38,7 +38,7 @@ module _ {X : Type 0} (key : X → ℕ) where
 
 -- ---- where the lights begin
 
--- a light of the list is the one that its first cell begins
+-- a listed light is the one that begins at its first cell
 pub record IsMade (grid : Grid) (light : Light) : Type 0 where
   pub begins : begins grid light.name.direction light.start ≡ true
   pub is : light ≡ light_starting grid light.name.direction light.start
@@ -60,7 +60,7 @@ abbrev pub part : Direction → ℕ
 part Across = 0
 part Down = 1
 
--- twice the place of the first cell, and one more for a light down
+-- the order key: twice the index of the first cell, plus one for a down light
 abbrev pub key : Grid → Light → ℕ
 key grid light = 2 * index_of grid light.start + part light.name.direction
 
@@ -97,7 +97,7 @@ counts_grow grid p k (suc n) within =
     let e : k + suc n ≡ k + n + 1 = omega arith in
     rw (e, count_by-cells grid p (k + n) (omega arith)) (omega (arith, counts_grow grid p k n (omega arith)))
 
--- past a cell that begins a light the numbers are larger
+-- after a cell that begins a light, the numbers are greater
 pub numbers_rise : (grid : Grid) (k m : ℕ) → k < m → m ≤ grid.width * grid.height → begins_some grid (cell_at grid k) ≡ true → count_by (begins_some grid) (take k (cells grid)) < count_by (begins_some grid) (take m (cells grid))
 numbers_rise grid k m lt within begin =
     let e : m ≡ k + 1 + (m - (k + 1)) = omega arith in
@@ -117,7 +117,7 @@ begins_one : (grid : Grid) (direction : Direction) (cell : Cell) → begins grid
 begins_one grid Across cell h = or_left (begins grid Across cell) (begins grid Down cell) h
 begins_one grid Down cell h = or_right (begins grid Across cell) (begins grid Down cell) h
 
--- where a light begins is inside
+-- the first cell of a light is inside the grid
 pub made_inside : (grid : Grid) (light : Light) → IsMade grid light → is_inside grid light.start ≡ true
 made_inside grid light made = (joined_inside grid light.name.direction light.start (and-true (is_joined grid light.name.direction light.start) _ made.begins).0).0
 
@@ -176,7 +176,7 @@ step_row Down a b k l e le =
     let col : a.col ≡ b.col = ap (λ (c : Cell). c.col) e in
     ap (λ c. record { row = a.row + (k - l); col = c }) col ∙ ap (λ r. record { row = r; col = b.col }) (let h : a.row + (k - l) ≡ b.row = omega arith in h)
 
--- a cell of a light is joined to the next one, up to the last
+-- each cell of a light but the last is joined to the next one
 made_joined : (grid : Grid) (light : Light) → IsMade grid light → (k : ℕ) → k + 1 < light.size → is_joined grid light.name.direction (step light.name.direction light.start k) ≡ true
 made_joined grid light made k within =
     let direction = light.name.direction in
@@ -186,7 +186,7 @@ made_joined grid light made k within =
     ap (is_joined grid direction) (sym (get_or-line direction first run k first (omega arith)))
     ∙ (light_is grid direction first made.begins).joined k first (omega (arith, length-line direction first run))
 
--- no light begins within another of its direction
+-- no light begins inside another of the same direction
 begins_at_first : (grid : Grid) (light : Light) (first : Cell) → IsMade grid light → begins grid light.name.direction first ≡ true → (k : ℕ) → k < light.size → step light.name.direction light.start k ≡ first → k ≡ 0
 begins_at_first grid light first made begin zero within at = refl
 begins_at_first grid light first made begin (suc k) within at =
@@ -197,7 +197,7 @@ begins_at_first grid light first made begin (suc k) within at =
     let parts = and-true (is_joined grid direction first) (not (is_joined grid direction (previous direction first))) begin in
     absurd (both_ways (is_joined grid direction (previous direction first)) (not_true (is_joined grid direction (previous direction first)) parts.1) (ap (is_joined grid direction) before ∙ made_joined grid light made k (omega arith)))
 
--- two lights of a direction that share a cell begin at one cell
+-- two lights of the same direction that share a cell have the same start
 pub same_start : (grid : Grid) (a b : Light) → IsMade grid a → IsMade grid b → a.name.direction ≡ b.name.direction → (k l : ℕ) → k < a.size → l < b.size →
     step a.name.direction a.start k ≡ step b.name.direction b.start l → a.start ≡ b.start
 same_start grid a b made_a made_b same k l in_a in_b e =
@@ -213,7 +213,7 @@ same_start grid a b made_a made_b same k l in_a in_b e =
           sym (step-zero a.name.direction a.start) ∙ ap (step a.name.direction a.start) (sym none) ∙ moved
     ]
 
--- one place for each start and direction
+-- at most one light in the list has a given start and direction
 pub same_place : (grid : Grid) (i j : ℕ) (d : Light) → i < length (lights_of grid) → j < length (lights_of grid) →
     (get_or (lights_of grid) i d).name.direction ≡ (get_or (lights_of grid) j d).name.direction → (get_or (lights_of grid) i d).start ≡ (get_or (lights_of grid) j d).start → i ≡ j
 same_place grid i j d in_i in_j direction start =
@@ -231,7 +231,7 @@ lights_are_apart grid i j d k l in_i in_j direction in_k in_l e =
     let made = lights_are_made grid in
     same_place grid i j d in_i in_j direction (same_start grid (get_or (lights_of grid) i d) (get_or (lights_of grid) j d) (made i d in_i) (made j d in_j) direction k l in_k in_l e)
 
--- lights that cross share the row of one and the column of the other
+-- two lights that cross meet in one row and one column
 crossing : (a b : Cell) (k l m n : ℕ) → step Across a k ≡ step Down b l → step Across a m ≡ step Down b n → step Across a k ≡ step Across a m
 crossing a b k l m n e f =
     let one : a.col + k ≡ b.col = ap (λ (c : Cell). c.col) e in

@@ -1,22 +1,22 @@
--- Where lights pass, and looking lights up.
+-- Which cells lights pass through, and finding lights.
 use Rattle.std.proofs.Common.{◌≡◌, ℕ, ◌+◌, ◌-◌, ◌<◌, ◌≤◌, Bool, true, false, cond, ◌&&◌, ◌||◌, eqb, leb, ltb, List, length, get_or, set, refl, ap, sym, subst, ◌∙◌, inl, inr, arith}
 use Rattle.std.specs.Prelude.{Some, None, Option, position}
 use Rattle.std.specs.Option.{unwrap_or}
 use Rattle.std.proofs.lemmas.Bool.{false≢true, cases_lt, cases_eq, both_ways, lt-ltb, le-ltb, eq-eqb, ne_eqb}
 use Rattle.std.proofs.lemmas.Bool.Decides.{nat_tests}
-use Rattle.xw_letters.proofs.Position.{position_is_some, position_is_none}
-use Rattle.xw_cells.specs.declared.cell.Cell.{Cell}
-use Rattle.xw_cells.specs.declared.cell.Direction.{Direction}
-use Rattle.xw_cells.specs.declared.cell.Direction.TheVariants.{Across, Down}
+use Rattle.xw_text.proofs.Position.{position_is_some, position_is_none}
+use Rattle.xw_grid.specs.declared.cell.Cell.{Cell}
+use Rattle.xw_grid.specs.declared.cell.Direction.{Direction}
+use Rattle.xw_grid.specs.declared.cell.Direction.TheVariants.{Across, Down}
 use Rattle.xw_grid.specs.declared.lights.Light.{Light}
-use Rattle.xw_cells.specs.Grid.{Grid, IsGrid, is_inside, index_of, cell_at, same_cell}
+use Rattle.xw_grid.specs.Grid.{Grid, IsGrid, is_inside, index_of, cell_at, same_cell}
 use Rattle.xw_grid.specs.Light.{step, lights_of, same_direction, is_within, is_on_line, holds, passes, place_through}
 use Rattle.xw_grid.specs.Places.{ArePlaces, entry_for, IsFirstOf}
-use Rattle.xw_cells.proofs.GridLemmas.{and-true, index_of-lt, cell_at-index_of, same_cell-cell_at, get_set, IsInside-is_inside}
+use Rattle.xw_grid.proofs.GridLemmas.{and-true, index_of-lt, cell_at-index_of, same_cell-cell_at, get_set, IsInside-is_inside}
 use Rattle.xw_grid.proofs.LightLemmas.{inside_from_open, cells_of_are_open}
 use Rattle.xw_grid.specs.LightLaws.{AreApart}
 
--- ---- the first place that passes
+-- ---- the first number that passes
 
 pub first_more : (passes : ℕ → Bool) (n : ℕ) (found : Option ℕ) → IsFirstOf passes n found → IsFirstOf passes (n + 1) (cond (passes n) (Some (unwrap_or found n)) found)
 first_more passes n (Some i) h =
@@ -98,7 +98,7 @@ line_more Down first n cell =
     ∙ and_or (eqb cell.col first.col) (eqb cell.row (first.row + n)) (is_within first.row n cell.row)
     ∙ ap (λ b. b || (eqb cell.col first.col && is_within first.row n cell.row)) (and_comm (eqb cell.col first.col) (eqb cell.row (first.row + n)))
 
--- ---- entering places
+-- ---- filling a table
 
 entered : (hit on : Bool) (old now : Option ℕ) (place : ℕ) → now ≡ cond on (Some (unwrap_or old place)) old → cond hit (Some (unwrap_or now place)) now ≡ cond (hit || on) (Some (unwrap_or old place)) old
 entered true true old now place e = ap (λ o. Some (unwrap_or o place)) e
@@ -123,7 +123,7 @@ entered_more grid old now direction first n place s within inside e =
     ∙ ap (λ b. cond (b || is_on_line direction first n (cell_at grid s)) (Some (unwrap_or (get_or old s None) place)) (get_or old s None)) (sym (same_cell-cell_at grid s (step direction first n) inside))
     ∙ ap (λ b. cond b (Some (unwrap_or (get_or old s None) place)) (get_or old s None)) (sym (line_more direction first n (cell_at grid s)))
 
--- a line that stays in a grid is short
+-- a line inside a grid is short
 pub line_small : (grid : Grid) (direction : Direction) (first : Cell) (k : ℕ) → IsGrid grid → is_inside grid (step direction first k) ≡ true → (first.row ≤ 255) × (first.col ≤ 255) × (k ≤ 255)
 line_small grid Across first k is inside =
     let at = IsInside-is_inside grid (step Across first k) inside in
@@ -143,7 +143,7 @@ direction_is Down Down h = refl
 pub light_inside : (grid : Grid) (place : ℕ) (d : Light) → place < length (lights_of grid) → (k : ℕ) → k < (get_or (lights_of grid) place d).size → is_inside grid (step (get_or (lights_of grid) place d).name.direction (get_or (lights_of grid) place d).start k) ≡ true
 light_inside grid place d within k below = inside_from_open grid _ (cells_of_are_open grid place d within k below)
 
--- the same of a list of the lights of a grid
+-- the same for a list that is that of a grid's lights
 pub lights_inside : (grid : Grid) (lights : List Light) → lights ≡ lights_of grid → (place : ℕ) (d : Light) → place < length lights → (k : ℕ) → k < (get_or lights place d).size → is_inside grid (step (get_or lights place d).name.direction (get_or lights place d).start k) ≡ true
 lights_inside grid lights same =
     subst (λ lights. (place : ℕ) (d : Light) → place < length lights → (k : ℕ) → k < (get_or lights place d).size → is_inside grid (step (get_or lights place d).name.direction (get_or lights place d).start k) ≡ true) (sym same) (light_inside grid)
@@ -155,7 +155,7 @@ passes_inside grid direction cell place d within h =
     let at = held_step light.name.direction light.start light.size cell both.1 in
     ap (is_inside grid) at.2 ∙ light_inside grid place d within at.0 at.1
 
--- one light in a direction passes through a cell
+-- at most one light in a direction passes through a cell
 pub place_is : (lights : List Light) → AreApart lights → (direction : Direction) (cell : Cell) (place : ℕ) (d : Light) → place < length lights → passes direction cell (get_or lights place d) ≡ true → place_through lights direction cell ≡ Some place
 place_is lights apart direction cell place d within h =
     let tested = λ (i : ℕ). and-true (same_direction (get_or lights i d).name.direction direction) (holds (get_or lights i d) cell) in
@@ -171,7 +171,7 @@ place_is lights apart direction cell place d within h =
       | false ↦ λ _. refl
     ] refl) h
 
--- what a table has for a cell is the place of the light through it
+-- the table's entry for a cell is the index of the light through it
 pub table_right : (grid : Grid) (direction : Direction) (places : List (Option ℕ)) (cell : Cell) (d : Light) → ArePlaces grid (lights_of grid) direction places → entry_for grid.width grid.height places cell ≡ place_through (lights_of grid) direction cell
 table_right grid direction places cell d are =
     elim (is_inside grid cell) as (λ b. is_inside grid cell ≡ b → cond b (get_or places (index_of grid cell) None) None ≡ place_through (lights_of grid) direction cell) [

@@ -1,3 +1,6 @@
+pub mod Grid
+pub mod Orbit
+pub mod Edit
 pub mod Light
 pub mod Clue
 pub mod ClueView

@@ -1,24 +1,24 @@
--- For each cell the place of the light that passes through it, as it is kept.
+-- Tables from each cell to the index of the light through it.
 use Rattle.std.specs.Prelude.{◌≡◌, ℕ, ◌+◌, ◌-◌, ◌*◌, ◌<◌, Bool, true, false, ◌&&◌, List, length, Option, Some, None, if◌then◌else◌, nat_le, slice_get, slice_index_or}
-use Rattle.xw_cells.specs.declared.cell.Cell.{Cell}
-use Rattle.xw_cells.specs.declared.cell.Direction.{Direction}
-use Rattle.xw_cells.specs.declared.cell.Direction.TheVariants.{Across, Down}
+use Rattle.xw_grid.specs.declared.cell.Cell.{Cell}
+use Rattle.xw_grid.specs.declared.cell.Direction.{Direction}
+use Rattle.xw_grid.specs.declared.cell.Direction.TheVariants.{Across, Down}
 use Rattle.xw_grid.specs.declared.lights.Light.{Light}
 use Rattle.std.specs.Option.{option_and_then}
-use Rattle.xw_cells.specs.Grid.{Grid, IsGrid, cell_at, same_cell}
+use Rattle.xw_grid.specs.Grid.{Grid, IsGrid, cell_at, same_cell}
 use Rattle.xw_grid.specs.Light.{lights_of, place_through}
 
--- what a table in reading order has for a cell
+-- the entry for a cell of a table in reading order; none outside the grid
 abbrev pub entry_for : ℕ → ℕ → List (Option ℕ) → Cell → Option ℕ
 entry_for width height places cell =
     if (nat_le 1 cell.row && nat_le cell.row height) && (nat_le 1 cell.col && nat_le cell.col width) then slice_index_or places ((cell.row - 1) * width + (cell.col - 1)) None else None
 
--- a table of the places of the lights in a direction
+-- the table has, for each cell, the index of the light in a direction through it
 pub record ArePlaces (grid : Grid) (lights : List Light) (direction : Direction) (places : List (Option ℕ)) : Type 0 where
   pub long : length places ≡ grid.width * grid.height
   pub each : (k : ℕ) → k < grid.width * grid.height → slice_index_or places k None ≡ place_through lights direction (cell_at grid k)
 
--- the lights of some grid, with a table for each direction
+-- the invariant of `Lights`: the lights of some grid, with a table for each direction
 pub record AreKept (width height : ℕ) (lights : List Light) (across down : List (Option ℕ)) : Type 0 where
   pub grid : Grid
   pub is : IsGrid grid
@@ -28,16 +28,16 @@ pub record AreKept (width height : ℕ) (lights : List Light) (across down : Lis
   pub by_row : ArePlaces grid lights Across across
   pub by_column : ArePlaces grid lights Down down
 
--- whether an answer is the first of n places that pass a test
+-- the answer is the first number below n that passes a test
 abbrev pub IsFirstOf : (ℕ → Bool) → ℕ → Option ℕ → Type 0
 IsFirstOf passes n (Some i) = (i < n) × (passes i ≡ true) × ((k : ℕ) → k < i → passes k ≡ false)
 IsFirstOf passes n None = (k : ℕ) → k < n → passes k ≡ false
 
--- the number of the light at a place, if it begins at a cell
+-- the number of the light at an index, if it begins at the cell
 abbrev pub number_of_start : List Light → Option ℕ → Cell → Option ℕ
 number_of_start lights place cell = option_and_then (λ light. if same_cell light.start cell then Some light.name.number else None) (option_and_then (slice_get lights) place)
 
--- whether a light is there and passes a test
+-- whether there is a light and it passes a test
 abbrev pub is_such : (Light → Bool) → Option Light → Bool
 is_such test (Some light) = test light
 is_such test None = false

@@ -3,13 +3,13 @@ ghost use Rattle.std.specs.Prelude.{◌≡◌, IfOk, OnOk, OnErr, IsOk, IsOkUnle
 ghost use Rattle.xw_grid.specs.EditLaws.{CirclesAreKept};
 ghost use Rattle.xw_grid.specs.Clue.{is_circled, with_circle};
 
+use crate::cell::Cell;
+use crate::fault::GridFault;
 use std::alloc::Global;
 use std::collections::BTreeSet;
 use std::marker::Model;
-use xw_cells::cell::Cell;
-use xw_cells::fault::GridFault;
 
-/// The circled cells of a puzzle.
+/// The set of circled cells of a puzzle.
 #[derive(Drop)]
 pub struct Circles {
     cells: BTreeSet<Cell>,
@@ -17,7 +17,7 @@ pub struct Circles {
 
 impl Model for Circles {
     ghost use Rattle.std.specs.Prelude.{List};
-    ghost use Rattle.xw_cells.specs.declared.cell.Cell.{Cell as CircledCell};
+    ghost use Rattle.xw_grid.specs.declared.cell.Cell.{Cell as CircledCell};
 
     ghost Value = { List CircledCell };
 
@@ -25,6 +25,7 @@ impl Model for Circles {
 }
 
 impl Circles {
+    /// No circles.
     pub fn new(alloc: Global) -> Circles
         ensures { result ≡ [] }
     {
@@ -33,7 +34,7 @@ impl Circles {
         }
     }
 
-    /// Circles equal to these.
+    /// A copy of the set.
     pub fn copy(&self) -> Result<Circles, GridFault>
         ensures ok { IfOk result (λ copy. copy ≡ self.now) }
         ensures memory { IsOkUnless result GridFault.Memory }
@@ -43,13 +44,15 @@ impl Circles {
         })
     }
 
+    /// Whether the cell is circled.
     pub fn has(&self, cell: Cell) -> bool
         ensures { result ≡ is_circled self.now cell }
     {
         self.cells.contains(&cell)
     }
 
-    /// Circles a cell, or takes its circle away, which takes no memory.
+    /// Adds or removes the circle of a cell. Returns `Memory` if the allocation for a new circle
+    /// fails.
     pub fn set(&mut self, cell: Cell, circled: bool) -> Result<(), GridFault>
         ensures ok { OnOk result (self.new ≡ with_circle self.old cell circled) }
         ensures err { OnErr result (self.new ≡ self.old) }
@@ -66,7 +69,7 @@ impl Circles {
     }
 }
 
-/// A cell is circled as it was set last.
+/// A cell is circled if and only if the last `set` for it circled it.
 pub fn circles_are_kept()
     ensures { CirclesAreKept }
 {}

@@ -1,16 +1,16 @@
-//! Clues by the start cell and direction of their lights.
+//! Clues, addressed by the start cell and direction of their light.
 ghost use Rattle.std.specs.Prelude.{◌≡◌, [], IfOk, OnOk, OnErr, IsOk, IsOkUnless};
 ghost use Rattle.xw_grid.specs.Clue.{no_clues, clue_at, with_clue, text_at, with_text};
 ghost use Rattle.xw_grid.specs.EditLaws.{CluesAreKept};
 ghost use Rattle.xw_grid.specs.ClueView.{texts_in};
 
+use crate::cell::{Cell, Direction};
+use crate::fault::GridFault;
 use std::alloc::{AllocError, Global};
 use std::collections::BTreeMap;
 use std::marker::Model;
-use xw_cells::cell::{Cell, Direction};
-use xw_cells::fault::GridFault;
 
-/// The clues of a puzzle, each kept whether or not its light stands.
+/// The clues of a puzzle. A clue stays when an edit removes its light.
 #[derive(Drop)]
 pub struct Clues {
     alloc: Global,
@@ -28,6 +28,7 @@ impl Model for Clues {
 }
 
 impl Clues {
+    /// No clues.
     pub fn new(alloc: Global) -> Clues
         ensures { result ≡ no_clues }
     {
@@ -38,7 +39,7 @@ impl Clues {
         }
     }
 
-    /// Clues equal to these.
+    /// A copy of the clues.
     pub fn copy(&self) -> Result<Clues, GridFault>
         ensures ok { IfOk result (λ copy. copy ≡ self.now) }
         ensures memory { IsOkUnless result GridFault.Memory }
@@ -50,7 +51,7 @@ impl Clues {
         })
     }
 
-    /// The clue that was last set at a cell and direction; none is empty.
+    /// The clue at a cell and direction; empty if there is none.
     pub fn get(&self, cell: Cell, direction: Direction) -> &[u8]
         ensures { result.now ≡ clue_at self.now cell direction }
     {
@@ -60,7 +61,8 @@ impl Clues {
         }
     }
 
-    /// Keeps a clue; an empty one is none, and takes no memory.
+    /// Sets the clue at a cell and direction; an empty text removes it. Returns `Memory` if an
+    /// allocation fails, which cannot happen for an empty text.
     pub fn set(&mut self, cell: Cell, direction: Direction, text: &[u8]) -> Result<(), GridFault>
         ensures ok { OnOk result (self.new ≡ with_clue self.old cell direction text.now) }
         ensures err { OnErr result (self.new ≡ self.old) }
@@ -84,7 +86,7 @@ fn text_of(texts: &BTreeMap<Cell, Vec<u8>>, cell: Cell) -> &[u8]
     }
 }
 
-/// Keeps a text for a cell, or none if it is empty.
+/// Sets the text of a cell; an empty text removes it.
 fn keep(
     texts: &mut BTreeMap<Cell, Vec<u8>>,
     alloc: Global,
@@ -103,7 +105,7 @@ fn keep(
     Ok(())
 }
 
-/// The clue of a cell and direction is the one that was set last for them.
+/// The clue at a cell and direction is the one that was last set for them.
 pub fn clues_are_kept()
     ensures { CluesAreKept }
 {}

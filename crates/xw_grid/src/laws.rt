@@ -1,22 +1,24 @@
-//! What the edits of a grid leave as it was.
+//! Laws: what an edit of a grid changes, and what it leaves alone.
 ghost use Rattle.xw_grid.specs.EditLaws.{LettersKeepShape, SymmetryKeepsShape, BlocksChangeOrbits, BarsChangeOrbits};
 
-/// A letter that is entered or taken away changes no light and opens no cell.
+/// Writing or deleting a letter changes no light and no block.
 pub fn letters_keep_shape()
     ensures { LettersKeepShape }
 {}
 
-/// A change of symmetry changes no light and opens no cell.
+/// Setting the symmetry changes no light and no block.
 pub fn symmetry_keeps_shape()
     ensures { SymmetryKeepsShape }
 {}
 
-/// A toggled block makes its orbit blocks, or open, the opposite of what the named cell was, and leaves the rest.
+/// Toggling a block turns its orbit into blocks, or opens it, the opposite of what the named cell
+/// was. All other cells stay.
 pub fn blocks_change_orbits()
     ensures { BlocksChangeOrbits }
 {}
 
-/// A toggled bar makes its orbit the opposite of what the named edge was, and leaves the rest.
+/// Toggling a bar bars or frees its orbit, the opposite of what the named edge was. All other edges
+/// stay.
 pub fn bars_change_orbits()
     ensures { BarsChangeOrbits }
 {}

@@ -1,17 +1,22 @@
-//! Lights and their numbers, clues and circles, and a puzzle with all of them.
+//! Grids of cells, their numbered lights, clues and circles, and a puzzle with all of them.
 #![tactic(auto)]
 
+pub mod cell;
 pub mod circles;
 pub mod clues;
+pub mod fault;
+pub mod grid;
 pub mod laws;
 pub mod lights;
+pub mod orbit;
 mod places;
 pub mod puzzle;
 
+pub use cell::{Cell, Direction, Edge, LightName, Side, Square, Symmetry};
 pub use circles::Circles;
 pub use clues::Clues;
+pub use fault::GridFault;
+pub use grid::Grid;
 pub use lights::{Light, Lights};
+pub use orbit::Orbit;
 pub use puzzle::{Puzzle, Texts};
-pub use xw_cells::{
-    Cell, Direction, Edge, Grid, GridFault, LightName, Orbit, Side, Square, Symmetry,
-};

@@ -1,19 +1,19 @@
-//! Lights and their numbers.
+//! The lights of a grid and their numbers.
 ghost use Rattle.std.specs.Prelude.{◌≡◌, ℕ, ◌+◌, ◌++◌, ◌<◌, ◌≤◌, ◌^◌, true, List, Some, None, slice_get, IfOk, OnOk, IsOkUnless, length, if◌then◌else◌, ◌&&◌, ◌==◌};
-ghost use Rattle.xw_cells.specs.Grid.{is_inside, same_cell};
+ghost use Rattle.xw_grid.specs.Grid.{is_inside, same_cell};
 ghost use Rattle.xw_grid.specs.Light.{is_joined as is_joined_to_next, begins as begins_light, previous as cell_before, begins_some as begins_some_light, step as cell_after, run_from, light_from, lights_at, lights_of, number_at, same_name, place_named, place_through, place_with_cells, number_in, same_name, name_before};
 ghost use Rattle.xw_grid.specs.LightLaws.{LightsAreLights, LightsAreAll, LightsBegin, LightsAreOrdered, LightsAreApart, LightsAreFew, LightsMeetOnce};
 ghost use Rattle.xw_grid.specs.Places.{ArePlaces, number_of_start, is_such};
 ghost use Rattle.std.specs.Option.{option_and_then};
 
+use crate::cell::{Cell, Direction, LightName, Side};
+use crate::fault::GridFault;
+use crate::grid::Grid;
 use crate::places;
 use std::alloc::{AllocError, Global};
 use std::marker::Model;
-use xw_cells::cell::{Cell, Direction, LightName, Side};
-use xw_cells::fault::GridFault;
-use xw_cells::grid::Grid;
 
-/// A light by its name, its first cell and how many cells it has.
+/// A light: its name, its first cell, and its number of cells.
 #[derive(Clone, Copy, Debug, PartialEq, Eq)]
 pub struct Light {
     pub name: LightName,
@@ -22,7 +22,7 @@ pub struct Light {
 }
 
 impl Light {
-    /// One of its cells, or of those that would follow.
+    /// The cell `k` steps after the first one. It can lie past the end of the light.
     pub fn cell(&self, k: u32) -> Cell
         requires { (self.now.start.row ≤ 255) × (self.now.start.col ≤ 255) × (k ≤ 255) }
         ensures { result ≡ cell_after self.now.name.direction self.now.start k }
@@ -31,7 +31,8 @@ impl Light {
     }
 }
 
-/// The lights of a grid by number, across before down.
+/// The lights of a grid, ordered by number, across before down. A light is addressed by its index
+/// in this order.
 #[derive(Drop)]
 pub struct Lights {
     width: u32,
@@ -54,7 +55,7 @@ impl Model for Lights {
 }
 
 impl Lights {
-    /// The lights of a grid.
+    /// Finds the lights of a grid. Returns `Memory` if an allocation fails.
     pub fn of(alloc: Global, grid: &Grid) -> Result<Lights, GridFault>
         ensures ok { IfOk result (λ lights. lights ≡ lights_of grid.now) }
         ensures memory { IsOkUnless result GridFault.Memory }
@@ -65,6 +66,7 @@ impl Lights {
         Ok(kept(grid, lights, across, down))
     }
 
+    /// The number of lights.
     pub fn len(&self) -> usize
         ensures len { result ≡ length self.now }
         ensures few { result ≤ 64770 }
@@ -72,14 +74,14 @@ impl Lights {
         self.lights.len()
     }
 
-    /// A light by its place in the order.
+    /// The light at an index.
     pub fn get(&self, index: usize) -> Option<Light>
         ensures { result ≡ slice_get self.now index }
     {
         self.lights.get(index).copied()
     }
 
-    /// The place of a light by its name.
+    /// The index of a light by its name: a binary search.
     pub fn index(&self, name: LightName) -> Option<usize>
         ensures { result ≡ place_named self.now name }
     {
@@ -93,7 +95,7 @@ impl Lights {
         }
     }
 
-    /// Whether the light of a name stands at a place.
+    /// Whether the light at an index has this name.
     fn is_at(&self, place: usize, name: LightName) -> bool
         ensures { result ≡ is_such (λ light. same_name light.name name) (slice_get self.now place) }
     {
@@ -114,7 +116,7 @@ impl Lights {
         }
     }
 
-    /// The number of the light at a place, if it begins at a cell.
+    /// The number of the light at an index, if it begins at the cell.
     fn number_by(&self, place: Option<usize>, cell: Cell) -> Option<u16>
         ensures { result ≡ number_of_start self.now place cell }
     {
@@ -126,21 +128,22 @@ impl Lights {
         }
     }
 
-    /// The place of the light across through a cell.
+    /// The index of the across light through a cell.
     pub fn across_at(&self, cell: Cell) -> Option<usize>
         ensures { result ≡ place_through self.now Direction.Across cell }
     {
         places::at(self.width, self.height, &self.across, cell)
     }
 
-    /// The place of the light down through a cell.
+    /// The index of the down light through a cell.
     pub fn down_at(&self, cell: Cell) -> Option<usize>
         ensures { result ≡ place_through self.now Direction.Down cell }
     {
         places::at(self.width, self.height, &self.down, cell)
     }
 
-    /// The place in another list of the light that has the cells of one in this list.
+    /// The index, in another grid's lights, of the light with the same cells as the light at
+    /// `index` here.
     pub fn same(&self, index: usize, other: &Lights) -> Option<usize>
         ensures { result ≡ option_and_then (place_with_cells other.now) (slice_get self.now index) }
     {
@@ -149,7 +152,7 @@ impl Lights {
         other.same_as(&light)
     }
 
-    /// The place of the light that has the cells of a given one.
+    /// The index of the light with the same cells as `light`.
     fn same_as(&self, light: &Light) -> Option<usize>
         requires { 2 ≤ light.now.size }
         ensures { result ≡ place_with_cells self.now light.now }
@@ -163,6 +166,7 @@ impl Lights {
         }
     }
 
+    /// The index of the light in a direction through a cell.
     fn through(&self, direction: Direction, cell: Cell) -> Option<usize>
         ensures { result ≡ place_through self.now direction cell }
     {
@@ -172,7 +176,7 @@ impl Lights {
         }
     }
 
-    /// Whether the light at a place begins where another does and has its size.
+    /// Whether the light at an index has the same first cell and size as `light`.
     fn is_like(&self, place: usize, light: &Light) -> bool
         ensures { result ≡ is_such (λ other. same_cell other.start light.now.start && (other.size == light.now.size)) (slice_get self.now place) }
     {
@@ -184,7 +188,7 @@ impl Lights {
 }
 
 /// The lights of a grid in order.
-#[tactic(auto, using(xw_cells::proofs::GridLemmas::cells_steps))]
+#[tactic(auto, using(crate::proofs::GridLemmas::cells_steps))]
 fn list(alloc: Global, grid: &Grid) -> Result<Vec<Light>, AllocError>
     ensures { IfOk result (λ lights. lights.items ≡ lights_of grid.now) }
 {
@@ -196,7 +200,7 @@ fn list(alloc: Global, grid: &Grid) -> Result<Vec<Light>, AllocError>
     Ok(lights)
 }
 
-/// The lights of a grid with their tables.
+/// Puts the lights and their tables together.
 fn kept(
     grid: &Grid,
     lights: Vec<Light>,
@@ -246,7 +250,7 @@ fn starts_at(light: &Light, cell: Cell) -> bool
     light.start.row == cell.row && light.start.col == cell.col
 }
 
-/// Whether a cell and the next one in a direction are open, with no bar between.
+/// Whether a cell and the next one in a direction are open, with no bar between them.
 fn is_joined(grid: &Grid, direction: Direction, cell: Cell) -> bool
     ensures { result ≡ is_joined_to_next grid.now direction cell }
 {
@@ -273,7 +277,7 @@ fn previous(direction: Direction, cell: Cell) -> Cell
     }
 }
 
-/// Whether a light of a direction begins at a cell.
+/// Whether a light in a direction begins at a cell.
 pub fn begins(grid: &Grid, direction: Direction, cell: Cell) -> bool
     ensures { result ≡ begins_light grid.now direction cell }
 {
@@ -286,7 +290,7 @@ fn begins_some(grid: &Grid, cell: Cell) -> bool
     begins(grid, Direction::Across, cell) || begins(grid, Direction::Down, cell)
 }
 
-/// The cell so many places further on.
+/// The cell `count` steps further on.
 fn step(direction: Direction, first: Cell, count: u32) -> Cell
     requires { (first.row ≤ 255) × (first.col ≤ 255) × (count ≤ 255) }
     ensures { result ≡ cell_after direction first count }
@@ -303,7 +307,7 @@ fn step(direction: Direction, first: Cell, count: u32) -> Cell
     }
 }
 
-/// How many cells a light has that begins at a cell.
+/// The number of cells of the light that begins at a cell.
 fn run(grid: &Grid, direction: Direction, first: Cell) -> u32
     requires { is_inside grid.now first ≡ true }
     ensures { result ≡ run_from grid.now direction first }
@@ -321,7 +325,7 @@ fn run(grid: &Grid, direction: Direction, first: Cell) -> u32
     extent + 1
 }
 
-/// Adds the lights that begin at a cell, and answers how many cells begin one so far.
+/// Appends the lights that begin at a cell. Returns the number of cells so far that begin a light.
 fn add_lights(
     lights: &mut Vec<Light>,
     grid: &Grid,
@@ -344,7 +348,7 @@ fn add_lights(
     })
 }
 
-/// Adds the light that begins at a cell in a direction, if one does.
+/// Appends the light that begins at a cell in a direction, if one does.
 fn add_light(
     lights: &mut Vec<Light>,
     grid: &Grid,
@@ -366,38 +370,38 @@ fn add_light(
     Ok(())
 }
 
-/// Each light of a grid's list is at least two open cells, each joined to the one before, that no
-/// further cell can lengthen, under the number of its first cell.
+/// Each light in a grid's list is a light: at least two open cells, each joined to the one before,
+/// that cannot be extended at either end. Its number is that of its first cell.
 pub fn lights_are_lights()
     ensures { LightsAreLights }
 {}
 
-/// Whatever is such a light of a grid is in its list.
+/// Every light of a grid is in its list.
 pub fn lights_are_all()
     ensures { LightsAreAll }
 {}
 
-/// A light begins at a cell exactly where `begins` says so.
+/// A light begins at a cell if and only if `begins` returns true.
 pub fn lights_begin()
     ensures { LightsBegin }
 {}
 
-/// The lights of a list stand in the order of their names, each of which names one light.
+/// The lights are ordered by name, so no two have the same name.
 pub fn lights_are_ordered()
     ensures { LightsAreOrdered }
 {}
 
-/// No two lights of one direction share a cell.
+/// Two lights of the same direction share no cell.
 pub fn lights_are_apart()
     ensures { LightsAreApart }
 {}
 
-/// Two lights share one cell at most.
+/// Two lights share at most one cell.
 pub fn lights_meet_once()
     ensures { LightsMeetOnce }
 {}
 
-/// No grid has more lights than 64,770.
+/// A grid has at most 64,770 lights.
 pub fn lights_are_few()
     ensures { LightsAreFew }
 {}

@@ -1,16 +1,16 @@
-//! Tables of the places of lights, by the cells that they pass through.
+//! Tables from each cell to the index of the light through it.
 ghost use Rattle.std.specs.Prelude.{◌≡◌, ℕ, ◌*◌, ◌<◌, ◌≤◌, true, Some, None, length, if◌then◌else◌, ◌&&◌, slice_index_or, slice_set, IfOk};
 ghost use Rattle.std.specs.Option.{unwrap_or};
-ghost use Rattle.xw_cells.specs.Grid.{cell_at, index_of, is_inside};
+ghost use Rattle.xw_grid.specs.Grid.{cell_at, index_of, is_inside};
 ghost use Rattle.xw_grid.specs.Light.{lights_of, is_on_line, passes, same_direction, step as cell_after};
 ghost use Rattle.xw_grid.specs.Places.{ArePlaces, entry_for};
 
+use crate::cell::{Cell, Direction};
+use crate::grid::Grid;
 use crate::lights::Light;
 use std::alloc::{AllocError, Global};
-use xw_cells::cell::{Cell, Direction};
-use xw_cells::grid::Grid;
 
-/// What a table in reading order has for a cell.
+/// The table's entry for a cell; `None` outside the grid.
 pub(crate) fn at(width: u32, height: u32, places: &[Option<usize>], cell: Cell) -> Option<usize>
     requires { (width ≤ 255) × (height ≤ 255) }
     ensures { result ≡ entry_for width height places.now cell }
@@ -22,7 +22,7 @@ pub(crate) fn at(width: u32, height: u32, places: &[Option<usize>], cell: Cell) 
     places.get(square).copied().unwrap_or(None)
 }
 
-/// For each cell the place of the light in a direction through it.
+/// The table of the lights in a direction: for each cell the index of the light through it.
 pub(crate) fn through(
     alloc: Global,
     grid: &Grid,
@@ -39,7 +39,7 @@ pub(crate) fn through(
     Ok(places)
 }
 
-/// Enters the place of a light that goes in a direction.
+/// Enters a light into the table if it has this direction.
 fn enter_towards(
     places: &mut [Option<usize>],
     grid: &Grid,
@@ -66,7 +66,7 @@ fn is_towards(light: &Light, direction: Direction) -> bool
     )
 }
 
-/// Enters the place of a light at each of its cells that has none yet.
+/// Enters a light's index at each of its cells that has no entry yet.
 fn enter(places: &mut [Option<usize>], grid: &Grid, light: &Light, place: usize)
     requires long { length places.old ≡ grid.now.width * grid.now.height }
     requires inside { (k : ℕ) → k < light.now.size → is_inside grid.now (cell_after light.now.name.direction light.now.start k) ≡ true }
@@ -80,7 +80,7 @@ fn enter(places: &mut [Option<usize>], grid: &Grid, light: &Light, place: usize)
     }
 }
 
-/// The place in reading order of a cell that is there.
+/// The index in reading order of a cell inside the grid.
 fn square_inside(grid: &Grid, cell: Cell) -> usize
     requires { is_inside grid.now cell ≡ true }
     ensures index { result ≡ index_of grid.now cell }

@@ -1,9 +1,10 @@
-//! A puzzle as a file can hold it, and more: symmetry, hidden clues and hidden circles are kept too.
+//! A puzzle with all that a file can hold, and also its symmetry, the clues of lights that no
+//! longer exist, and circles on blocks.
 use crate::circles::Circles;
 use crate::clues::Clues;
-use xw_cells::grid::Grid;
+use crate::grid::Grid;
 
-/// The texts of a puzzle but for its clues; bytes, without a character set.
+/// The texts of a puzzle other than its clues. They are plain bytes in no particular character set.
 #[derive(Drop)]
 pub struct Texts {
     pub title: Vec<u8>,

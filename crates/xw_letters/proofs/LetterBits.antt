@@ -28,7 +28,7 @@ has_past set place past =
     let none : is_capital (65 + place) ≡ false = grind (arith, nat_tests) in
     rw none refl
 
--- ---- the places of a shifted set
+-- ---- the letters of a shifted set
 module _ (set from : ℕ) where
   shifted : (other : ℕ) → from ≤ other → other < 26 → has set (65 + other) ≡ has_bit (set / 2 ^ from) (other - from)
   shifted other low within =
@@ -67,7 +67,7 @@ module _ (set from : ℕ) where
         let found = bit_at-trailing_zeros w32 (set / 2 ^ from) some fits in
         shifted other low (omega (arith, first_place.0)) ∙ ap (λ x. eqb x 1) (found.2 (other - from) (omega arith))
 
--- how many of the first letters are in a set
+-- the number of the first letters of the alphabet that are in a set
 counted : (set k : ℕ) → k ≤ 26 → length (filter (has set) (take k alphabet)) ≡ count_by (λ b. b) (map (λ i. has_bit set i) (range_with_len 0 k))
 counted set zero few = refl
 counted set (suc k) few =
@@ -78,7 +78,7 @@ counted set (suc k) few =
     ∙ ap (λ b. count_by (λ b. b) (map f (range_with_len 0 k)) + cond b 1 0) (has_at set k (omega arith))
     ∙ sym (ap (λ n. count_by (λ b. b) (map f (range_with_len 0 n))) next ∙ sum_by-map-range_with_len_more (λ b. cond b 1 0) f 0 k k (omega arith))
 
--- a set has as many letters as its number has bits
+-- a set has as many letters as its number has set bits
 pub letters_counted : (set : ℕ) → set < 2 ^ 26 → count_ones set ≡ length (letters_in set)
 letters_counted set small =
     sym

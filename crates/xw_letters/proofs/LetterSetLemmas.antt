@@ -1,4 +1,4 @@
--- Lemmas on sets of letters.
+-- Lemmas about sets of letters.
 use Rattle.std.proofs.Common.{◌≡◌, ◌≢◌, ℕ, ◌+◌, ◌-◌, ◌*◌, ◌%◌, ◌^◌, ◌<◌, ◌≤◌, Bool, true, false, not, ◌||◌, cond, eqb, [], ◌∷◌, length, get_or, take, length-append, refl, ap, sym, ◌∙◌, arith, inl, inr, zero, suc, min, leb, ◌&&◌, List, ◌⊎◌}
 use Rattle.std.specs.Prelude.{bit_or, bit_and, filter, bytes_eq}
 use Rattle.std.specs.List.{list_any}
@@ -104,7 +104,7 @@ has-removed set letter other at =
 pub removed-small : (set letter n : ℕ) → set < n → bit_and set (bit_not w32 (1 * 2 ^ (letter - 65) % 4294967296)) < n
 removed-small set letter n small = omega (arith, and_le_l set (bit_not w32 (1 * 2 ^ (letter - 65) % 4294967296)))
 
--- a set without one of its letters is a smaller number
+-- removing a letter makes the number of a set smaller
 pub removed-less : (set letter : ℕ) → IsLetter letter → has set letter ≡ true → bit_and set (bit_not w32 (1 * 2 ^ (letter - 65) % 4294967296)) < set
 removed-less set letter at stood =
     let new = bit_and set (bit_not w32 (1 * 2 ^ (letter - 65) % 4294967296)) in
@@ -112,7 +112,7 @@ removed-less set letter at stood =
     let most : new ≤ set = and_le_l set (bit_not w32 (1 * 2 ^ (letter - 65) % 4294967296)) in
     omega arith
 
--- the bit of a letter in a number that has all 26
+-- the number with all 26 bits contains each letter
 pub has-all : (letter : ℕ) → has 67108863 letter ≡ is_capital letter
 has-all letter =
     elim (cases_Bool (is_capital letter)) [
@@ -151,7 +151,7 @@ pub letters_in-none : letters_in 0 ≡ []
 unfolding alphabet
 letters_in-none = refl
 
--- whether a letter is one of a set's letters
+-- whether a letter is among those of a set
 any-filter : (test : ℕ → Bool) (letter : ℕ) (xs : List ℕ) → list_any (λ other. eqb letter other) (filter test xs) ≡ (test letter && list_any (λ other. eqb letter other) xs)
 any-filter test letter [] = and-false (test letter)
 any-filter test letter (x ∷ xs) =
@@ -192,7 +192,7 @@ one_or_none : (b : Bool) (l : ℕ) → length (cond b (l ∷ []) []) ≡ cond b 
 one_or_none true l = refl
 one_or_none false l = refl
 
--- how many of one more letter are in a set
+-- how many letters are in a set, with one more letter of the alphabet
 pub count-more : (set k : ℕ) → k < 26 → length (filter (has set) (take (k + 1) alphabet)) ≡ length (filter (has set) (take k alphabet)) + cond (has set (65 + k)) 1 0
 count-more set k within =
     ap length (filter_more (has set) alphabet k 0 (omega (arith, length-alphabet)))
@@ -201,7 +201,7 @@ count-more set k within =
     (ap (λ l. length (cond (has set l) (l ∷ []) [])) (letter_at_place k within)
     ∙ one_or_none (has set (65 + k)) (65 + k))
 
--- some of the alphabet's letters is a given capital
+-- every capital is in the alphabet
 one_of_alphabet : (letter : ℕ) → is_capital letter ≡ true → list_any (λ other. eqb letter other) alphabet ≡ true
 one_of_alphabet letter is =
     let at = capital_is_letter letter is in
@@ -209,7 +209,7 @@ one_of_alphabet letter is =
     let same : get_or alphabet (letter - 65) 0 ≡ letter = letter_at_place (letter - 65) (omega (arith, at.1)) ∙ (let h : 65 + (letter - 65) ≡ letter = omega (arith, at.0) in h) in
     list_any_at (λ other. eqb letter other) alphabet (letter - 65) 0 low (eq-eqb letter (get_or alphabet (letter - 65) 0) (sym same))
 
--- a letter is one of a set's letters exactly where the set has it
+-- a letter is among the letters of a set if and only if the set contains it
 pub one_of_letters : (set letter : ℕ) → list_any (λ other. eqb letter other) (letters_in set) ≡ has set letter
 one_of_letters set letter =
     any-filter (has set) letter alphabet
@@ -218,7 +218,7 @@ one_of_letters set letter =
       | inr none ↦ rw none refl
     ]
 
--- two sets with the same letters are one
+-- two sets with the same letters are equal
 pub same_letters_in : (a b : ℕ) → a < 2 ^ 26 → b < 2 ^ 26 → letters_in a ≡ letters_in b → a ≡ b
 same_letters_in a b small_a small_b same = same_from_bits_below 26 a b small_a small_b bits where
   alike : (letter : ℕ) → has a letter ≡ has b letter
@@ -243,7 +243,7 @@ is_same-letters a b small_a small_b =
       | inr ne ↦ ne ∙ sym (false_from_ne_true (bytes_eq (letters_in a) (letters_in b)) (λ same. both_ways (eqb a b) ne (eq-eqb a b (same_letters_in a b small_a small_b ((bytes_eq-Decides (letters_in a) (letters_in b)).0 same)))))
     ]
 
--- a letter of a set is the next one, and another is passed over
+-- the next letter of the alphabet is yielded if the set contains it, and skipped otherwise
 pub letters_from-next : (set place : ℕ) → place < 26 → has set (65 + place) ≡ true → letters_from set place ≡ (65 + place) ∷ letters_from set (place + 1)
 letters_from-next set place within there =
     let at = letter_at_place place (omega arith) in
@@ -261,7 +261,7 @@ pub ruleset walking_steps = (letters_from-next, letters_from-other, letters_from
 
 pub ruleset set_steps = (letter_is_capital, has-all, has-common, has-none, is_same-letters)
 
--- there are no more letters than the alphabet has
+-- a set has at most 26 letters
 pub few_letters : (set : ℕ) → length (letters_in set) ≤ 26
 unfolding alphabet
 few_letters set = omega (arith, length-filter (has set) alphabet, count_by-le-length (has set) alphabet)

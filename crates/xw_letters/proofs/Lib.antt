@@ -1,4 +1,2 @@
 pub mod LetterSetLemmas
-pub mod Position
 pub mod LetterBits
-pub mod LineLemmas

@@ -1,3 +1,2 @@
 pub mod Letter
 pub mod LetterSet
-pub mod Lines

@@ -1,9 +1,10 @@
+//! A letter, A to Z.
 ghost use Rattle.std.specs.Prelude.{◌≡◌, ℕ, ◌+◌, ◌<◌, ◌≤◌, true, All};
 ghost use Rattle.xw_letters.specs.Letter.{IsLetter, letter_of, is_letter, folded};
 
 use std::marker::Model;
 
-/// A letter, A to Z.
+/// A letter, A to Z. It is stored as its ASCII capital.
 #[derive(Clone, Copy, Debug, PartialEq, Eq, PartialOrd, Ord)]
 pub struct Letter {
     code: u8,
@@ -23,7 +24,7 @@ impl Model for Letter {
 }
 
 impl Letter {
-    /// The letter that a byte stands for, of either case.
+    /// The letter for an ASCII byte of either case; `None` for any other byte.
     pub fn of(byte: u8) -> Option<Letter>
         ensures { result ≡ letter_of byte }
     {
@@ -40,7 +41,7 @@ impl Letter {
         Letter { code: b'A' }
     }
 
-    /// The letter that a byte is, of either case.
+    /// The letter for an ASCII byte of either case. The byte must be a letter.
     pub fn capital(byte: u8) -> Letter
         requires { is_letter byte ≡ true }
         ensures { result ≡ folded byte }
@@ -50,7 +51,7 @@ impl Letter {
         }
     }
 
-    /// The letter at a place of the alphabet, A at 0.
+    /// The letter at an index in the alphabet; A has index 0.
     pub fn at(place: u32) -> Letter
         requires { place < 26 }
         ensures { result ≡ 65 + place }
@@ -60,7 +61,7 @@ impl Letter {
         }
     }
 
-    /// Its capital, 65 for A to 90 for Z.
+    /// The ASCII capital, 65 for A to 90 for Z.
     pub fn byte(self) -> u8
         ensures code { result ≡ self }
         ensures letter { IsLetter result }
@@ -69,7 +70,7 @@ impl Letter {
     }
 }
 
-/// Lets a contract know of letters in a slice what each of them is.
+/// Does nothing useful at run time; it gives the prover the invariant of each letter of the slice.
 pub fn are_letters(word: &[Letter])
     ensures { All IsLetter word.now }
 {

@@ -7,10 +7,10 @@ use crate::letter::Letter;
 use crate::letters::Letters;
 use std::marker::Model;
 
-/// A bit for each letter.
+/// The bits of all 26 letters.
 const ALL: u32 = 67108863;
 
-/// A set of letters.
+/// A set of letters. Bit 0 stands for A, bit 25 for Z.
 #[derive(Clone, Copy, Debug, PartialEq, Eq)]
 pub struct LetterSet {
     bits: u32,
@@ -29,14 +29,14 @@ impl Model for LetterSet {
 }
 
 impl LetterSet {
-    /// The set of no letters.
+    /// The empty set.
     pub fn new() -> LetterSet
         ensures { result ≡ 0 }
     {
         LetterSet { bits: 0 }
     }
 
-    /// The set of all letters.
+    /// The set of all 26 letters.
     #[tactic(auto, using(crate::proofs::LetterSetLemmas::set_steps))]
     pub fn all() -> LetterSet
         ensures { (letter : ℕ) → has result letter ≡ is_capital letter }
@@ -44,7 +44,7 @@ impl LetterSet {
         LetterSet { bits: ALL }
     }
 
-    /// The set of one letter.
+    /// The set with just `letter`.
     #[tactic(auto, using(crate::proofs::LetterSetLemmas::set_steps))]
     pub fn only(letter: Letter) -> LetterSet
         ensures letters { (other : ℕ) → has result other ≡ (other == letter) }
@@ -55,6 +55,7 @@ impl LetterSet {
         set
     }
 
+    /// Whether the set contains `letter`.
     #[tactic(auto, using(crate::proofs::LetterSetLemmas::set_steps))]
     pub fn has(self, letter: Letter) -> bool
         ensures { result ≡ has self letter }
@@ -62,6 +63,7 @@ impl LetterSet {
         (self.bits >> (letter.byte() - b'A')) & 1 == 1
     }
 
+    /// Adds `letter`. Nothing changes if the set contains it.
     pub fn insert(&mut self, letter: Letter)
         ensures inserted { (other : ℕ) → has self.new other ≡ (has self.old other || (other == letter)) }
         ensures capital { is_capital letter ≡ true }
@@ -69,6 +71,7 @@ impl LetterSet {
         self.bits |= 1 << (letter.byte() - b'A');
     }
 
+    /// Removes `letter`. Nothing changes if the set does not contain it.
     pub fn remove(&mut self, letter: Letter)
         ensures removed { (other : ℕ) → has self.new other ≡ (has self.old other && not (other == letter)) }
         ensures fewer { has self.old letter ≡ true → self.new < self.old }
@@ -77,7 +80,7 @@ impl LetterSet {
         self.bits &= !(1 << (letter.byte() - b'A'));
     }
 
-    /// The letters that are in both sets.
+    /// The intersection of the two sets.
     #[tactic(auto, using(crate::proofs::LetterSetLemmas::set_steps))]
     pub fn common(self, other: LetterSet) -> LetterSet
         ensures both { (letter : ℕ) → has result letter ≡ (has self letter && has other letter) }
@@ -88,7 +91,7 @@ impl LetterSet {
         }
     }
 
-    /// Whether the other set has the same letters.
+    /// Whether the two sets have the same letters.
     #[tactic(auto, using(crate::proofs::LetterSetLemmas::set_steps))]
     pub fn is_same(self, other: LetterSet) -> bool
         ensures set { result ≡ (self == other) }
@@ -97,14 +100,14 @@ impl LetterSet {
         self.bits == other.bits
     }
 
-    /// Its letters, from A on.
+    /// The letters of the set in alphabetical order.
     pub fn iter(self) -> Letters
         ensures { result ≡ letters_in self }
     {
         Letters::new(self)
     }
 
-    /// Whether the letter at a place of the alphabet is in the set.
+    /// Whether the set contains the letter at an index in the alphabet.
     pub(crate) fn holds(self, place: u32) -> bool
         requires { place < 26 }
         ensures { result ≡ has self (65 + place) }
@@ -112,7 +115,7 @@ impl LetterSet {
         (self.bits >> place) & 1 == 1
     }
 
-    /// The first place of the alphabet, from one on, whose letter is in the set.
+    /// The first index in the alphabet, from `from` on, whose letter is in the set.
     pub fn next_place(self, from: u32) -> Option<u32>
         ensures set { IfSome result (λ place. (from ≤ place) × (place < 26) × (has self (65 + place) ≡ true)) }
         ensures first { IfSome result (λ place. (other : ℕ) → from ≤ other → other < place → has self (65 + other) ≡ false) }
@@ -128,6 +131,7 @@ impl LetterSet {
         Some(from + rest.trailing_zeros())
     }
 
+    /// The number of letters in the set.
     pub fn len(self) -> usize
         ensures { result ≡ length (letters_in self) }
     {

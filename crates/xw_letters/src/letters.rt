@@ -1,4 +1,4 @@
-//! The letters of a set, one after another.
+//! An iterator over the letters of a set.
 ghost use Rattle.std.specs.Prelude.{◌≡◌, ℕ};
 ghost use Rattle.std.specs.Iterator.{YieldsFirst, item_count};
 ghost use Rattle.xw_letters.specs.LetterSet.{letters_in};
@@ -7,7 +7,7 @@ use crate::letter::Letter;
 use crate::letter_set::LetterSet;
 use std::marker::Model;
 
-/// The letters of a set, from A on.
+/// The letters of a set in alphabetical order.
 #[derive(Drop)]
 pub struct Letters {
     set: LetterSet,
@@ -24,6 +24,7 @@ impl Model for Letters {
 }
 
 impl Letters {
+    /// An iterator over the letters of `set`.
     pub(crate) fn new(set: LetterSet) -> Letters
         ensures { result ≡ letters_in set }
     {

@@ -1,10 +1,9 @@
-//! Letters and sets of letters, and what the lines of a text are.
+//! Letters and sets of letters.
 #![tactic(auto)]
 
 pub mod letter;
 pub mod letter_set;
 pub mod letters;
-pub mod lines;
 
 pub use letter::Letter;
 pub use letter_set::LetterSet;

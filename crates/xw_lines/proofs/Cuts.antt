@@ -1,22 +1,22 @@
--- How a cut text grows at its end.
+-- How the lines of a text change when the text grows.
 use Rattle.std.proofs.Common.{rules, ◌≢◌, ◌≡◌, ◌≤◌, ◌<◌, ◌+◌, ◌-◌, ℕ, zero, suc, List, [], ◌∷◌, ◌++◌, length, length-drop, take, take-add, drop, get_or, subst, Some, None, Bool, true, false, cond, refl, sym, ap, ◌∙◌, append_assoc, append-nil, arith}
 use Rattle.std.proofs.lemmas.Bool.{true≢false, eqb-true}
 use Rattle.std.proofs.lemmas.List.{take_all, take-append-drop, drop_more, get_or-drop}
 use Rattle.std.proofs.lemmas.List.Quantifiers.{position-Some}
-use Rattle.xw_letters.specs.Lines.{is_line_feed}
-use Rattle.xw_letters.proofs.Position.{position-None}
+use Rattle.xw_text.specs.Lines.{is_line_feed}
+use Rattle.xw_text.proofs.Position.{position-None}
 use Rattle.std.specs.Prelude.{◌==◌, nat_le, position}
 use Rattle.xw_lines.specs.Cut.{Cut, cut, with_first, ended_lines, last_piece, last_line, lines_of, held, HasNoLf, EndsLine, AllHaveNoLf, with_lfs}
 
--- the cut after one more byte at the front
+-- the lines after one more byte at the front
 abbrev cut_onto : Bool → ℕ → Cut → Cut
 cut_onto is_lf b c = cond is_lf (record { ended = [] ∷ c.ended; rest = c.rest }) (with_first b c.ended c.rest)
 
--- the cut of two texts with an LF between them
+-- the lines of two texts with an LF between them
 abbrev joined : Cut → Cut → Cut
 joined c d = record { ended = c.ended ++ c.rest ∷ d.ended; rest = d.rest }
 
--- the cut after one more byte at the end, which is no LF
+-- the lines after one more byte at the end, which is not an LF
 abbrev longer : Cut → ℕ → Cut
 longer c b = record { ended = c.ended; rest = c.rest ++ b ∷ [] }
 
@@ -44,7 +44,7 @@ pub cut-longer : (front : List ℕ) (b : ℕ) → (b == 10) ≡ false → cut (f
 cut-longer [] b h = ap (λ t. cut_onto t b (cut [])) h
 cut-longer (a ∷ front) b h = ap (λ c. cut_onto (a == 10) a c) (cut-longer front b h) ∙ onto-longer (a == 10) a (cut front) b
 
--- the cut after more bytes without an LF
+-- the lines after more bytes without an LF
 pub cut-longer_by : (front bytes : List ℕ) → HasNoLf bytes → cut (front ++ bytes) ≡ record { ended = (cut front).ended; rest = (cut front).rest ++ bytes }
 cut-longer_by front [] h =
     ap cut (append-nil front) ∙ ap (λ rest. record { ended = (cut front).ended; rest = rest }) (sym (append-nil (cut front).rest))
@@ -55,7 +55,7 @@ cut-longer_by front (b ∷ bytes) h =
     ∙ ap (λ (c : Cut). record { ended = c.ended; rest = c.rest ++ bytes }) (cut-longer front b no_lf)
     ∙ ap (λ rest. record { ended = (cut front).ended; rest = rest }) (append_assoc (cut front).rest (b ∷ []) bytes)
 
--- before the first LF there is none
+-- there is no LF before the first one
 pub no_lf-before : (bytes : List ℕ) (end : ℕ) → (end ≤ length bytes) → ((k : ℕ) → k < end → (get_or bytes k 0 == 10) ≡ false) → HasNoLf (take end bytes)
 no_lf-before bytes zero le h = tt
 no_lf-before [] (suc end) le h = absurd (omega arith)
@@ -67,7 +67,7 @@ pub no_lf : (bytes : List ℕ) → position is_line_feed bytes ≡ None → HasN
 no_lf bytes none =
     subst HasNoLf (take_all (length bytes) bytes (omega arith)) (no_lf-before bytes (length bytes) (omega arith) (λ k lt. position-None is_line_feed bytes none k 0 lt))
 
--- the first LF of what stands from a place on ends a line
+-- the first LF from an index on ends a line
 pub first_lf-ends : (bytes : List ℕ) (from more : ℕ) → position is_line_feed (drop from bytes) ≡ Some more → EndsLine bytes from (from + more)
 first_lf-ends bytes from more some =
     let found = position-Some is_line_feed (drop from bytes) more 0 some in
@@ -84,7 +84,7 @@ before_end bytes from end le =
     let e : from + (end - from) ≡ end = omega arith in
     sym (take-add from (end - from) bytes) ∙ ap (λ n. take n bytes) e
 
--- a text whose bytes are read to the end of a line, and what is left of them
+-- the text up to the end of a line, and the bytes after it
 pub line-within : (text bytes : List ℕ) (from end : ℕ) → from ≤ end → EndsLine bytes from end
     → ((text ++ take from bytes) ++ take (end - from) (drop from bytes)) ++ 10 ∷ drop (end + 1) bytes ≡ text ++ bytes
 line-within text bytes from end le h =
@@ -93,7 +93,7 @@ line-within text bytes from end le h =
     ∙ append_assoc text _ _
     ∙ ap (λ xs. text ++ xs) (take-append-drop end bytes)
 
--- a text whose bytes are read past the end of a line
+-- the text up to and including the LF of a line
 pub line-through : (text bytes : List ℕ) (from end : ℕ) → from ≤ end → EndsLine bytes from end
     → ((text ++ take from bytes) ++ take (end - from) (drop from bytes)) ++ 10 ∷ [] ≡ text ++ take (end + 1) bytes
 line-through text bytes from end le h =
@@ -112,12 +112,12 @@ some-full : (t : Bool) (b : ℕ) (piece : List ℕ) → cond t (Some (b ∷ piec
 some-full true b piece h = cc
 some-full false b piece h = cc
 
--- a piece that is held as nothing is empty
+-- a line that is buffered as empty is empty
 pub held-empty : (piece : List ℕ) → held piece ≡ Some [] → piece ≡ []
 held-empty [] h = refl
 held-empty (b ∷ piece) h = absurd (some-full (nat_le (length (b ∷ piece)) 4096) b piece h)
 
--- with no piece after the last LF, all lines are ended
+-- if nothing follows the last LF, all lines end with an LF
 pub lines_of-ended : (text : List ℕ) → held (last_piece text) ≡ Some [] → lines_of text ≡ ended_lines text
 lines_of-ended text h = ap (λ rest. ended_lines text ++ last_line rest) (held-empty (last_piece text) h) ∙ append-nil (ended_lines text)
 
@@ -125,18 +125,18 @@ last_line-full : (rest : List ℕ) → (held rest ≡ Some [] → ⊥) → last_
 last_line-full [] h = absurd (h refl)
 last_line-full (b ∷ rest) h = refl
 
--- a piece that is not empty is the last line
+-- if something follows the last LF, it is the last line
 pub lines_of-rest : (text : List ℕ) → (held (last_piece text) ≡ Some [] → ⊥) → lines_of text ≡ ended_lines text ++ last_piece text ∷ []
 lines_of-rest text h = ap (λ lines. ended_lines text ++ lines) (last_line-full (last_piece text) h)
 
--- a text with no LF is a rest
+-- a text without an LF has no complete line
 cut-plain : (bytes : List ℕ) → HasNoLf bytes → cut bytes ≡ record { ended = []; rest = bytes }
 cut-plain [] h = refl
 cut-plain (b ∷ bytes) h =
     let no_lf : (b == 10) ≡ false = search (rules, h.0) in
     rw (no_lf, cut-plain bytes h.1) refl
 
--- lines that an LF ends, and a rest, are cut into these
+-- lines with an LF each, and a rest, split into these
 pub cut-with_lfs : (lines : List (List ℕ)) (rest : List ℕ) → AllHaveNoLf lines → HasNoLf rest → cut (with_lfs lines rest) ≡ record { ended = lines; rest = rest }
 cut-with_lfs [] rest hs h = cut-plain rest h
 cut-with_lfs (line ∷ lines) rest hs h =
@@ -158,7 +158,7 @@ onto-whole false b bytes c t h =
     go [] rest k = (ap (λ xs. b ∷ xs) k.0, tt, (λ z. (let bad : (b == 10) ≡ true = rw z refl in cc), k.2))
     go (line ∷ lines) rest k = (ap (λ xs. b ∷ xs) k.0, ((λ z. (let bad : (b == 10) ≡ true = rw z refl in cc), k.1.0), k.1.1), k.2)
 
--- the cut gives the text back, and no LF stands in its parts
+-- the lines and the rest give the text back, and have no LF in them
 pub cut-whole : (text : List ℕ) → (text ≡ with_lfs (ended_lines text) (last_piece text)) × AllHaveNoLf (ended_lines text) × HasNoLf (last_piece text)
 cut-whole [] = (refl, tt, tt)
 cut-whole (b ∷ bytes) = onto-whole (b == 10) b bytes (cut bytes) refl (cut-whole bytes)

@@ -1,4 +1,4 @@
--- One line after another.
+-- Answering one line after another.
 use Rattle.std.proofs.Common.{◌≡◌, ℕ, ◌+◌, List, [], ◌∷◌, ◌++◌, Option, Some, arith, refl, sym, ◌∙◌, ap, subst, append_assoc, append-nil}
 use Rattle.xw_lines.specs.Cut.{Cut, held, ended_lines, last_piece, lines_of, HasNoLf}
 use Rattle.xw_lines.specs.Device.{saturated}
@@ -10,27 +10,27 @@ use Rattle.xw_lines.proofs.Cuts.{cut-at_lf, cut-longer_by, lines_of-at_lf, lines
 pub saturated-add : (count more : ℕ) → saturated (saturated count + more) ≡ saturated (count + more)
 saturated-add count more = omega arith
 
--- what is told after one more answer and its flush
-told-more : (begun out told answer mid flush told' : List ℕ) → told ≡ begun ++ out → mid ≡ told ++ answer → told' ≡ mid ++ flush → told' ≡ begun ++ (out ++ (answer ++ flush))
-told-more begun out told answer mid flush told' t m f =
+-- the output after one more answer and its flush
+transcript-more : (begun out transcript answer mid flush transcript' : List ℕ) → transcript ≡ begun ++ out → mid ≡ transcript ++ answer → transcript' ≡ mid ++ flush → transcript' ≡ begun ++ (out ++ (answer ++ flush))
+transcript-more begun out transcript answer mid flush transcript' t m f =
     f ∙ ap (λ xs. xs ++ flush) (m ∙ ap (λ xs. xs ++ answer) t) ∙ append_assoc (begun ++ out) answer flush ∙ append_assoc begun out (answer ++ flush)
 
 module _ {S : Type 0} (Answers : S → List ℕ → Step → List ℕ → S → Type 0) where
-  -- an answer at an equal piece
+  -- the answer to an equal piece
   pub answered-along : (start end : S) (outcome : Step) (old new : List ℕ) (piece piece' : Option (List ℕ)) → piece ≡ piece' → Answered Answers start piece outcome end old new → Answered Answers start piece' outcome end old new
   answered-along start end outcome old new piece piece' p a = record {
     answer = a.answer;
     fits = λ line h. a.fits line (h ∙ sym p);
-    told = a.told;
+    transcript = a.transcript;
   }
 
-  -- a whole answer is a beginning of itself
+  -- a whole answer is a prefix of itself
   pub broke-after : (start end : S) (outcome : Step) (old new new' : List ℕ) (piece piece' : Option (List ℕ)) → piece ≡ piece' → new' ≡ new → Answered Answers start piece outcome end old new → BrokeOff Answers start piece' end old new'
   broke-after start end outcome old new new' piece piece' p n a = record {
     outcome = outcome;
     answer = a.answer;
     fits = λ line h. a.fits line (h ∙ sym p);
-    begins = record { sent = a.answer; unsent = []; parts = sym (append-nil a.answer); told = n ∙ a.told };
+    begins = record { sent = a.answer; unsent = []; parts = sym (append-nil a.answer); transcript = n ∙ a.transcript };
   }
 
   -- one more line is answered
@@ -50,54 +50,54 @@ module _ {S : Type 0} (Answers : S → List ℕ → Step → List ℕ → S → 
     rw count-is (omega arith),
   )
 
-  -- nothing was read yet
-  pub progress-begins : (start : S) (begun : List ℕ) (piece : Option (List ℕ)) (refused : ℕ) (told : List ℕ) → piece ≡ Some [] → refused ≡ 0 → told ≡ begun → Progress Answers start begun [] start piece refused told
-  progress-begins start begun piece refused told p r t = record {
+  -- nothing has been read
+  pub progress-begins : (start : S) (begun : List ℕ) (piece : Option (List ℕ)) (refused : ℕ) (transcript : List ℕ) → piece ≡ Some [] → refused ≡ 0 → transcript ≡ begun → Progress Answers start begun [] start piece refused transcript
+  progress-begins start begun piece refused transcript p r t = record {
     count = 0;
-    speaks = record { out = []; spoken = (refl, refl, refl); told-is = t ∙ sym (append-nil begun) };
+    speaks = record { out = []; spoken = (refl, refl, refl); transcript-is = t ∙ sym (append-nil begun) };
     piece-is = p;
     refused-is = r;
   }
 
-  -- bytes without an LF are held
-  pub progress-held : (start state : S) (begun text bytes : List ℕ) (piece piece' : Option (List ℕ)) (refused : ℕ) (told : List ℕ) → HasNoLf bytes → ((line : List ℕ) → piece ≡ held line → piece' ≡ held (line ++ bytes))
-      → Progress Answers start begun text state piece refused told → Progress Answers start begun (text ++ bytes) state piece' refused told
-  progress-held start state begun text bytes piece piece' refused told h hold p =
+  -- bytes without an LF are buffered
+  pub progress-held : (start state : S) (begun text bytes : List ℕ) (piece piece' : Option (List ℕ)) (refused : ℕ) (transcript : List ℕ) → HasNoLf bytes → ((line : List ℕ) → piece ≡ held line → piece' ≡ held (line ++ bytes))
+      → Progress Answers start begun text state piece refused transcript → Progress Answers start begun (text ++ bytes) state piece' refused transcript
+  progress-held start state begun text bytes piece piece' refused transcript h hold p =
       let e = cut-longer_by text bytes h in
       let lines-is : ended_lines (text ++ bytes) ≡ ended_lines text = ap (λ (c : Cut). c.ended) e in
       let rest-is : last_piece (text ++ bytes) ≡ last_piece text ++ bytes = ap (λ (c : Cut). c.rest) e in
       record {
         count = p.count;
-        speaks = subst (λ lines. Speaks Answers start lines p.count state begun told) (sym lines-is) p.speaks;
+        speaks = subst (λ lines. Speaks Answers start lines p.count state begun transcript) (sym lines-is) p.speaks;
         piece-is = hold (last_piece text) p.piece-is ∙ ap held (sym rest-is);
         refused-is = p.refused-is;
       }
 
   -- an LF ends a line, which is answered
-  pub progress-line : (start state end : S) (begun text : List ℕ) (piece piece' : Option (List ℕ)) (refused refused' : ℕ) (told mid told' : List ℕ) (outcome : Step)
-      → Answered Answers state piece outcome end told mid → told' ≡ mid ++ flush_after outcome → refused' ≡ saturated (refused + refusals outcome) → piece' ≡ Some []
-      → Progress Answers start begun text state piece refused told → Progress Answers start begun (text ++ 10 ∷ []) end piece' refused' told'
-  progress-line start state end begun text piece piece' refused refused' told mid told' outcome a f r e p =
+  pub progress-line : (start state end : S) (begun text : List ℕ) (piece piece' : Option (List ℕ)) (refused refused' : ℕ) (transcript mid transcript' : List ℕ) (outcome : Step)
+      → Answered Answers state piece outcome end transcript mid → transcript' ≡ mid ++ flush_after outcome → refused' ≡ saturated (refused + refusals outcome) → piece' ≡ Some []
+      → Progress Answers start begun text state piece refused transcript → Progress Answers start begun (text ++ 10 ∷ []) end piece' refused' transcript'
+  progress-line start state end begun text piece piece' refused refused' transcript mid transcript' outcome a f r e p =
       let c = cut-at_lf text [] in
       let lines-is : ended_lines (text ++ 10 ∷ []) ≡ ended_lines text ++ last_piece text ∷ [] = ap (λ (c : Cut). c.ended) c in
       let rest-is : last_piece (text ++ 10 ∷ []) ≡ [] = ap (λ (c : Cut). c.rest) c in
       let said = a.fits (last_piece text) (sym p.piece-is) in
-      let all : Speaks Answers start (ended_lines text ++ last_piece text ∷ []) (p.count + refusals outcome) end begun told' = record {
+      let all : Speaks Answers start (ended_lines text ++ last_piece text ∷ []) (p.count + refusals outcome) end begun transcript' = record {
         out = p.speaks.out ++ (a.answer ++ flush_after outcome);
         spoken = spoken-more (ended_lines text) start state end p.speaks.out a.answer (last_piece text) p.count outcome p.speaks.spoken said;
-        told-is = told-more begun p.speaks.out told a.answer mid (flush_after outcome) told' p.speaks.told-is a.told f;
+        transcript-is = transcript-more begun p.speaks.out transcript a.answer mid (flush_after outcome) transcript' p.speaks.transcript-is a.transcript f;
       } in
       record {
         count = p.count + refusals outcome;
-        speaks = subst (λ lines. Speaks Answers start lines (p.count + refusals outcome) end begun told') (sym lines-is) all;
+        speaks = subst (λ lines. Speaks Answers start lines (p.count + refusals outcome) end begun transcript') (sym lines-is) all;
         piece-is = e ∙ ap held (sym rest-is);
         refused-is = r ∙ ap (λ n. saturated (n + refusals outcome)) p.refused-is ∙ saturated-add p.count (refusals outcome);
       }
 
-  -- the answer of a line that an LF ends breaks off
-  pub stops-at_lf : (start state end : S) (begun text more : List ℕ) (piece : Option (List ℕ)) (refused : ℕ) (told told' : List ℕ)
-      → BrokeOff Answers state piece end told told' → Progress Answers start begun text state piece refused told → StopsIn Answers start (text ++ 10 ∷ more) end begun told'
-  stops-at_lf start state end begun text more piece refused told told' b p = record {
+  -- the writer fails in the answer of a line that ends with an LF
+  pub stops-at_lf : (start state end : S) (begun text more : List ℕ) (piece : Option (List ℕ)) (refused : ℕ) (transcript transcript' : List ℕ)
+      → BrokeOff Answers state piece end transcript transcript' → Progress Answers start begun text state piece refused transcript → StopsIn Answers start (text ++ 10 ∷ more) end begun transcript'
+  stops-at_lf start state end begun text more piece refused transcript transcript' b p = record {
     before = ended_lines text;
     line = last_piece text;
     after = lines_of more;
@@ -113,33 +113,33 @@ module _ {S : Type 0} (Answers : S → List ℕ → Step → List ℕ → S → 
       sent = b.begins.sent;
       unsent = b.begins.unsent;
       parts = b.begins.parts;
-      told = b.begins.told ∙ ap (λ xs. xs ++ b.begins.sent) p.speaks.told-is;
+      transcript = b.begins.transcript ∙ ap (λ xs. xs ++ b.begins.sent) p.speaks.transcript-is;
     };
   }
 
-  -- at the end with nothing held, all lines are answered
-  pub speaks-ended : (start state : S) (begun text : List ℕ) (piece : Option (List ℕ)) (refused : ℕ) (told : List ℕ) → piece ≡ Some []
-      → (p : Progress Answers start begun text state piece refused told) → Speaks Answers start (lines_of text) p.count state begun told
-  speaks-ended start state begun text piece refused told e p =
-      subst (λ lines. Speaks Answers start lines p.count state begun told) (sym (lines_of-ended text (sym p.piece-is ∙ e))) p.speaks
+  -- if nothing is buffered at the end, all lines are answered
+  pub speaks-ended : (start state : S) (begun text : List ℕ) (piece : Option (List ℕ)) (refused : ℕ) (transcript : List ℕ) → piece ≡ Some []
+      → (p : Progress Answers start begun text state piece refused transcript) → Speaks Answers start (lines_of text) p.count state begun transcript
+  speaks-ended start state begun text piece refused transcript e p =
+      subst (λ lines. Speaks Answers start lines p.count state begun transcript) (sym (lines_of-ended text (sym p.piece-is ∙ e))) p.speaks
 
-  -- at the end the piece that is held is the last line
-  pub speaks-last : (start state end : S) (begun text : List ℕ) (piece : Option (List ℕ)) (refused : ℕ) (told mid told' : List ℕ) (outcome : Step) → (piece ≡ Some [] → ⊥)
-      → Answered Answers state piece outcome end told mid → told' ≡ mid ++ flush_after outcome → (p : Progress Answers start begun text state piece refused told)
-      → Speaks Answers start (lines_of text) (p.count + refusals outcome) end begun told'
-  speaks-last start state end begun text piece refused told mid told' outcome e a f p =
+  -- the line that is buffered at the end is the last one
+  pub speaks-last : (start state end : S) (begun text : List ℕ) (piece : Option (List ℕ)) (refused : ℕ) (transcript mid transcript' : List ℕ) (outcome : Step) → (piece ≡ Some [] → ⊥)
+      → Answered Answers state piece outcome end transcript mid → transcript' ≡ mid ++ flush_after outcome → (p : Progress Answers start begun text state piece refused transcript)
+      → Speaks Answers start (lines_of text) (p.count + refusals outcome) end begun transcript'
+  speaks-last start state end begun text piece refused transcript mid transcript' outcome e a f p =
       let said = a.fits (last_piece text) (sym p.piece-is) in
-      let all : Speaks Answers start (ended_lines text ++ last_piece text ∷ []) (p.count + refusals outcome) end begun told' = record {
+      let all : Speaks Answers start (ended_lines text ++ last_piece text ∷ []) (p.count + refusals outcome) end begun transcript' = record {
         out = p.speaks.out ++ (a.answer ++ flush_after outcome);
         spoken = spoken-more (ended_lines text) start state end p.speaks.out a.answer (last_piece text) p.count outcome p.speaks.spoken said;
-        told-is = told-more begun p.speaks.out told a.answer mid (flush_after outcome) told' p.speaks.told-is a.told f;
+        transcript-is = transcript-more begun p.speaks.out transcript a.answer mid (flush_after outcome) transcript' p.speaks.transcript-is a.transcript f;
       } in
-      subst (λ lines. Speaks Answers start lines (p.count + refusals outcome) end begun told') (sym (lines_of-rest text (λ h. e (p.piece-is ∙ h)))) all
+      subst (λ lines. Speaks Answers start lines (p.count + refusals outcome) end begun transcript') (sym (lines_of-rest text (λ h. e (p.piece-is ∙ h)))) all
 
-  -- the answer of the last line, which no LF ends, breaks off
-  pub stops-last : (start state end : S) (begun text : List ℕ) (piece : Option (List ℕ)) (refused : ℕ) (told told' : List ℕ) → (piece ≡ Some [] → ⊥)
-      → BrokeOff Answers state piece end told told' → Progress Answers start begun text state piece refused told → StopsIn Answers start text end begun told'
-  stops-last start state end begun text piece refused told told' e b p = record {
+  -- the writer fails in the answer of the last line, which has no LF
+  pub stops-last : (start state end : S) (begun text : List ℕ) (piece : Option (List ℕ)) (refused : ℕ) (transcript transcript' : List ℕ) → (piece ≡ Some [] → ⊥)
+      → BrokeOff Answers state piece end transcript transcript' → Progress Answers start begun text state piece refused transcript → StopsIn Answers start text end begun transcript'
+  stops-last start state end begun text piece refused transcript transcript' e b p = record {
     before = ended_lines text;
     line = last_piece text;
     after = [];
@@ -155,21 +155,21 @@ module _ {S : Type 0} (Answers : S → List ℕ → Step → List ℕ → S → 
       sent = b.begins.sent;
       unsent = b.begins.unsent;
       parts = b.begins.parts;
-      told = b.begins.told ∙ ap (λ xs. xs ++ b.begins.sent) p.speaks.told-is;
+      transcript = b.begins.transcript ∙ ap (λ xs. xs ++ b.begins.sent) p.speaks.transcript-is;
     };
   }
 
--- what is spoken of states is spoken of what they mean
+-- answers in terms of states are answers in terms of what the states mean
 pub spoken-map : {S T : Type 0} (meaning : S → T) (Answers : T → List ℕ → Step → List ℕ → T → Type 0) (lines : List (List ℕ)) (start : S) (out : List ℕ) (refused : ℕ) (end : S)
     → Spoken (λ old line outcome answer new. Answers (meaning old) line outcome answer (meaning new)) start lines out refused end → Spoken Answers (meaning start) lines out refused (meaning end)
 spoken-map meaning Answers [] start out refused end h = (h.0, h.1, ap meaning h.2)
 spoken-map meaning Answers (line ∷ lines) start out refused end (outcome, answer, mid, others, more, said, rest, out-is, count-is) =
     (outcome, answer, meaning mid, others, more, said, spoken-map meaning Answers lines mid others more end rest, out-is, count-is)
 
-pub speaks-map : {S T : Type 0} (meaning : S → T) (Answers : T → List ℕ → Step → List ℕ → T → Type 0) (start : S) (lines : List (List ℕ)) (count : ℕ) (state : S) (begun told : List ℕ)
-    → Speaks (λ old line outcome answer new. Answers (meaning old) line outcome answer (meaning new)) start lines count state begun told → Speaks Answers (meaning start) lines count (meaning state) begun told
-speaks-map meaning Answers start lines count state begun told s = record {
+pub speaks-map : {S T : Type 0} (meaning : S → T) (Answers : T → List ℕ → Step → List ℕ → T → Type 0) (start : S) (lines : List (List ℕ)) (count : ℕ) (state : S) (begun transcript : List ℕ)
+    → Speaks (λ old line outcome answer new. Answers (meaning old) line outcome answer (meaning new)) start lines count state begun transcript → Speaks Answers (meaning start) lines count (meaning state) begun transcript
+speaks-map meaning Answers start lines count state begun transcript s = record {
   out = s.out;
   spoken = spoken-map meaning Answers lines start s.out count state s.spoken;
-  told-is = s.told-is;
+  transcript-is = s.transcript-is;
 }

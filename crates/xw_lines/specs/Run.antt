@@ -1,22 +1,22 @@
--- What a run over a reader and a writer did.
+-- What a run over a reader and a writer does.
 use Rattle.std.specs.Prelude.{◌≡◌, ℕ, List, ◌∷◌, ◌++◌, Option}
 use Rattle.xw_lines.specs.Cut.{ended_lines, last_piece, lines_of, held}
-use Rattle.xw_lines.specs.Device.{saturated, Begins}
+use Rattle.xw_lines.specs.Device.{saturated, counted_up, Begins}
 use Rattle.xw_lines.specs.Spoken.{Spoken}
 use Rattle.xw_lines.specs.declared.outcome.Step.{Step}
 use Rattle.xw_lines.specs.declared.outcome.RunEnd.{RunEnd}
 use Rattle.xw_lines.specs.declared.outcome.RunEnd.TheVariants.{Done, ReadFailed, WriteFailed, Endless, Memory}
 
--- What went out since begun is answers that the lines may have in this order, from start on, each flushed; count of
--- them are refused, and the state is the one that they leave.
-pub record Speaks {S : Type 0} (Answers : S → List ℕ → Step → List ℕ → S → Type 0) (start : S) (lines : List (List ℕ)) (count : ℕ) (state : S) (begun told : List ℕ) : Type 0 where
+-- The output after `begun` is an allowed list of answers to these lines, each flushed. `count` of the answers are
+-- refusals, and `state` is the state after all lines.
+pub record Speaks {S : Type 0} (Answers : S → List ℕ → Step → List ℕ → S → Type 0) (start : S) (lines : List (List ℕ)) (count : ℕ) (state : S) (begun transcript : List ℕ) : Type 0 where
   pub out : List ℕ
   pub spoken : Spoken Answers start lines out count state
-  pub told-is : told ≡ begun ++ out
+  pub transcript-is : transcript ≡ begun ++ out
 
--- What went out since begun is answers of some first lines of the text, each flushed, and a beginning of an answer of
--- the next line. The state is the one that these lines leave, the last one included.
-pub record StopsIn {S : Type 0} (Answers : S → List ℕ → Step → List ℕ → S → Type 0) (start : S) (text : List ℕ) (state : S) (begun told : List ℕ) : Type 0 where
+-- The output after `begun` is the flushed answers to some first lines of the text, and a prefix of an answer to the
+-- next line. The state is the one after all these lines, including the last.
+pub record StopsIn {S : Type 0} (Answers : S → List ℕ → Step → List ℕ → S → Type 0) (start : S) (text : List ℕ) (state : S) (begun transcript : List ℕ) : Type 0 where
   pub before : List (List ℕ)
   pub line : List ℕ
   pub after : List (List ℕ)
@@ -28,16 +28,16 @@ pub record StopsIn {S : Type 0} (Answers : S → List ℕ → Step → List ℕ 
   pub outcome : Step
   pub answer : List ℕ
   pub answers : Answers mid line outcome answer state
-  pub begins : Begins (begun ++ out) told answer
+  pub begins : Begins (begun ++ out) transcript answer
 
--- A run that goes on: the ended lines of the bytes that were read are answered, and the rest is held.
-pub record Progress {S : Type 0} (Answers : S → List ℕ → Step → List ℕ → S → Type 0) (start : S) (begun text : List ℕ) (state : S) (piece : Option (List ℕ)) (refused : ℕ) (told : List ℕ) : Type 0 where
+-- A run in progress: all complete lines read so far are answered, and the rest is buffered.
+pub record Progress {S : Type 0} (Answers : S → List ℕ → Step → List ℕ → S → Type 0) (start : S) (begun text : List ℕ) (state : S) (piece : Option (List ℕ)) (refused : ℕ) (transcript : List ℕ) : Type 0 where
   pub count : ℕ
-  pub speaks : Speaks Answers start (ended_lines text) count state begun told
+  pub speaks : Speaks Answers start (ended_lines text) count state begun transcript
   pub piece-is : piece ≡ held (last_piece text)
   pub refused-is : refused ≡ saturated count
 
--- a fact about one way to end
+-- a fact that holds if the run ended in one way
 abbrev pub IfDone : RunEnd → (ℕ → Type 0) → Type 0
 IfDone (Done refused) P = P refused
 IfDone ReadFailed P = Unit {0}
@@ -79,3 +79,11 @@ UnlessWriteFailed ReadFailed P = P
 UnlessWriteFailed WriteFailed P = Unit {0}
 UnlessWriteFailed Endless P = P
 UnlessWriteFailed Memory P = P
+
+-- the reader's count of failures after a run: a run ends at the first read that fails, so it rises by one or not at all
+abbrev pub read_failures_after : RunEnd → ℕ → ℕ
+read_failures_after (Done refused) failures = failures
+read_failures_after ReadFailed failures = counted_up failures
+read_failures_after WriteFailed failures = failures
+read_failures_after Endless failures = failures
+read_failures_after Memory failures = failures

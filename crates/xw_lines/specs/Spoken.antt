@@ -1,25 +1,25 @@
--- Which answers may be given to a list of lines.
+-- Which answers a list of lines may get.
 use Rattle.std.specs.Prelude.{◌≡◌, ℕ, ◌+◌, List, [], ◌∷◌, ◌++◌, Option}
 use Rattle.xw_lines.specs.Cut.{held}
 use Rattle.xw_lines.specs.Device.{Begins, flushed}
 use Rattle.xw_lines.specs.declared.outcome.Step.{Step}
 use Rattle.xw_lines.specs.declared.outcome.Step.TheVariants.{Silent, Accepted, Refused}
 
--- how many refusals an outcome is
+-- 1 for a refusal, 0 otherwise
 abbrev pub refusals : Step → ℕ
 refusals Silent = 0
 refusals Accepted = 0
 refusals Refused = 1
 
--- the flush behind an answer; a silent line has no answer, and none
+-- the flush after an answer; a silent line has no answer and no flush
 abbrev pub flush_after : Step → List ℕ
 flush_after Silent = []
 flush_after Accepted = flushed ∷ []
 flush_after Refused = flushed ∷ []
 
--- In the state start these lines, one after another, may be answered by out, of which so many are refused, and
--- leave the state end. `Answers start line outcome answer end` says it of one line. Each answer is flushed before
--- anything of the next one, and nowhere else.
+-- Starting in `start`, these lines may get the output `out`, with `refused` refusals, and leave the state `end`.
+-- `Answers start line outcome answer end` says this of one line. Each answer is followed by exactly one flush, and
+-- there is no other flush.
 abbrev pub Spoken : {S : Type 0} → (S → List ℕ → Step → List ℕ → S → Type 0) → S → List (List ℕ) → List ℕ → ℕ → S → Type 0
 Spoken Answers start [] out refused end = (out ≡ []) × (refused ≡ 0) × (end ≡ start)
 Spoken {S} Answers start (line ∷ lines) out refused end =
@@ -27,17 +27,17 @@ Spoken {S} Answers start (line ∷ lines) out refused end =
     × Answers start line outcome answer mid × Spoken Answers mid lines others more end
     × (out ≡ answer ++ flush_after outcome ++ others) × (refused ≡ refusals outcome + more)
 
--- the answer is one to the line of which the piece is held
+-- the answer is allowed for every line whose buffered form is this piece
 abbrev pub AnswersPiece : {S : Type 0} → (S → List ℕ → Step → List ℕ → S → Type 0) → S → Option (List ℕ) → Step → List ℕ → S → Type 0
 AnswersPiece Answers start piece outcome answer end = (line : List ℕ) → held line ≡ piece → Answers start line outcome answer end
 
--- all of an answer to the piece went out
+-- the whole answer to the buffered line was written
 pub record Answered {S : Type 0} (Answers : S → List ℕ → Step → List ℕ → S → Type 0) (start : S) (piece : Option (List ℕ)) (outcome : Step) (end : S) (old new : List ℕ) : Type 0 where
   pub answer : List ℕ
   pub fits : AnswersPiece Answers start piece outcome answer end
-  pub told : new ≡ old ++ answer
+  pub transcript : new ≡ old ++ answer
 
--- a beginning of an answer to the piece went out
+-- a prefix of an answer to the buffered line was written
 pub record BrokeOff {S : Type 0} (Answers : S → List ℕ → Step → List ℕ → S → Type 0) (start : S) (piece : Option (List ℕ)) (end : S) (old new : List ℕ) : Type 0 where
   pub outcome : Step
   pub answer : List ℕ

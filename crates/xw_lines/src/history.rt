@@ -1,15 +1,16 @@
-//! A history that only proofs read, for a reader or a writer to tell by it what went through.
+//! A ghost record of what passed through a reader or writer.
 ghost use Rattle.std.specs.Prelude.{◌≡◌, ℕ, List, [], ◌∷◌, ◌++◌};
 ghost use Rattle.std.specs.Borrow.{ftrue};
 ghost use Rattle.xw_lines.specs.Device.{flushed};
 
 use std::marker::{Model, PhantomData};
 
-/// What a device tells, which only proofs read. It takes no memory, and the methods do nothing at run time.
+/// The bytes and flushes that passed through a device, for proofs only. It allocates nothing, and its methods do
+/// nothing at run time.
 #[derive(Drop)]
 pub struct History {
     of: PhantomData<()>,
-    pub ghost told: { List ℕ },
+    pub ghost transcript: { List ℕ },
 }
 
 impl Model for History {
@@ -18,18 +19,18 @@ impl Model for History {
 
 impl History {
     pub fn new() -> History
-        ensures { result.told ≡ [] }
+        ensures { result.transcript ≡ [] }
     {
         History { of: PhantomData }
     }
 
-    /// Adds some bytes at the end.
+    /// Appends bytes.
     pub fn note(&mut self, _bytes: &[u8])
-        ensures { self.new.told ≡ self.old.told ++ _bytes.now }
+        ensures { self.new.transcript ≡ self.old.transcript ++ _bytes.now }
     {}
 
-    /// Adds a flush at the end.
+    /// Appends a flush.
     pub fn note_flush(&mut self)
-        ensures { self.new.told ≡ self.old.told ++ flushed ∷ [] }
+        ensures { self.new.transcript ≡ self.old.transcript ++ flushed ∷ [] }
     {}
 }

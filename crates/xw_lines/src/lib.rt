@@ -1,10 +1,10 @@
-//! Lines from any reader, and their answers to any writer.
+//! Answers lines from any reader on any writer.
 #![tactic(auto)]
 
 pub mod device;
 pub mod history;
+mod line_buffer;
 pub mod outcome;
-mod piece;
 pub mod run;
 pub mod standard;
 

@@ -1,6 +1,6 @@
-//! What became of a line, and how a run ended.
+//! The outcome of a line, and how a run ended.
 
-/// What became of a line.
+/// The outcome of a line. A `Silent` line has no answer.
 #[derive(Clone, Copy, Debug, PartialEq, Eq)]
 pub enum Step {
     Silent,
@@ -8,15 +8,15 @@ pub enum Step {
     Refused,
 }
 
-/// How a run over a reader and a writer ended.
+/// How a run over a reader and a writer ended. Refused lines are not an error; `Done` counts them.
 #[derive(Clone, Copy, Debug, PartialEq, Eq)]
 pub enum RunEnd {
-    /// The reader came to its end; `refused` stays at the greatest `u64` once there.
+    /// The reader reached its end. `refused` counts the refused lines and stops at `u64::MAX`.
     Done { refused: u64 },
     ReadFailed,
     WriteFailed,
-    /// The greatest `u64` of reads brought no end.
+    /// The reader did not end within `u64::MAX` reads.
     Endless,
-    /// The buffers could not be had; nothing was read or written.
+    /// The line buffer could not be allocated. Nothing was read or written.
     Memory,
 }

@@ -1,44 +1,44 @@
-//! Answering the lines of a reader on a writer.
+//! Reads lines and writes their answers.
 ghost use Rattle.std.specs.Prelude.{true, ◌≡◌, ℕ, ◌+◌, ◌-◌, ◌^◌, ◌<◌, ◌≤◌, List, [], ◌∷◌, ◌++◌, length, take, drop, position, Option, Some, None, IfOk, IfSome, IfNone, OnOk, OnErr, IsTrue};
 ghost use Rattle.std.specs.Option.{option_map};
 ghost use Rattle.xw_lines.specs.Cut.{lines_of, ended_lines, held, HasNoLf, EndsLine};
-ghost use Rattle.xw_letters.specs.Lines.{is_line_feed};
+ghost use Rattle.xw_text.specs.Lines.{is_line_feed};
 ghost use Rattle.xw_lines.specs.Device.{flushed, saturated, HasFailed};
 ghost use Rattle.xw_lines.specs.Spoken.{Answered, BrokeOff, refusals, flush_after};
-ghost use Rattle.xw_lines.specs.Run.{Speaks, StopsIn, Progress, IfDone, OnReadFailed, OnWriteFailed, OnEndless, OnMemory, UnlessWriteFailed};
+ghost use Rattle.xw_lines.specs.Run.{Speaks, StopsIn, Progress, IfDone, OnReadFailed, OnWriteFailed, OnEndless, OnMemory, UnlessWriteFailed, read_failures_after};
 
 use crate::device::{Sink, Source, WriteFailed};
+use crate::line_buffer::LineBuffer;
 use crate::outcome::{RunEnd, Step};
-use crate::piece::Piece;
 use std::alloc::Global;
 
-/// The most bytes that a line may have, its LF not counted.
+/// The maximum length of a line in bytes, without its LF.
 pub const LINE_LIMIT: usize = 4096;
 
-/// How many bytes one read asks for.
+/// The number of bytes that one read asks for.
 const CHUNK: usize = 4096;
 
-/// Who answers lines, one after another.
-pub trait Speaker {
+/// Answers lines, one after another.
+pub trait LineHandler {
     ghost use Rattle.std.specs.Prelude.{ℕ, List};
     ghost use Rattle.xw_lines.specs.declared.outcome.Step.{Step};
 
-    // From a state a line may be answered so, and leave such a state.
+    // `answers state line step answer next`: in `state` the line may get this answer, which leaves the state `next`.
     ghost answers: { Self → List ℕ → Step → List ℕ → Self → Type 0 };
 
-    /// Writes an answer of the line, which is handed in without its LF, and as `None` where it is too long to be held.
-    /// After an `Err` a beginning of the answer went out, and the line's effect stands.
-    fn speak<W: Sink>(&mut self, line: Option<&[u8]>, sink: &mut W) -> Result<Step, WriteFailed>
+    /// Writes the answer of a line. The line has no LF; `None` stands for a line longer than `LINE_LIMIT`. After an
+    /// error a prefix of the answer was written, and the effect of the line remains.
+    fn handle<W: Sink>(&mut self, line: Option<&[u8]>, sink: &mut W) -> Result<Step, WriteFailed>
         ensures ok { IfOk result (λ outcome. Answered answers self.old (option_map (λ bytes. bytes.now) line.entry)
-            outcome self.new (W.told sink.old) (W.told sink.new)) }
+            outcome self.new (W.transcript sink.old) (W.transcript sink.new)) }
         ensures quiet { OnOk result (W.failures sink.new ≡ W.failures sink.old) }
         ensures silent { IfOk result (λ outcome. outcome ≡ Step.Silent → sink.new ≡ sink.old) }
         ensures err { OnErr result (BrokeOff answers self.old (option_map (λ bytes. bytes.now) line.entry)
-            self.new (W.told sink.old) (W.told sink.new)) }
+            self.new (W.transcript sink.old) (W.transcript sink.new)) }
         ensures failed { OnErr result (HasFailed (W.failures sink.old) (W.failures sink.new)) };
 }
 
-/// The count of refused lines after one more line.
+/// Returns the count of refused lines after one more line.
 fn with_outcome(refused: u64, outcome: Step) -> u64
     ensures { result ≡ saturated (refused + refusals outcome) }
 {
@@ -48,10 +48,10 @@ fn with_outcome(refused: u64, outcome: Step) -> u64
     }
 }
 
-/// Passes an answer on; a silent line has none.
+/// Flushes the writer, unless the line was silent.
 fn pass_on<W: Sink>(step: Step, sink: &mut W) -> Result<(), WriteFailed>
-    ensures told { OnOk result (W.told sink.new ≡ W.told sink.old ++ flush_after step) }
-    ensures unmoved { OnErr result (W.told sink.new ≡ W.told sink.old) }
+    ensures transcript { OnOk result (W.transcript sink.new ≡ W.transcript sink.old ++ flush_after step) }
+    ensures unmoved { OnErr result (W.transcript sink.new ≡ W.transcript sink.old) }
     ensures quiet { OnOk result (W.failures sink.new ≡ W.failures sink.old) }
     ensures failed { OnErr result (HasFailed (W.failures sink.old) (W.failures sink.new)) }
 {
@@ -62,8 +62,8 @@ fn pass_on<W: Sink>(step: Step, sink: &mut W) -> Result<(), WriteFailed>
 }
 
 fn flush<W: Sink>(sink: &mut W) -> Result<(), WriteFailed>
-    ensures told { OnOk result (W.told sink.new ≡ W.told sink.old ++ flushed ∷ []) }
-    ensures unmoved { OnErr result (W.told sink.new ≡ W.told sink.old) }
+    ensures transcript { OnOk result (W.transcript sink.new ≡ W.transcript sink.old ++ flushed ∷ []) }
+    ensures unmoved { OnErr result (W.transcript sink.new ≡ W.transcript sink.old) }
     ensures quiet { OnOk result (W.failures sink.new ≡ W.failures sink.old) }
     ensures failed { OnErr result (HasFailed (W.failures sink.old) (W.failures sink.new)) }
 {
@@ -73,23 +73,23 @@ fn flush<W: Sink>(sink: &mut W) -> Result<(), WriteFailed>
     }
 }
 
-/// Answers the piece as a line and passes the answer on, and counts the refused ones.
-fn answer_piece<S: Speaker, W: Sink>(
-    speaker: &mut S,
-    piece: &mut Piece,
+/// Answers the buffered line, flushes the answer, updates the count of refused lines, and clears the buffer.
+fn answer_piece<S: LineHandler, W: Sink>(
+    handler: &mut S,
+    piece: &mut LineBuffer,
     refused: &mut u64,
     sink: &mut W,
 ) -> Result<(), WriteFailed>
     ensures ok { OnOk result ((outcome : Step) × (answered : List ℕ)
-        × Answered S.answers speaker.old piece.old outcome speaker.new (W.told sink.old) answered
-        × (W.told sink.new ≡ answered ++ flush_after outcome)
+        × Answered S.answers handler.old piece.old outcome handler.new (W.transcript sink.old) answered
+        × (W.transcript sink.new ≡ answered ++ flush_after outcome)
         × (refused.new ≡ saturated (refused.old + refusals outcome))) }
     ensures cleared { OnOk result (piece.new ≡ Some []) }
     ensures quiet { OnOk result (W.failures sink.new ≡ W.failures sink.old) }
-    ensures err { OnErr result (BrokeOff S.answers speaker.old piece.old speaker.new (W.told sink.old) (W.told sink.new)) }
+    ensures err { OnErr result (BrokeOff S.answers handler.old piece.old handler.new (W.transcript sink.old) (W.transcript sink.new)) }
     ensures failed { OnErr result (HasFailed (W.failures sink.old) (W.failures sink.new)) }
 {
-    let outcome = speaker.speak(piece.line(), sink)?;
+    let outcome = handler.handle(piece.line(), sink)?;
     pass_on(outcome, sink)?;
     *refused = with_outcome(*refused, outcome);
     piece.clear();
@@ -102,7 +102,7 @@ fn first_lf(bytes: &[u8]) -> Option<usize>
     bytes.iter().position(|byte| *byte == b'\n')
 }
 
-/// The first LF of some bytes from a place on.
+/// Returns the index of the first LF at `from` or later.
 fn next_lf(bytes: &[u8], from: usize) -> Option<usize>
     requires { from ≤ length bytes.now }
     ensures within { IfSome result (λ end. (from ≤ end) × (end < length bytes.now)) }
@@ -115,116 +115,120 @@ fn next_lf(bytes: &[u8], from: usize) -> Option<usize>
     }
 }
 
-/// Goes on by bytes without an LF and the LF behind them, which end a line.
-fn take_line<S: Speaker, W: Sink>(
-    speaker: &mut S,
-    piece: &mut Piece,
+/// Adds bytes to the buffered line, which then is complete, and answers it.
+fn take_line<S: LineHandler, W: Sink>(
+    handler: &mut S,
+    piece: &mut LineBuffer,
     refused: &mut u64,
     bytes: &[u8],
     sink: &mut W,
 ) -> Result<(), WriteFailed>
     requires { HasNoLf bytes.now }
     ensures ok { OnOk result ((start : S) (begun text : List ℕ)
-        → Progress S.answers start begun text speaker.old piece.old refused.old (W.told sink.old)
-        → Progress S.answers start begun ((text ++ bytes.now) ++ 10 ∷ []) speaker.new piece.new refused.new (W.told sink.new)) }
+        → Progress S.answers start begun text handler.old piece.old refused.old (W.transcript sink.old)
+        → Progress S.answers start begun ((text ++ bytes.now) ++ 10 ∷ []) handler.new piece.new refused.new (W.transcript sink.new)) }
     ensures quiet { OnOk result (W.failures sink.new ≡ W.failures sink.old) }
     ensures err { OnErr result ((start : S) (begun text more : List ℕ)
-        → Progress S.answers start begun text speaker.old piece.old refused.old (W.told sink.old)
-        → StopsIn S.answers start ((text ++ bytes.now) ++ 10 ∷ more) speaker.new begun (W.told sink.new)) }
+        → Progress S.answers start begun text handler.old piece.old refused.old (W.transcript sink.old)
+        → StopsIn S.answers start ((text ++ bytes.now) ++ 10 ∷ more) handler.new begun (W.transcript sink.new)) }
     ensures failed { OnErr result (HasFailed (W.failures sink.old) (W.failures sink.new)) }
 {
     piece.hold(bytes);
-    answer_piece(speaker, piece, refused, sink)?;
+    answer_piece(handler, piece, refused, sink)?;
     Ok(())
 }
 
-/// Goes on by the bytes of one read.
-fn take_bytes<S: Speaker, W: Sink>(
-    speaker: &mut S,
-    piece: &mut Piece,
+/// Processes the bytes of one read: answers each line that they complete, and buffers the rest.
+fn take_bytes<S: LineHandler, W: Sink>(
+    handler: &mut S,
+    piece: &mut LineBuffer,
     refused: &mut u64,
     bytes: &[u8],
     sink: &mut W,
 ) -> Result<(), WriteFailed>
     ensures ok { OnOk result ((start : S) (begun text : List ℕ)
-        → Progress S.answers start begun text speaker.old piece.old refused.old (W.told sink.old)
-        → Progress S.answers start begun (text ++ bytes.now) speaker.new piece.new refused.new (W.told sink.new)) }
+        → Progress S.answers start begun text handler.old piece.old refused.old (W.transcript sink.old)
+        → Progress S.answers start begun (text ++ bytes.now) handler.new piece.new refused.new (W.transcript sink.new)) }
     ensures quiet { OnOk result (W.failures sink.new ≡ W.failures sink.old) }
     ensures err { OnErr result ((start : S) (begun text : List ℕ)
-        → Progress S.answers start begun text speaker.old piece.old refused.old (W.told sink.old)
-        → StopsIn S.answers start (text ++ bytes.now) speaker.new begun (W.told sink.new)) }
+        → Progress S.answers start begun text handler.old piece.old refused.old (W.transcript sink.old)
+        → StopsIn S.answers start (text ++ bytes.now) handler.new begun (W.transcript sink.new)) }
     ensures failed { OnErr result (HasFailed (W.failures sink.old) (W.failures sink.new)) }
 {
     let mut from = 0;
     while let Some(end) = next_lf(bytes, from) {
-        take_line(speaker, piece, refused, &bytes[from..end], sink)?;
+        take_line(handler, piece, refused, &bytes[from..end], sink)?;
         from = end + 1;
     }
     piece.hold(&bytes[from..]);
     Ok(())
 }
 
-/// Answers what is held at the end, and returns the count of refused lines.
-fn finish<S: Speaker, W: Sink>(
-    speaker: &mut S,
-    mut piece: Piece,
+/// Answers the last line if it has no LF, and returns the count of refused lines.
+fn finish<S: LineHandler, W: Sink>(
+    handler: &mut S,
+    mut piece: LineBuffer,
     mut refused: u64,
     sink: &mut W,
 ) -> Result<u64, WriteFailed>
     ensures ok { IfOk result (λ total. (start : S) (begun text : List ℕ)
-        → Progress S.answers start begun text speaker.old piece refused (W.told sink.old)
-        → (count : ℕ) × (total ≡ saturated count) × Speaks S.answers start (lines_of text) count speaker.new begun (W.told sink.new)) }
+        → Progress S.answers start begun text handler.old piece refused (W.transcript sink.old)
+        → (count : ℕ) × (total ≡ saturated count) × Speaks S.answers start (lines_of text) count handler.new begun (W.transcript sink.new)) }
     ensures quiet { OnOk result (W.failures sink.new ≡ W.failures sink.old) }
     ensures err { OnErr result ((start : S) (begun text : List ℕ)
-        → Progress S.answers start begun text speaker.old piece refused (W.told sink.old)
-        → StopsIn S.answers start text speaker.new begun (W.told sink.new)) }
+        → Progress S.answers start begun text handler.old piece refused (W.transcript sink.old)
+        → StopsIn S.answers start text handler.new begun (W.transcript sink.new)) }
     ensures failed { OnErr result (HasFailed (W.failures sink.old) (W.failures sink.new)) }
 {
     if piece.is_empty() {
         return Ok(refused);
     }
-    answer_piece(speaker, &mut piece, &mut refused, sink)?;
+    answer_piece(handler, &mut piece, &mut refused, sink)?;
     Ok(refused)
 }
 
-/// Reads lines to the end of the reader, and answers each on the writer. What the writer tells is all these answers,
-/// each with its flush before anything of the next one.
-pub fn run_lines<S: Speaker, R: Source, W: Sink>(
+/// Reads lines until the reader ends, and writes the answer of each. Each answer is flushed before the next one is
+/// started. Stops early if the reader or the writer fails. Returns `Memory`, before the first read, if the line buffer
+/// cannot be allocated.
+pub fn run_lines<S: LineHandler, R: Source, W: Sink>(
     alloc: Global,
-    speaker: &mut S,
+    handler: &mut S,
     source: &mut R,
     sink: &mut W,
 ) -> RunEnd
-    // The reader came to its end, and all lines of what was read are answered.
-    ensures done { IfDone result (λ refused. (text : List ℕ) × (R.told source.new ≡ R.told source.old ++ text)
+    // The reader reached its end, and all lines are answered.
+    ensures done { IfDone result (λ refused. (text : List ℕ) × (R.transcript source.new ≡ R.transcript source.old ++ text)
         × IsTrue (R.is_at_end source.new)
         × (count : ℕ) × (refused ≡ saturated count)
-        × Speaks S.answers speaker.old (lines_of text) count speaker.new (W.told sink.old) (W.told sink.new)) }
+        × Speaks S.answers handler.old (lines_of text) count handler.new (W.transcript sink.old) (W.transcript sink.new)) }
 
-    // The reader failed in this call, and the complete lines before it are answered.
-    ensures read_failed { OnReadFailed result ((text : List ℕ) × (R.told source.new ≡ R.told source.old ++ text)
+    // The reader failed in this call. All complete lines before the failure are answered.
+    ensures read_failed { OnReadFailed result ((text : List ℕ) × (R.transcript source.new ≡ R.transcript source.old ++ text)
         × HasFailed (R.failures source.old) (R.failures source.new)
         × (count : ℕ)
-        × Speaks S.answers speaker.old (ended_lines text) count speaker.new (W.told sink.old) (W.told sink.new)) }
+        × Speaks S.answers handler.old (ended_lines text) count handler.new (W.transcript sink.old) (W.transcript sink.new)) }
 
-    // The writer failed in this call, or took no byte of a write.
-    ensures write_failed { OnWriteFailed result ((text : List ℕ) × (R.told source.new ≡ R.told source.old ++ text)
+    // The writer failed in this call, or took no bytes.
+    ensures write_failed { OnWriteFailed result ((text : List ℕ) × (R.transcript source.new ≡ R.transcript source.old ++ text)
         × HasFailed (W.failures sink.old) (W.failures sink.new)
-        × StopsIn S.answers speaker.old text speaker.new (W.told sink.old) (W.told sink.new)) }
+        × StopsIn S.answers handler.old text handler.new (W.transcript sink.old) (W.transcript sink.new)) }
 
-    // The greatest u64 of bytes came, and no end.
-    ensures endless { OnEndless result ((text : List ℕ) × (R.told source.new ≡ R.told source.old ++ text)
+    // At least `u64::MAX` bytes were read, and the reader did not end.
+    ensures endless { OnEndless result ((text : List ℕ) × (R.transcript source.new ≡ R.transcript source.old ++ text)
         × (2 ^ 64 - 1 ≤ length text)
         × (count : ℕ)
-        × Speaks S.answers speaker.old (ended_lines text) count speaker.new (W.told sink.old) (W.told sink.new)) }
+        × Speaks S.answers handler.old (ended_lines text) count handler.new (W.transcript sink.old) (W.transcript sink.new)) }
 
-    // Neither reader nor writer was called.
-    ensures memory { OnMemory result ((source.new ≡ source.old) × (sink.new ≡ sink.old) × (speaker.new ≡ speaker.old)) }
+    // Neither the reader nor the writer was called.
+    ensures memory { OnMemory result ((source.new ≡ source.old) × (sink.new ≡ sink.old) × (handler.new ≡ handler.old)) }
 
-    // In no other case did the writer fail: after a write or a flush that failed no line is read.
+    // The writer failed in no other case: after a failed write or flush the run stops.
     ensures unfailed { UnlessWriteFailed result (W.failures sink.new ≡ W.failures sink.old) }
+
+    // The reader failed once if the end says so, and never otherwise: no failed read is ignored.
+    ensures reads { R.failures source.new ≡ read_failures_after result (R.failures source.old) }
 {
-    let Ok(mut piece) = Piece::new(alloc) else {
+    let Ok(mut piece) = LineBuffer::new(alloc) else {
         return RunEnd::Memory;
     };
     let mut chunk = [0; CHUNK];
@@ -233,14 +237,14 @@ pub fn run_lines<S: Speaker, R: Source, W: Sink>(
         match source.read(&mut chunk) {
             Err(_) => return RunEnd::ReadFailed,
             Ok(0) => {
-                return match finish(speaker, piece, refused, sink) {
+                return match finish(handler, piece, refused, sink) {
                     Ok(refused) => RunEnd::Done { refused },
                     Err(_) => RunEnd::WriteFailed,
                 };
             }
             Ok(count) => {
                 let bytes = &chunk[..count];
-                match take_bytes(speaker, &mut piece, &mut refused, bytes, sink) {
+                match take_bytes(handler, &mut piece, &mut refused, bytes, sink) {
                     Ok(()) => {}
                     Err(_) => return RunEnd::WriteFailed,
                 }

@@ -1,28 +1,28 @@
-//! The readers and writers of std, as a `Source` and a `Sink`.
+//! Adapters from `Read` to `Source` and from `Write` to `Sink`.
 ghost use Rattle.std.specs.Prelude.{◌≡◌, ◌≤◌, [], length, IfOk, true, false};
 
 use crate::device::{DeviceFault, Sink, Source};
 use crate::history::History;
 use std::io::{ErrorKind, Read, Write};
 
-/// A reader of std.
+/// A `Read` as a `Source`.
 #[derive(Drop)]
 pub struct FromRead<R> {
     reader: R,
-    told: History,
+    transcript: History,
     failures: u64,
     is_at_end: bool,
 }
 
 impl<R: Read> FromRead<R> {
     pub fn new(reader: R) -> FromRead<R>
-        ensures told { result.told.told ≡ [] }
+        ensures transcript { result.transcript.transcript ≡ [] }
         ensures failures { result.failures ≡ 0 }
         ensures end { result.is_at_end ≡ false }
     {
         FromRead {
             reader,
-            told: History::new(),
+            transcript: History::new(),
             failures: 0,
             is_at_end: false,
         }
@@ -30,7 +30,7 @@ impl<R: Read> FromRead<R> {
 }
 
 impl<R: Read> Source for FromRead<R> {
-    ghost told = { λ source. source.told.told };
+    ghost transcript = { λ source. source.transcript.transcript };
 
     ghost failures = { λ source. source.failures };
 
@@ -39,7 +39,7 @@ impl<R: Read> Source for FromRead<R> {
     fn read(&mut self, buffer: &mut [u8]) -> Result<usize, DeviceFault> {
         match read_retrying(&mut self.reader, buffer) {
             Ok(count) => {
-                self.told.note(&buffer[..count]);
+                self.transcript.note(&buffer[..count]);
                 if count == 0 {
                     self.is_at_end = true;
                 }
@@ -53,7 +53,7 @@ impl<R: Read> Source for FromRead<R> {
     }
 }
 
-/// One read, tried again where a signal interrupts it.
+/// Reads once, and retries when a signal interrupts the read.
 fn read_retrying<R: Read>(reader: &mut R, buffer: &mut [u8]) -> Result<usize, DeviceFault>
     ensures { IfOk result (λ count. count ≤ length buffer.new) }
 {
@@ -70,22 +70,22 @@ fn read_retrying<R: Read>(reader: &mut R, buffer: &mut [u8]) -> Result<usize, De
     Err(DeviceFault)
 }
 
-/// A writer of std.
+/// A `Write` as a `Sink`.
 #[derive(Drop)]
 pub struct ToWrite<W> {
     writer: W,
-    told: History,
+    transcript: History,
     failures: u64,
 }
 
 impl<W: Write> ToWrite<W> {
     pub fn new(writer: W) -> ToWrite<W>
-        ensures told { result.told.told ≡ [] }
+        ensures transcript { result.transcript.transcript ≡ [] }
         ensures failures { result.failures ≡ 0 }
     {
         ToWrite {
             writer,
-            told: History::new(),
+            transcript: History::new(),
             failures: 0,
         }
     }
@@ -99,14 +99,14 @@ impl<W: Write> ToWrite<W> {
 }
 
 impl<W: Write> Sink for ToWrite<W> {
-    ghost told = { λ sink. sink.told.told };
+    ghost transcript = { λ sink. sink.transcript.transcript };
 
     ghost failures = { λ sink. sink.failures };
 
     fn write(&mut self, bytes: &[u8]) -> Result<usize, DeviceFault> {
         match write_retrying(&mut self.writer, bytes) {
             Ok(count) => {
-                self.told.note(&bytes[..count]);
+                self.transcript.note(&bytes[..count]);
                 if count == 0 && !bytes.is_empty() {
                     self.failures = self.failures.saturating_add(1);
                 }
@@ -124,12 +124,12 @@ impl<W: Write> Sink for ToWrite<W> {
             self.failures = self.failures.saturating_add(1);
             return Err(DeviceFault);
         }
-        self.told.note_flush();
+        self.transcript.note_flush();
         Ok(())
     }
 }
 
-/// One write, tried again where a signal interrupts it.
+/// Writes once, and retries when a signal interrupts the write.
 fn write_retrying<W: Write>(writer: &mut W, bytes: &[u8]) -> Result<usize, DeviceFault>
     ensures { IfOk result (λ count. count ≤ length bytes.now) }
 {

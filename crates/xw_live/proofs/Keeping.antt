@@ -11,9 +11,9 @@ use Rattle.std.proofs.lemmas.Option.{slice_get_within, get_or_from_slice_get}
 use Rattle.xw_letters.specs.Letter.{IsLetter}
 use Rattle.xw_letters.specs.LetterSet.{letters_in}
 use Rattle.xw_words.specs.Dictionary.{Dictionary, IsDictionary}
-use Rattle.xw_cells.specs.declared.cell.Square.{Square}
-use Rattle.xw_cells.specs.declared.cell.Square.TheVariants.{Block, Open}
-use Rattle.xw_cells.specs.Grid.{Grid, IsGrid, IsSquare, letter_in, index_of}
+use Rattle.xw_grid.specs.declared.cell.Square.{Square}
+use Rattle.xw_grid.specs.declared.cell.Square.TheVariants.{Block, Open}
+use Rattle.xw_grid.specs.Grid.{Grid, IsGrid, IsSquare, letter_in, index_of}
 use Rattle.xw_grid.specs.declared.lights.Light.{Light}
 use Rattle.xw_grid.specs.Light.{lights_of, cells_of}
 use Rattle.xw_grid.proofs.LightLemmas.{length-line}
@@ -44,7 +44,7 @@ use Rattle.xw_net.proofs.Settled.{filled_room}
 settled_answers : (state : State) (net : Net) → IsSettledFor state net → AreAnswers (board_of state.grid) state.words (net_answers state net)
 settled_answers state net settled = AreAnswers-rows (board_of state.grid) state.words (flags_of (lights_of state.grid) net) (sets_of net) settled.rows settled.exact
 
--- a net that is settled for a state, and in which no arrays wait
+-- the invariant from a net that is settled for a state and has no spare arrays
 pub kept_from : (state : State) (net : Net) → ∥ IsSettledFor state net ∥₁ → is_some net.spare ≡ false → IsWellFormed state → IsKept state net
 kept_from state net settled none_waits formed = record {
   settled = settled;
@@ -53,11 +53,11 @@ kept_from state net settled none_waits formed = record {
   formed = formed;
 }
 
--- another net settles for the same
+-- an alike net is settled for the same states
 pub settled_alike : (state : State) (old new : Net) → IsAlike old new → ∥ IsSettledFor state old ∥₁ → ∥ IsSettledFor state new ∥₁
 settled_alike state old new alike known = ∥∥₁_elim known ∥∥₁_prop (λ settled. ∣ alike.settled (layout_of state.grid) state.words settled ∣₁)
 
--- another net that stands for the same
+-- an alike net satisfies the invariant for the same states
 pub kept_alike : (state : State) (old new : Net) → IsAlike old new → is_some new.spare ≡ false → IsKept state old → IsKept state new
 kept_alike state old new alike none_waits kept = kept_from state new (settled_alike state old new alike kept.settled) none_waits kept.formed
 
@@ -65,7 +65,7 @@ kept_alike state old new alike none_waits kept = kept_from state new (settled_al
 pub kept_cells : (state : State) (net : Net) → IsKept state net → length (sets_of net) ≡ length state.grid.squares
 kept_cells state net kept = sym (length-map (sets_of net) letters_in) ∙ kept.answers.cells ∙ length-open_cells state.grid
 
--- ---- what is true of every grid and dictionary
+-- ---- facts about every grid and dictionary
 
 letter_entries : (grid : Grid) → IsGrid grid → HasLetterEntries (board_of grid)
 letter_entries grid is cell letter at = split (slice_get grid.squares cell) refl (sym (entry-square grid cell) ∙ at) where
@@ -99,12 +99,12 @@ settled_room state net known = ∥∥₁_elim known (room_prop (lights_of state.
 pub room_of_lights : (state : State) (net : Net) (lights : List Light) → lights ≡ lights_of state.grid → ∥ IsSettledFor state net ∥₁ → HasRoom lights (known_counts state.words) net
 room_of_lights state net lights are known = subst (λ ls. HasRoom ls (known_counts state.words) net) (sym are) (settled_room state net known)
 
--- room for the same lights, where no arrays wait
+-- room for the same lights, without spare arrays
 pub room_without : (lights after : List Light) (counts : ℕ → ℕ) (net : Net) (waiting : Option Spare) → is_some waiting ≡ false → after ≡ lights → HasRoom after counts net → HasRoomBetween lights after counts net waiting
 room_without lights after counts net None none same room = (same, room)
 room_without lights after counts net (Some spare) none same room = absurd (false≢true (sym none))
 
--- room for other lights, in the arrays that wait
+-- room for other lights, in the spare arrays
 pub room_waiting : (before after : List Light) (counts : ℕ → ℕ) (net : Net) (waiting : Option Spare) → is_some waiting ≡ true → HasRoom before counts net → HasRoomIn after counts net waiting → HasRoomBetween before after counts net waiting
 room_waiting before after counts net (Some spare) waits room spare_room = (room, spare_room)
 room_waiting before after counts net None waits room spare_room = absurd (false≢true waits)
@@ -113,19 +113,19 @@ one_if : (b : Bool) (n : ℕ) → (n ≤ n + (if b then 1 else 0)) × (n + (if b
 one_if true n = (omega arith, omega arith)
 one_if false n = (omega arith, omega arith)
 
--- room for no word more
+-- room for no more words
 pub room_for_none : (lights : List Light) (words : Dictionary) (net : Net) (waiting : Option Spare) → HasRoomIn lights (λ count. known_counts words count + (if grows None count then 1 else 0)) net waiting → HasRoomIn lights (known_counts words) net waiting
 room_for_none lights words net waiting room = subst (λ known. HasRoomIn lights known net waiting) (λ i count. add-zero (known_counts words count) i) room
 
--- where as many words are known there is room for them
+-- if the number of known words stays, there is room for them
 pub room_for_same : (lights : List Light) (old new : Dictionary) (net : Net) → SameCounts old new → HasRoom lights (known_counts old) net → HasRoom lights (known_counts new) net
 room_for_same lights old new net same room = subst (λ known. HasRoom lights known net) (λ i count. sym (same count) i) room
 
--- and where one more is known of a length
+-- if there is one more known word of a length, there is room for it
 pub room_for_grown : (lights : List Light) (old new : Dictionary) (grown : ℕ) (net : Net) → GrowsAt old new grown → HasRoom lights (λ count. known_counts old count + (if grows (Some grown) count then 1 else 0)) net → HasRoom lights (known_counts new) net
 room_for_grown lights old new grown net more room = subst (λ known. HasRoom lights known net) (λ i count. sym (more count) i) room
 
--- ---- what a net stood for
+-- ---- what a net was settled for
 
 near_same : (old new : Dictionary) → SameCounts old new → (count : ℕ) → (known_counts old count ≤ known_counts new count) × (known_counts new count ≤ known_counts old count + 1)
 near_same old new same count =
@@ -141,21 +141,21 @@ module _ (state : State) (net : Net) (lights : List Light) (are : lights ≡ lig
   abbrev pub stands_for : StandsFor lights net
   stands_for = record { state = state; are_lights = sym are; settled = known }
 
-  -- as many words are known
+  -- the number of known words stays
   pub stood_same : (new : Dictionary) → SameCounts state.words new → StoodFor lights (known_counts new) net
   stood_same new same = record { stands = stands_for; near = near_same state.words new same }
 
-  -- one more is known of a length
+  -- there is one more known word of a length
   pub stood_grown : (new : Dictionary) (grown : ℕ) → GrowsAt state.words new grown → StoodFor lights (known_counts new) net
   stood_grown new grown more = record { stands = stands_for; near = near_grown state.words new grown more }
 
 -- ---- cells
 
--- a grid of the same size has as many cells
+-- a grid of the same size has the same number of cells
 pub as_many_cells : (old new : Grid) → IsGrid old → IsGrid new → new.width ≡ old.width → new.height ≡ old.height → length old.squares ≡ length new.squares
 as_many_cells old new is is' width height = is.squares ∙ ap (λ w. w * old.height) (sym width) ∙ ap (λ h. new.width * h) (sym height) ∙ sym is'.squares
 
--- ---- what an engine answers
+-- ---- the answers of an engine
 
 HasRows-prop : (board : Board) (dictionary : Dictionary) (words : List (List Bool)) (letters : List ℕ) → IsProp (HasRows board dictionary words letters)
 HasRows-prop board dictionary words letters x y = λ i. record {
@@ -170,11 +170,11 @@ kept_rows state net kept = ∥∥₁_elim kept.settled (HasRows-prop (board_of s
 pub kept_exact : (state : State) (net : Net) → IsKept state net → IsExact (board_of state.grid) state.words (flag_at (flags_of (lights_of state.grid) net)) (set_has (sets_of net))
 kept_exact state net kept = ∥∥₁_elim kept.settled (IsExact-prop (board_of state.grid) state.words (flag_at (flags_of (lights_of state.grid) net)) (set_has (sets_of net))) (λ settled. settled.exact)
 
--- the net may be asked
+-- the net can be queried
 pub kept_stands : (state : State) (net : Net) (lights : List Light) → lights ≡ lights_of state.grid → IsKept state net → StandsFor lights net
 kept_stands state net lights are kept = stands_for state net lights are kept.settled
 
--- how many flags stand is how many words the light has
+-- the number of set flags is the number of feasible words of the light
 pub kept_count : (state : State) (net : Net) (lights : List Light) → lights ≡ lights_of state.grid → IsKept state net → (light : ℕ) → light < length (lights_of state.grid)
     → standing_count (flags_at lights net light) ≡ length (words_of (net_answers state net) light)
 kept_count state net lights are kept light below =
@@ -182,7 +182,7 @@ kept_count state net lights are kept light below =
     let within : light < length (flags_of (lights_of state.grid) net) = omega (arith, rows.lights, length-lights state.grid) in
     ap (λ ls. standing_count (flags_at ls net light)) are ∙ count_is (board_of state.grid) state.words (flags_of (lights_of state.grid) net) (sets_of net) rows light within
 
--- how many cells a light has
+-- the number of cells of a light
 pub light_size : (grid : Grid) (place : ℕ) (light : Light) → place < length (lights_of grid) → slice_get (lights_of grid) place ≡ Some light → length (light_at (board_of grid) place) ≡ light.size
 light_size grid place light below found =
     ap length (light_at-found grid place light found below)

@@ -1,4 +1,5 @@
 pub mod Keeping
+pub mod Lending
 pub mod Idle
 pub mod Made
 pub mod Next

@@ -1,15 +1,15 @@
--- The cells at which a list changes the entry, as they are noted.
+-- The snapshot of the entries, and the cells whose entry a list changes.
 use Rattle.std.proofs.Common.{◌≡◌, Bool, true, false, cond, not, List, [], ◌∷◌, length, map, take, refl, sym, ◌∙◌, ap}
 use Rattle.std.specs.Prelude.{Option, ℕ, Ok, Vec, filter}
 use Rattle.std.specs.Vec.{with_items}
 use Rattle.std.proofs.lemmas.List.{with_items_is}
-use Rattle.xw_cells.specs.declared.cell.Cell.{Cell}
-use Rattle.xw_cells.specs.Grid.{Grid, cells, entry}
+use Rattle.xw_grid.specs.declared.cell.Cell.{Cell}
+use Rattle.xw_grid.specs.Grid.{Grid, cells, entry}
 use Rattle.xw_feas.specs.State.{write_list, list_written, by_fault}
 use Rattle.xw_net.specs.Region.{same_entry, cells_changed}
 use Rattle.xw_net.specs.Change.{with_entry_of, is_changed, entries_written}
 
--- a filter before a map, and after it
+-- filtering before a map, and after it
 changed_among : (grid new : Grid) (some : List Cell) → filter (is_changed new) (map (with_entry_of grid) some) ≡ map (with_entry_of grid) (filter (λ cell. not (same_entry (entry grid cell) (entry new cell))) some)
 changed_among grid new [] = refl
 changed_among grid new (cell ∷ some) = by_test _ (not (same_entry (entry grid cell) (entry new cell))) (changed_among grid new some) where
@@ -20,11 +20,12 @@ changed_among grid new (cell ∷ some) = by_test _ (not (same_entry (entry grid 
 noted_listed : (grid new : Grid) (list : List (Cell × Option ℕ)) → write_list list grid ≡ Ok new → filter (is_changed new) (map (with_entry_of grid) (cells grid)) ≡ entries_written grid (list_written list)
 noted_listed grid new list ok = changed_among grid new (cells grid) ∙ ap (λ r. map (with_entry_of grid) (cells_changed grid (by_fault r))) (sym ok)
 
--- elements that are put back leave as many
+-- replacing all elements keeps the length
 pub same_length : {X Z : Type 0} (vec : Vec X Z) (one other : List X) → length (with_items (with_items vec one) other).items ≡ length vec.items
 same_length vec one other = sym (with_items (with_items vec one) other).ok.0 ∙ vec.ok.0
 
--- what is kept of the noted cells is what the list writes: first all are in the vector, then so many of the kept ones are taken of it
+-- the kept part of the snapshot is what the list writes: the vector holds the whole snapshot first,
+-- and its first `count` elements are taken afterwards
 pub kept_listed : {Z : Type 0} (grid new : Grid) (list : List (Cell × Option ℕ)) (vec : Vec (Cell × Option ℕ) Z) (noted before after lent : List (Cell × Option ℕ)) (count : ℕ)
     → write_list list grid ≡ Ok new → length noted ≡ length vec.items → length after ≡ length before → noted ≡ map (with_entry_of grid) (cells grid)
     → before ≡ (with_items vec noted).items → take count after ≡ filter (is_changed new) before → lent ≡ (with_items (with_items vec noted) after).items

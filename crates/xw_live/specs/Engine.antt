@@ -1,4 +1,4 @@
--- What an engine keeps between edits.
+-- The invariant of the engine between edits.
 use Rattle.std.specs.Prelude.{◌≡◌, false, is_some}
 use Rattle.xw_grid.specs.Light.{lights_of}
 use Rattle.xw_feas.specs.AnswersOf.{answers_of}
@@ -16,14 +16,15 @@ use mathlib.Core.Bool.{Bool-set}
 abbrev pub net_answers : State → Net → Answers
 net_answers state net = answers_of (board_of state.grid) state.words (flags_of (lights_of state.grid) net) (sets_of net)
 
--- the net holds the answers for the grid and the dictionary, and no arrays wait for an edit
+-- the net holds the answers for the grid and the dictionary, and has no spare arrays reserved for
+-- an edit
 pub record IsKept (state : State) (net : Net) : Type 0 where
   pub settled : ∥ IsSettledFor state net ∥₁
   pub none_waits : is_some net.spare ≡ false
   pub answers : AreAnswers (board_of state.grid) state.words (net_answers state net)
   pub formed : IsWellFormed state
 
--- there is one proof of it, so that it may stand in a ghost field
+-- the invariant is a proposition (two proofs of it are equal), so a ghost field can hold it
 pub IsKept-prop : (state : State) (net : Net) → IsProp (IsKept state net)
 IsKept-prop state net x y = λ i. record {
   settled = ∥∥₁_prop x.settled y.settled i;

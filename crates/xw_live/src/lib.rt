@@ -1,4 +1,4 @@
-//! The feasible words and letters of a grid, kept over each edit.
+//! The engine that updates the feasible words and letters of a grid after each edit.
 #![tactic(auto)]
 
 pub mod live;

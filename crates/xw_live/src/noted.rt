@@ -1,15 +1,15 @@
-//! The cells of a grid with their entries, noted before a list is written.
+//! A snapshot of the grid's entries, to find out which of them a list of cells changes.
 ghost use Rattle.std.specs.Prelude.{◌≡◌, ◌≤◌, length, map, take, filter, IfOk, IsOkUnless};
-ghost use Rattle.xw_cells.specs.Grid.{cells};
+ghost use Rattle.xw_grid.specs.Grid.{cells};
 ghost use Rattle.xw_net.specs.Change.{with_entry_of, is_changed};
 
 use std::alloc::Global;
-use xw_cells::cell::Cell;
-use xw_cells::fault::GridFault;
-use xw_cells::grid::Grid;
+use xw_grid::cell::Cell;
+use xw_grid::fault::GridFault;
+use xw_grid::grid::Grid;
 use xw_letters::letter::Letter;
 
-/// Room for each cell of a grid with an entry.
+/// Allocates the space for a snapshot of a grid. Returns `Memory` if the allocation fails.
 pub fn make_noted(alloc: Global, grid: &Grid) -> Result<Vec<(Cell, Option<Letter>)>, GridFault>
     ensures ok { IfOk result (λ noted. length noted.items ≡ length grid.now.squares) }
     ensures memory { IsOkUnless result GridFault.Memory }
@@ -18,7 +18,7 @@ pub fn make_noted(alloc: Global, grid: &Grid) -> Result<Vec<(Cell, Option<Letter
     Ok(vec![in alloc; (nowhere, None); grid.squares().len()]?)
 }
 
-/// Notes each cell with its entry.
+/// Stores each cell with its entry, in reading order.
 pub fn note(noted: &mut [(Cell, Option<Letter>)], grid: &Grid)
     requires { length noted.old ≡ length grid.now.squares }
     ensures len { length noted.new ≡ length noted.old }
@@ -30,7 +30,7 @@ pub fn note(noted: &mut [(Cell, Option<Letter>)], grid: &Grid)
     }
 }
 
-/// Whether the entry of a cell is another one than that with which it is noted.
+/// Whether the entry of a cell differs from the one in the snapshot.
 fn is_changed(grid: &Grid, cell: Cell, noted: Option<Letter>) -> bool
     ensures { result ≡ is_changed grid.now (cell, noted) }
 {
@@ -41,7 +41,7 @@ fn is_changed(grid: &Grid, cell: Cell, noted: Option<Letter>) -> bool
     }
 }
 
-/// Moves the cells whose entry is another one now to the front, and says how many they are.
+/// Moves the cells whose entry changed to the front, in order, and returns their number.
 pub fn keep_changed(noted: &mut [(Cell, Option<Letter>)], grid: &Grid) -> usize
     ensures len { length noted.new ≡ length noted.old }
     ensures count { result ≤ length noted.new }

@@ -1,9 +1,9 @@
-//! The steps of an edit by which an engine settles its net.
+//! The steps of an edit that update the net.
 ghost use Rattle.std.specs.Prelude.{◌≡◌, ◌+◌, ◌≤◌, ℕ, length, if◌then◌else◌, true, false, is_some, IsTrue, Option, Some, Contains, IfErr, OnOk, OnErr};
 ghost use Rattle.xw_words.specs.Bank.{has_room};
 ghost use Rattle.xw_words.specs.Dictionary.{Dictionary, add_answer, IsNew};
-ghost use Rattle.xw_cells.specs.declared.cell.Cell.{Cell as CellOfGrid};
-ghost use Rattle.xw_cells.specs.Grid.{is_inside};
+ghost use Rattle.xw_grid.specs.declared.cell.Cell.{Cell as CellOfGrid};
+ghost use Rattle.xw_grid.specs.Grid.{is_inside};
 ghost use Rattle.xw_grid.specs.Light.{lights_of};
 ghost use Rattle.xw_feas.specs.Rows.{grows};
 ghost use Rattle.xw_feas.specs.State.{State, Action, action_of};
@@ -16,9 +16,9 @@ ghost use Rattle.xw_net.specs.Net.{StandsFor, StoodFor, IsSettledFor, IsAlike, k
 ghost use Rattle.xw_net.specs.Room.{HasRoom};
 ghost use Rattle.xw_net.specs.Fit.{HasRoomBetween};
 
-use xw_cells::grid::Grid;
 use xw_feas::dictionary::{known_distinct, reserve_in};
 use xw_feas::edit::{Edit, Refusal};
+use xw_grid::grid::Grid;
 use xw_grid::lights::Lights;
 use xw_letters::letter_set::LetterSet;
 use xw_net::change::Change;
@@ -28,7 +28,8 @@ use xw_words::bank::Bank;
 use xw_words::counted::Counted;
 use xw_words::rows::Rows;
 
-/// Brings a net to the answers of a grid and a dictionary, and answers the ticks so far.
+/// Updates a net to the answers for a grid and a dictionary after a change. Returns the ticks so
+/// far.
 pub fn settle(
     net: &mut Net,
     spent: u64,
@@ -58,7 +59,8 @@ pub fn settle(
     rows.spent()
 }
 
-/// Brings a net to the answers after a word was added or struck, and answers the ticks so far.
+/// Updates a net after a word was added or struck. `word` is its length and index. Returns the
+/// ticks so far.
 pub fn settle_word(
     net: &mut Net,
     spent: u64,
@@ -93,7 +95,7 @@ pub fn settle_word(
     settle(net, spent, &change, grid, lights, bank)
 }
 
-/// Keeps the letters that stand in a net.
+/// Copies the net's letters to `before`.
 pub fn keep_letters(before: &mut Vec<LetterSet>, net: &Net)
     requires { length before.old.items ≡ length (sets_of net.now) }
     ensures { before.new.items ≡ sets_of net.now }
@@ -101,7 +103,7 @@ pub fn keep_letters(before: &mut Vec<LetterSet>, net: &Net)
     before.as_mut_slice().copy_from_slice(net.letters());
 }
 
-/// Whether an edit leaves the lights and what stands in the cells as they are.
+/// Whether an edit keeps the lights and all entries, so that no answer changes.
 pub fn is_idle(grid: &Grid, edit: &Edit<'_>) -> bool
     ensures idle { IsTrue result → IsIdle grid.now (action_of edit.now) }
     ensures symmetry { is_symmetry (action_of edit.now) ≡ true → IsTrue result }
@@ -117,7 +119,8 @@ pub fn is_idle(grid: &Grid, edit: &Edit<'_>) -> bool
     }
 }
 
-/// Makes room for a word that is not known.
+/// Reserves room for a word that is not known, in the dictionary and in the net. Returns `Memory`
+/// if an allocation fails.
 pub fn make_room(
     net: &mut Net,
     bank: &mut Bank,

@@ -1,4 +1,5 @@
-//! Worked examples, by calls on `Live`: tables of calls, each with its answer. Each edit is watched besides (`watched`).
+//! Worked examples, as tables of calls to `Live` with their answers. Each edit is also checked
+//! against a second net, as `watched` explains.
 mod beside;
 mod bounds;
 mod edits;
@@ -8,20 +9,23 @@ mod writing;
 
 use crate::live::Live;
 use crate::tests::watched::{ANYTHING, Place, Wanted, Watched, does, open, watch};
+use std::alloc::Global;
 use std::process::Abort;
-use xw_cells::cell::{Cell, Direction, LightName, Side, Symmetry};
 use xw_feas::changed::Changed;
 use xw_feas::edit::{Edit, Found, Refusal};
 use xw_feas::feasible::Feasible;
-use xw_feas::words::{Spelled, words};
+use xw_feas::word_iter::{Spelled, words};
+use xw_grid::cell::{Cell, Direction, LightName, Side, Symmetry};
+use xw_grid::grid::Grid;
 use xw_letters::letter::Letter;
 use xw_letters::letter_set::LetterSet;
 
-/// An edit as a table spells it: a letter by its byte, and a cell by row and column.
+/// An edit as a table spells it. Letters are bytes, and cells are row and column.
 #[derive(Clone, Copy)]
 enum Do {
     Set(u32, u32, u8),
     Clear(u32, u32),
+    Place(LightName, &'static [u8]),
     Block(u32, u32),
     Bar(u32, u32, Side),
     Choose(Symmetry),
@@ -35,20 +39,24 @@ type Cells = &'static [(u32, u32, &'static [u8])];
 /// A call and its answer.
 #[derive(Clone, Copy)]
 enum Step {
-    /// An edit, and the cells that it tells.
+    /// An edit, and the cells it reports as changed.
     Told(Do, Cells),
-    /// The same, with the least and the most ticks of the edit.
+    /// Like `Told`, with the least and the most ticks that the edit takes.
     Spends(Do, Cells, u64, u64),
-    /// An edit that leaves an entry as it is: it tells and spends nothing, and no net is settled for it.
+    /// An edit that changes no entry: it reports no cell and takes no ticks.
     Idle(Do),
-    /// An edit that is refused, and spends nothing.
+    /// An edit that is refused and takes no ticks.
     Refused(Do, Refusal),
-    /// The feasible words of a light, in order, by each query.
+    /// An empty grid of so many columns and rows in place of the one that is there. The net beside keeps the old one, so no edit is watched after it.
+    Regrid(u32, u32),
+    /// An edit that is not watched, and the cells that it tells.
+    Unwatched(Do, Cells),
+    /// The feasible words of a light, in order.
     Words(LightName, &'static [&'static [u8]]),
     Count(LightName, usize),
-    /// The first feasible word of a light at a place or later.
+    /// The first feasible word of a light whose index is at least the given one.
     Next(LightName, usize, Option<Found>),
-    /// A light that no query finds.
+    /// No light has this name.
     NoLight(LightName),
     /// The feasible letters of a cell.
     Letters(u32, u32, &'static [u8]),
@@ -79,7 +87,7 @@ const ACROSS_3: LightName = LightName {
     direction: Direction::Across,
 };
 
-/// A grid of so many columns and rows with blocks in it, and words for it, parted by white space.
+/// A grid by its width, height and blocks, and a dictionary of words separated by white space.
 #[derive(Clone, Copy)]
 struct Start {
     width: u32,
@@ -95,7 +103,7 @@ const SQUARE: Start = Start {
     words: "AS AT SO TO IN",
 };
 
-/// What is feasible in the square while nothing is entered.
+/// What is feasible in the empty square.
 const WHOLE_SQUARE: &[Step] = &[
     Step::Words(ACROSS_1, &[b"AS", b"AT"]),
     Step::Words(DOWN_1, &[b"AS", b"AT"]),
@@ -111,11 +119,12 @@ fn at(row: u32, col: u32) -> Cell {
     Cell { row, col }
 }
 
-/// An edit as the engine takes it, if its byte is a letter.
+/// The edit; `None` if its byte is not a letter.
 fn edit_of(spelled: Do) -> Option<Edit<'static>> {
     Some(match spelled {
         Do::Set(row, col, byte) => Edit::Set(at(row, col), Letter::of(byte)?),
         Do::Clear(row, col) => Edit::Clear(at(row, col)),
+        Do::Place(name, word) => Edit::Place(name, word),
         Do::Block(row, col) => Edit::Block(at(row, col)),
         Do::Bar(row, col, side) => Edit::Bar(at(row, col), side),
         Do::Choose(symmetry) => Edit::Symmetry(symmetry),
@@ -124,7 +133,7 @@ fn edit_of(spelled: Do) -> Option<Edit<'static>> {
     })
 }
 
-/// Whether a word that is lent has these letters.
+/// Whether a word has these letters.
 fn spells(word: &Spelled<'_>, text: &[u8]) -> bool {
     if word.len() != text.len() || word.letter(text.len()).is_some() {
         return false;
@@ -138,7 +147,7 @@ fn spells(word: &Spelled<'_>, text: &[u8]) -> bool {
     true
 }
 
-/// Whether a light has these feasible words, in this order, by each query.
+/// Whether a light has exactly these feasible words, in this order.
 fn lends(engine: &Live, name: LightName, texts: &[&[u8]]) -> Result<bool, Refusal> {
     let mut left = words(engine, name)?;
     for text in texts {
@@ -150,7 +159,7 @@ fn lends(engine: &Live, name: LightName, texts: &[&[u8]]) -> Result<bool, Refusa
     Ok(left.next().is_none() && engine.word_count(name)? == texts.len())
 }
 
-/// Whether no query finds a light.
+/// Whether each query returns `NoLight`.
 fn lacks(engine: &Live, name: LightName) -> bool {
     words(engine, name).err() == Some(Refusal::NoLight)
         && engine.word_count(name) == Err(Refusal::NoLight)
@@ -174,7 +183,7 @@ fn is_told(told: Option<(Cell, LetterSet)>, cell: Cell, text: &[u8]) -> bool {
     }
 }
 
-/// Whether these cells were told to have changed, each with these letters now.
+/// Whether exactly these cells are reported as changed, with these letters.
 fn tells(mut changed: Changed<'_>, cells: &[(u32, u32, &[u8])]) -> bool {
     for place in 0..cells.len() {
         let (row, col, text) = cells[place];
@@ -185,7 +194,7 @@ fn tells(mut changed: Changed<'_>, cells: &[(u32, u32, &[u8])]) -> bool {
     changed.next().is_none()
 }
 
-/// Whether an edit is so refused, with no tick.
+/// Whether an edit is refused in this way and takes no ticks.
 fn refuses(engine: &mut Live, spelled: Do, refusal: Refusal) -> bool {
     let spent = engine.spent();
     match edit_of(spelled) {
@@ -194,7 +203,7 @@ fn refuses(engine: &mut Live, spelled: Do, refusal: Refusal) -> bool {
     }
 }
 
-/// Whether an edit tells nothing, with no tick.
+/// Whether an edit reports no cells and takes no ticks.
 fn is_idle(engine: &mut Live, spelled: Do) -> bool {
     let spent = engine.spent();
     match edit_of(spelled) {
@@ -203,7 +212,19 @@ fn is_idle(engine: &mut Live, spelled: Do) -> bool {
     }
 }
 
-/// Whether a query answers as the table says.
+/// Whether an edit tells these cells.
+fn tells_alone(engine: &mut Live, spelled: Do, cells: Cells) -> bool {
+    match edit_of(spelled) {
+        Some(edit) => does(engine, &edit, Some(cells)),
+        None => false,
+    }
+}
+
+fn regrid(alloc: Global, engine: &mut Live, width: u32, height: u32) -> Result<(), Refusal> {
+    engine.regrid(Grid::new(alloc, width, height)?)
+}
+
+/// Whether a query returns what the table says.
 fn answers(engine: &Live, step: Step) -> Result<bool, Refusal> {
     Ok(match step {
         Step::Words(name, texts) => lends(engine, name, texts)?,
@@ -215,7 +236,7 @@ fn answers(engine: &Live, step: Step) -> Result<bool, Refusal> {
     })
 }
 
-/// Has an edit watched, if its byte is a letter.
+/// Applies an edit to a watched engine. Returns false if its byte is not a letter.
 fn watch_spelled(
     rt: &impl Abort,
     watched: &mut Watched,
@@ -232,8 +253,8 @@ fn watch_spelled(
     }
 }
 
-/// Whether a call answers as the table says.
-fn goes(rt: &impl Abort, watched: &mut Watched, step: Step, place: Place) -> bool {
+/// Whether a call has the outcome that the table says.
+fn goes(rt: &(impl Abort + AllocGlobal), watched: &mut Watched, step: Step, place: Place) -> bool {
     match step {
         Step::Told(edit, cells) => {
             let wanted = Wanted {
@@ -252,20 +273,29 @@ fn goes(rt: &impl Abort, watched: &mut Watched, step: Step, place: Place) -> boo
         }
         Step::Idle(edit) => is_idle(&mut watched.engine, edit),
         Step::Refused(edit, refusal) => refuses(&mut watched.engine, edit, refusal),
+        Step::Regrid(width, height) => {
+            regrid(rt.alloc(), &mut watched.engine, width, height) == Ok(())
+        }
+        Step::Unwatched(edit, cells) => tells_alone(&mut watched.engine, edit, cells),
         _ => answers(&watched.engine, step) == Ok(true),
     }
 }
 
-/// Tables of calls, made in turn of one engine.
+/// Tables of calls to one engine, in order.
 struct Case {
-    /// By which a failure tells the case.
+    /// Names the case in failure messages.
     name: &'static str,
     start: Start,
     tables: &'static [&'static [Step]],
 }
 
-/// Makes the calls of a table, and compares what they answer.
-fn pass(rt: &impl Abort, watched: &mut Watched, steps: &[Step], name: &'static str) {
+/// Makes the calls of a table and checks their answers.
+fn pass(
+    rt: &(impl Abort + AllocGlobal),
+    watched: &mut Watched,
+    steps: &[Step],
+    name: &'static str,
+) {
     for (at, step) in steps.iter().enumerate() {
         let list = "step";
         let place = Place { name, list, at };
@@ -273,7 +303,7 @@ fn pass(rt: &impl Abort, watched: &mut Watched, steps: &[Step], name: &'static s
     }
 }
 
-fn pass_all(rt: &impl Abort, watched: &mut Watched, case: &Case) {
+fn pass_all(rt: &(impl Abort + AllocGlobal), watched: &mut Watched, case: &Case) {
     for steps in case.tables {
         pass(rt, watched, *steps, case.name);
     }
@@ -298,7 +328,7 @@ fn add_all(rt: &impl Abort, watched: &mut Watched, start: Start, name: &'static 
     }
 }
 
-/// A watched engine of a start, made by edits of an empty grid.
+/// A watched engine with the blocks and words of a start, each added by an edit.
 fn begin(
     rt: &(impl Abort + AllocGlobal),
     start: Start,

@@ -1,4 +1,4 @@
--- A net with more room stands for what it stood for.
+-- A net with more room is settled for the same states.
 use Rattle.std.proofs.Common.{◌≡◌, ℕ, ◌<◌, ◌≤◌, Bool, false, not, List, [], ◌∷◌, ◌++◌, Some, None, length, get_or, count_by, map, sym, ap, ◌∙◌, subst, arith}
 use Rattle.std.specs.Prelude.{All, Option, vec_len, vec_capacity}
 use Rattle.std.specs.List.{range_with_len}
@@ -19,11 +19,11 @@ use Rattle.xw_net.specs.declared.net.Net.{Net}
 use Rattle.xw_net.specs.declared.room.Spare.{Spare}
 use Rattle.xw_net.proofs.Rooms.{bits_are}
 
--- the rows have their bits
+-- the rows have the same bits
 bits_same : (old new : List RowOfBits) → AreRoomier old new → (light : ℕ) → bits_in new light ≡ bits_in old light
 bits_same old new more light = bits_are new light ∙ more.bits light ∙ sym (bits_are old light)
 
--- there is no less room, and other arrays may wait
+-- the net has at least as much room, and perhaps other spare arrays
 record IsLarger (old new : Net) : Type 0 where
   rows : AreRoomier old.rows.items new.rows.items
   base : AreRoomier old.base.items new.base.items
@@ -153,7 +153,7 @@ larger_of old new spare more = record {
   rest = ap (λ (net : Net). record net { spare = spare }) more.rest;
 }
 
--- reserving leaves a net alike, whatever waits then
+-- reserving keeps a net alike, with whatever spare arrays
 pub roomier_alike : (old new : Net) (spare : Option Spare) → IsRoomier old new → IsAlike old (record new { spare = spare })
 roomier_alike old new spare more = alike old (record new { spare = spare }) (larger_of old new spare more)
 

@@ -1,4 +1,4 @@
--- A net that is settled is at rest, and has what the next settling asks for.
+-- A settled net is at rest, and meets the requirements of the next update.
 use Rattle.std.proofs.Common.{◌≡◌, ℕ, ◌+◌, ◌<◌, ◌≤◌, false, List, length, refl, sym, ap, ◌∙◌, subst, arith}
 use Rattle.std.specs.Prelude.{vec_len}
 use Rattle.std.specs.Coded.{Coded-set, coded_ℕ, coded_list, le_prop}
@@ -8,7 +8,7 @@ use mathlib.Core.Bool.{Bool-set}
 use Rattle.xw_bits.specs.Bits.{RowOfBits}
 use Rattle.xw_words.specs.Dictionary.{Dictionary, row}
 use Rattle.xw_grid.specs.declared.lights.Light.{Light}
-use Rattle.xw_cells.specs.Grid.{Grid}
+use Rattle.xw_grid.specs.Grid.{Grid}
 use Rattle.xw_grid.specs.Light.{lights_of}
 use Rattle.xw_feas.specs.Board.{board_of, light_at}
 use Rattle.xw_feas.proofs.BoardLemmas.{length-lights}
@@ -48,7 +48,7 @@ module _ (grid : Grid) (dictionary : Dictionary) (net : Net) (filled : IsFilled 
         stack_room = quiet_stack_room net filled.quiet (board_of grid) chained;
       }
 
-  -- of a row with a bit for each known word at most one bit is wanting, where at most one word is new
+  -- if at most one word of each length is new, a row that was complete lacks at most one bit
   near : (counts : ℕ → ℕ) → ((count : ℕ) → (known_counts dictionary count ≤ counts count) × (counts count ≤ known_counts dictionary count + 1)) → (rows : List RowOfBits)
       → ((light : ℕ) → light < length (board_of grid).lights → length (bits_in rows light) ≡ length (row dictionary (length (light_at (board_of grid) light)))) → AreNear (lights_of grid) counts rows
   near counts grown rows bits light lt =
@@ -61,7 +61,7 @@ module _ (grid : Grid) (dictionary : Dictionary) (net : Net) (filled : IsFilled 
   pub filled_near : (counts : ℕ → ℕ) → ((count : ℕ) → (known_counts dictionary count ≤ counts count) × (counts count ≤ known_counts dictionary count + 1)) → AreNear (lights_of grid) counts net.rows.items × AreNear (lights_of grid) counts net.base.items
   filled_near counts grown = (near counts grown net.rows.items filled.whole.bits, near counts grown net.base.items filled.whole.base.bits)
 
--- ---- there is one proof of it
+-- ---- uniqueness of the proof
 
 rest_prop : (lights : List Light) (cells : ℕ) (net : Net) → IsProp (IsAtRest lights cells net)
 rest_prop lights cells net x y = λ i. record {

@@ -1,4 +1,4 @@
--- The bits of base words, a place of the light after another and a chunk of words after another.
+-- The bits of base words, built up by positions of the light and by chunks of words.
 use Rattle.std.proofs.Common.{◌≡◌, ℕ, zero, suc, ◌+◌, ◌-◌, ◌*◌, ◌/◌, ◌<◌, ◌≤◌, Bool, true, false, not, ◌&&◌, eqb, List, [], ◌∷◌, length, get_or, take, refl, sym, ap, ◌∙◌, inl, inr, arith, add-one}
 use Rattle.std.specs.Prelude.{All, Option, Some, None, slice_get}
 use Rattle.std.proofs.lemmas.Bool.{cases_lt, cases_eq, eq-eqb, ne_eqb}
@@ -9,7 +9,7 @@ use Rattle.xw_words.specs.Columns.{letter_is}
 use Rattle.xw_feas.specs.Board.{Board, entry, allows, agrees, is_wholly_entered}
 use Rattle.xw_net.specs.Base.{is_base_word, base_bits, has_entry}
 
--- ---- places of the light
+-- ---- positions of the light
 
 and_assoc : (a b c : Bool) → ((a && b) && c) ≡ (a && (b && c))
 and_assoc true b c = refl
@@ -23,7 +23,7 @@ and_false : (b : Bool) → (b && false) ≡ false
 and_false true = refl
 and_false false = refl
 
--- one place more that agrees
+-- one more position that agrees
 agrees_next : (board : Board) (cells word : List ℕ) (i : ℕ) → i < length cells → i < length word
     → agrees board (take (suc i) cells) (take (suc i) word) ≡ (agrees board (take i cells) (take i word) && allows (entry board (get_or cells i 0)) (get_or word i 0))
 agrees_next board [] word i hc hw = absurd (omega arith)
@@ -44,7 +44,7 @@ eqb_other_way a b = elim (cases_eq a b) [
   | inr n ↦ ne_eqb a b n ∙ sym (ne_eqb b a (λ e. n (sym e)))
 ]
 
--- an entry agrees with the letter of a word that is long enough
+-- an entry allows the letter of a word that is long enough
 has_entry_is : (found : Option ℕ) (entries : List Entry) (position place : ℕ) → position < length (entry_at entries place).word
     → has_entry found entries position place ≡ allows found (get_or (entry_at entries place).word position 0)
 has_entry_is None entries position place lt = refl
@@ -86,7 +86,7 @@ module _ (board : Board) (cells : List ℕ) (entries : List Entry) (long : All (
             ∙ ap (λ w. (entry_at entries place).active && agrees board cells w) (take_all i (entry_at entries place).word (omega (arith, long place no_entry within)))
       ]
 
-  -- a word that does not agree with the first entries agrees with none of them all
+  -- a word that does not agree with the first entries does not agree with all of them
   never : (d i place : ℕ) → i + d ≡ length cells → base_so_far board cells i (entry_at entries place) ≡ false → base_so_far board cells (i + d) (entry_at entries place) ≡ false
   never zero i place e none =
       let is : i + 0 ≡ i = omega arith in
@@ -103,7 +103,7 @@ module _ (board : Board) (cells : List ℕ) (entries : List Entry) (long : All (
 
 -- ---- chunks of words
 
--- a bit past the known words is none
+-- a bit past the known words is clear
 pub base_bit : (board : Board) (cells : List ℕ) (entries : List Entry) (place : ℕ) → is_base_word board cells (entry_at entries place) ≡ get_or (base_bits board cells entries) place false
 base_bit board cells entries place =
     elim (cases_lt place (length entries)) [
@@ -117,7 +117,7 @@ base_bit board cells entries place =
 pub length-base_bits : (board : Board) (cells : List ℕ) (entries : List Entry) → length (base_bits board cells entries) ≡ length entries
 length-base_bits board cells entries = length-map entries (is_base_word board cells)
 
--- The first places of a row are those of another one.
+-- the first bits of a row are those of another row
 pub record IsBelow (now target : List Bool) (n : ℕ) : Type 0 where
   pub long : length now ≡ length target
   pub below : (i : ℕ) → i < n → get_or now i false ≡ get_or target i false
@@ -125,7 +125,7 @@ pub record IsBelow (now target : List Bool) (n : ℕ) : Type 0 where
 pub below_none : (now target : List Bool) → length now ≡ length target → IsBelow now target (64 * 0)
 below_none now target long = record { long = long; below = λ i lt. absurd (omega arith) }
 
--- a chunk is written
+-- one more chunk is written
 pub below_chunk : (now next target : List Bool) (chunk word : ℕ) → length next ≡ length now
     → ((k : ℕ) → k < 64 → 64 * chunk + k < length now → get_or next (64 * chunk + k) false ≡ has_bit word k)
     → ((i : ℕ) → (i / 64 ≡ chunk → ⊥) → get_or next i false ≡ get_or now i false)
@@ -144,7 +144,7 @@ below_chunk now next target chunk word long inside others bits before = record {
   ];
 }
 
--- and in the end all
+-- once all bits are covered, the rows are equal
 pub below_all : (now target : List Bool) (n : ℕ) → IsBelow now target n → length now ≤ n → now ≡ target
 below_all now target n is all =
     same_lists now target is.long (λ k d lt. get_or_default now k d false lt ∙ is.below k (omega arith) ∙ get_or_default target k false d (omega (arith, is.long)))
@@ -157,7 +157,7 @@ all_read board cells entries now long right = below_all now (base_bits board cel
   below = λ i lt. right i ∙ base_bit board cells entries i;
 }) (omega arith)
 
--- where all bits but that of a place are right, they are right once the chunk of the place is read
+-- if all bits but one are right, they are all right after the chunk of that one is updated
 pub chunk_read : (board : Board) (cells : List ℕ) (entries : List Entry) (now next : List Bool) (place word : ℕ) → length now ≡ length entries → length next ≡ length now
     → ((k : ℕ) → k < 64 → 64 * (place / 64) + k < length now → get_or next (64 * (place / 64) + k) false ≡ has_bit word k)
     → ((i : ℕ) → (i / 64 ≡ place / 64 → ⊥) → get_or next i false ≡ get_or now i false)
@@ -175,7 +175,7 @@ chunk_read board cells entries now next place word long same inside others bits 
   ];
 }) (omega arith)
 
--- and at once where the place is past the row
+-- if the missing bit is past the end, they are all right already
 pub none_to_read : (board : Board) (cells : List ℕ) (entries : List Entry) (now : List Bool) (place : ℕ) → length now ≡ length entries → length now ≤ place
     → ((k : ℕ) → (k ≡ place → ⊥) → get_or now k false ≡ is_base_word board cells (entry_at entries k)) → now ≡ base_bits board cells entries
 none_to_read board cells entries now place long past right = below_all now (base_bits board cells entries) (length now) (record {

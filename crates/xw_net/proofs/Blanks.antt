@@ -1,4 +1,4 @@
--- A blank net has nothing that stands.
+-- An empty net has no words and no letters.
 use Rattle.std.proofs.Common.{◌≡◌, ℕ, ◌+◌, ◌-◌, ◌*◌, ◌^◌, ◌<◌, ◌≤◌, ◌++◌, Bool, true, false, not, List, [], ◌∷◌, length, get_or, count_by, sym, ap, subst, ◌∙◌, inl, inr, arith}
 use Rattle.std.specs.Prelude.{All, replicate}
 use Rattle.std.proofs.lemmas.Bool.{cases_lt}
@@ -11,7 +11,7 @@ use Rattle.xw_letters.specs.Letter.{is_capital}
 use Rattle.xw_words.specs.Dictionary.{Dictionary, IsDictionary, row, most_words}
 use Rattle.xw_letters.proofs.LetterSetLemmas.{has-none, capital_is_letter}
 use Rattle.xw_letters.specs.LetterSet.{has}
-use Rattle.xw_cells.specs.Grid.{Grid, IsGrid}
+use Rattle.xw_grid.specs.Grid.{Grid, IsGrid}
 use Rattle.xw_grid.specs.Light.{lights_of}
 use Rattle.xw_feas.specs.Board.{Board, board_of, light_at}
 use Rattle.xw_feas.proofs.BoardLemmas.{length-open_cells, length-lights, light_in_board}

@@ -1,4 +1,5 @@
--- The revival of a chain is a revival, stays in the region, and leaves a net that is ready to be stripped.
+-- Putting words and letters back along a chain is a revival, stays in the region, and leaves a net
+-- that is ready for stripping.
 use Rattle.std.proofs.Common.{◌≡◌, ℕ, ◌<◌, ◌≤◌, Bool, true, false, ◌&&◌, sym, ◌∙◌, ap, subst, inl, inr}
 use Rattle.std.specs.Prelude.{IsTrue, List, slice_index, Option}
 use Rattle.std.proofs.lemmas.Bool.{and_parts, cases_Bool, both_ways, or_left}
@@ -29,7 +30,7 @@ not_seed seed chain light seeded off = elim (cases_Bool (seed light)) [
   | inr no_seed ↦ no_seed
 ]
 
--- ---- a revival
+-- ---- it is a revival
 
 module _ (before after : Board) (old new : Dictionary) (same : ℕ → Option ℕ) (words letters : ℕ → ℕ → Bool) (start now : Marks) (seed chain : ℕ → Bool)
     (begun : IsBegun before after old new same words letters start.words start.letters seed) (seeded : IsSeeded seed chain) (brought : IsBrought after new start now chain) where
@@ -74,7 +75,7 @@ module _ (before after : Board) (old new : Dictionary) (same : ℕ → Option �
 
 -- ---- the region
 
--- a region is closed as a chain is: where a letter comes back, the cell is not settled
+-- a region is closed in the way a chain needs: a cell where a letter comes back is not settled
 pub region_reach_closed : (before after : State) (action : Action) (member : List ℕ → Bool) → IsRegion before after action member
     → (words letters : ℕ → ℕ → Bool) → IsExact (board_of before.grid) before.words words letters
     → (start : ℕ → ℕ → Bool) → ((cell letter : ℕ) → IsTrue (may_stand (board_of after.grid) cell letter) → IsTrue (letters cell letter) → IsTrue (start cell letter))
@@ -84,7 +85,7 @@ region_reach_closed before after action member region words letters exact start 
     (λ settled. lacks (λ letter may. kept (cell_at (board_of after.grid) light place) letter may (settled_stood before after words letters exact (cell_at (board_of after.grid) light place) letter settled may)))
     has
 
--- ---- ready to be stripped
+-- ---- ready for stripping
 
 module _ (board : Board) (dictionary : Dictionary) (laid_out : IsLaidOut board) (are_words : IsDictionary dictionary) (apart : AreSlotsApart board)
     (start now : Marks) (seed chain : ℕ → Bool) (seeded : IsSeeded seed chain)
@@ -108,14 +109,14 @@ module _ (board : Board) (dictionary : Dictionary) (laid_out : IsLaidOut board) 
   capital_now cell letter stands =
       (and_parts (is_open board cell) (is_capital letter) (and_parts (is_open board cell && is_capital letter) (allows (entry board cell) letter) (may_now cell letter stands)).0).1
 
-  -- off the chain a letter stood
+  -- at a light off the chain, each letter was there before
   stood_off : (light place letter : ℕ) → IsPlace board light place → chain light ≡ false → now.letters (cell_at board light place) letter ≡ true → start.letters (cell_at board light place) letter ≡ true
   stood_off light place letter here off stands = elim (cases_Bool (start.letters (cell_at board light place) letter)) [
     | inl stood ↦ stood
     | inr came ↦ absurd (both_ways (chain light) off (brought.letters_off light place letter here stands came))
   ]
 
-  -- and its slot is as it was
+  -- at a light off the chain, the slots are unchanged
   restart_off : (light place letter : ℕ) → IsPlace board light place → chain light ≡ false → now.restart (slot_at board light place) letter ≡ start.restart (slot_at board light place) letter
   restart_off light place letter here off =
       brought.restart_off (slot_at board light place) letter (λ other other_place there meets. ap chain (apart other other_place light place there here meets).0 ∙ off)

@@ -1,4 +1,5 @@
--- A settled net that is carried over is ready to be stripped, but for the seeds.
+-- A settled net that was adapted to the lights after an edit is ready for stripping, except at the
+-- seeds.
 use Rattle.std.proofs.Common.{◌≡◌, ℕ, ◌+◌, ◌*◌, ◌<◌, ◌≤◌, Bool, true, false, length, eqb, sym, ◌∙◌, ap, subst, inl, inr, arith}
 use Rattle.std.specs.Prelude.{slice_index, Option, Some, unwrap_or}
 use Rattle.std.proofs.lemmas.Bool.{cases_Bool, both_ways, or_cases}
@@ -20,7 +21,7 @@ module _ (before after : Board) (old new : Dictionary) (same : ℕ → Option �
     (laid_out : IsLaidOut after) (are_words : IsDictionary new) (matching : IsMatching before after same) (net : IsSettledNet before old settled)
     (begun : IsBegun before after old new same settled.words settled.letters start.words start.letters seed)
     (carried : IsCarried before after old new same settled start seed) where
-  -- the place of the matched light
+  -- the position in the matched light
   record IsMatched (light place other : ℕ) : Type 0 where
     pub here : IsPlace before other place
     pub cell : cell_at before other place ≡ cell_at after light place
@@ -35,13 +36,13 @@ module _ (before after : Board) (old new : Dictionary) (same : ℕ → Option �
         slot = ap (λ cs. 2 * slice_index cs place + side_of cs) (sym cells);
       }
 
-  -- a word that stands stood, with the same letters
+  -- each word was there before, with the same letters
   word_stood : (light other choice : ℕ) → light < length after.lights → seed light ≡ false → same light ≡ Some other → start.words light choice ≡ true → settled.words other choice ≡ true
   word_stood light other choice in_board no_seed at stands =
       let found = was-gives before after old new same settled.words light choice ((begun.words_kept light choice in_board no_seed).0 stands).1 in
       subst (λ o. settled.words o choice ≡ true) (one_number found.0 other (sym found.1 ∙ at)) found.2
 
-  -- a letter that stands stood
+  -- each letter was there before
   letter_stood : (light place letter : ℕ) → IsPlace after light place → seed light ≡ false → start.letters (cell_at after light place) letter ≡ true → settled.letters (cell_at after light place) letter ≡ true
   letter_stood light place letter here no_seed stands = elim (cases_Bool (settled.letters (cell_at after light place) letter)) [
     | inl stood ↦ stood
@@ -51,7 +52,7 @@ module _ (before after : Board) (old new : Dictionary) (same : ℕ → Option �
   same_letter : (light other choice place : ℕ) → light < length after.lights → seed light ≡ false → same light ≡ Some other → settled.words other choice ≡ true → letter_of before old other choice place ≡ letter_of after new light choice place
   same_letter light other choice place in_board no_seed at stood = ap (λ w. slice_index w place) (carried.choices light other choice in_board no_seed at stood)
 
-  -- a word that stood, of a light that is not to be seen to, stands
+  -- a word of a light that is not queued stays
   word_stays : (light other choice : ℕ) → light < length after.lights → seed light ≡ false → same light ≡ Some other → start.queued light ≡ false → settled.words other choice ≡ true → start.words light choice ≡ true
   word_stays light other choice in_board no_seed at calm stood =
       let had = was-from before after old new same settled.words light choice other at stood (carried.choices light other choice in_board no_seed at stood) in

@@ -11,7 +11,7 @@ use Rattle.xw_net.specs.Revival.{IsMatching, was, IsRevived}
 use Rattle.xw_net.specs.Chain.{IsHeld, IsChain, IsChainRevived}
 use Rattle.xw_net.proofs.Revival.{revival_covers}
 
--- at a cell with an entry no other letter may stand
+-- a cell with a letter allows no other letter
 pub entry_is : (board : Board) (cell entered letter : ℕ) → entry board cell ≡ Some entered → IsTrue (may_stand board cell letter) → entered ≡ letter
 entry_is board cell entered letter holds may =
     let parts = and_parts (is_open board cell && is_capital letter) (allows (entry board cell) letter) may in
@@ -19,7 +19,7 @@ entry_is board cell entered letter holds may =
 
 module _ (before after : Board) (old new : Dictionary) (same : ℕ → Option ℕ) (words letters words' letters' : ℕ → ℕ → Bool) (chain free : ℕ → Bool)
     (is_chain : IsChain before after old new same letters chain free) (revived : IsChainRevived before after old new same words letters words' letters' chain free) where
-  -- a letter that came is at a free cell, which is not held
+  -- a letter that came back is at a free cell that is not held
   came_free : (cell letter : ℕ) → IsTrue (letters' cell letter) → ¬ IsTrue (letters cell letter) → (free cell ≡ true) × (¬ IsHeld before after letters cell)
   came_free cell letter stands not_stood = elim (cases_Bool (free cell)) [
     | inl loose ↦ (

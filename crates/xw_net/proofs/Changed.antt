@@ -1,4 +1,4 @@
--- The lights to which a change comes, and those that are seeds.
+-- The lights that a change touches, and those that are seeds.
 use Rattle.std.proofs.Common.{◌≡◌, ℕ, zero, suc, ◌+◌, ◌-◌, ◌*◌, ◌<◌, ◌≤◌, Bool, true, false, cond, not, ◌&&◌, ◌||◌, leb, eqb, List, [], ◌∷◌, ◌++◌, map, length, get_or, Some, None, refl, sym, ◌∙◌, ap, subst, arith, inl, inr}
 use Rattle.std.specs.Prelude.{◌⊎◌, Option, Contains, slice_index, slice_get, unwrap_or, is_none, Result, Ok, Err}
 use Rattle.std.proofs.lemmas.List.Elements.{Contains-get_or}
@@ -8,15 +8,15 @@ use Rattle.std.proofs.lemmas.Option.{slice_get_within, unwrap_or-slice_get, slic
 use Rattle.std.proofs.Math.ListN.{get_or-map as get_or-map_any}
 use Rattle.xw_bits.specs.Bits.{RowOfBits}
 use Rattle.xw_words.specs.Dictionary.{Entry, Dictionary, row, no_entry, add_answer, strike_answer}
-use Rattle.xw_cells.specs.declared.cell.Cell.{Cell}
-use Rattle.xw_cells.specs.Grid.{Grid, index_of, is_inside, letter_in, entry as entry_in}
+use Rattle.xw_grid.specs.declared.cell.Cell.{Cell}
+use Rattle.xw_grid.specs.Grid.{Grid, index_of, is_inside, letter_in, entry as entry_in}
 use Rattle.xw_feas.specs.Board.{Board, board_of, entry, light_at, is_wholly_entered, allows, agrees, is_open}
 use Rattle.xw_letters.specs.Letter.{is_capital}
 use Rattle.xw_feas.specs.Feasible.{may_stand}
 use Rattle.xw_feas.specs.Known.{spellings, actives}
 use Rattle.xw_feas.specs.Choices.{is_base_at, IsExact}
 use Rattle.xw_feas.specs.State.{State, Action, letter_set, cell_cleared, word_placed, list_written, block_toggled, bar_toggled, symmetry_chosen, word_added, word_struck}
-use Rattle.xw_bits.specs.declared.fault.WordFault.{WordFault}
+use Rattle.xw_words.specs.declared.fault.WordFault.{WordFault}
 use Rattle.xw_words.specs.declared.bank.Added.{Added}
 use Rattle.xw_words.specs.declared.bank.Added.TheVariants.{New, Returned}
 use Rattle.xw_feas.proofs.BoardLemmas.{entry-square}
@@ -80,7 +80,7 @@ module _ (before now : State) (action : Action) (change : Change) (is : IsChange
   entry_off : (cell : ℕ) → ¬ Contains (places_listed before.grid change.cells.now) cell → entry new_board cell ≡ entry old_board cell
   entry_off cell outside = entry_after before.grid now.grid (places_listed before.grid change.cells.now) cell (record { width = is.width; height = is.height; squares = is.squares }) outside
 
-  -- a cell that is listed
+  -- the cell is listed
   record IsListed (cell : ℕ) : Type 0 where
     pub listed : Cell × Option ℕ
     pub has : Contains change.cells.now listed
@@ -112,7 +112,7 @@ module _ (before now : State) (action : Action) (change : Change) (is : IsChange
       let this = listed_at cell has in
       both_ways _ calm ((edited this.listed this.has).queued light in_cells.0 (in_board, in_cells.1) (meets light cell in_cells ∙ sym this.at)))
 
-  -- where no word of its length is changed a light has the words that it had
+  -- if no word of its length has changed, a light has the same known words as before
   pub changed_words_same : (light : ℕ) → is_long change.word (length (light_at new_board light)) ≡ false → row now.words (length (light_at new_board light)) ≡ row before.words (length (light_at new_board light))
   changed_words_same light short = same_elements _ _ (λ k. is.entries (length (light_at new_board light)) k (not_there k change.word refl)) where
     not_there : (k : ℕ) (word : Option (ℕ × ℕ)) → change.word ≡ word → ¬ IsPlaceOf change.word (length (light_at new_board light)) k
@@ -126,14 +126,14 @@ module _ (before now : State) (action : Action) (change : Change) (is : IsChange
     pub changed_entered : (light : ℕ) → light < length new_board.lights → queued light ≡ true → is_wholly_entered new_board (light_at new_board light) ≡ true → seed light ≡ true
     changed_entered light in_board is_queued whole = seeds light in_board is_queued (or_left _ _ whole)
 
-    -- the row of a length but at a place of which the base flag is off
+    -- two rows of known words differ in one word, whose base flag is clear
     record IsRowBut (cells : List ℕ) : Type 0 where
       pub place : ℕ
       pub inner : place + 1 < length (row now.words (length cells))
       pub off : get_or (base_bits new_board cells (row now.words (length cells))) place false ≡ false
       pub others : (k : ℕ) → (k ≡ place → ⊥) → slice_get (row now.words (length cells)) k ≡ slice_get (row before.words (length cells)) k
 
-    -- a light that is no seed does not have the word that is changed
+    -- the changed word is not a base word of a light that is not a seed
     pub changed_has_not : (light : ℕ) → light < length new_board.lights → seed light ≡ false → may_have change.word (length (light_at new_board light)) (base_bits new_board (light_at new_board light) (row now.words (length (light_at new_board light)))) ≡ false
     changed_has_not light in_board no_seed = elim (cases_Bool (queued light)) [
       | inr is_calm ↦ calm light in_board is_calm
@@ -165,7 +165,7 @@ module _ (before now : State) (action : Action) (change : Change) (is : IsChange
             })
       ]
 
-    -- as many words are known
+    -- the number of known words stays
     at_least : (xs ys : List Entry) (place : ℕ) → place < length ys → ((k : ℕ) → (k ≡ place → ⊥) → slice_get xs k ≡ slice_get ys k) → length xs ≤ length ys
     at_least xs ys place below same = elim (cases_lt (length ys) (length xs)) [
       | inr done ↦ done
@@ -229,7 +229,7 @@ module _ (before now : State) (action : Action) (change : Change) (is : IsChange
     (inside : (listed : Cell × Option ℕ) → Contains change.cells.now listed → is_inside before.grid listed.0 ≡ true)
     (edited : (listed : Cell × Option ℕ) → Contains change.cells.now listed → IsEdited (board_of now.grid) letters queued seed (index_of now.grid listed.0) listed.1)
     (new : (light : ℕ) → light < length (board_of now.grid).lights → same_light before.grid now.grid light ≡ None → queued light ≡ true) where
-  -- the base rows of lights to which no edit comes are those of before
+  -- a light that the edit does not touch keeps its base row
   pub changed_base : (base_before base base' : List RowOfBits)
       → IsBase (board_of before.grid) before.words base_before
       → ((light other : ℕ) → light < length (board_of now.grid).lights → same_light before.grid now.grid light ≡ Some other → is_long change.word (length (light_at (board_of now.grid) light)) ≡ false → bits_in base light ≡ bits_in base_before other)
@@ -261,7 +261,7 @@ module _ (before now : State) (action : Action) (change : Change) (is : IsChange
       ap (λ o. (o && is_capital letter) && allows (entry (board_of now.grid) cell) letter) (open_after before.grid now.grid (places_listed before.grid change.cells.now) cell written outside)
       ∙ ap (λ e. (is_open (board_of before.grid) cell && is_capital letter) && allows e letter) (entry_after before.grid now.grid (places_listed before.grid change.cells.now) cell written outside)
 
-  -- a letter that stands may, if those that stood might
+  -- each letter in the net is allowed, if it was allowed before
   pub changed_letters_may : (settled : ℕ → ℕ → Bool) → ((cell letter : ℕ) → settled cell letter ≡ true → may_stand (board_of before.grid) cell letter ≡ true)
       → ((cell letter : ℕ) → letters cell letter ≡ true → (settled cell letter || may_stand (board_of now.grid) cell letter) ≡ true)
       → (cell letter : ℕ) → letters cell letter ≡ true → may_stand (board_of now.grid) cell letter ≡ true
@@ -275,7 +275,7 @@ module _ (before now : State) (action : Action) (change : Change) (is : IsChange
     ]
   ]
 
-  -- a letter that may stand and might not stands, if what is entered now is entered in a cell that was open
+  -- a letter that is allowed, and was not before, is in the net, if only open cells were filled
   pub changed_letters_come : ((listed : Cell × Option ℕ) → Contains change.cells.now listed → is_fill (board_of now.grid) (index_of now.grid listed.0) listed.1 ≡ true → is_open (board_of before.grid) (index_of now.grid listed.0) ≡ true)
       → (cell letter : ℕ) → may_stand (board_of now.grid) cell letter ≡ true → ¬ (may_stand (board_of before.grid) cell letter ≡ true) → letters cell letter ≡ true
   changed_letters_come opened cell letter may might_not = elim (cases_Bool (letters cell letter)) [
@@ -324,7 +324,8 @@ changed_count words (bar_toggled cell side) count place h = cc
 changed_count words (symmetry_chosen kind) count place h = cc
 
 module _ (before now : State) (action : Action) (change : Change) (is : IsChange before now action change) (member : List ℕ → Bool) (region : IsRegion before now action member) where
-  -- the lights that are new, those through edited cells and those as long as a word that is changed lie in the region
+  -- the new lights, those through edited cells, and those with the length of the changed word are
+  -- in the region
   pub new_within : (light : ℕ) → light < length (board_of now.grid).lights → same_light before.grid now.grid light ≡ None → member (light_at (board_of now.grid) light) ≡ true
   new_within light in_board at = region.come (light_at (board_of now.grid) light) (light_stands now light in_board) (λ stood.
       let found = matched before now action is.formed_before.grid is.made light in_board stood in
@@ -344,7 +345,7 @@ module _ (before now : State) (action : Action) (change : Change) (is : IsChange
       region.long (light_at (board_of now.grid) light) (inr (light_stands now light in_board))
       (ap (changes_words action) long ∙ changed_count before.words action count place (sym is.word ∙ some))
 
--- ---- the state from which a revival begins
+-- ---- the state at which a revival starts
 
 module _ (before now : State) (action : Action) (change : Change) (is : IsChange before now action change) (settled start : Marks) (seed waiting : ℕ → Bool)
     (exact : IsExact (board_of before.grid) before.words settled.words settled.letters)
@@ -397,7 +398,7 @@ module _ (before now : State) (action : Action) (change : Change) (is : IsChange
 
 -- ---- rows of words
 
--- the flags of a light of which the base words were left, the last one being that of the word that is entered
+-- the flags of a light after its other words were removed; the last one is that of the entered word
 pub row_narrowed : (bits base : List Bool) (entered whole : Bool) (choice : ℕ) → length bits ≡ length base → entered ≡ (entered && whole)
     → get_or (common_bits bits base ++ entered ∷ []) choice false ≡ (get_or (bits ++ entered ∷ []) choice false && get_or (base ++ whole ∷ []) choice false)
 row_narrowed [] [] entered whole zero long last = last

@@ -1,18 +1,18 @@
--- What is true of the change of an edit.
+-- Facts about the description of an edit.
 use Rattle.std.proofs.Common.{◌≡◌, ℕ, zero, suc, ◌<◌, ◌≤◌, List, [], ◌∷◌, ◌++◌, true, false, map, length, get_or, set, Some, None, refl, sym, ◌∙◌, ap, subst, arith, inl, inr}
 use Rattle.std.specs.Prelude.{Option, Result, Ok, Err, Contains, slice_get}
 use Rattle.std.proofs.lemmas.Bool.{cases_lt, cases_eq}
 use Rattle.std.proofs.lemmas.List.{get_or-set_same, get_or-set_other, get_or_append_left, length-map}
-use Rattle.xw_bits.specs.declared.fault.WordFault.{WordFault}
+use Rattle.xw_words.specs.declared.fault.WordFault.{WordFault}
 use Rattle.xw_words.specs.declared.bank.Added.{Added}
 use Rattle.xw_words.specs.declared.bank.Added.TheVariants.{New, Returned}
 use Rattle.xw_letters.specs.Letter.{folded}
 use Rattle.xw_words.specs.Dictionary.{Entry, Dictionary, row, entry_at, no_entry, marked, add_answer, after_add, strike_answer, after_strike}
 use Rattle.xw_words.proofs.DictionaryLemmas.{word-marked}
-use Rattle.xw_cells.specs.declared.cell.Cell.{Cell}
-use Rattle.xw_cells.specs.Grid.{Grid, IsGrid, index_of}
+use Rattle.xw_grid.specs.declared.cell.Cell.{Cell}
+use Rattle.xw_grid.specs.Grid.{Grid, IsGrid, index_of}
 use Rattle.xw_grid.specs.Light.{lights_of, cells_of, place_named, no_light}
-use Rattle.xw_cells.specs.Orbit.{orbit_of}
+use Rattle.xw_grid.specs.Orbit.{orbit_of}
 use Rattle.xw_feas.specs.State.{State, Action, after, grid_after, letter_set, cell_cleared, word_placed, list_written, block_toggled, bar_toggled, symmetry_chosen, word_added, word_struck, answered, add_word, strike_word}
 use Rattle.xw_feas.specs.WellFormed.{IsWellFormed}
 use Rattle.xw_feas.proofs.AdditionLemmas.{new_word}
@@ -34,7 +34,7 @@ named_places grid None within = refl
 named_places grid (Some light) within =
     listed_places grid (cells_of (get_or (lights_of grid) light no_light)) ∙ sym (light_at-board grid light no_light (within light refl))
 
--- the cells that an edit writes are the edited ones
+-- the cells that an edit writes are its edited cells
 pub written_places : (grid : Grid) (action : Action) → places_listed grid (entries_written grid action) ≡ edited_cells grid action
 written_places grid (letter_set cell letter) = refl
 written_places grid (cell_cleared cell) = refl
@@ -57,7 +57,7 @@ set_past [] at entries past = refl
 set_past (first ∷ words) zero entries past = absurd (omega arith)
 set_past (first ∷ words) (suc at) entries past = ap (λ rest. first ∷ rest) (set_past words at entries (omega arith))
 
--- a property of the words of each length, where those of one length are others
+-- a property of the words of each length, after those of one length were replaced
 row_set : (P : ℕ → List Entry → Type 0) (words : Dictionary) (len : ℕ) (entries : List Entry) (count : ℕ) → P len entries → P count (row words count) → (count ≡ len → P len entries → P count entries) → P count (row (set words len entries) count)
 row_set P words len entries count there here moved = elim (cases_eq count len) [
   | inr apart ↦ subst (P count) (sym (get_or-set_other words len count entries [] apart)) here
@@ -67,11 +67,11 @@ row_set P words len entries count there here moved = elim (cases_eq count len) [
   ]
 ]
 
--- the words of each length agree but at one place
+-- the words of a length agree except at one index
 abbrev AgreeBut : ℕ → List Entry → List Entry → Type 0
 AgreeBut place old new = (k : ℕ) → (k ≡ place → ⊥) → slice_get new k ≡ slice_get old k
 
--- and no word of before is spelled in another way
+-- every earlier word keeps its letters
 abbrev AreSpelledAlike : List Entry → List Entry → Type 0
 AreSpelledAlike old new = (k : ℕ) → k < length old → (entry_at new k).word ≡ (entry_at old k).word
 
@@ -88,7 +88,7 @@ set_agrees (first ∷ entries) zero entry (suc k) apart = refl
 set_agrees (first ∷ entries) (suc place) entry zero apart = refl
 set_agrees (first ∷ entries) (suc place) entry (suc k) apart = set_agrees entries place entry k (λ e. apart (ap suc e))
 
--- both, of a word that is given by a length and a place
+-- both facts, for a word given by its length and index
 record AreWordsBut (old new : Dictionary) (word : Option (ℕ × ℕ)) : Type 0 where
   agree : (count place : ℕ) → ¬ IsPlaceOf word count place → slice_get (row new count) place ≡ slice_get (row old count) place
   alike : (count : ℕ) → AreSpelledAlike (row old count) (row new count)

@@ -1,4 +1,4 @@
--- A region is closed as stripping asks, and stripping costs less than it allows.
+-- A region is closed in the way stripping needs, and stripping stays within its cost.
 use Rattle.std.proofs.Common.{ℕ, Bool}
 use Rattle.std.specs.Prelude.{List}
 use Rattle.xw_feas.specs.Board.{board_of, light_at}

@@ -1,4 +1,5 @@
--- What reviving and stripping a set of lights may cost, as sums over all lights; both together are no more than the set may cost.
+-- The costs of reviving and of stripping a set of lights, as sums over all lights. Together they
+-- are at most the cost of the set.
 use Rattle.std.proofs.Common.{◌≡◌, ℕ, zero, suc, ◌+◌, ◌*◌, ◌<◌, ◌≤◌, Bool, true, false, cond, List, length, refl, ◌∙◌, arith}
 use Rattle.std.proofs.lemmas.Nat.{mul-le}
 use Rattle.xw_words.specs.Dictionary.{row}
@@ -34,7 +35,7 @@ unfolding sum_to
 sums-le f g h zero each = omega arith
 sums-le f g h (suc n) each = omega (arith, sums-le f g h n (λ k below. each k (omega arith)), each n (omega arith))
 
--- a light of two cells or more
+-- a light with at least two cells
 light-le : (len known chunks : ℕ) → 2 ≤ len → (len + 1) * chunks + len * (100 * chunks + 4 * known + 1) ≤ len * (128 * chunks + 4 * known + 1)
 light-le len known chunks several =
     let first : (len + 1) * chunks ≡ len * chunks + chunks = grind arith in

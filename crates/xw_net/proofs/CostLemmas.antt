@@ -1,4 +1,4 @@
--- What it costs to read the base rows of the lights of a set, light by light.
+-- The cost of updating the base rows of a set of lights, light by light.
 use Rattle.std.proofs.Common.{◌≡◌, ℕ, suc, ◌+◌, ◌*◌, Bool, true, cond, List, length, refl, ap, arith}
 use Rattle.std.proofs.lemmas.Bool.{cond-true}
 use Rattle.xw_words.specs.Dictionary.{Entry}
@@ -7,11 +7,11 @@ use Rattle.xw_net.specs.Region.{chunks_of}
 use Rattle.xw_net.specs.Due.{sum_to}
 use Rattle.xw_net.specs.Brought.{base_cost}
 
--- what the light costs, if it is in the set
+-- the cost of a light, if it is in the set
 abbrev pub cost_here : Board → (ℕ → List Entry) → (ℕ → Bool) → ℕ → ℕ
 cost_here board entries member light = cond (member light) ((length (light_at board light) + 1) * chunks_of (length (entries (length (light_at board light))))) 0
 
--- and the first lights
+-- the cost of the first lights
 unfoldable pub cost_below : Board → (ℕ → List Entry) → (ℕ → Bool) → ℕ → ℕ
 cost_below board entries member n = sum_to (cost_here board entries member) n
 

@@ -1,4 +1,4 @@
--- The cost of a set of lights as a sum over the places of all lights.
+-- The cost of a set of lights as a sum over the indices of all lights.
 use Rattle.std.proofs.Common.{◌≡◌, ℕ, zero, suc, ◌+◌, ◌<◌, ◌≤◌, Bool, true, false, cond, List, [], ◌∷◌, length, get_or, refl, sym, ◌∙◌, ap, arith}
 use Rattle.std.specs.Prelude.{filter}
 use Rattle.std.specs.List.{sum_by}
@@ -15,7 +15,7 @@ sum_by-filter {X} f test (x ∷ xs) = first (test x) ∙ ap (λ n. cond (test x)
   first true = sum_by-cons f x (filter test xs)
   first false = omega arith
 
--- sums agree where their terms do
+-- sums with equal terms are equal
 pub sum_below-agree : (f g : ℕ → ℕ) (n : ℕ) → ((k : ℕ) → k < n → f k ≡ g k) → sum_below f n ≡ sum_below g n
 sum_below-agree f g zero same = refl
 sum_below-agree f g (suc n) same = omega (arith, sum_below-agree f g n (λ k below. same k (omega arith)), same n (omega arith))
@@ -24,7 +24,7 @@ pub sum_below-le : (f g : ℕ → ℕ) (n : ℕ) → ((k : ℕ) → k < n → f 
 sum_below-le f g zero less = omega arith
 sum_below-le f g (suc n) less = omega (arith, sum_below-le f g n (λ k below. less k (omega arith)), less n (omega arith))
 
--- the first term apart
+-- splits off the first term
 sum_below-first : (f : ℕ → ℕ) (n : ℕ) → sum_below f (suc n) ≡ f 0 + sum_below (λ k. f (suc k)) n
 sum_below-first f zero = omega arith
 sum_below-first f (suc n) = omega (arith, sum_below-first f n)

@@ -1,4 +1,4 @@
--- A letter dies at the cell of a place, where another light may pass.
+-- A letter is removed from the cell at a position, with or without a crossing light.
 use Rattle.std.proofs.Common.{◌≡◌, ℕ, ◌+◌, ◌*◌, ◌<◌, true, not, ◌&&◌, ◌||◌, eqb, List, length, get_or, set, refl, sym, ap, ◌∙◌, subst, inl, inr, arith}
 use Rattle.std.proofs.lemmas.Bool.{and_parts, and_from, or_cases, or_left, or_right, eq-eqb, eqb-true}
 use Rattle.std.proofs.lemmas.List.Sums.{sum_by-set}
@@ -6,7 +6,7 @@ use Rattle.xw_feas.specs.Board.{Board, light_at, IsCrossing}
 use Rattle.xw_feas.specs.Flags.{set_sum}
 use Rattle.xw_net.specs.Marks.{Marks, side_of, IsPlace, cell_at, slot_at, IsOther, Drops}
 
--- the letters fall when a set loses one
+-- the sum of sets decreases when one of them loses a letter
 pub sum-less : (sets : List ℕ) (i new : ℕ) → i < length sets → new < get_or sets i 0 → set_sum (set sets i new) < set_sum sets
 sum-less sets i new within less = omega (arith, sum_by-set (λ set. set) sets i new 0 within)
 
@@ -15,7 +15,7 @@ module _ (board : Board) (i q b : ℕ) (place : IsPlace board i q) (old new : Ma
   crosses : (other r : ℕ) → IsOther board i q other r → IsCrossing board i (cell_at board i q) other
   crosses other r at = record { in_board = at.place_there.0; apart = at.apart; place = r; below = at.place_there.1; meets = at.meets }
 
-  -- another light passes there
+  -- with a crossing light
   module _ (other : ℕ) (crossing : IsCrossing board i (cell_at board i q) other) (only : (one : ℕ) → IsCrossing board i (cell_at board i q) one → other ≡ one)
       (pending : (s d : ℕ) → new.pending s d ≡ (old.pending s d || (eqb s (2 * cell_at board i q + side_of (light_at board other)) && eqb d b)))
       (queued : (j : ℕ) → new.queued j ≡ (old.queued j || eqb j other)) where
@@ -58,7 +58,7 @@ module _ (board : Board) (i q b : ℕ) (place : IsPlace board i q) (old new : Ma
           ];
     }
 
-  -- none does
+  -- without a crossing light
   pub alone_drops : ((one : ℕ) → IsCrossing board i (cell_at board i q) one → ⊥) → ((s d : ℕ) → new.pending s d ≡ old.pending s d) → ((j : ℕ) → new.queued j ≡ old.queued j) → Drops board i q b old new
   alone_drops none pending queued = record {
     letters = letters;

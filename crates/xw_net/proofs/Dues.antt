@@ -1,4 +1,4 @@
--- What is due, letter by letter.
+-- The ticks that may still come, letter by letter.
 use Rattle.std.proofs.Common.{◌≡◌, ℕ, ◌+◌, ◌-◌, ◌*◌, ◌/◌, ◌<◌, ◌≤◌, Bool, true, false, not, ◌&&◌, cond, ltb, length, refl, sym, ap, ◌∙◌, inl, inr, arith}
 use Rattle.std.proofs.lemmas.Bool.{cond-true, cond-false, cases_Bool, cases_lt, lt-ltb, le-ltb, eqb-true, both_ways, false_from_ne_true}
 use Rattle.xw_words.specs.Dictionary.{Dictionary}
@@ -51,7 +51,7 @@ flag-small : (c : ℕ) (b : Bool) → c * cond b 1 0 ≤ c
 flag-small c true = omega arith
 flag-small c false = omega arith
 
--- where no more is pending no more is due
+-- if no more letters are pending, no more ticks may come
 pub due-fewer : (has : ℕ → Bool) (n h h' : ℕ) (s s' a a' p p' : Bool) → h' ≡ h → s' ≡ s → a' ≡ a → (p' ≡ true → p ≡ true) → due_of has n s' h' a' p' ≤ due_of has n s h a p
 due-fewer has n h h' s s' a a' p p' held stands again pending =
     elim (cases_Bool s) [
@@ -59,7 +59,7 @@ due-fewer has n h h' s s' a a' p p' held stands again pending =
       | inr gone ↦ omega (arith, due-pending has n h s a p gone, due-pending has n h' s' a' p' (stands ∙ gone), flag-le (chunks_of n) p p' pending)
     ]
 
--- and where what was pending is not, that is no longer due
+-- if a pending letter is cleared, its ticks are no longer due
 pub due-cleared : (has : ℕ → Bool) (n h h' : ℕ) (s s' a a' p p' : Bool) → h' ≡ h → s' ≡ s → a' ≡ a → p' ≡ false → (p ≡ true → s ≡ false) → due_of has n s' h' a' p' + chunks_of n * cond p 1 0 ≤ due_of has n s h a p
 due-cleared has n h h' s s' a a' p p' held stands again none gone_if =
     elim (cases_Bool s) [
@@ -69,7 +69,7 @@ due-cleared has n h h' s s' a a' p p' held stands again none gone_if =
       | inr gone ↦ omega (arith, due-pending has n h s a p gone, due-pending has n h' s' a' p' (stands ∙ gone), ap (λ b. chunks_of n * cond b 1 0) none)
     ]
 
--- of a letter that stands the same is due, whatever is pending
+-- for a letter in the net, pending letters make no difference
 pub due-alike : (has : ℕ → Bool) (n h h' : ℕ) (s s' a a' p p' : Bool) → h' ≡ h → s ≡ true → s' ≡ true → a' ≡ a → due_of has n s' h' a' p' ≡ due_of has n s h a p
 due-alike has n h h' s s' a a' p p' held is is' again =
     due-stands has n h' s' a' p' is' ∙ ap (λ k. chunks_of n + ahead_of has n k a') held ∙ ap (λ b. chunks_of n + ahead_of has n h b) again ∙ sym (due-stands has n h s a p is)
@@ -94,7 +94,7 @@ due-bound-letter has n h stands again pending =
       | inr gone ↦ omega (arith, due-pending has n h stands again pending gone, flag-small (chunks_of n) pending)
     ]
 
--- a letter that dies, or is pending where it stood, has less due
+-- a letter that is removed, or becomes pending, has fewer ticks due
 pub due-dies : (has : ℕ → Bool) (n h h' : ℕ) (stands stands' again again' pending pending' : Bool) → stands ≡ true → stands' ≡ false → due_of has n stands' h' again' pending' ≤ due_of has n stands h again pending
 due-dies has n h h' stands stands' again again' pending pending' was gone =
     omega (arith, due-stands has n h stands again pending was, due-pending has n h' stands' again' pending' gone, flag-small (chunks_of n) pending')
@@ -103,7 +103,7 @@ due-dies has n h h' stands stands' again again' pending pending' was gone =
 abbrev pub IsFrom : ℕ → ℕ → Bool → ℕ → Type 0
 IsFrom n h again from = (h < n → again ≡ false → from ≡ h / 64) × (n ≤ h → from ≡ 0) × (again ≡ true → from ≡ 0)
 
--- a search that finds nothing is paid by the letter that dies
+-- the removed letter pays for a search that finds nothing
 pub due-nowhere : (has : ℕ → Bool) (n h h' from spent : ℕ) (stands stands' again again' pending pending' : Bool) → stands ≡ true → stands' ≡ false → pending' ≡ false → IsFrom n h again from → spent ≤ chunks_of n - from
     → due_of has n stands' h' again' pending' + spent ≤ due_of has n stands h again pending
 due-nowhere has n h h' from spent stands stands' again again' pending pending' was gone none is_from cost =
@@ -117,7 +117,7 @@ due-nowhere has n h h' from spent stands stands' again again' pending pending' w
       ]
     ]
 
--- and one that finds a word by what is no longer ahead
+-- a search that finds a word is paid by the part of the row behind it
 pub due-moves : (has : ℕ → Bool) (n h word from spent : ℕ) (stands stands' again again' pending pending' : Bool) → stands ≡ true → stands' ≡ true → again' ≡ false → word < n → IsFrom n h again from
     → (h < n → again ≡ false → (has h ≡ true) × (h < word)) → spent + from ≤ word / 64 + 1 → due_of has n stands' word again' pending' + spent ≤ due_of has n stands h again pending
 due-moves has n h word from spent stands stands' again again' pending pending' was is again_is within is_from later cost =
@@ -155,7 +155,7 @@ module _ (board : Board) (dictionary : Dictionary) (member : ℕ → Bool) (mark
   unfolding due
   due-le = sum_to-le (λ j. cond (member j) (due_light board dictionary new j) 0) (λ j. cond (member j) (due_light board dictionary marks j) 0) (length board.lights) member-le
 
-  -- and one place of a light of the set falls by t
+  -- one position of a light in the set decreases by t
   module _ (i q t : ℕ) (is_place : IsPlace board i q) (in_set : member i ≡ true) (falls : due_place board dictionary new i q + t ≤ due_place board dictionary marks i q) where
     light-falls : due_light board dictionary new i + t ≤ due_light board dictionary marks i
     unfolding due_light
@@ -169,12 +169,12 @@ module _ (board : Board) (dictionary : Dictionary) (member : ℕ → Bool) (mark
     unfolding due
     due-falls = sum_to-falls (λ j. cond (member j) (due_light board dictionary new j) 0) (λ j. cond (member j) (due_light board dictionary marks j) 0) (length board.lights) i t is_place.0 member-le member-falls
 
-  -- one letter of it falls by t
+  -- one letter of a position decreases by t
   pub place-falls : (i q k t : ℕ) → IsPlace board i q → k < 26 → due_letter board dictionary new i q (65 + k) + t ≤ due_letter board dictionary marks i q (65 + k) → due_place board dictionary new i q + t ≤ due_place board dictionary marks i q
   unfolding due_place
   place-falls i q k t is_place small falls = sum_to-falls (λ k. due_letter board dictionary new i q (65 + k)) (λ k. due_letter board dictionary marks i q (65 + k)) 26 k t small (λ k lt. each i q k is_place lt) falls
 
--- ---- at first
+-- ---- the start of stripping
 
 module _ (board : Board) (dictionary : Dictionary) (marks : Marks) where
   place-bound : (i q : ℕ) → due_place board dictionary marks i q ≤ 78 * chunks board dictionary i + known board dictionary i

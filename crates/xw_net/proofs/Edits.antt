@@ -1,4 +1,5 @@
--- What an edit leaves as it was: the squares of the cells that it does not write, and the known words of other lengths.
+-- What an edit keeps: the squares of the cells it does not write, and the known words of other
+-- lengths.
 use Rattle.std.proofs.Common.{◌≡◌, ℕ, zero, suc, ◌*◌, ◌<◌, Bool, true, false, cond, not, List, [], ◌∷◌, map, length, get_or, set, eqb, Some, None, refl, sym, ◌∙◌, ap, subst, arith, inl, inr}
 use Rattle.std.specs.Prelude.{Option, Result, Ok, Err, Contains, slice_get, position, filter}
 use Rattle.std.proofs.lemmas.Bool.{cases_lt, cases_Bool, eqb-true, eqb-false, false≢true}
@@ -6,24 +7,24 @@ use Rattle.std.proofs.lemmas.List.{get_or-set_other, get_or-map, length-map}
 use Rattle.std.proofs.lemmas.List.Elements.{Contains-get_or}
 use Rattle.std.proofs.lemmas.List.FromFn.{get_or-map-range_with_len}
 use Rattle.std.proofs.lemmas.Option.{slice_get-get_or, slice_get_past}
-use Rattle.xw_bits.specs.declared.fault.WordFault.{WordFault}
+use Rattle.xw_words.specs.declared.fault.WordFault.{WordFault}
 use Rattle.xw_words.specs.declared.bank.Added.{Added}
 use Rattle.xw_letters.specs.Letter.{folded}
 use Rattle.xw_words.specs.Word.{is_bad_letter}
 use Rattle.xw_words.specs.Dictionary.{Entry, Dictionary, row, add_answer, after_add, strike_answer, after_strike}
-use Rattle.xw_cells.specs.declared.cell.Cell.{Cell}
-use Rattle.xw_cells.specs.declared.cell.Square.{Square}
-use Rattle.xw_cells.specs.declared.cell.Square.TheVariants.{Block, Open}
-use Rattle.xw_cells.specs.declared.cell.LightName.{LightName}
-use Rattle.xw_cells.specs.declared.cell.Side.{Side}
-use Rattle.xw_cells.specs.declared.cell.Symmetry.{Symmetry}
-use Rattle.xw_cells.specs.declared.fault.GridFault.{GridFault}
-use Rattle.xw_cells.specs.declared.fault.GridFault.TheVariants as grids
-use Rattle.xw_cells.specs.Grid.{Grid, IsGrid, is_inside, is_block, is_barred, is_open_square, letter_in, entry as entry_of, index_of, cells, cell_at}
+use Rattle.xw_grid.specs.declared.cell.Cell.{Cell}
+use Rattle.xw_grid.specs.declared.cell.Square.{Square}
+use Rattle.xw_grid.specs.declared.cell.Square.TheVariants.{Block, Open}
+use Rattle.xw_grid.specs.declared.cell.LightName.{LightName}
+use Rattle.xw_grid.specs.declared.cell.Side.{Side}
+use Rattle.xw_grid.specs.declared.cell.Symmetry.{Symmetry}
+use Rattle.xw_grid.specs.declared.fault.GridFault.{GridFault}
+use Rattle.xw_grid.specs.declared.fault.GridFault.TheVariants as grids
+use Rattle.xw_grid.specs.Grid.{Grid, IsGrid, is_inside, is_block, is_barred, is_open_square, letter_in, entry as entry_of, index_of, cells, cell_at}
 use Rattle.xw_grid.specs.Light.{lights_of, cells_of, place_named, no_light}
-use Rattle.xw_cells.specs.Edit.{with_entry, set_entry, set_symmetry, toggle_block, toggle_bar, with_orbit, with_edges, turned, square_of}
-use Rattle.xw_cells.specs.Orbit.{is_in_orbit, orbit_of}
-use Rattle.xw_cells.proofs.GridLemmas.{index_of-cell_at, length-cells, cell_at-inside}
+use Rattle.xw_grid.specs.Edit.{with_entry, set_entry, set_symmetry, toggle_block, toggle_bar, with_orbit, with_edges, turned, square_of}
+use Rattle.xw_grid.specs.Orbit.{is_in_orbit, orbit_of}
+use Rattle.xw_grid.proofs.GridLemmas.{index_of-cell_at, length-cells, cell_at-inside}
 use Rattle.xw_feas.specs.declared.edit.Refusal.{Refusal}
 use Rattle.xw_feas.specs.declared.edit.Refusal.TheVariants as refusals
 use Rattle.xw_feas.specs.Board.{board_of, entry, is_open, light_at}
@@ -33,7 +34,7 @@ use Rattle.xw_feas.proofs.WordsLemmas.{named_within}
 use Rattle.xw_net.specs.Region.{cells_found, same_entry, cells_changed, edited_cells, changes_words}
 use Rattle.xw_net.proofs.Writing.{StaysOrOpen, LeavesOpen, list_leaves}
 
--- a write leaves the other places
+-- a write keeps the other elements
 slice_get-set_other : {X : Type 0} (xs : List X) (at place : ℕ) (x : X) → (place ≡ at → ⊥) → slice_get (set xs at x) place ≡ slice_get xs place
 slice_get-set_other [] at place x apart = refl
 slice_get-set_other (y ∷ ys) zero zero x apart = absurd (apart refl)
@@ -56,7 +57,7 @@ entry_written grid new cell letter ok = by_tests (not (is_inside grid cell)) (is
   by_tests false true h = cc
   by_tests false false h = cc
 
--- the squares but those of some cells are as they were, and so is the size
+-- the squares of all other cells and the size are unchanged
 pub record IsWrittenAt (old new : Grid) (places : List ℕ) : Type 0 where
   pub width : new.width ≡ old.width
   pub height : new.height ≡ old.height
@@ -69,7 +70,7 @@ entry_kept grid new cell letter ok = subst (λ g. IsWrittenAt grid g (index_of g
   squares = λ place outside. slice_get-set_other grid.squares (index_of grid cell) place (Open letter) (λ e. outside (subst (λ p. Contains (index_of grid cell ∷ []) p) (sym e) (contains_first (index_of grid cell) [])));
 })
 
--- the letters of a word are written at the cells of its light
+-- placing a word writes the cells of its light only
 letters_kept : (grid : Grid) (light_cells : List Cell) (letters : List ℕ) → IsWrittenAt grid (with_letters grid light_cells letters) (map (index_of grid) light_cells)
 letters_kept grid [] letters = record { width = refl; height = refl; squares = λ place outside. refl }
 letters_kept grid (cell ∷ light_cells) [] = record { width = refl; height = refl; squares = λ place outside. refl }
@@ -102,7 +103,7 @@ word_kept grid new name bytes ok = by_place (place_named (lights_of grid) name) 
   by_place None is h = cc
   by_place (Some place) is h = by_word place (position is_bad_letter bytes) (omega (arith, named_within grid name place is, length-lights grid)) h
 
--- an element that passes is one of those that do
+-- an element that passes a filter is in the result
 pub contains_filtered : {X : Type 0} (test : X → Bool) (xs : List X) (x : X) → Contains xs x → test x ≡ true → Contains (filter test xs) x
 contains_filtered test [] x (k, below, at) passes = absurd (omega arith)
 contains_filtered test (y ∷ ys) x (zero, below, at) passes = rw (at, passes) (contains_first x (filter test ys))
@@ -165,14 +166,14 @@ bar_kept grid new cell side ok = by_tests _ _ ok where
       let is_new : with_edges grid cell side (not (is_barred grid cell side)) ≡ new = cc in
       subst (λ g. IsWrittenAt grid g []) is_new (record { width = refl; height = refl; squares = λ place outside. refl })
 
--- entries that are the same
+-- entries that compare as equal are equal
 same_entries : (one other : Option ℕ) → same_entry one other ≡ true → one ≡ other
 same_entries None None h = refl
 same_entries None (Some y) h = absurd (false≢true h)
 same_entries (Some x) None h = absurd (false≢true h)
 same_entries (Some x) (Some y) h = ap Some (eqb-true x y h)
 
--- what a list changes are the cells at which the entry is another one
+-- writing a list changes only the cells whose entry differs afterwards
 list_kept : (grid new : Grid) (list : List (Cell × Option ℕ)) → IsGrid grid → write_list list grid ≡ Ok new → IsWrittenAt grid new (edited_cells grid (list_written list))
 list_kept grid new list is ok = subst (λ r. IsWrittenAt grid new (map (index_of grid) (cells_changed grid (by_fault r)))) (sym ok) (record {
   width = ap (λ (g : Grid). g.width) leaves.alone;
@@ -212,7 +213,7 @@ pub by_fault-Ok : (result : Result Grid GridFault) (new : Grid) → by_fault res
 by_fault-Ok (Ok grid) new h = cc
 by_fault-Ok (Err fault) new h = cc
 
--- an edit writes its cells alone
+-- an edit writes its edited cells only
 pub written_after : (grid new : Grid) (action : Action) → IsGrid grid → grid_after grid action ≡ Ok new → IsWrittenAt grid new (edited_cells grid action)
 written_after grid new (letter_set cell letter) is h = entry_kept grid new cell (Some letter) (by_fault-Ok (set_entry grid cell (Some letter)) new h)
 written_after grid new (cell_cleared cell) is h = entry_kept grid new cell None (by_fault-Ok (set_entry grid cell None) new h)
@@ -266,7 +267,7 @@ rows_after_strike words new word (Ok place) count apart h =
     ap (λ d. row d count) (sym is) ∙ row_of_other words (length (map folded word)) count _ (ap (λ n. eqb n count) (length-map word folded) ∙ apart)
 rows_after_strike words new word (Err fault) count apart h = cc
 
--- an edit leaves the words of each length but that of its word
+-- an edit keeps the words of each length but that of its word
 pub row_after : (state next : State) (action : Action) (count : ℕ) → after state action ≡ Ok next → changes_words action count ≡ false → row next.words count ≡ row state.words count
 row_after state next (letter_set cell letter) count h no_words = ap (λ d. row d count) (with_grid-Ok state next (grid_after state.grid (letter_set cell letter)) h).1
 row_after state next (cell_cleared cell) count h no_words = ap (λ d. row d count) (with_grid-Ok state next (grid_after state.grid (cell_cleared cell)) h).1

@@ -1,4 +1,4 @@
--- A light is taken from the queue, and the end, where none is left in it.
+-- Taking a light from the queue, and the end of stripping, when the queue is empty.
 use Rattle.std.proofs.Common.{◌≡◌, ◌≢◌, ℕ, ◌<◌, Bool, true, false, not, ◌&&◌, eqb, Some, None, List, map, length, refl, sym, ap, ◌∙◌, subst, inl, inr, arith}
 use Rattle.std.specs.Prelude.{Option, is_some, unwrap_or}
 use Rattle.std.proofs.lemmas.Bool.{cases_Bool, cases_eq, both_ways, and_parts, and_from, or_cases, or_left, or_right, eq-eqb, eqb-true, not_from_false, false_from_ne_true, ne_eqb, false≢true}
@@ -14,7 +14,7 @@ use Rattle.xw_net.specs.Due.{due_letter, Measure, IsUnderway, and_light}
 use Rattle.xw_net.proofs.Dues.{due-le}
 use Rattle.xw_net.proofs.Rows.{letter_entered}
 
--- ---- a light is taken from the queue
+-- ---- taking a light from the queue
 
 module _ (board : Board) (dictionary : Dictionary) (marks : Marks) (queued : ℕ → Bool) (i : ℕ) (is : (j : ℕ) → queued j ≡ (marks.queued j && not (eqb j i))) where
   abbrev pub taken : Marks
@@ -66,7 +66,7 @@ module _ (board : Board) (dictionary : Dictionary) (marks : Marks) (queued : ℕ
     };
   }
 
--- a light whose letters all have words is kept with the others
+-- a light whose letters all have support joins the lights that are done
 pub kept_all : (board : Board) (dictionary : Dictionary) (measure : Measure) (marks : Marks) (i spent : ℕ)
     → ((place letter : ℕ) → IsPlace board i place → marks.letters (cell_at board i place) letter ≡ true → IsHeld board dictionary marks i place letter)
     → IsUnderway board dictionary measure marks (and_light marks.queued i) spent → IsUnderway board dictionary measure marks marks.queued spent
@@ -103,7 +103,7 @@ some_is (Some letter) h = refl
 some_is None h = absurd (false≢true h)
 
 module _ (board : Board) (entries : ℕ → List Entry) (dictionary : Dictionary) (position : IsPosition board entries dictionary) (marks : Marks) (settled : IsSettledNet board dictionary marks) where
-  -- a light whose entered word stands is wholly entered
+  -- a light with its entered word in the net is filled
   wholly_entered : (light : ℕ) → marks.words light (known board dictionary light) ≡ true → is_wholly_entered board (light_at board light) ≡ true
   wholly_entered light stands =
       let cells = light_at board light in
@@ -111,7 +111,7 @@ module _ (board : Board) (entries : ℕ → List Entry) (dictionary : Dictionary
       sym (get_or_push flags (is_wholly_entered board cells) false (known board dictionary light) (length-map (row dictionary (length cells)) (λ (word : Entry). not (is_wholly_entered board cells) && (word.active && agrees board cells word.word))))
       ∙ settled.ready.sound.within.words light (known board dictionary light) stands
 
-  -- and has each letter that stands at its cells
+  -- the entered word has each letter in the net at its cells
   entered_has : (light place letter : ℕ) → IsPlace board light place → marks.words light (known board dictionary light) ≡ true → marks.letters (cell_at board light place) letter ≡ true
       → letter_of board dictionary light (known board dictionary light) place ≡ letter
   entered_has light place letter here stands alive =
@@ -142,6 +142,6 @@ module _ (board : Board) (entries : ℕ → List Entry) (dictionary : Dictionary
         ];
   }
 
-  -- what stands is exactly what is feasible
+  -- the words and letters in the net are exactly the feasible ones
   pub settled_exact : IsExact board dictionary marks.words marks.letters
   settled_exact = exact_when_none_unsupported board dictionary marks.words marks.letters settled.ready.sound.covers settled.ready.sound.within supports_itself

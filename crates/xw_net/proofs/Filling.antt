@@ -1,18 +1,18 @@
--- A cell in which an edit enters a letter was open.
+-- A cell in which an edit writes a letter was open.
 use Rattle.std.proofs.Common.{◌≡◌, ℕ, zero, suc, ◌+◌, ◌-◌, ◌*◌, ◌<◌, Bool, true, false, cond, not, List, [], ◌∷◌, length, Some, None, refl, sym, ◌∙◌, ap, subst, arith}
 use Rattle.std.specs.Prelude.{Option, Ok, Err, Contains, slice_get, is_some, is_none}
 use Rattle.std.proofs.lemmas.Bool.{false≢true, and_parts}
 use Rattle.std.proofs.lemmas.List.{get_or_default}
 use Rattle.std.proofs.lemmas.Option.{slice_get-get_or}
-use Rattle.xw_cells.specs.declared.cell.Cell.{Cell}
-use Rattle.xw_cells.specs.declared.cell.Square.{Square}
-use Rattle.xw_cells.specs.declared.cell.Square.TheVariants.{Block, Open}
-use Rattle.xw_cells.specs.declared.fault.GridFault.TheVariants as grids
-use Rattle.xw_cells.specs.Grid.{Grid, IsGrid, is_inside, is_block, index_of, is_open_square, is_block_square, letter_in}
+use Rattle.xw_grid.specs.declared.cell.Cell.{Cell}
+use Rattle.xw_grid.specs.declared.cell.Square.{Square}
+use Rattle.xw_grid.specs.declared.cell.Square.TheVariants.{Block, Open}
+use Rattle.xw_grid.specs.declared.fault.GridFault.TheVariants as grids
+use Rattle.xw_grid.specs.Grid.{Grid, IsGrid, is_inside, is_block, index_of, is_open_square, is_block_square, letter_in}
 use Rattle.xw_grid.specs.Light.{lights_of, place_named}
-use Rattle.xw_cells.specs.Orbit.{is_in_orbit}
-use Rattle.xw_cells.specs.Edit.{set_entry, toggle_block, turned, square_of, with_entry}
-use Rattle.xw_cells.proofs.GridLemmas.{index_of-lt}
+use Rattle.xw_grid.specs.Orbit.{is_in_orbit}
+use Rattle.xw_grid.specs.Edit.{set_entry, toggle_block, turned, square_of, with_entry}
+use Rattle.xw_grid.proofs.GridLemmas.{index_of-lt}
 use Rattle.xw_grid.proofs.ChangeLemmas.{blocks_change_orbits}
 use Rattle.xw_feas.specs.Board.{board_of, entry, is_open, light_at}
 use Rattle.xw_feas.specs.State.{State, Action, grid_after, write_list, letter_set, cell_cleared, word_placed, list_written, block_toggled, bar_toggled, symmetry_chosen, word_added, word_struck}
@@ -37,7 +37,7 @@ open_unless_block : (square : Square) → is_block_square (Some square) ≡ fals
 open_unless_block Block h = absurd (false≢true (sym h))
 open_unless_block (Open entered) h = refl
 
--- where an entry is written there was no block
+-- an entry can only be written into a cell that is not a block
 entry_open : (grid new : Grid) (cell : Cell) (letter : Option ℕ) → IsGrid grid → is_inside grid cell ≡ true → set_entry grid cell letter ≡ Ok new → is_open (board_of grid) (index_of grid cell) ≡ true
 entry_open grid new cell letter is inside ok = by_tests (not (is_inside grid cell)) (is_block grid cell) refl ok where
   by_tests : (out block : Bool) → is_block grid cell ≡ block → cond out (Err grids.OutOfGrid) (cond block (Err grids.OnBlock) (Ok (with_entry grid cell letter))) ≡ Ok new → is_open (board_of grid) (index_of grid cell) ≡ true
@@ -47,7 +47,7 @@ entry_open grid new cell letter is inside ok = by_tests (not (is_inside grid cel
       is_open-there grid cell is inside
       ∙ open_unless_block (square_of grid cell) (ap is_block_square (sym (ap (λ i. cond i (slice_get grid.squares (index_of grid cell)) None) inside ∙ square_there grid cell is inside)) ∙ b)
 
--- a square that was turned, or not, and has a letter, was open
+-- a square with a letter was open, whether it was turned or not
 turned_open : (square : Square) (painted blocked : Bool) → is_some (letter_in (Some (cond painted (turned blocked square) square))) ≡ true → is_open_square (Some square) ≡ true
 turned_open Block true true h = absurd (false≢true h)
 turned_open Block true false h = absurd (false≢true h)

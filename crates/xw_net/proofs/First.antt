@@ -1,17 +1,17 @@
--- The first flag that stands, from a place on.
+-- The first set flag from an index on.
 use Rattle.std.proofs.Common.{◌≡◌, ℕ, ◌+◌, ◌-◌, ◌<◌, ◌≤◌, ◌++◌, Bool, true, false, List, [], ◌∷◌, length, get_or, drop, length-append, Some, None, refl, sym, ◌∙◌, ap, arith, inl, inr}
 use Rattle.std.specs.Prelude.{Option, position, option_map}
 use Rattle.std.proofs.lemmas.Bool.{cases_lt, both_ways, false≢true}
 use Rattle.std.proofs.lemmas.List.{get_or_past, get_or-drop, get_or_append_left, get_or_push}
 use Rattle.std.proofs.lemmas.List.Quantifiers.{position-Some}
-use Rattle.xw_letters.proofs.Position.{position-None}
+use Rattle.xw_text.proofs.Position.{position-None}
 use Rattle.xw_grid.specs.declared.lights.Light.{Light}
 use Rattle.xw_net.specs.Nets.{bits_for}
 use Rattle.xw_net.specs.Net.{flags_at, row_flags, first_from}
 use Rattle.xw_net.specs.declared.net.Net.{Net}
 use Rattle.xw_net.proofs.Settled.{flags_are}
 
--- a flag stands, and none from a place on before it
+-- a flag is set, and none before it from an index on
 pub record IsFirstFrom (flags : List Bool) (from choice : ℕ) : Type 0 where
   pub later : from ≤ choice
   pub within : choice < length flags
@@ -49,7 +49,7 @@ first-None flags from h k low = split (position (λ flag. flag) (drop from flags
         | inr past ↦ get_or_past (drop from flags) (k - from) false past
       ]
 
--- it is the only one
+-- the first set flag is unique
 first_is : (flags : List Bool) (from place : ℕ) → from ≤ place → get_or flags place false ≡ true → ((k : ℕ) → from ≤ k → k < place → get_or flags k false ≡ false) → first_from flags from ≡ Some place
 first_is flags from place later stands first = split (first_from flags from) refl where
   split : (found : Option ℕ) → first_from flags from ≡ found → found ≡ Some place
@@ -70,7 +70,7 @@ first_is_none flags from none = split (first_from flags from) refl where
   split None is = refl
   split (Some choice) is = let at = first-Some flags from choice is in absurd (both_ways (get_or flags choice false) (none choice at.later) at.stands)
 
--- the flags of a light: first those of the known words, then that of the word that is entered
+-- the flags of a light: first those of the known words, then that of the entered word
 in_bits : (bits : List Bool) (entered : Bool) (k : ℕ) → k < length bits → get_or (bits ++ entered ∷ []) k false ≡ get_or bits k false
 in_bits bits entered k lt = get_or_append_left bits (entered ∷ []) false k lt
 

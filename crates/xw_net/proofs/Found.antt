@@ -1,4 +1,4 @@
--- What a search for a word of a letter makes of the marks of a net.
+-- How a search for a support of a letter changes the marks of a net.
 use Rattle.std.proofs.Common.{◌≡◌, ◌≢◌, ℕ, ◌+◌, ◌-◌, ◌*◌, ◌/◌, ◌<◌, ◌≤◌, Bool, true, false, not, ◌&&◌, cond, eqb, ltb, List, length, get_or, set, refl, sym, ap, ◌∙◌, subst, inl, inr, arith}
 use Rattle.std.proofs.lemmas.Bool.{cases_lt, cases_Bool, both_ways, and_parts, and_from, and_right, eq-eqb, eqb-true, lt-ltb, le-ltb, not_from_true, false_from_ne_true, or_cases, or_left, or_right}
 use Rattle.std.proofs.lemmas.List.{get_or-set_same, get_or-set_other, get_or_past}
@@ -40,14 +40,14 @@ supports-from : (row : List Bool) (words : List Entry) (position letter k : ℕ)
 unfolding supports
 supports-from row words position letter k in_row has = and_from (get_or row k false) (has_letter words position letter k) in_row has
 
--- places of held words are apart
+-- different slots and letters have different places in the list of held words
 apart_places : (s slot d b : ℕ) → IsLetter d → IsLetter b → ((s ≡ slot) × (d ≡ b) → ⊥) → 26 * s + (d - 65) ≢ 26 * slot + (b - 65)
 apart_places s slot d b is_d is_b n e =
     let slots : s ≡ slot = omega (arith, e, is_d.0, is_d.1, is_b.0, is_b.1) in
     let letters : d ≡ b = omega (arith, e, slots, is_d.0, is_b.0) in
     n (slots, letters)
 
--- an outcome, said of what is the same
+-- the outcome of a search, for equal arguments
 pub finds_at : (row row' : List Bool) (words words' : List Entry) (q b slot slot' spent : ℕ) (found : Bool) (old old' new new' : Held) → row ≡ row' → words ≡ words' → slot ≡ slot' → old ≡ old' → new ≡ new'
     → Finds row words q slot b old new found spent → Finds row' words' q slot' b old' new' found spent
 finds_at row row' words words' q b slot slot' spent found old old' new new' rows words_are slots olds news finds =
@@ -83,7 +83,7 @@ module _ (board : Board) (entries : ℕ → List Entry) (dictionary : Dictionary
   abbrev IsOutcome : Type 0
   IsOutcome = Finds (bits_for old i) (entries (length (light_at board i))) q (slot_at board i q) b before after found spent
 
-  -- a word that stands is known, since none is entered
+  -- each word in the net is a known one, since the entered word is not
   in_row : (k : ℕ) → word_stands old i k ≡ true → (k < known board dictionary i) × (get_or (bits_for old i) k false ≡ true)
   in_row k h =
       elim (word_cases old i k h) [
@@ -91,7 +91,7 @@ module _ (board : Board) (entries : ℕ → List Entry) (dictionary : Dictionary
         | spelled_one is flag ↦ absurd (both_ways (get_or old.entered.items i false) no_entry flag)
       ]
 
-  -- and one that has the letter is not before the chunk where the search goes on
+  -- a word in the net that has the letter is not before the chunk where the search goes on
   not_before : IsSound board dictionary (marks_of old) → letter_stands old (cell_at board i q) b ≡ true → (k : ℕ) → word_stands old i k ≡ true → puts board dictionary i q b k ≡ true → 64 * search_from before (slot_at board i q) b (length (bits_for old i)) ≤ k
   unfolding held_in restart_in
   not_before sound stood k stands_there has =
@@ -142,7 +142,7 @@ module _ (board : Board) (entries : ℕ → List Entry) (dictionary : Dictionary
   unfolding letter_stands
   stands_letter x d h = set_letter (get_or old.letters.items x 0) d h
 
-  -- ---- a word is found
+  -- ---- the search finds a word
 
   pub found_held : IsOutcome → found ≡ true → IsHeld board dictionary (marks_of new) i q b
   unfolding held_in
@@ -158,14 +158,14 @@ module _ (board : Board) (entries : ℕ → List Entry) (dictionary : Dictionary
   found_stays (moves word has_word gone low sup none places long again cost) is j r d here is_d held = hung_stays board dictionary position.apart (marks_of old) (marks_of new) i q b place letter word (hung word sup places) j r d here is_d held
   found_stays (nowhere lacks gone none same cost) is j r d here is_d held = absurd (both_ways found lacks is)
 
-  -- where none is found the others keep theirs
+  -- if it finds none, the other letters keep their supports
   pub none_stays : IsOutcome → found ≡ false → (last : Net) → ((j k : ℕ) → word_stands last j k ≡ word_stands new j k) → ((s d : ℕ) → held_in last s d ≡ held_in new s d) → (j r d : ℕ) → IsHeld board dictionary (marks_of old) j r d → IsHeld board dictionary (marks_of last) j r d
   none_stays (stands has_word lt bit same none) is last words_are held_are j r d held = absurd (both_ways found is has_word)
   none_stays (moves word has_word gone low sup none places long again cost) is last words_are held_are j r d held = absurd (both_ways found is has_word)
   none_stays (nowhere lacks gone none same cost) is last words_are held_are j r d held =
       same_stays board dictionary position.apart (marks_of old) (marks_of last) (λ j k. words_are j k ∙ words_same j k) (λ s d. held_are s d ∙ same_held same s d) j r d held
 
-  -- a known word that is held has its letter, still
+  -- each held known word still has its letter
   pub found_holding : IsOutcome → IsHolding board dictionary (marks_of old) → IsHolding board dictionary (marks_of new)
   found_holding (stands has_word lt bit same none) = same_holding board dictionary (marks_of old) (marks_of new) (same_held same)
   found_holding (moves word has_word gone low sup none places long again cost) =
@@ -257,7 +257,7 @@ module _ (board : Board) (entries : ℕ → List Entry) (dictionary : Dictionary
         }
     found_kept (nowhere lacks gone none same cost) is = absurd (both_ways found lacks is)
 
-    -- ---- no word is found
+    -- ---- the search finds no word
 
     pub none_kept : IsOutcome → found ≡ false → (last : Net) → ((j k : ℕ) → word_stands last j k ≡ word_stands new j k) → ((s d : ℕ) → held_in last s d ≡ held_in new s d) → ((s d : ℕ) → restart_in last s d ≡ restart_in new s d)
         → Drops board i q b (marks_of new) (marks_of last) → IsUnderway board dictionary measure (marks_of last) (and_light (queued_in last) i) ticks'

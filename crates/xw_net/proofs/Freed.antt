@@ -1,10 +1,10 @@
--- Letters that come back at the cells of lights that are gone.
+-- Letters that come back at the cells of removed lights.
 use Rattle.std.proofs.Common.{◌≡◌, ℕ, ◌+◌, Bool, List, refl, sym, ◌∙◌, subst, inl, inr, arith}
 use Rattle.std.specs.Prelude.{◌⊎◌}
 use Rattle.std.proofs.lemmas.Option.{slice_get_within}
 use Rattle.std.proofs.lemmas.Bool.{cases_eq}
 use Rattle.xw_grid.specs.declared.lights.Light.{Light}
-use Rattle.xw_cells.specs.Grid.{Grid}
+use Rattle.xw_grid.specs.Grid.{Grid}
 use Rattle.xw_feas.specs.Board.{Board}
 use Rattle.xw_net.specs.Spread.{HasSeeds}
 use Rattle.xw_net.specs.Gone.{IsAlong, IsAmong, IsGone, IsFreed, IsFreedAt, Raises}
@@ -56,7 +56,7 @@ module _ (board : Board) where
     within = λ member start reached. a.within member start (λ cell light place is lacks here at. reached cell light place (to cell is) lacks here at);
   }
 
--- ---- one place or light more
+-- ---- one more position or light
 
 pub among_more : (grid : Grid) (light : Light) (count cell : ℕ) → IsAmong grid light count cell → IsAmong grid light (count + 1) cell
 among_more grid light count cell is = record { place = is.place; below = omega (arith, is.below); along = is.along }
@@ -82,6 +82,6 @@ freed_split grid before after count cell is = elim (cases_eq is.other count) [
   | inr apart ↦ inl (record { other = is.other; below = omega (arith, is.below, apart); light = is.light; gone = is.gone; among = is.among })
 ]
 
--- where the lights are those of before, none is gone
+-- if the lights stay, none was removed
 pub none_freed : (grid : Grid) (before after : List Light) (count cell : ℕ) → after ≡ before → IsFreed grid before after count cell → ⊥
 none_freed grid before after count cell same is = none_new after before (sym same) is.other (slice_get_within before is.other is.light is.gone.at) is.gone.none

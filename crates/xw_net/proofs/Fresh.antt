@@ -1,4 +1,5 @@
--- A net from which stripping may start: all base words and all letters that may stand, no word looked up, and each light to be seen to.
+-- A net from which stripping can start: it has all base words and all allowed letters, no supports,
+-- and each light is queued.
 use Rattle.std.proofs.Common.{◌≡◌, ℕ, zero, suc, ◌+◌, ◌<◌, ◌≤◌, Bool, true, false, not, ◌&&◌, List, [], ◌∷◌, length, get_or, refl, sym, ap, ◌∙◌, subst, inl, inr, arith}
 use Rattle.std.specs.Prelude.{is_some, unwrap_or}
 use Rattle.std.proofs.lemmas.Bool.{false_from_ne_true, cases_Bool, cases_lt, both_ways, and_parts, and_from, or_left, eq-eqb, false≢true}
@@ -17,7 +18,7 @@ use Rattle.xw_net.specs.Brought.{IsBrought}
 use Rattle.xw_net.proofs.Rows.{choice_listed, letter_entered}
 use Rattle.xw_net.proofs.Ending.{some_is}
 
--- each cell agrees with its letter
+-- each cell allows the letter at its position
 agrees_at : (board : Board) (cells letters : List ℕ) (k : ℕ) → agrees board cells letters ≡ true → k < length cells → allows (entry board (get_or cells k 0)) (get_or letters k 0) ≡ true
 agrees_at board [] letters k h lt = absurd (omega arith)
 agrees_at board (cell ∷ cells) [] k h lt = absurd (false≢true h)
@@ -33,7 +34,7 @@ module _ (board : Board) (entries : ℕ → List Entry) (dictionary : Dictionary
       let cell = cell_at board light place in
       and_from (is_open board cell && is_capital letter) (allows (entry board cell) letter) (and_from (is_open board cell) (is_capital letter) (position.laid_out.cells_open light place here.1) capital) allowed
 
-  -- each letter of a base word may stand at its cell
+  -- each letter of a base word is allowed at its cell
   pub base_letter_may : (light place choice : ℕ) → IsPlace board light place → is_base_at board dictionary light choice ≡ true → may_stand board (cell_at board light place) (letter_of board dictionary light choice place) ≡ true
   base_letter_may light place choice here base =
       let cells = light_at board light in
@@ -65,7 +66,7 @@ module _ (board : Board) (entries : ℕ → List Entry) (dictionary : Dictionary
             (may_from light place own here (letter_is_capital own (position.laid_out.letters (cell_at board light place) own holds)) (ap (λ o. allows o own) holds ∙ eq-eqb own own refl))
       ]
 
-  -- so the letters of words that stand may stand, where these are base words
+  -- if all words are base words, their letters are allowed
   pub fresh_ready : (marks : Marks)
       → ((light choice : ℕ) → marks.words light choice ≡ true → light < length board.lights)
       → ((light choice : ℕ) → light < length board.lights → marks.words light choice ≡ is_base_at board dictionary light choice)
@@ -97,7 +98,8 @@ module _ (board : Board) (entries : ℕ → List Entry) (dictionary : Dictionary
     held = λ light place letter here off alive. absurd (both_ways (marks.queued light) off (queued light here.0));
   }
 
--- where words and letters came back at all lights, from a net in which no word stood and every letter that may
+-- the marks after words came back at all lights, to a net without words and with all allowed
+-- letters
 pub brought_ready_all : (board : Board) (entries : ℕ → List Entry) (dictionary : Dictionary) → IsPosition board entries dictionary → (old new : Marks) (chain : ℕ → Bool) → IsBrought board dictionary old new chain
     → ((light : ℕ) → light < length board.lights → chain light ≡ true)
     → ((light choice : ℕ) → old.words light choice ≡ false)

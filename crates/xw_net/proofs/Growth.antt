@@ -1,4 +1,4 @@
--- A revival by steps: a light that is revived stays so while words and letters come elsewhere.
+-- A revived light stays revived while words and letters come back elsewhere.
 use Rattle.std.proofs.Common.{ℕ, ◌<◌, length}
 use Rattle.std.specs.Prelude.{Bool, Option, IsTrue, ◌↔◌, slice_index}
 use Rattle.xw_words.specs.Dictionary.{Dictionary}
@@ -7,7 +7,7 @@ use Rattle.xw_net.specs.Revival.{IsLightRevived, AreCellsRevived}
 
 module _ (before after : Board) (old new : Dictionary) (same : ℕ → Option ℕ) (words letters words' letters' words'' letters'' : ℕ → ℕ → Bool)
     (more : (cell letter : ℕ) → IsTrue (letters' cell letter) → IsTrue (letters'' cell letter)) where
-  -- its words are as they were, and no letter came to its cells
+  -- its words are unchanged, and no letter came back at its cells
   pub light_stays_revived : (light : ℕ) → IsLightRevived before after old new same words letters words' letters' light
       → ((choice : ℕ) → IsTrue (words'' light choice) ↔ IsTrue (words' light choice))
       → ((k letter : ℕ) → k < length (light_at after light) → IsTrue (letters'' (slice_index (light_at after light) k) letter) → IsTrue (letters' (slice_index (light_at after light) k) letter))

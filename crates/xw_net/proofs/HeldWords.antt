@@ -1,4 +1,4 @@
--- A known word that is held for a letter has it, through each search for a word.
+-- Each held known word has its letter, through every search.
 use Rattle.std.proofs.Common.{◌≡◌, ℕ, ◌<◌, true, ap, ◌∙◌, sym, subst, inl, inr, arith}
 use Rattle.std.proofs.lemmas.Bool.{cases_eq}
 use Rattle.xw_letters.specs.Letter.{is_capital}
@@ -13,11 +13,11 @@ module _ (board : Board) (dictionary : Dictionary) (marks new : Marks) where
       → new.held (slot_at board light place) letter < known board dictionary light → puts board dictionary light place letter (new.held (slot_at board light place) letter) ≡ true
   held_same light place letter same holding here capital lt = ap (puts board dictionary light place letter) same ∙ holding light place letter here capital (omega (arith, same, lt))
 
-  -- nothing else is held
+  -- the held words are unchanged
   pub same_holding : ((slot letter : ℕ) → new.held slot letter ≡ marks.held slot letter) → IsHolding board dictionary marks → IsHolding board dictionary new
   same_holding same holding light place letter here capital lt = held_same light place letter (same (slot_at board light place) letter) holding here capital lt
 
-  -- a word that has the letter is held at one place
+  -- a word that has the letter becomes the held one
   pub hung_holding : AreSlotsApart board → (i q b word : ℕ) → IsPlace board i q → IsHung board dictionary marks new i q b word → puts board dictionary i q b word ≡ true → IsHolding board dictionary marks → IsHolding board dictionary new
   hung_holding apart i q b word place hung has holding light r letter here capital lt =
       let other = λ (n : (slot_at board light r ≡ slot_at board i q) × (letter ≡ b) → ⊥).

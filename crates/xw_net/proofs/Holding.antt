@@ -1,4 +1,4 @@
--- What is held and pending at the beginning of a settling.
+-- The held words and the pending letters at the start of an update.
 use Rattle.std.proofs.Common.{◌≡◌, ℕ, ◌+◌, ◌-◌, ◌*◌, ◌<◌, ◌≤◌, Bool, true, false, cond, ◌&&◌, leb, ltb, eqb, List, [], ◌∷◌, map, length, get_or, Some, None, lit<, lit≤, refl, sym, ◌∙◌, ap, subst, arith, inl, inr}
 use Rattle.std.specs.Prelude.{Option}
 use Rattle.std.proofs.lemmas.Bool.{cases_lt, cases_eq, cases_Bool, both_ways, and_from, and_parts, or_left, eq-eqb, le-leb, leb-false, ltb-false}
@@ -27,7 +27,7 @@ use Rattle.xw_net.proofs.Rooms.{known_few}
 use Rattle.xw_net.proofs.Same.{same_is_matching}
 use Rattle.xw_net.proofs.BaseLemmas.{length-base_bits}
 
--- a number that is held still was held, and is before the first that is lost
+-- a number that is still held was held before, and is below the first one forgotten
 lose_below : (first held many : ℕ) → many ≤ nowhere → lose first held < many → (lose first held ≡ held) × (held < first)
 lose_below first held many few below = split (ltb first nowhere) (leb first held) refl refl below where
   split : (a b : Bool) → ltb first nowhere ≡ a → leb first held ≡ b → cond a (cond b nowhere held) held < many → (cond a (cond b nowhere held) held ≡ held) × (held < first)
@@ -35,12 +35,12 @@ lose_below first held many few below = split (ltb first nowhere) (leb first held
   split true false small before lt = (refl, leb-false first held before)
   split false b large is lt = (refl, omega (arith, lt, few, ltb-false first nowhere large))
 
--- a new light holds nothing any more
+-- a new light forgets all its held words
 new_loses : (word : Option (ℕ × ℕ)) (size many : ℕ) → lost_from word None size many ≡ 0
 new_loses None size many = refl
 new_loses (Some word) size many = refl
 
--- what a net holds, carried to another place of the same slot
+-- the held words of a net, moved to another position with the same slot
 module _ (before now : State) (action : Action) (change : Change) (is : IsChange before now action change) (settled net opened : Net)
     (is_settled : IsSettledNet (board_of before.grid) before.words (marks_of settled)) (holding : IsHolding (board_of before.grid) before.words (marks_of settled)) (moved : IsMoved before now settled net)
     (opening : IsOpening now.grid (board_of now.grid) (lights_of now.grid) (row now.words) change (arrays_of net) (arrays_of opened))
@@ -76,7 +76,7 @@ module _ (before now : State) (action : Action) (change : Change) (is : IsChange
       ∙ ap (λ f. lose f (get_or net.held.items (26 * slot_at (board_of now.grid) light place + (letter - 65)) 0)) (lost_is light)
       ∙ ap (λ hs. lose (lost light) (get_or hs (26 * slot_at (board_of now.grid) light place + (letter - 65)) 0)) moved.held
 
-  -- ---- lights that are no seeds
+  -- ---- lights that are not seeds
 
   none_lost : (light : ℕ) → light < length (board_of now.grid).lights → seed light ≡ false → lost light ≡ nowhere
   none_lost light in_board no_seed = by_match (same_light before.grid now.grid light) refl where
@@ -105,7 +105,7 @@ module _ (before now : State) (action : Action) (change : Change) (is : IsChange
   opened_held light place letter here capital no_seed =
       held_now light place letter here capital ∙ ap (λ f. lose f (held_in settled (slot_at (board_of now.grid) light place) letter)) (none_lost light here.0 no_seed)
 
-  -- ---- what is pending
+  -- ---- pending letters
 
   pub opened_pending : (light place letter : ℕ) → IsPlace (board_of now.grid) light place → pending_in opened (slot_at (board_of now.grid) light place) letter ≡ false
   unfolding pending_in
@@ -120,9 +120,9 @@ module _ (before now : State) (action : Action) (change : Change) (is : IsChange
           (ap (λ s. pending_in settled s letter) (sym (same_slot light other place here.0 at)) ∙ ap (λ ps. Rattle.xw_feas.specs.Flags.set_has ps (slot_at (board_of now.grid) light place) letter) (sym moved.pending) ∙ had))
     ]
 
-  -- ---- words that are held still
+  -- ---- words that are still held
 
-  -- a known word that is not the changed one of its length, or not the last one, was known
+  -- a known word was known before, unless it is the changed word and the last one of its length
   was_known : (light held : ℕ) → held < known (board_of now.grid) now.words light
       → ((word : ℕ × ℕ) → change.word ≡ Some word → word.0 ≡ length (light_at (board_of now.grid) light) → known (board_of now.grid) now.words light ≤ word.1 + 1 → held ≡ word.1 → ⊥)
       → held < length (row before.words (length (light_at (board_of now.grid) light)))
@@ -148,7 +148,7 @@ module _ (before now : State) (action : Action) (change : Change) (is : IsChange
       ]
     ]
 
-  -- its number is that of the same word
+  -- its number denotes the same word as before
   same_word : (light other held : ℕ) → light < length (board_of now.grid).lights → same_light before.grid now.grid light ≡ Some other → held < known (board_of now.grid) now.words light → held < length (row before.words (length (light_at (board_of now.grid) light)))
       → get_or (choices (board_of now.grid) now.words (light_at (board_of now.grid) light)) held [] ≡ get_or (choices (board_of before.grid) before.words (light_at (board_of before.grid) other)) held []
   same_word light other held in_board at below had =

@@ -1,4 +1,4 @@
--- A light whose entries and words are as they were has the base words that it had.
+-- A light whose entries and known words are unchanged has the same base words as before.
 use Rattle.std.proofs.Common.{◌≡◌, ℕ, suc, true, false, not, ◌&&◌, List, [], ◌∷◌, map, length, get_or, Some, refl, sym, ◌∙◌, ap, arith, inl, inr}
 use Rattle.std.specs.Prelude.{Option, Contains, is_some}
 use Rattle.std.proofs.lemmas.Bool.{and_parts, and_from, cases_lt}
@@ -12,11 +12,11 @@ use Rattle.xw_feas.proofs.Support.{set_flag_within}
 use Rattle.xw_net.specs.Chain.{IsKept}
 use Rattle.xw_net.proofs.Revival.{was-from}
 
--- the cells hold what they held
+-- the cells have the same entries
 abbrev pub HaveSameEntries : Board → Board → List ℕ → Type 0
 HaveSameEntries before after cells = (cell : ℕ) → Contains cells cell → entry after cell ≡ entry before cell
 
--- what they hold now allows no letter that it did not
+-- the cells allow no letter that they did not allow before
 abbrev pub AllowNoMore : Board → Board → List ℕ → Type 0
 AllowNoMore before after cells = (cell : ℕ) → Contains cells cell → (letter : ℕ) → allows (entry after cell) letter ≡ true → allows (entry before cell) letter ≡ true
 
@@ -47,7 +47,8 @@ spelled_same before after (cell ∷ cells) same =
     let rest = spelled_same before after cells (λ other in_cells. same other (later other cell cells in_cells)) in
     rw (first, rest) refl
 
--- no base word comes to a light where no entry allows more, no word becomes active, and none is entered in whole but the one that was
+-- no base word comes to a light if its cells allow no more, no word becomes active, and it is not
+-- newly filled
 pub record IsNarrowed (before after : Board) (old new : Dictionary) (cells : List ℕ) : Type 0 where
   pub entries : AllowNoMore before after cells
   pub words : spellings new (length cells) ≡ spellings old (length cells)
@@ -67,7 +68,7 @@ narrowed_same before after old new cells same words = record {
 abbrev pub WasChoice : Board → Board → Dictionary → Dictionary → List ℕ → ℕ → Type 0
 WasChoice before after old new cells choice = (get_or (base_flags before old cells) choice false ≡ true) × (get_or (choices before old cells) choice [] ≡ get_or (choices after new cells) choice [])
 
--- then each base word is one of those that were, by the same number
+-- then each base word was one before, with the same number
 pub narrowed_choice : (before after : Board) (old new : Dictionary) (cells : List ℕ) → IsNarrowed before after old new cells → (choice : ℕ) → get_or (base_flags after new cells) choice false ≡ true → WasChoice before after old new cells choice
 narrowed_choice before after old new cells narrow choice h =
     let within = set_flag_within (base_flags after new cells) choice h in

@@ -1,4 +1,5 @@
--- There is a least region: the lights that are in every closed set of lights. So a bound by the cost of each closed set is one by the cost of the region.
+-- There is a least region: the lights that are in every closed set of lights. So a bound by the
+-- cost of every closed set is a bound by the cost of the region.
 use Rattle.std.proofs.Common.{◌≡◌, ℕ, zero, suc, ◌≤◌, Bool, true, false, cond, not, ◌&&◌, ◌||◌, eqb, List, [], ◌∷◌, ◌++◌, map, length, Some, None, refl, sym, ◌∙◌, ap, subst, arith, inl, inr}
 use Rattle.std.proofs.lemmas.List.Elements.{Contains-append_cases, Contains-append_left, Contains-append_right, All-contains, filter_passes}
 use Rattle.std.specs.Prelude.{filter, ◌↔◌, Option, Contains, bytes_eq}
@@ -13,7 +14,7 @@ use Rattle.xw_net.proofs.CostSums.{sum_below-le, cost-places}
 use Rattle.xw_net.proofs.Edits.{contains_first, contains_later, contains_filtered, contains_mapped}
 use Rattle.std.proofs.lemmas.Slice.Eq.{bytes_eq-Decides}
 
--- ---- tests on all and some elements
+-- ---- tests of all and of some elements
 
 all_from : {X : Type 0} (test : X → Bool) (xs : List X) → ((x : X) → Contains xs x → test x ≡ true) → list_all test xs ≡ true
 all_from test [] each = refl
@@ -36,9 +37,9 @@ any_gives test (y ∷ ys) h = elim (or_cases (test y) (list_any test ys) h) [
   | inr there ↦ let found = any_gives test ys there in (found.0, contains_later found.0 y ys found.1, found.2)
 ]
 
--- ---- the parts of a list
+-- ---- the sublists of a list
 
--- every choice of elements, those that a test picks among them
+-- all sublists; each set that a test selects is among them
 abbrev parts_of : {X : Type 0} → List X → List (List X)
 parts_of [] = [] ∷ []
 parts_of (x ∷ xs) = parts_of xs ++ map (λ part. x ∷ part) (parts_of xs)
@@ -50,7 +51,7 @@ part_picked test (x ∷ xs) = by_test (test x) (part_picked test xs) where
   by_test true rest = Contains-append_right (parts_of xs) (map (λ part. x ∷ part) (parts_of xs)) (x ∷ filter test xs) (contains_mapped (λ part. x ∷ part) (parts_of xs) (filter test xs) rest)
   by_test false rest = Contains-append_left (parts_of xs) (map (λ part. x ∷ part) (parts_of xs)) (filter test xs) rest
 
--- ---- the least closed set among some lights
+-- ---- the least closed set of some lights
 
 abbrev among : List (List ℕ) → List ℕ → Bool
 among part light = list_any (bytes_eq light) part
@@ -63,7 +64,7 @@ among_gives part light h =
     let found = any_gives (bytes_eq light) part h in
     subst (Contains part) (sym ((bytes_eq-Decides light found.0).0 found.2)) found.1
 
--- a test that follows from another
+-- implication of tests
 abbrev if_then : Bool → Bool → Bool
 if_then first second = not first || second
 
@@ -103,7 +104,7 @@ module _ (all : List (List ℕ)) (seed : List ℕ → Bool) (link : List ℕ →
       (all_gives (λ l. list_all (λ o. if_then (among part l && link l o) (among part o)) all) all links light there) other there')
       (and_from _ _ here linked)))
 
-  -- it is in each set that is closed
+  -- the least set is in each closed set
   least_is_least : (member : List ℕ → Bool) → ((light : List ℕ) → Contains all light → seed light ≡ true → member light ≡ true)
       → ((light other : List ℕ) → Contains all light → Contains all other → member light ≡ true → link light other ≡ true → member other ≡ true)
       → (light : List ℕ) → least light ≡ true → member light ≡ true
@@ -128,7 +129,7 @@ module _ (all : List (List ℕ)) (seed : List ℕ → Bool) (link : List ℕ →
 
 -- ---- the least region of an edit
 
--- where exactly the feasible letters are marked before and after, it can be told which cells are settled
+-- with exactly the feasible letters before and after, a test can decide which cells are settled
 abbrev settled_by : (ℕ → Bool) → (ℕ → Bool) → Option ℕ → Option ℕ → Bool
 settled_by first second None entry = false
 settled_by first second (Some letter) None = false
@@ -207,7 +208,7 @@ module _ (before now : State) (action : Action) (words letters words' letters' :
         absurd (apart (among_gives lights_before light parts.0) (among_gives lights_now light parts.1))
   ]
 
-  -- it is closed
+  -- the region is closed
   pub region_is_region : IsRegion before now action region
   region_is_region = record {
     edited = λ light cell there through in_edit. seed_in light there (or_left _ _ (any_from (λ c. list_any (λ other. eqb c other) (edited_cells before.grid action)) light cell through (holds_from (edited_cells before.grid action) cell in_edit)));
@@ -223,7 +224,7 @@ module _ (before now : State) (action : Action) (words letters words' letters' :
       | inl on ↦ absurd (unsettled (settled-gives cell on))
     ]
 
-  -- and each closed set has all of it
+  -- each closed set contains the region
   pub region_is_least : (member : List ℕ → Bool) → IsRegion before now action member → (light : List ℕ) → region light ≡ true → member light ≡ true
   unfolding region
   region_is_least member closed light has = least_is_least all_lights seed link member seeds links light has where
@@ -247,7 +248,7 @@ module _ (before now : State) (action : Action) (words letters words' letters' :
         let parts = and_parts (not (settled found.0)) (list_any (λ c. eqb found.0 c) o) found.2 in
         closed.spreads l o found.0 has_l (stands_back l there) (stands_back o there') found.1 (holds_gives o found.0 parts.1) (λ is. both_ways _ (not-true _ parts.0) (settled-from found.0 is))
 
-  -- so to be within the cost of each closed set is to be within its cost
+  -- so being within the cost of every closed set is the same as being within the cost of the region
   pub within_cost : (ticks : ℕ) → IsWithinCost before now action ticks ↔ (ticks ≤ cost now region)
   within_cost ticks = (
     (λ within. within region region_is_region),

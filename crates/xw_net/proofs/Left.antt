@@ -1,4 +1,4 @@
--- What stripping leaves as it is.
+-- What stripping keeps.
 use Rattle.std.proofs.Common.{◌≡◌, ℕ, ◌≤◌, ◌<◌, not, List, length, count_by, refl, sym, ap, subst, ◌∙◌, arith}
 use Rattle.std.specs.Prelude.{vec_capacity, vec_len, vec_items, All}
 use Rattle.xw_net.specs.Room.{row_at}
@@ -31,7 +31,7 @@ left_left f g = record {
   queue = omega (arith, f.queue, g.queue);
 }
 
--- another list for the queue, with no less room
+-- replacing the queue by one with at least as much room
 pub left_queue : (net other : Net) → other ≡ record net { queue = other.queue } → vec_capacity net.queue ≤ vec_capacity other.queue → IsLeft net other
 left_queue net other same enough = record {
   base = ap (λ (n : Net). n.base) same;
@@ -43,7 +43,7 @@ left_queue net other same enough = record {
   queue = enough;
 }
 
--- what a chain needs is there still
+-- the arrays that a chain needs stay
 pub left_chained : (board : Board) (old new : Net) → IsLeft old new → IsChained board old → IsChained board new
 left_chained board old new left chained = record {
   base = omega (arith, chained.base, ap (λ v. vec_len v) left.base);
@@ -52,7 +52,7 @@ left_chained board old new left chained = record {
   room = omega (arith, chained.room, ap (λ v. vec_len v) left.stack, ap (λ v. vec_capacity v) left.stack, ap (λ v. count_by (λ mark. not mark) (vec_items v)) left.is_marked);
 }
 
--- base rows for the same words
+-- base rows for equal words
 pub base_read : (board : Board) (entries entries' : ℕ → List Entry) (base : List RowOfBits) → ((count : ℕ) → entries count ≡ entries' count) → HasBase board entries base → HasBase board entries' base
 base_read board entries entries' base same has = record {
   rows = has.rows;

@@ -1,14 +1,14 @@
--- The cells that an edit writes are cells of the grid.
+-- The cells that an edit writes are in the grid.
 use Rattle.std.proofs.Common.{◌≡◌, ℕ, zero, suc, ◌*◌, ◌<◌, Bool, true, false, cond, not, ◌&&◌, filter, List, [], ◌∷◌, map, length, get_or, Some, None, refl, sym, ◌∙◌, ap, subst, arith}
 use Rattle.std.specs.Prelude.{Option, Result, Ok, Err, Contains, nat_le}
 use Rattle.std.proofs.lemmas.List.FromFn.{get_or-map-range_with_len}
-use Rattle.xw_cells.specs.declared.cell.Cell.{Cell}
-use Rattle.xw_cells.specs.declared.fault.GridFault.TheVariants as grids
-use Rattle.xw_cells.specs.Grid.{Grid, IsGrid, is_inside, is_block, cells, cell_at, entry}
+use Rattle.xw_grid.specs.declared.cell.Cell.{Cell}
+use Rattle.xw_grid.specs.declared.fault.GridFault.TheVariants as grids
+use Rattle.xw_grid.specs.Grid.{Grid, IsGrid, is_inside, is_block, cells, cell_at, entry}
 use Rattle.xw_grid.specs.Light.{lights_of, place_named, no_light}
-use Rattle.xw_cells.specs.Orbit.{orbit_of, is_in_orbit}
-use Rattle.xw_cells.specs.Edit.{set_entry, with_entry}
-use Rattle.xw_cells.proofs.GridLemmas.{cell_at-inside, length-cells}
+use Rattle.xw_grid.specs.Orbit.{orbit_of, is_in_orbit}
+use Rattle.xw_grid.specs.Edit.{set_entry, with_entry}
+use Rattle.xw_grid.proofs.GridLemmas.{cell_at-inside, length-cells}
 use Rattle.xw_grid.proofs.LightLemmas.{length-line, get_or-line}
 use Rattle.xw_grid.proofs.PlaceLemmas.{light_inside}
 use Rattle.xw_feas.specs.declared.edit.Refusal.{Refusal}
@@ -24,11 +24,11 @@ use Rattle.xw_net.proofs.Changing.{size_kept}
 abbrev inside_of : ℕ → ℕ → Cell → Bool
 inside_of height width cell = (nat_le 1 cell.row && nat_le cell.row height) && (nat_le 1 cell.col && nat_le cell.col width)
 
--- grids of one size have the same cells
+-- grids of the same size have the same cells
 pub inside_sized : (grid other : Grid) → other.width ≡ grid.width → other.height ≡ grid.height → (cell : Cell) → is_inside grid cell ≡ true → is_inside other cell ≡ true
 inside_sized grid other wide high cell h = subst (λ n. inside_of n other.width cell ≡ true) (sym high) (subst (λ n. inside_of grid.height n cell ≡ true) (sym wide) h)
 
--- a listed cell is one of those that are written
+-- a listed cell is one of the written cells
 written_cell : (grid : Grid) (written : List Cell) (listed : Cell × Option ℕ) (k : ℕ) → k < length (map (with_entry_of grid) written) → get_or (map (with_entry_of grid) written) k listed ≡ listed → Contains written listed.0
 written_cell grid [] listed k below at = absurd (omega (arith, below))
 written_cell grid (cell ∷ rest) listed zero below at = (0, omega arith, ap (λ l. l.0) at)
@@ -40,7 +40,7 @@ among_either true first some all x rest zero below at = (0, omega arith, at)
 among_either true first some all x rest (suc k) below at = let later = rest k (omega (arith, below)) at in (suc later.0, omega (arith, later.1), later.2)
 among_either false first some all x rest k below at = let later = rest k below at in (suc later.0, omega (arith, later.1), later.2)
 
--- an element of those that pass is one of all
+-- an element of a filtered list is in the list
 among_all : {X : Type 0} (test : X → Bool) (xs : List X) (x : X) (k : ℕ) → k < length (filter test xs) → get_or (filter test xs) k x ≡ x → Contains xs x
 among_all test [] x k below at = absurd (omega (arith, below))
 among_all test (y ∷ ys) x k below at = among_either (test y) y (filter test ys) ys x (λ j. among_all test ys x j) k below at
@@ -89,7 +89,7 @@ module _ (grid new : Grid) (is : IsGrid grid) where
   written_inside (word_added word) ok cell (k, below, here) = absurd (omega (arith, below))
   written_inside (word_struck word) ok cell (k, below, here) = absurd (omega (arith, below))
 
--- the cells that an edit writes are cells of the grid after it
+-- the cells that an edit writes are in the grid after it
 pub edit_in_grid : (before now : State) (action : Action) (cells : List (Cell × Option ℕ)) → IsGrid before.grid → after before action ≡ Ok now → cells ≡ entries_written before.grid action
     → (listed : Cell × Option ℕ) → Contains cells listed → is_inside now.grid listed.0 ≡ true
 edit_in_grid before now action cells is made are listed has =
@@ -99,6 +99,6 @@ edit_in_grid before now action cells is made are listed has =
     inside_sized before.grid now.grid size.width size.height listed.0
     (written_inside before.grid now.grid is action grid_made listed.0 (written_cell before.grid (cells_written before.grid action) listed among.0 among.1 among.2))
 
--- the cells that a change lists are cells of the grid after it
+-- the cells that a change lists are in the grid after it
 pub listed_in_grid : (before now : State) (action : Action) (change : Change) → IsChange before now action change → (listed : Cell × Option ℕ) → Contains change.cells.now listed → is_inside now.grid listed.0 ≡ true
 listed_in_grid before now action change is = edit_in_grid before now action change.cells.now is.formed_before.grid is.made is.cells

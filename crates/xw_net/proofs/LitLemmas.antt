@@ -1,4 +1,4 @@
--- Words that come back, light by light.
+-- Putting words back, light by light.
 use Rattle.std.proofs.Common.{◌≡◌, ℕ, ◌<◌, Bool, true, false, cond, List, [], ◌∷◌, ◌++◌, length, get_or, set, refl, subst, sym, ap, ◌∙◌, inl, inr}
 use Rattle.std.specs.Prelude.{Contains}
 use Rattle.std.proofs.lemmas.Bool.{cases_eq, cases_Bool, both_ways, cond-true, cond-false}
@@ -11,7 +11,7 @@ use Rattle.xw_feas.specs.Flags.{set_has}
 use Rattle.xw_net.specs.Marks.{slot_at}
 use Rattle.xw_net.specs.Spread.{is_marked, is_waiting, Grows, bits_in, Lit, IsLit, IsListed, none_waits}
 
--- a light that joins the queue is in it
+-- a queued light is in the queue
 pub listed_mark : (queued : List Bool) (queue : List ℕ) (o : ℕ) (queue' : List ℕ) → queue' ≡ cond (is_marked queued o) queue (queue ++ o ∷ [])
     → IsListed queued queue → IsListed (set queued o true) queue'
 unfolding is_marked
@@ -36,7 +36,7 @@ listed_mark queued queue o queue' is listed i h =
     ]
 
 module _ (board : Board) (base : List RowOfBits) (start : Lit) where
-  -- at first the marked lights wait
+  -- at the start the marked lights are on the stack
   pub lit_start : (marked waiting : ℕ → Bool) → ((light : ℕ) → marked light ≡ waiting light) → IsLit board base start start marked waiting
   lit_start marked waiting seeds = record {
     rows_on = λ i lt m quiet. absurd (both_ways (waiting i) quiet (sym (seeds i) ∙ m));
@@ -54,7 +54,7 @@ module _ (board : Board) (base : List RowOfBits) (start : Lit) where
     queued_long = refl;
   }
 
-  -- more lights are marked, and wait
+  -- more lights are marked, and put on the stack
   pub lit_grows : (now : Lit) (marks marks' : List Bool) (stack stack' : List ℕ) → Grows marks stack marks' stack'
       → IsLit board base start now (is_marked marks) (is_waiting stack) → IsLit board base start now (is_marked marks') (is_waiting stack')
   lit_grows now marks marks' stack stack' grows lit = record {
@@ -79,7 +79,7 @@ module _ (board : Board) (base : List RowOfBits) (start : Lit) where
         | inr m ↦ m
       ]
 
-  -- the words of a marked light are brought
+  -- the words of a marked light come back
   pub lit_bring : (now : Lit) (rows : List RowOfBits) (restart : List ℕ) (marked waiting left : ℕ → Bool) (o : ℕ) → marked o ≡ true
       → ((i : ℕ) → (i ≡ o → ⊥) → left i ≡ false → waiting i ≡ false)
       → o < length board.lights → o < length now.entered → o < length now.queued
@@ -129,7 +129,7 @@ module _ (board : Board) (base : List RowOfBits) (start : Lit) where
       other : (i : ℕ) → marked i ≡ false → i ≡ o → ⊥
       other i h e = both_ways (marked i) h (ap marked e ∙ on)
 
-  -- in the end none waits
+  -- at the end no light is on the stack
   pub lit_end : (now : Lit) (marked waiting : ℕ → Bool) → ((light : ℕ) → waiting light ≡ false) → IsLit board base start now marked waiting → IsLit board base start now marked none_waits
   lit_end now marked waiting none lit = record {
     rows_on = λ i lt m quiet. lit.rows_on i lt m (none i);

@@ -1,4 +1,4 @@
--- A word that is changed, and the lights that are as long as it.
+-- The changed word, and the lights with its length.
 use Rattle.std.proofs.Common.{◌≡◌, ℕ, Bool, true, List, Some, None, ap, eqb, inl, inr}
 use Rattle.std.specs.Prelude.{Option}
 use Rattle.std.proofs.lemmas.Bool.{and_parts, or_cases, eqb-true}

@@ -1,4 +1,4 @@
--- A net that was settled goes by the lights and the words after an edit.
+-- A settled net is adapted to the lights and the known words after an edit.
 use Rattle.std.proofs.Common.{◌≡◌, ℕ, zero, suc, ◌<◌, ◌≤◌, Bool, true, false, cond, ltb, List, [], ◌∷◌, ◌++◌, length, get_or, Some, None, refl, sym, ◌∙◌, ap, inl, inr, arith}
 use Rattle.std.specs.Prelude.{Option, slice_get, unwrap_or}
 use Rattle.std.proofs.lemmas.Bool.{cases_lt, ltb-true}
@@ -58,7 +58,7 @@ module _ (was now : State) (cells : ℕ) (old mid new : Net) (turned : IsTurned 
   in_before : (light other : ℕ) → same_light was.grid now.grid light ≡ Some other → other < length (board_of was.grid).lights
   in_before light other at = let there = other_there (lights_of was.grid) (lights_of now.grid) light other at in omega (arith, there, length-lights was.grid)
 
-  -- where as many words are known as before the bits are those of before
+  -- if the number of known words stays, the bits stay
   kept_bits : (all all-mid all-new : List RowOfBits) → AreFitted (lights_of now.grid) (counts_of (row now.words)) all-mid all-new
       → ((light other : ℕ) → light < length (lights_of now.grid) → same_before (lights_of was.grid) (lights_of now.grid) light ≡ Some other → (row_at all-mid light).bits ≡ (row_at all other).bits)
       → ((other : ℕ) → other < length (board_of was.grid).lights → length (bits_in all other) ≡ length (row was.words (length (light_at (board_of was.grid) other))))
@@ -71,7 +71,7 @@ module _ (was now : State) (cells : ℕ) (old mid new : Net) (turned : IsTurned 
       row_bits all-new light ∙ fits light lt ∙ ap (fitted (length (row now.words (size_at (lights_of now.grid) light)))) (turns light other lt at)
       ∙ fitted_full (length (row now.words (size_at (lights_of now.grid) light))) (row_at all other).bits full ∙ sym (row_bits all other)
 
-  -- and a bit more is off
+  -- an added bit is clear
   kept_bit : (all all-mid all-new : List RowOfBits) → AreFitted (lights_of now.grid) (counts_of (row now.words)) all-mid all-new
       → ((light other : ℕ) → light < length (lights_of now.grid) → same_before (lights_of was.grid) (lights_of now.grid) light ≡ Some other → (row_at all-mid light).bits ≡ (row_at all other).bits)
       → (light other place : ℕ) → light < length (board_of now.grid).lights → same_light was.grid now.grid light ≡ Some other → get_or (bits_in all-new light) place false ≡ get_or (bits_in all other) place false

@@ -1,4 +1,4 @@
--- The words of a light that are left when its base words have changed.
+-- The words of a light that are left after its base words changed.
 use Rattle.std.proofs.Common.{◌≡◌, ℕ, ◌/◌, ◌<◌, Bool, true, false, List, Some, None, ◌&&◌, length, get_or, refl, sym, ap, ◌∙◌, inl, inr, arith}
 use Rattle.std.specs.Prelude.{Option}
 use Rattle.std.proofs.lemmas.Bool.{and_parts, and_from, cases_lt, cases_eq, cases_Bool, both_ways, eq-eqb}
@@ -15,7 +15,7 @@ and_none : (b : Bool) → (b && false) ≡ false
 and_none true = refl
 and_none false = refl
 
--- a row in which each bit is left that the base row has
+-- a row intersected with the base row
 pub common_narrowed : (word : Option (ℕ × ℕ)) (count : ℕ) (bits base : List Bool) → length bits ≡ length base → IsNarrowedRow word count bits base (common_bits bits base)
 common_narrowed word count bits base long = record {
   len = length-zip2 (λ x y. x && y) bits base long;
@@ -31,7 +31,7 @@ common_narrowed word count bits base long = record {
         ∙ sym (ap (λ b. b && get_or base k false) (get_or_past bits k false le))
   ]
 
--- a row in which each bit of one chunk is left that the base row has
+-- a row with one chunk intersected with that of the base row
 pub chunk_narrowed : (count place : ℕ) (bits base bits' : List Bool) → length bits' ≡ length bits
     → ((k : ℕ) → k / 64 ≡ place / 64 → get_or bits' k false ≡ (get_or bits k false && get_or base k false))
     → ((k : ℕ) → (k / 64 ≡ place / 64 → ⊥) → get_or bits' k false ≡ get_or bits k false)
@@ -54,7 +54,7 @@ chunk_narrowed count place bits base bits' len inside others = record {
   place_of None = 0
   place_of (Some word) = word.1
 
--- where each word that stood, but for one that is changed, is a base word, those are left that are both
+-- if each word, except perhaps the changed one, is a base word, the result is the intersection
 pub narrowed_common : (word : Option (ℕ × ℕ)) (count : ℕ) (bits base bits' : List Bool) → length bits ≡ length base → IsNarrowedRow word count bits base bits'
     → ((place : ℕ) → word ≡ Some (count, place) → (k : ℕ) → (k ≡ place → ⊥) → get_or bits k false ≡ true → get_or base k false ≡ true)
     → bits' ≡ common_bits bits base

@@ -1,13 +1,14 @@
--- An edit after which no more may stand than before: nothing comes back, and what still may stand covers every supported family.
+-- An edit that allows no more than before: nothing comes back, and what is still allowed covers
+-- every supported family.
 use Rattle.std.proofs.Common.{◌≡◌, ℕ, zero, suc, ◌<◌, ◌≤◌, Bool, true, false, ◌&&◌, List, [], ◌∷◌, map, length, get_or, set, None, refl, sym, ◌∙◌, ap, subst, arith, inl, inr}
 use Rattle.std.specs.Prelude.{◌⊎◌, Option, Result, Ok, Err, IsTrue, ◌↔◌, Contains, is_some}
 use Rattle.std.proofs.lemmas.Bool.{cases_lt, cases_Bool, cases_eq, both_ways, false≢true}
 use Rattle.std.proofs.lemmas.List.{get_or-set_same, get_or-set_other}
-use Rattle.xw_bits.specs.declared.fault.WordFault.{WordFault}
+use Rattle.xw_words.specs.declared.fault.WordFault.{WordFault}
 use Rattle.xw_letters.specs.Letter.{folded}
 use Rattle.xw_words.specs.Dictionary.{Entry, Dictionary, row, marked, strike_answer, after_strike}
-use Rattle.xw_cells.specs.declared.cell.Cell.{Cell}
-use Rattle.xw_cells.specs.Grid.{IsGrid, index_of}
+use Rattle.xw_grid.specs.declared.cell.Cell.{Cell}
+use Rattle.xw_grid.specs.Grid.{IsGrid, index_of}
 use Rattle.xw_feas.specs.Board.{Board, board_of, entry, allows, is_wholly_entered}
 use Rattle.xw_feas.specs.Feasible.{may_stand}
 use Rattle.xw_feas.specs.Choices.{is_base_at, CoversSupported, IsExact}
@@ -21,7 +22,8 @@ use Rattle.xw_net.proofs.Kept.{HaveSameEntries, IsNarrowed, narrowed_same}
 abbrev nothing : ℕ → Bool
 nothing n = false
 
--- every light stays and is kept, and no letter may stand that might not
+-- every light stays and gets no new base word, and no cell allows a letter that it did not allow
+-- before
 pub record IsNarrowing (before after : Board) (old new : Dictionary) (same : ℕ → Option ℕ) : Type 0 where
   pub kept : (light : ℕ) → light < length after.lights → IsKept before after old new same light
   pub stay : (other : ℕ) → other < length before.lights → StandsOn after same other
@@ -49,9 +51,9 @@ narrowing_covers before after old new same words letters words' letters' matchin
     })
     matching exact
 
--- ---- an entry in an empty cell
+-- ---- writing a letter into an empty cell
 
--- a light with an empty cell is not wholly entered
+-- a light with an empty cell is not filled
 empty_cell : (board : Board) (cells : List ℕ) (cell : ℕ) → Contains cells cell → entry board cell ≡ None → is_wholly_entered board cells ≡ false
 empty_cell board [] cell (k, below, at) empty = absurd (omega arith)
 empty_cell board (first ∷ cells) cell (zero, below, at) empty = ap (λ e. is_some e && is_wholly_entered board cells) (ap (entry board) at ∙ empty)
@@ -62,7 +64,7 @@ empty_cell board (first ∷ cells) cell (suc k, below, at) empty =
     none true = refl
     none false = refl
 
--- one empty cell gets an entry, and nothing else changes
+-- one empty cell gets a letter, and nothing else changes
 pub record FillsCell (before after : Board) (cell : ℕ) : Type 0 where
   pub empty : entry before cell ≡ None
   pub others : (other : ℕ) → (other ≡ cell → ⊥) → entry after other ≡ entry before other
@@ -93,7 +95,7 @@ filled_narrowed before after old new cell cells fills words reason = elim reason
   apart : (Contains cells cell → ⊥) → HaveSameEntries before after cells
   apart outside other in_cells = fills.others other (λ e. outside (subst (Contains cells) e in_cells))
 
--- a letter that is accepted at an empty cell fills it
+-- writing a letter into an empty cell fills it
 pub set_fills : (before now : State) (cell : Cell) (letter : ℕ) → IsGrid before.grid → after before (letter_set cell letter) ≡ Ok now → entry (board_of before.grid) (index_of before.grid cell) ≡ None → FillsCell (board_of before.grid) (board_of now.grid) (index_of before.grid cell)
 set_fills before now cell letter is made empty = record {
   empty = empty;
@@ -105,13 +107,13 @@ set_fills before now cell letter is made empty = record {
   the_only x y (zero, below, at) = at
   the_only x y (suc k, below, at) = absurd (omega arith)
 
--- ---- a word that is struck
+-- ---- striking a word
 
--- no flag is set that was not
+-- no flag is set that was clear
 abbrev NoneRise : List Bool → List Bool → Type 0
 NoneRise old new = (k : ℕ) → get_or new k false ≡ true → get_or old k false ≡ true
 
--- the words are those that were, and no word becomes active
+-- the words are the same, and none becomes active
 abbrev IsFewerActive : List Entry → List Entry → Type 0
 IsFewerActive old new = (map (λ (word : Entry). word.word) new ≡ map (λ (word : Entry). word.word) old)
     × NoneRise (map (λ (word : Entry). word.active) old) (map (λ (word : Entry). word.active) new)
@@ -145,7 +147,7 @@ rows_fewer words word place count = elim (cases_lt (length word) (length words))
   set_row_past (first ∷ rows) zero entries past = absurd (omega arith)
   set_row_past (first ∷ rows) (suc at) entries past = ap (λ rs. first ∷ rs) (set_row_past rows at entries (omega arith))
 
--- a strike leaves the grid, and each light narrowed
+-- striking a word keeps the grid and narrows each light
 pub strike_narrows : (before now : State) (word : List ℕ) → after before (word_struck word) ≡ Ok now → (cells : List ℕ) → IsNarrowed (board_of before.grid) (board_of now.grid) before.words now.words cells
 strike_narrows before now word made cells = by_answer (strike_answer before.words word) made where
   by_answer : (answer : Result ℕ WordFault) → with_words before (answered (after_strike before.words (map folded word)) answer) ≡ Ok now → IsNarrowed (board_of before.grid) (board_of now.grid) before.words now.words cells

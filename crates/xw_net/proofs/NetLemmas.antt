@@ -15,7 +15,7 @@ use Rattle.xw_net.specs.Nets.{marks_of, word_stands, letter_stands, held_in, res
 use Rattle.xw_net.specs.Spread.{is_waiting, none_waits, no_places, bits_in, Lit, IsLit, IsSpread}
 use Rattle.xw_net.specs.Brought.{IsBase, IsBrought}
 
--- what waits is one of those on the stack
+-- a waiting light is on the stack
 pub waiting_within : (stack : List ℕ) (n light : ℕ) → All (λ other. other < n) stack → is_waiting stack light ≡ true → light < n
 unfolding is_waiting
 waiting_within [] n light all h = absurd (both_ways false refl h)

@@ -1,12 +1,12 @@
--- Rows and cells at the beginning of a settling.
+-- Rows and cells at the start of an update.
 use Rattle.std.proofs.Common.{◌≡◌, ℕ, zero, suc, ◌+◌, ◌-◌, ◌*◌, ◌<◌, Bool, true, false, ◌&&◌, ◌||◌, leb, eqb, [], ◌∷◌, ◌++◌, length, get_or, Some, None, refl, sym, ◌∙◌, ap, subst, arith, inl, inr}
 use Rattle.std.specs.Prelude.{Option, Ok, List, Contains, slice_index, slice_get, unwrap_or}
 use Rattle.std.proofs.lemmas.Bool.{cases_Bool, both_ways, and_from, and_cases, or_parts, eq-eqb, leb-false}
 use Rattle.std.proofs.lemmas.List.{get_or_append_left, get_or_default, get_or_push, length-map}
 use Rattle.std.proofs.lemmas.Option.{slice_get-get_or, unwrap_or-slice_get}
 use Rattle.xw_words.specs.Dictionary.{Entry, row, entry_at, no_entry}
-use Rattle.xw_cells.specs.declared.cell.Cell.{Cell}
-use Rattle.xw_cells.specs.Grid.{is_inside}
+use Rattle.xw_grid.specs.declared.cell.Cell.{Cell}
+use Rattle.xw_grid.specs.Grid.{is_inside}
 use Rattle.xw_grid.specs.Light.{lights_of, no_light, step}
 use Rattle.xw_feas.specs.Board.{Board, board_of, entry, light_at, is_wholly_entered}
 use Rattle.xw_feas.specs.Choices.{is_base_at}
@@ -39,7 +39,7 @@ use Rattle.xw_net.proofs.Listed.{inside_sized}
 use Rattle.xw_net.proofs.Narrowed.{common_bits, narrowed_common}
 use Rattle.xw_net.proofs.Changed.{base_bits_same, changed_base, changed_entry_calm, changed_entry_kept, changed_words_same, changed_has_not, changed_spelled, row_narrowed}
 
--- a word that is added or struck leaves the grid
+-- adding or striking a word keeps the grid
 word_keeps_grid : (before now : State) (action : Action) (word : ℕ × ℕ) → after before action ≡ Ok now → word_changed before.words action ≡ Some word → now.grid ≡ before.grid
 word_keeps_grid before now (word_added bytes) word made some = (with_words-Ok before now (add_word before.words bytes) made).1
 word_keeps_grid before now (word_struck bytes) word made some = (with_words-Ok before now (strike_word before.words bytes) made).1
@@ -54,7 +54,7 @@ word_keeps_grid before now (symmetry_chosen kind) word made some = let never : N
 same_entry : (old new : List Entry) (place : ℕ) → slice_get old place ≡ slice_get new place → entry_at old place ≡ entry_at new place
 same_entry old new place same = sym (unwrap_or-slice_get old place no_entry) ∙ ap (λ o. unwrap_or o no_entry) same ∙ unwrap_or-slice_get new place no_entry
 
--- a flag of two rows that are as long and equal there, with the same one last
+-- a flag of two rows of the same length that agree there and in the last flag
 same_flag : (xs ys : List Bool) (last : Bool) (k : ℕ) → length xs ≡ length ys → get_or xs k false ≡ get_or ys k false → get_or (xs ++ last ∷ []) k false ≡ get_or (ys ++ last ∷ []) k false
 same_flag [] [] last k long same = refl
 same_flag [] (y ∷ ys) last k long same = absurd (omega (arith, long))
@@ -82,7 +82,7 @@ module _ (before now : State) (action : Action) (change : Change) (is : IsChange
   matching : IsMatching (board_of before.grid) (board_of now.grid) (same_light before.grid now.grid)
   matching = same_is_matching before.grid now.grid is.width
 
-  -- the grids are of one size
+  -- the grids have the same size
   inside_before : (cell : Cell) → is_inside now.grid cell ≡ true → is_inside before.grid cell ≡ true
   inside_before = inside_sized now.grid before.grid (sym is.width) (sym is.height)
 
@@ -103,7 +103,7 @@ module _ (before now : State) (action : Action) (change : Change) (is : IsChange
 
   -- ---- base rows
 
-  -- an edit of a word leaves the grid, and the base words of each light but that one
+  -- an edit of a word keeps the grid, and the base words of each light except perhaps that word
   base_but : AreBaseBut (board_of now.grid) (row now.words) change.word net.base.items
   base_but light in_board place some k apart =
       let grid = word_keeps_grid before now action (length (light_at (board_of now.grid) light), place) is.made (sym is.word ∙ some) in
@@ -131,7 +131,7 @@ module _ (before now : State) (action : Action) (change : Change) (is : IsChange
 
   -- ---- words
 
-  -- a light that is queued is one of the board
+  -- a queued light is on the board
   queued_in_board : (light : ℕ) → queued light ≡ true → light < length (board_of now.grid).lights
   queued_in_board light on = waiting_within opened.queue.items (length (board_of now.grid).lights) light opening.in_queue (sym (opening.listed light) ∙ on)
 
@@ -143,7 +143,7 @@ module _ (before now : State) (action : Action) (change : Change) (is : IsChange
         ∙ ap (λ flags. get_or (bits_in opened.rows.items light ++ get_or flags light false ∷ []) choice false) (sym entered_kept) ∙ stands)
   ]
 
-  -- a light that is no seed stays wholly entered
+  -- a filled light that is not a seed stays filled
   whole_stays : (light : ℕ) → light < length (board_of now.grid).lights → seed light ≡ false → is_wholly_entered (board_of before.grid) (light_at (board_of now.grid) light) ≡ true → is_wholly_entered (board_of now.grid) (light_at (board_of now.grid) light) ≡ true
   whole_stays light in_board no_seed whole = entered_same (board_of before.grid) (board_of now.grid) (light_at (board_of now.grid) light) same ∙ whole where
     same : HaveSameEntries (board_of before.grid) (board_of now.grid) (light_at (board_of now.grid) light)
@@ -165,11 +165,12 @@ module _ (before now : State) (action : Action) (change : Change) (is : IsChange
       ap (λ bits. get_or (bits ++ get_or opened.entered.items light false ∷ []) choice false) (opened_prepared.rows_off light calm ∙ moved.rows light other in_board at (kept_known light other in_board no_seed at))
       ∙ ap (λ e. get_or (bits_in settled.rows.items other ++ e ∷ []) choice false) (ap (λ flags. get_or flags light false) entered_kept ∙ moved.entered light other in_board at)
 
-  -- of a light that is no seed the word that is changed is no base word
+  -- the changed word is not a base word of a light that is not a seed
   pub opened_has_not : (light : ℕ) → light < length (board_of now.grid).lights → seed light ≡ false → may_have change.word (length (light_at (board_of now.grid) light)) (base_bits (board_of now.grid) (light_at (board_of now.grid) light) (row now.words (length (light_at (board_of now.grid) light)))) ≡ false
   opened_has_not = changed_has_not before now action change is (set_has opened.letters.items) queued seed listed_inside opening.edited opened_prepared.calm opened_prepared.seeds
 
-  -- the word that is changed did not stand at a light that is not queued, and each that stood is a base word still
+  -- at a light that is not queued, the changed word was not in the net, and each word that was is
+  -- still a base word
   pub opened_words_calm : (light other choice : ℕ) → light < length (board_of now.grid).lights → queued light ≡ false → seed light ≡ false → same_light before.grid now.grid light ≡ Some other → word_stands settled other choice ≡ true → is_base_at (board_of now.grid) now.words light choice ≡ true
   unfolding word_stands
   opened_words_calm light other choice in_board calm no_seed at stood =
@@ -214,7 +215,7 @@ module _ (before now : State) (action : Action) (change : Change) (is : IsChange
             ∙ ap (is_base_word (board_of before.grid) (light_at (board_of now.grid) light)) (same_entry (row now.words (length (light_at (board_of now.grid) light))) (row before.words (length (light_at (board_of now.grid) light))) choice (is.entries (length (light_at (board_of now.grid) light)) choice (not_there change.word refl)))
             ∙ base_bit (board_of before.grid) (light_at (board_of now.grid) light) (row before.words (length (light_at (board_of now.grid) light))) choice
 
-  -- the word that is entered stood only where the light is wholly entered
+  -- the entered word was in the net only if the light is filled
   entered_whole : (light other : ℕ) → light < length (board_of now.grid).lights → seed light ≡ false → same_light before.grid now.grid light ≡ Some other → get_or settled.entered.items other false ≡ true → is_wholly_entered (board_of now.grid) (light_at (board_of now.grid) light) ≡ true
   unfolding word_stands
   entered_whole light other in_board no_seed at stood =
@@ -226,7 +227,7 @@ module _ (before now : State) (action : Action) (change : Change) (is : IsChange
       let last = base_flag_entered (board_of before.grid) before.words (light_at (board_of before.grid) other) (length (row before.words (length (light_at (board_of before.grid) other)))) (sym (length-map (row before.words (length (light_at (board_of before.grid) other))) (λ (word : Entry). word.word))) in
       whole_stays light in_board no_seed (ap (is_wholly_entered (board_of before.grid)) (matching.cells light other in_board at) ∙ sym last ∙ base)
 
-  -- after an edit of a word each other word that stood is a base word still
+  -- after an edit of a word, each other word that was in the net is still a base word
   still_base : (light other : ℕ) → light < length (board_of now.grid).lights → same_light before.grid now.grid light ≡ Some other
       → (place : ℕ) → change.word ≡ Some (length (light_at (board_of now.grid) light), place) → (k : ℕ) → (k ≡ place → ⊥) → get_or (bits_in settled.rows.items other) k false ≡ true
       → get_or (base_bits (board_of now.grid) (light_at (board_of now.grid) light) (row now.words (length (light_at (board_of now.grid) light)))) k false ≡ true
@@ -269,7 +270,7 @@ module _ (before now : State) (action : Action) (change : Change) (is : IsChange
       ∙ row_narrowed (bits_in settled.rows.items other) (base_bits (board_of now.grid) (light_at (board_of now.grid) light) (row now.words (length (light_at (board_of now.grid) light)))) (get_or settled.entered.items other false) whole choice
       (filled.whole.bits other in_before ∙ sym many ∙ sym (length-base_bits (board_of now.grid) (light_at (board_of now.grid) light) (row now.words (length (light_at (board_of now.grid) light))))) last
 
-  -- ---- cells of lights that are gone
+  -- ---- cells of removed lights
 
   is_gone : (other : ℕ) → other < length (board_of before.grid).lights → ¬ StandsOn (board_of now.grid) (same_light before.grid now.grid) other → same_light now.grid before.grid other ≡ None
   is_gone other in_before gone = split (same_light now.grid before.grid other) refl where

@@ -1,4 +1,4 @@
--- From where a settling begins.
+-- The state at the start of an update.
 use Rattle.std.proofs.Common.{◌≡◌, ℕ, ◌+◌, ◌-◌, ◌*◌, ◌<◌, Bool, true, false, eqb, List, [], ◌∷◌, length, Some, None, refl, sym, ◌∙◌, ap, subst, inl, inr, arith}
 use Rattle.std.specs.Prelude.{Option, Contains, slice_index, slice_get}
 use Rattle.std.proofs.lemmas.Bool.{cases_Bool, both_ways, or_cases, eqb-true}
@@ -6,8 +6,8 @@ use Rattle.std.specs.List.{list_any}
 use Rattle.xw_net.proofs.Edits.{contains_later}
 use Rattle.std.proofs.lemmas.Option.{get_or_from_slice_get}
 use Rattle.xw_words.specs.Dictionary.{row}
-use Rattle.xw_cells.specs.declared.cell.Cell.{Cell}
-use Rattle.xw_cells.specs.Grid.{is_inside, index_of}
+use Rattle.xw_grid.specs.declared.cell.Cell.{Cell}
+use Rattle.xw_grid.specs.Grid.{is_inside, index_of}
 use Rattle.xw_grid.specs.declared.lights.Light.{Light}
 use Rattle.xw_grid.specs.Light.{lights_of, no_light, step}
 use Rattle.xw_feas.proofs.BoardLemmas.{length-lights}
@@ -42,7 +42,7 @@ use Rattle.xw_net.proofs.Filling.{filled_was_open}
 use Rattle.xw_net.proofs.Holding.{opened_held, opened_pending, opened_hits}
 use Rattle.xw_net.proofs.Opening.{listed_inside, opened_prepared, new_queued, new_seeds, opened_base, opened_lights, opened_words_on, opened_words_off, opened_words_calm, opened_has_not, opened_freed}
 
--- what waits is in the list
+-- a waiting light is in the list
 pub waiting_contained : (queue : List ℕ) (light : ℕ) → is_waiting queue light ≡ true → Contains queue light
 unfolding is_waiting
 waiting_contained [] light h = absurd (both_ways false refl h)
@@ -102,7 +102,7 @@ module _ (before now : State) (action : Action) (change : Change) (is : IsChange
   none_marked : (member : ℕ → Bool) (light : ℕ) → is_marked net.is_marked.items light ≡ true → member light ≡ true
   none_marked member light on = absurd (both_ways (is_marked net.is_marked.items light) (moved.is_marked light) on)
 
-  -- each light through a freed cell where a letter is missing lies in the region
+  -- each light through a freed cell where a letter is missing is in the region
   freed_within : (member : List ℕ → Bool) → IsRegion before now action member → (cell light place : ℕ) → IsFreed now.grid change.before.now (lights_of now.grid) (length change.before.now) cell
       → ¬ HasAll (board_of now.grid) (set_has net.letters.items) cell → IsPlace (board_of now.grid) light place → cell_at (board_of now.grid) light place ≡ cell → member (light_at (board_of now.grid) light) ≡ true
   unfolding letter_stands

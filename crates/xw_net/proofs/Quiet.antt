@@ -1,4 +1,4 @@
--- A net in which no light waits: it has room for each of its lights to wait.
+-- A net with an empty queue has room to queue each of its lights.
 use Rattle.std.proofs.Common.{◌≡◌, ℕ, suc, ◌≤◌, Bool, true, false, not, cond, List, [], ◌∷◌, length, get_or, count_by, refl, sym, ◌∙◌, inl, inr, arith}
 use Rattle.std.specs.Prelude.{replicate, vec_len, vec_capacity}
 use Rattle.std.proofs.lemmas.Bool.{cases_lt, both_ways}
@@ -11,14 +11,14 @@ use Rattle.xw_net.specs.Filled.{IsQuiet}
 use Rattle.xw_net.specs.declared.net.Net.{Net}
 use Rattle.xw_net.proofs.SpreadLemmas.{waiting-none}
 
--- what is false everywhere is false, and past the end too
+-- a list of false flags is false everywhere, also past the end
 pub all_false : (n i : ℕ) → get_or (replicate n false) i false ≡ false
 all_false n i = elim (cases_lt i n) [
   | inl lt ↦ get_or-replicate n i false false lt
   | inr le ↦ get_or_past (replicate n false) i false (omega (arith, length-replicate n false))
 ]
 
--- so that all are counted as unmarked
+-- so all flags are counted as unmarked
 pub count-none : (marks : List Bool) → ((light : ℕ) → get_or marks light false ≡ false) → count_by (λ mark. not mark) marks ≡ length marks
 count-none [] none = refl
 count-none (true ∷ marks) none = absurd (both_ways true (none 0) refl)

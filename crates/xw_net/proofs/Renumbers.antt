@@ -1,10 +1,10 @@
--- Lights after an edit are those before that have the same cells.
+-- Matching the lights after an edit with those before that have the same cells.
 use Rattle.std.proofs.Common.{◌≡◌, ℕ, ◌<◌, ◌≤◌, true, false, List, length, get_or, Some, None, refl, sym, ◌∙◌, ap, subst, arith}
 use Rattle.std.specs.Prelude.{Option, slice_get, option_and_then, vec_capacity}
 use Rattle.std.proofs.lemmas.List.Quantifiers.{position-Some}
 use Rattle.std.proofs.lemmas.Option.{get_or_from_slice_get, slice_get_within}
 use Rattle.xw_grid.specs.declared.lights.Light.{Light}
-use Rattle.xw_cells.specs.Grid.{Grid}
+use Rattle.xw_grid.specs.Grid.{Grid}
 use Rattle.xw_grid.specs.Light.{lights_of, no_light, have_same_cells, place_with_cells}
 use Rattle.xw_grid.proofs.LightLemmas.{size_of_light}
 use Rattle.xw_grid.proofs.OrderLemmas.{same_place}
@@ -17,7 +17,7 @@ use Rattle.xw_net.specs.Room.{size_at, row_at, HaveBits, HaveRoom, IsWhole, HasR
 use Rattle.xw_net.specs.Renumber.{AreLights, same_before, bits_from, room_from, AreRowsMoved, IsRenumbered}
 use Rattle.xw_net.specs.declared.net.Net.{Net}
 
--- what a light after is matched with
+-- the light before that matches one after
 pub record IsFound (before after : List Light) (light other : ℕ) : Type 0 where
   pub in_after : light < length after
   pub in_before : other < length before
@@ -38,7 +38,7 @@ found_before before after light other h = split (slice_get after light) refl h w
 pub other_there : (before after : List Light) (light other : ℕ) → same_before before after light ≡ Some other → other < length before
 other_there before after light other h = (found_before before after light other h).in_before
 
--- no two lights after are matched with one light before
+-- no two lights after match the same light before
 pub same_once : (before after : List Light) → AreLights after → (i j other : ℕ) → same_before before after i ≡ Some other → same_before before after j ≡ Some other → i ≡ j
 same_once before after are i j other hi hj = once are.grid after are.are hi hj where
   once : (grid : Grid) (ls : List Light) → ls ≡ lights_of grid → same_before before ls i ≡ Some other → same_before before ls j ≡ Some other → i ≡ j
@@ -51,7 +51,7 @@ same_once before after are i j other hi hj = once are.grid after are.are hi hj w
 
 pub ruleset moving_steps = (other_there, same_once)
 
--- the row that a light has is one from before, or new
+-- the row of a light is an old one or new
 abbrev pub IsFrom : List RowOfBits → ℕ → Option ℕ → RowOfBits → Type 0
 IsFrom rows known same row = (row.bits ≡ bits_from rows known same) × (room_from rows known same ≤ row.room)
 
@@ -59,14 +59,14 @@ from_stays : (old-rows rows : List RowOfBits) (n : ℕ) (same : Option ℕ) (row
 from_stays old-rows rows n None row h is = is
 from_stays old-rows rows n (Some other) row h is = subst (λ r. (row.bits ≡ r.bits) × (r.room ≤ row.room)) (h other refl) is
 
--- the rows of the first lights are moved or filled, and the others are as they were
+-- the rows of the first lights are moved or filled, and the others are unchanged
 module _ (before after : List Light) (known : ℕ → ℕ) (old-rows old-spare : List RowOfBits) where
   pub record IsMovedTo (rows spare : List RowOfBits) (n : ℕ) : Type 0 where
     pub done : (k : ℕ) → k < n → IsFrom old-rows (known k) (same_before before after k) (row_at spare k)
     pub left : (k : ℕ) → n ≤ k → row_at spare k ≡ row_at old-spare k
     pub kept : (other : ℕ) → ((k : ℕ) → k < n → same_before before after k ≡ Some other → ⊥) → row_at rows other ≡ row_at old-rows other
 
-  -- one more is moved or filled
+  -- one more row is moved or filled
   pub moved_more : (rows spare rows' spare' : List RowOfBits) (light : ℕ) → AreLights after → IsMovedTo rows spare light
       → IsFrom rows (known light) (same_before before after light) (row_at spare' light)
       → ((other : ℕ) → (other ≡ light → ⊥) → row_at spare' other ≡ row_at spare other)
@@ -81,7 +81,7 @@ module _ (before after : List Light) (known : ℕ → ℕ) (old-rows old-spare :
     kept = λ other none. stays other (none light (omega arith)) ∙ so_far.kept other (λ k below. none k (omega arith));
   }
 
--- a light that stays has as many cells as before
+-- a light that stays has the same number of cells
 pub same_size : (before after : List Light) → AreLights after → (light other : ℕ) → same_before before after light ≡ Some other → size_at after light ≡ size_at before other
 same_size before after are light other h = size are.grid after are.are h where
   size : (grid : Grid) (ls : List Light) → ls ≡ lights_of grid → same_before before ls light ≡ Some other → size_at ls light ≡ size_at before other
@@ -90,7 +90,7 @@ same_size before after are light other h = size are.grid after are.are h where
       let same = alike (get_or (lights_of grid) light no_light) (get_or before other no_light) (size_of_light grid light no_light found.in_after) found.fits in
       ap (λ ys. size_at ys light) e ∙ same.2
 
--- so its row has as many bits as words are known, and room for them
+-- its row has a bit for each known word, and room for them
 module _ (before after : List Light) (are : AreLights after) (counts : ℕ → ℕ) (old new : List RowOfBits) (moved : AreRowsMoved before after counts old new) where
   pub moved_bits : HaveBits before counts old → HaveBits after counts new
   moved_bits have light in_after = ap length (moved.bits light in_after) ∙ split (same_before before after light) refl where
@@ -107,7 +107,7 @@ module _ (before after : List Light) (are : AreLights after) (counts : ℕ → �
         let sizes : counts (size_at after light) ≡ counts (size_at before other) = ap counts (same_size before after are light other is) in
         omega (arith, there, room, sizes)
 
--- and so has the net
+-- the net's rows have a bit for each known word
 pub whole_after : (before after : List Light) → AreLights after → (counts : ℕ → ℕ) (old new : Net) → IsRenumbered before after counts old new → IsWhole before counts old → IsWhole after counts new
 whole_after before after are counts old new is whole = record {
   rows = moved_bits before after are counts old.rows.items new.rows.items is.rows whole.rows;

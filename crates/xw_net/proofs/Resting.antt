@@ -1,10 +1,10 @@
--- A net at rest has a place for everything.
+-- The arrays of a net at rest have the right sizes.
 use Rattle.std.proofs.Common.{◌≡◌, ℕ, ◌*◌, ◌<◌, not, List, [], length, sym, ◌∙◌, ap, subst, arith}
 use Rattle.std.specs.Prelude.{All}
 use Rattle.std.proofs.lemmas.List.Sums.{count_by-le-length}
 use Rattle.xw_bits.specs.Bits.{RowOfBits}
 use Rattle.xw_words.specs.Dictionary.{Entry}
-use Rattle.xw_cells.specs.Grid.{Grid}
+use Rattle.xw_grid.specs.Grid.{Grid}
 use Rattle.xw_grid.specs.declared.lights.Light.{Light}
 use Rattle.xw_grid.specs.Light.{lights_of}
 use Rattle.xw_feas.specs.Board.{board_of, light_at}

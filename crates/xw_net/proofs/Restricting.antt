@@ -1,13 +1,14 @@
--- The edits after which nothing comes back: a letter in an empty cell that completes no light, and a struck word.
+-- The edits after which nothing comes back: writing a letter into an empty cell without filling a
+-- light, and striking a word.
 use Rattle.std.proofs.Common.{◌≡◌, ℕ, zero, suc, ◌+◌, ◌-◌, ◌*◌, ◌<◌, Bool, true, false, cond, not, ◌&&◌, List, [], ◌∷◌, map, length, get_or, Some, None, refl, sym, ◌∙◌, ap, subst, arith, inl, inr}
 use Rattle.std.specs.Prelude.{Option, Ok, Err, IsTrue, Contains, slice_get}
 use Rattle.std.proofs.lemmas.Bool.{cases_Bool, cases_eq, both_ways, and_parts, and_from}
 use Rattle.xw_letters.specs.Letter.{is_capital}
-use Rattle.xw_cells.specs.declared.cell.Cell.{Cell}
-use Rattle.xw_cells.specs.declared.fault.GridFault.TheVariants as grids
-use Rattle.xw_cells.specs.Grid.{Grid, IsGrid, is_inside, is_block, is_open_square, index_of}
-use Rattle.xw_cells.specs.Grid.{is_open as is_open_cell}
-use Rattle.xw_cells.specs.Edit.{with_entry, set_entry}
+use Rattle.xw_grid.specs.declared.cell.Cell.{Cell}
+use Rattle.xw_grid.specs.declared.fault.GridFault.TheVariants as grids
+use Rattle.xw_grid.specs.Grid.{Grid, IsGrid, is_inside, is_block, is_open_square, index_of}
+use Rattle.xw_grid.specs.Grid.{is_open as is_open_cell}
+use Rattle.xw_grid.specs.Edit.{with_entry, set_entry}
 use Rattle.xw_grid.specs.EditLaws.{SameShape}
 use Rattle.xw_grid.specs.Light.{cells_of, lights_of, no_light}
 use Rattle.xw_grid.proofs.ChangeLemmas.{letters_keep_shape}
@@ -21,7 +22,7 @@ use Rattle.xw_net.proofs.Kept.{narrowed_kept}
 use Rattle.xw_net.proofs.Same.{same_is_matching, same_is_whole}
 use Rattle.xw_net.proofs.Narrowing.{IsNarrowing, FillsCell, set_fills, filled_no_more, filled_narrowed, strike_narrows}
 
--- where the lights are those of before each is matched with itself
+-- if the lights stay, each one matches itself
 pub lights_stay : (before now : Grid) → now.width ≡ before.width → lights_of now ≡ lights_of before → (light : ℕ) → light < length (board_of before).lights → (light < length (board_of now).lights) × (same_light before now light ≡ Some light)
 lights_stay before now wide lights light in_board =
     let in_before : light < length (lights_of before) = omega (arith, length-lights before) in
@@ -35,7 +36,7 @@ lights_stay before now wide lights light in_board =
           ∙ sym (light_at-board before light no_light in_before)),
     )
 
--- ---- a letter in an empty cell
+-- ---- writing a letter into an empty cell
 
 inside_of_set : (grid new : Grid) (cell : Cell) (letter : Option ℕ) → set_entry grid cell letter ≡ Ok new → is_inside grid cell ≡ true
 inside_of_set grid new cell letter ok = by_tests (is_inside grid cell) (is_block grid cell) refl ok where
@@ -101,7 +102,7 @@ module _ (before now : State) (cell : Cell) (letter : ℕ) (is : IsGrid before.g
     fills : FillsCell (board_of before.grid) (board_of now.grid) (index_of before.grid cell)
     fills = set_fills before now cell letter is made empty
 
--- ---- a struck word
+-- ---- striking a word
 
 pub strike_is_narrowing : (before now : State) (word : List ℕ) → after before (word_struck word) ≡ Ok now → IsNarrowing (board_of before.grid) (board_of now.grid) before.words now.words (same_light before.grid now.grid)
 strike_is_narrowing before now word made =

@@ -11,7 +11,7 @@ use Rattle.xw_feas.proofs.Support.{any_below, any_below-from, any_below-gives, n
 use Rattle.xw_net.specs.Revival.{IsMatching, StandsOn, was, was_at, IsRevived}
 use Rattle.xw_net.proofs.Exact.{exact_covers, exact_base, exact_may, exact_letters, exact_words}
 
--- a number is the one given
+-- whether an optional number is the given one
 abbrev is_number : Option ℕ → ℕ → Bool
 is_number None n = false
 is_number (Some m) n = eqb m n
@@ -24,7 +24,7 @@ is_number-from : (o : Option ℕ) (n : ℕ) → o ≡ Some n → is_number o n �
 is_number-from o n h = ap (λ p. is_number p n) h ∙ eq-eqb n n refl
 
 module _ (before after : Board) (old new : Dictionary) (same : ℕ → Option ℕ) where
-  -- a choice that was marked is matched with one of the same word
+  -- a marked choice matches one with the same word
   abbrev HasMatch : (ℕ → ℕ → Bool) → ℕ → ℕ → Type 0
   HasMatch marks light choice = (other : ℕ) × (same light ≡ Some other) × (marks other choice ≡ true) × (choice_at before old other choice ≡ choice_at after new light choice)
 
@@ -43,18 +43,18 @@ module _ (before after : Board) (old new : Dictionary) (same : ℕ → Option �
 
   module _ (matching : IsMatching before after same) (words letters words' letters' : ℕ → ℕ → Bool) (exact : IsExact before old words letters)
       (revived : IsRevived before after old new same words letters words' letters') (family : Family) (supported : IsSupported after new family) where
-    -- the pairs of the family that do not stand
+    -- the words and letters of the family that are missing in the net
     abbrev missing_word : ℕ → ℕ → Bool
     missing_word light choice = is_base_at after new light choice && (family.words light (choice_at after new light choice) && not (words' light choice))
 
     abbrev missing_letter : ℕ → ℕ → Bool
     missing_letter cell letter = family.letters cell letter && not (letters' cell letter)
 
-    -- those of the light that is matched with one of before
+    -- the missing words of the light that matches one before
     abbrev missing_of : ℕ → ℕ → ℕ → Bool
     missing_of other choice light = is_number (same light) other && missing_word light choice
 
-    -- the pairs of before, with the missing ones
+    -- the words and letters from before, joined with the missing ones
     abbrev joined_words : ℕ → ℕ → Bool
     joined_words other choice = (ltb other (length before.lights) && words other choice) || any_below (missing_of other choice) (length after.lights)
 
@@ -70,7 +70,7 @@ module _ (before after : Board) (old new : Dictionary) (same : ℕ → Option �
         let rest = and_parts (family.words light (choice_at after new light choice)) (not (words' light choice)) parts.1 in
         (parts.0, rest.0, not-true _ rest.1)
 
-    -- a word of before that was joined is that of a light after
+    -- a joined word of a light before is that of a light after
     abbrev IsMissingOf : ℕ → ℕ → ℕ → Type 0
     IsMissingOf other choice light = (light < length after.lights) × (same light ≡ Some other) × IsMissing light choice
 
@@ -106,7 +106,7 @@ module _ (before after : Board) (old new : Dictionary) (same : ℕ → Option �
       | inr none ↦ absurd (both_ways (words' light choice) absent ((revived.lights light in_board).words_come choice base (λ had. both_ways _ none had)))
     ]
 
-    -- and each of its letters stood or is missing
+    -- each letter of a missing word was there before or is missing
     missing_has_letters : (light choice : ℕ) → light < length after.lights → IsMissing light choice → HasLetters joined_letters (light_at after light) (choice_at after new light choice)
     missing_has_letters light choice in_board (base, member, absent) k below =
         let cell = slice_index (light_at after light) k in
@@ -120,7 +120,7 @@ module _ (before after : Board) (old new : Dictionary) (same : ℕ → Option �
           ]
         ]
 
-    -- a word of the family that has a missing letter is itself missing
+    -- a word of the family with a missing letter is missing
     word_is_missing : (light choice k other : ℕ) → light < length after.lights → same light ≡ Some other → k < length (light_at after light)
         → IsTrue (is_base_at after new light choice) → IsTrue (family.words light (choice_at after new light choice))
         → letters' (slice_index (light_at after light) k) (slice_index (choice_at after new light choice) k) ≡ false
@@ -143,7 +143,7 @@ module _ (before after : Board) (old new : Dictionary) (same : ℕ → Option �
           ]
     ]
 
-    -- where a letter is missing, no light of before is gone
+    -- no light before with a missing letter was removed
     light_stays : (other k letter : ℕ) → other < length before.lights → k < length (light_at before other)
         → IsTrue (may_stand after (slice_index (light_at before other) k) letter) → letters' (slice_index (light_at before other) k) letter ≡ false
         → StandsOn after same other
@@ -156,7 +156,7 @@ module _ (before after : Board) (old new : Dictionary) (same : ℕ → Option �
           below may))
     ]
 
-    -- a missing letter is that of a missing word, in the light that is matched
+    -- a missing letter is that of a missing word in the matching light
     joined_word : (other k letter : ℕ) → k < length (light_at before other) → IsTrue (family.letters (slice_index (light_at before other) k) letter) → letters' (slice_index (light_at before other) k) letter ≡ false
         → (light : ℕ) → light < length after.lights → same light ≡ Some other
         → (choice : ℕ) × IsTrue (joined_words other choice) × (slice_index (choice_at before old other choice) k ≡ letter)
@@ -175,7 +175,7 @@ module _ (before after : Board) (old new : Dictionary) (same : ℕ → Option �
         let missing : IsMissingOf other number.0 light = (in_after, at, (number.1, in_family, falls)) in
         (number.0, joined_missing light number.0 other missing, ap (λ w. get_or w k 0) (missing_was_base light number.0 other missing).1 ∙ letter_is)
 
-    -- the joined words and letters support one another before
+    -- the joined words and letters support one another before the edit
     joined_supports : SupportsItself before old joined_words joined_letters
     joined_supports other in_board = record {
       words = λ choice stands k below. elim (joined-cases other choice stands) [
@@ -254,7 +254,7 @@ module _ (before after : Board) (old new : Dictionary) (same : ℕ → Option �
       ];
     }
 
--- every supported family after a revival is covered
+-- after a revival every supported family is covered
 pub revival_covers : (before after : Board) (old new : Dictionary) (same : ℕ → Option ℕ) (words letters words' letters' : ℕ → ℕ → Bool)
     → IsMatching before after same → IsExact before old words letters → IsRevived before after old new same words letters words' letters' → CoversSupported after new words' letters'
 revival_covers before after old new same words letters words' letters' matching exact revived family supported =

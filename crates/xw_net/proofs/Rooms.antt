@@ -1,4 +1,4 @@
--- Lemmas on the room of a net.
+-- Lemmas about the room of a net.
 use Rattle.std.proofs.Common.{◌≡◌, ℕ, ◌+◌, ◌≤◌, Bool, true, false, cond, eqb, List, [], ◌∷◌, ◌++◌, length, Some, None, refl, sym, ◌∙◌, ap, length-append, arith}
 use Rattle.std.specs.Prelude.{Option, slice_get, unwrap_or}
 use Rattle.std.proofs.lemmas.Option.{unwrap_or-slice_get}
@@ -16,7 +16,7 @@ known_few dictionary count is = (is.words count).few
 pub size_nowhere : (lights : List Light) (light : ℕ) → slice_get lights light ≡ None → 0 ≡ size_at lights light
 size_nowhere lights light none = ap (λ (l : Light). l.size) (sym (ap (λ o. unwrap_or o no_light) none) ∙ unwrap_or-slice_get lights light no_light)
 
--- how many bits there are once a word is added
+-- the number of bits after a word was added
 length-with_bit : (lights : List Light) (count light : ℕ) (bits : List Bool) → length (with_bit lights count light bits) ≡ length bits + cond (eqb (size_at lights light) count) 1 0
 length-with_bit lights count light bits = split (eqb (size_at lights light) count) where
   split : (b : Bool) → length (cond b (bits ++ false ∷ []) bits) ≡ length bits + cond b 1 0
@@ -29,7 +29,7 @@ bits_more lights counts count old new have more light in_lights =
 
 pub ruleset bit_steps = (bits_more)
 
--- the bits at a place, read in two ways
+-- two equal ways to read the bits of a row
 pub bits_are : (rows : List RowOfBits) (light : ℕ) → bits_in rows light ≡ (row_at rows light).bits
 bits_are rows light = by_row (slice_get rows light) ∙ ap (λ (r : RowOfBits). r.bits) (unwrap_or-slice_get rows light no_row) where
   by_row : (found : Option RowOfBits) → bits_at found ≡ (unwrap_or found no_row).bits

@@ -1,4 +1,4 @@
--- The words of a net by numbers, and their letters.
+-- The words of a net by number, and their letters.
 use Rattle.std.proofs.Common.{◌≡◌, ◌≢◌, ℕ, zero, suc, ◌+◌, ◌-◌, ◌*◌, ◌<◌, ◌≤◌, Bool, true, false, not, ◌&&◌, eqb, Option, Some, List, [], ◌∷◌, ◌++◌, map, length, get_or, set, slice_get, refl, sym, ap, ◌∙◌, inl, inr, arith}
 use Rattle.std.specs.Prelude.{unwrap_or}
 use Rattle.std.proofs.lemmas.Bool.{cases_lt, cases_eq, both_ways, and_parts, and_from, eq-eqb, not_from_false, not-true, false_from_ne_true, false≢true}
@@ -30,7 +30,7 @@ slice_get-set_other (x ∷ xs) zero (suc j) y n = refl
 slice_get-set_other (x ∷ xs) (suc i) zero y n = refl
 slice_get-set_other (x ∷ xs) (suc i) (suc j) y n = slice_get-set_other xs i j y (λ e. n (ap suc e))
 
--- the flag past the others is the last one
+-- a flag past the others is the last one
 past_flags : (flags : List Bool) (last : Bool) (k : ℕ) → length flags ≤ k → get_or (flags ++ last ∷ []) k false ≡ true → (k ≡ length flags) × (last ≡ true)
 past_flags [] last zero above h = (refl, h)
 past_flags [] last (suc k) above h = absurd (false≢true h)
@@ -48,7 +48,7 @@ module _ (net : Net) (light : ℕ) where
   unfolding word_stands
   entered_is k is = get_or_push (bits_for net light) (get_or net.entered.items light false) false k is
 
-  -- a word that stands is known, or the one that is entered
+  -- a word in the net is a known one, or the entered one
   pub data WordOf (k : ℕ) : Type 0 where
     listed : k < length (bits_for net light) → get_or (bits_for net light) k false ≡ true → WordOf k
     spelled_one : k ≡ length (bits_for net light) → get_or net.entered.items light false ≡ true → WordOf k
@@ -91,11 +91,11 @@ module _ (board : Board) (entries : ℕ → List Entry) (dictionary : Dictionary
       ap (λ w. get_or w q 0) (get_or_push (map (λ (word : Entry). word.word) words) (spelled board (light_at board i)) [] (known board dictionary i) (length-map words (λ (word : Entry). word.word)))
       ∙ get_or-map (λ cell. unwrap_or (entry board cell) 65) (light_at board i) q 0 0 place.1
 
-  -- a known word that stands has a letter that is pending or stands there
+  -- each letter of a known word in the net is in the net too, or pending
   pub has_own : (i q k : ℕ) → IsPlace board i q → k < known board dictionary i → has_letter (entries (length (light_at board i))) q (letter_of board dictionary i k q) k ≡ true
   has_own i q k place lt = letter_listed i q k (letter_of board dictionary i k q) place lt ∙ eq-eqb (letter_of board dictionary i k q) (letter_of board dictionary i k q) refl
 
-  -- ---- words are taken out of a row
+  -- ---- removing words from a row
 
   module _ (old new : Net) (i q : ℕ) (place : IsPlace board i q) (bits : HasBits board entries old) (first second : RowOfBits) (pending alive : ℕ)
       (row_is : slice_get old.rows.items i ≡ Some first) (rows_are : new.rows.items ≡ set old.rows.items i second) (long : length second.bits ≡ length first.bits)

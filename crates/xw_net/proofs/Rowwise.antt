@@ -1,4 +1,4 @@
--- One of the rows of all lights is written.
+-- Writing one of the rows of all lights.
 use Rattle.std.proofs.Common.{◌≡◌, ℕ, ◌<◌, ◌≤◌, List, length, get_or, set, sym, ap, subst, ◌∙◌, inl, inr, arith}
 use Rattle.std.proofs.lemmas.Bool.{cases_eq}
 use Rattle.std.proofs.lemmas.List.{get_or_default, get_or-set_same, get_or-set_other}
@@ -8,7 +8,7 @@ use Rattle.xw_net.specs.Spread.{bits_in}
 use Rattle.xw_net.proofs.Rooms.{bits_are}
 
 module _ (rows : List RowOfBits) (light : ℕ) (within : light < length rows) where
-  -- the row that was there, by whatever it is read
+  -- the old row, for any default
   pub bits_read : (row : RowOfBits) → (get_or rows light row).bits ≡ bits_in rows light
   bits_read row = ap (λ (r : RowOfBits). r.bits) (get_or_default rows light row no_row within) ∙ sym (bits_are rows light)
 

@@ -1,16 +1,16 @@
--- The lights of two grids of one width are matched by their cells.
+-- Matching the lights of two grids of the same width by their cells.
 use Rattle.std.proofs.Common.{◌≡◌, ℕ, suc, ◌+◌, ◌*◌, ◌-◌, ◌<◌, true, List, [], ◌∷◌, map, length, get_or, Some, None, refl, sym, ◌∙◌, ap, arith, inl, inr}
 use Rattle.std.specs.Prelude.{Option, is_some, slice_get, option_and_then}
 use Rattle.std.specs.Cmp.Lexicographic.{pointwise}
 use Rattle.std.proofs.lemmas.Bool.{false≢true, cases_Bool, both_ways}
 use Rattle.std.proofs.lemmas.List.Quantifiers.{position-Some}
 use Rattle.std.proofs.lemmas.Option.{slice_get-get_or, slice_get_within, get_or_from_slice_get}
-use Rattle.xw_letters.proofs.Position.{position_is_some, position-None}
-use Rattle.xw_cells.specs.declared.cell.Cell.{Cell}
+use Rattle.xw_text.proofs.Position.{position_is_some, position-None}
+use Rattle.xw_grid.specs.declared.cell.Cell.{Cell}
 use Rattle.xw_grid.specs.declared.lights.Light.{Light}
-use Rattle.xw_cells.specs.Grid.{Grid, is_inside, same_cell, index_of, cell_in}
+use Rattle.xw_grid.specs.Grid.{Grid, is_inside, same_cell, index_of, cell_in}
 use Rattle.xw_grid.specs.Light.{cells_of, lights_of, no_light, have_same_cells, place_with_cells}
-use Rattle.xw_cells.proofs.GridLemmas.{and-true, cells_same, same_cell_itself, cell_at-index_of}
+use Rattle.xw_grid.proofs.GridLemmas.{and-true, cells_same, same_cell_itself, cell_at-index_of}
 use Rattle.xw_grid.proofs.LightLemmas.{size_of_light, length-line, get_or-line}
 use Rattle.xw_grid.proofs.OrderLemmas.{same_place}
 use Rattle.xw_grid.proofs.LookupLemmas.{alike}
@@ -31,7 +31,7 @@ cells_themselves : (xs : List Cell) → pointwise same_cell xs xs ≡ true
 cells_themselves [] = refl
 cells_themselves (x ∷ xs) = rw (same_cell_itself x) (cells_themselves xs)
 
--- where the lights are those of before, each of them is found there
+-- if the lights stay, each of them is found among those before
 pub none_new : (before after : List Light) → after ≡ before → (light : ℕ) → light < length after → option_and_then (place_with_cells before) (slice_get after light) ≡ None → ⊥
 none_new before after same light within none =
     let this = get_or after light no_light in
@@ -44,7 +44,7 @@ some_old before after same light within = split (option_and_then (place_with_cel
   split None none = absurd (none_new before after same light within none)
   split (Some other) at = refl
 
--- the cells of places
+-- the cells of a list of indices
 back : (grid : Grid) (cells : List Cell) → ((k : ℕ) → k < length cells → (d : Cell) → is_inside grid (get_or cells k d) ≡ true) → map (cell_in grid.width) (map (index_of grid) cells) ≡ cells
 back grid [] inside = refl
 back grid (cell ∷ cells) inside =
@@ -59,7 +59,7 @@ light_back grid place within =
     ap (is_inside grid) (get_or-line light.name.direction light.start light.size k d under) ∙ light_inside grid place no_light within k under)
 
 module _ (before after : Grid) (wide : after.width ≡ before.width) where
-  -- what a light is matched with
+  -- the light that matches another
   abbrev IsFound : ℕ → ℕ → Type 0
   IsFound light other = (light < length (lights_of after)) × (other < length (lights_of before)) × (cells_of (get_or (lights_of after) light no_light) ≡ cells_of (get_or (lights_of before) other no_light))
 
@@ -82,7 +82,7 @@ module _ (before after : Grid) (wide : after.width ≡ before.width) where
         ∙ sym (light_at-board before other no_light is.1);
   }
 
-  -- lights of the same cells are matched
+  -- lights with the same cells match
   pub same_is_whole : (light other : ℕ) → light < length (board_of after).lights → other < length (board_of before).lights → light_at (board_of after) light ≡ light_at (board_of before) other → same_light before after light ≡ Some other
   same_is_whole light other in_after in_before same =
       let within : light < length (lights_of after) = omega (arith, length-lights after) in

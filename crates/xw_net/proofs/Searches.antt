@@ -1,4 +1,4 @@
--- Where a search goes on from, and what it changes.
+-- Where a search goes on, and what it changes.
 use Rattle.std.proofs.Common.{◌≡◌, ◌≢◌, ℕ, ◌/◌, ◌<◌, ◌≤◌, Bool, true, false, not, ◌&&◌, ◌||◌, cond, eqb, ltb, List, get_or, set, length, refl, sym, ap, ◌∙◌, inl, inr}
 use Rattle.std.proofs.lemmas.Bool.{cases_Bool, cases_lt, cases_eq, lt-ltb, le-ltb, eq-eqb, ne_eqb}
 use Rattle.std.proofs.lemmas.List.{get_or-set_same, get_or-set_other}
@@ -23,7 +23,7 @@ search_is held slot letter words from known past start =
       first true = refl
       first false = refl
 
--- a set of a list changes at one slot
+-- the set at one slot changes
 pub set_has-set : (sets : List ℕ) (slot new : ℕ) (change : ℕ → Bool → Bool) → slot < length sets → ((other : ℕ) → has new other ≡ change other (set_has sets slot other)) → (at other : ℕ)
     → set_has (set sets slot new) at other ≡ cond (eqb at slot) (change other (set_has sets at other)) (set_has sets at other)
 set_has-set sets slot new change within each at other =
@@ -37,7 +37,7 @@ set_has-set sets slot new change within each at other =
           ∙ sym (ap (λ b. cond b (change other (set_has sets at other)) (set_has sets at other)) (ne_eqb at slot n))
     ]
 
--- a letter leaves the set of a slot
+-- the set at a slot loses a letter
 pub without_letter : (sets : List ℕ) (slot new letter : ℕ) → slot < length sets → ((other : ℕ) → has new other ≡ (set_has sets slot other && not (eqb other letter))) → (at other : ℕ)
     → set_has (set sets slot new) at other ≡ (set_has sets at other && not (eqb at slot && eqb other letter))
 without_letter sets slot new letter within each at other =
@@ -47,7 +47,7 @@ without_letter sets slot new letter within each at other =
       parts false true = refl
       parts false false = refl
 
--- the set of a slot is emptied
+-- the set at a slot is emptied
 pub emptied : (sets : List ℕ) (slot empty : ℕ) → slot < length sets → empty ≡ 0 → (at b : ℕ) → (at ≢ slot → set_has sets at b ≡ false) → set_has (set sets slot empty) at b ≡ false
 emptied sets slot empty within none at b gone =
     elim (cases_eq at slot) [
@@ -55,7 +55,7 @@ emptied sets slot empty within none at b gone =
       | inr n ↦ ap (λ s. has s b) (get_or-set_other sets slot at empty 0 n) ∙ gone n
     ]
 
--- a letter enters the set of a slot
+-- the set at a slot gets a letter
 pub with_letter : (sets : List ℕ) (slot new letter : ℕ) → slot < length sets → ((other : ℕ) → has new other ≡ (set_has sets slot other || eqb other letter)) → (at other : ℕ)
     → set_has (set sets slot new) at other ≡ (set_has sets at other || (eqb at slot && eqb other letter))
 with_letter sets slot new letter within each at other =

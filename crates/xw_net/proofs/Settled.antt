@@ -1,4 +1,4 @@
--- A net that is filled is settled as its callers see it.
+-- A net that is `IsFilled` is settled as its callers see it.
 use Rattle.std.proofs.Common.{◌≡◌, ℕ, ◌+◌, ◌<◌, ◌≤◌, Bool, true, false, cond, List, [], ◌∷◌, length, get_or, length-append, refl, sym, ap, ◌∙◌, arith}
 use Rattle.std.specs.Prelude.{count_by, vec_len}
 use Rattle.std.specs.Coded.{le_prop}
@@ -8,7 +8,7 @@ use Rattle.std.proofs.lemmas.List.{length-map}
 use Rattle.std.proofs.lemmas.List.FromFn.{length-map-range_with_len, get_or-map-range_with_len}
 use Rattle.xw_words.specs.Dictionary.{Dictionary, Entry, row}
 use Rattle.xw_grid.specs.declared.lights.Light.{Light}
-use Rattle.xw_cells.specs.Grid.{Grid}
+use Rattle.xw_grid.specs.Grid.{Grid}
 use Rattle.xw_grid.specs.Light.{lights_of}
 use Rattle.xw_feas.specs.Board.{board_of, light_at}
 use Rattle.xw_feas.specs.Flags.{flag_at, standing_count}
@@ -22,7 +22,7 @@ use Rattle.xw_net.specs.Net.{row_flags, flags_of, flags_at, sets_of, IsSettledOn
 use Rattle.xw_net.specs.declared.net.Net.{Net}
 use Rattle.xw_net.proofs.Quiet.{quiet_queue_room, quiet_stack_room}
 
--- the flags of a light are its bits, and the one for the word that its entries spell
+-- the flags of a light are its bits, and the flag of its entered word
 pub flags_are : (lights : List Light) (net : Net) (light : ℕ) → light < length lights → flags_at lights net light ≡ row_flags net light
 unfolding flags_of
 flags_are lights net light lt = get_or-map-range_with_len (row_flags net) 0 (length lights) light light [] lt (omega arith)
@@ -58,7 +58,7 @@ filled_settled grid dictionary net filled = record {
   filled = filled;
 }
 
--- it has room for its lights, and for the words that are known
+-- it has room for its lights and the known words
 pub filled_room : (grid : Grid) (dictionary : Dictionary) (net : Net) → IsFilled (board_of grid) dictionary net → HasRoom (lights_of grid) (known_counts dictionary) net
 filled_room grid dictionary net filled = record {
   rows = λ light lt. omega (arith, filled.whole.room light (in_board light lt), long light lt);
@@ -72,21 +72,21 @@ filled_room grid dictionary net filled = record {
   long : (light : ℕ) → light < length (lights_of grid) → length (row dictionary (length (light_at (board_of grid) light))) ≡ known_counts dictionary (size_at (lights_of grid) light)
   long light lt = ap (known_counts dictionary) (length-light_at grid light lt)
 
--- a light of the grid has its row and its flag
+-- each light of the grid has its row and its flag
 pub stands_shaped : (lights : List Light) (net : Net) (light : ℕ) → StandsFor lights net → light < length lights → (light < length net.rows.items) × (light < length net.entered.items)
 stands_shaped lights net light stands lt =
     (∥∥₁_elim stands.settled le_prop (λ settled. omega (arith, lt, in_board, settled.filled.whole.shaped.rows)), ∥∥₁_elim stands.settled le_prop (λ settled. omega (arith, lt, in_board, settled.filled.whole.shaped.entered))) where
       in_board : length (board_of stands.state.grid).lights ≡ length lights
       in_board = length-lights stands.state.grid ∙ ap (λ (ls : List Light). length ls) stands.are_lights
 
--- and there are rows for all
+-- there is a row for each light
 pub stands_rows : (lights : List Light) (net : Net) → StandsFor lights net → (length lights ≤ vec_len net.rows) × (length lights ≤ vec_len net.base)
 stands_rows lights net stands =
     (∥∥₁_elim stands.settled le_prop (λ settled. omega (arith, in_board, settled.filled.whole.shaped.rows)), ∥∥₁_elim stands.settled le_prop (λ settled. omega (arith, in_board, settled.filled.whole.chained.base))) where
       in_board : length (board_of stands.state.grid).lights ≡ length lights
       in_board = length-lights stands.state.grid ∙ ap (λ (ls : List Light). length ls) stands.are_lights
 
--- how many stand
+-- the number of set flags
 pub count_flags : (lights : List Light) (net : Net) (light : ℕ) → light < length lights
     → standing_count (flags_at lights net light) ≡ count_by (λ bit. bit) (bits_for net light) + cond (get_or net.entered.items light false) 1 0
 count_flags lights net light lt =

@@ -1,11 +1,11 @@
--- In a grid each slot is that of one place at most.
+-- In a grid, each slot belongs to at most one position of a light.
 use Rattle.std.proofs.Common.{◌≡◌, ℕ, ◌+◌, ◌*◌, ◌<◌, ◌≤◌, true, false, cond, eqb, List, length, get_or, refl, sym, ap, ◌∙◌, subst, inl, inr, arith}
 use Rattle.std.proofs.lemmas.Bool.{cases_eq, eq-eqb, ne_eqb}
-use Rattle.xw_cells.specs.declared.cell.Direction.{Direction}
-use Rattle.xw_cells.specs.declared.cell.Direction.TheVariants.{Across, Down}
-use Rattle.xw_cells.specs.Grid.{Grid, is_inside, index_of}
+use Rattle.xw_grid.specs.declared.cell.Direction.{Direction}
+use Rattle.xw_grid.specs.declared.cell.Direction.TheVariants.{Across, Down}
+use Rattle.xw_grid.specs.Grid.{Grid, is_inside, index_of}
 use Rattle.xw_grid.specs.Light.{step, lights_of, no_light}
-use Rattle.xw_cells.proofs.GridLemmas.{IsInside-is_inside}
+use Rattle.xw_grid.proofs.GridLemmas.{IsInside-is_inside}
 use Rattle.xw_grid.proofs.LightLemmas.{size_of_light}
 use Rattle.xw_grid.proofs.OrderLemmas.{lights_are_apart}
 use Rattle.xw_feas.specs.Board.{board_of, light_at}
@@ -33,7 +33,7 @@ module _ (grid : Grid) (light place : ℕ) (below : place < length (light_at (bo
   start_inside : is_inside grid (light_in grid light).start ≡ true
   start_inside = ap (is_inside grid) (sym (first_step (towards grid light) (light_in grid light).start)) ∙ inside_at grid light 0 (omega (arith, long))
 
-  -- the second cell is a stride further on
+  -- the second cell is one stride further on
   second_cell : get_or (light_at (board_of grid) light) 1 0 ≡ get_or (light_at (board_of grid) light) 0 0 + stride_of grid (towards grid light)
   second_cell =
       let e : 1 * stride_of grid (towards grid light) ≡ stride_of grid (towards grid light) = omega arith in
@@ -50,7 +50,7 @@ module _ (grid : Grid) (light place : ℕ) (below : place < length (light_at (bo
             ∙ sym (ap (λ b. cond b 0 1) (ne_eqb stride 1 n))
       ]
 
-  -- a light across needs two columns
+  -- an across light needs two columns
   across_wide : towards grid light ≡ Across → 2 ≤ grid.width
   across_wide is =
       let next = subst (λ d. is_inside grid (step d (light_in grid light).start 1) ≡ true) is (inside_at grid light 1 (omega (arith, long))) in
@@ -64,7 +64,7 @@ module _ (grid : Grid) (light place : ℕ) (below : place < length (light_at (bo
   side_down : 2 ≤ grid.width → towards grid light ≡ Down → side_of (light_at (board_of grid) light) ≡ 1
   side_down wide is = side_by grid.width (ap (stride_of grid) is) ∙ ap (λ b. cond b 0 1) (ne_eqb grid.width 1 (λ e. omega (arith, wide, e)))
 
--- lights of one side through a cell go in one direction
+-- lights through a cell with the same side have the same direction
 same_towards : (grid : Grid) (light place other other_place : ℕ) (below : place < length (light_at (board_of grid) light)) (below' : other_place < length (light_at (board_of grid) other))
     → side_of (light_at (board_of grid) light) ≡ side_of (light_at (board_of grid) other) → towards grid light ≡ towards grid other
 same_towards grid light place other other_place below below' sides = by_directions (towards grid light) (towards grid other) refl refl where

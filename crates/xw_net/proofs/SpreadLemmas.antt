@@ -15,7 +15,7 @@ use Rattle.xw_feas.specs.Flags.{set_has}
 use Rattle.xw_net.specs.Marks.{IsPlace, cell_at}
 use Rattle.xw_net.specs.Spread.{is_marked, is_waiting, Grows, HasAll, IsSpread, places_from, no_places, none_waits, HasSeeds}
 
--- ---- marks, and a stack of those that wait
+-- ---- marks, and the stack of waiting lights
 
 or_false : (t : Bool) → (t || false) ≡ t
 or_false true = refl
@@ -29,7 +29,7 @@ pub waiting-none : (stack : List ℕ) (i : ℕ) → stack ≡ [] → is_waiting 
 unfolding is_waiting
 waiting-none stack i empty = ap (λ l. is_waiting l i) empty
 
--- what is marked stays marked
+-- a marked light stays marked
 pub marked_more : (marks : List Bool) (o i : ℕ) → is_marked marks i ≡ true → is_marked (set marks o true) i ≡ true
 unfolding is_marked
 marked_more marks o i h =
@@ -50,7 +50,7 @@ pub marked_before : (marks : List Bool) (o i : ℕ) → (i ≡ o → ⊥) → is
 unfolding is_marked
 marked_before marks o i n h = sym (get_or-set_other marks o i true false n) ∙ h
 
--- the stack after a light is marked
+-- the stack after a light was marked
 abbrev pub IsPushed : List Bool → List ℕ → ℕ → List ℕ → Type 0
 IsPushed marks stack o stack' = stack' ≡ cond (is_marked marks o) stack (stack ++ o ∷ [])
 
@@ -108,7 +108,7 @@ grows_more marks stack marks' stack' marks'' stack'' first second = record {
   waits = λ waits. second.waits (first.waits waits);
 }
 
--- and those that wait are the marked ones still
+-- the waiting lights are still the marked ones
 pub seeds_grow : (marks : List Bool) (stack : List ℕ) (marks' : List Bool) (stack' : List ℕ) → Grows marks stack marks' stack' → HasSeeds marks stack → HasSeeds marks' stack'
 seeds_grow marks stack marks' stack' grows seeds light =
     elim (cases_Bool (is_marked marks' light)) [
@@ -121,14 +121,14 @@ seeds_grow marks stack marks' stack' grows seeds light =
           n ∙ sym (false_from_ne_true (is_waiting stack' light) (λ w. both_ways (is_marked marks' light) n (grows.waits (λ i h. seeds i ∙ h) light w)))
     ]
 
--- what waits below waits, and so does the top
+-- after a pop, every light left on the stack was on it
 pub waits_pop : (stack stack' : List ℕ) (o i : ℕ) → stack ≡ stack' ++ o ∷ [] → is_waiting stack' i ≡ true → is_waiting stack i ≡ true
 waits_pop stack stack' o i is h = ap (λ l. is_waiting l i) is ∙ waiting-push stack' o i ∙ or_left (is_waiting stack' i) (eqb o i) h
 
 pub waits_top : (stack stack' : List ℕ) (o : ℕ) → stack ≡ stack' ++ o ∷ [] → is_waiting stack o ≡ true
 waits_top stack stack' o is = ap (λ l. is_waiting l o) is ∙ waiting-push stack' o o ∙ or_right (is_waiting stack' o) (eqb o o) (eq-eqb o o refl)
 
--- and nothing else
+-- after a pop, only the top light has left the stack
 pub quiet_pop : (stack stack' : List ℕ) (o i : ℕ) → stack ≡ stack' ++ o ∷ [] → (i ≡ o → ⊥) → is_waiting stack' i ≡ false → is_waiting stack i ≡ false
 quiet_pop stack stack' o i is n h =
     false_from_ne_true (is_waiting stack i) (λ w. elim (or_cases (is_waiting stack' i) (eqb o i) (sym (ap (λ l. is_waiting l i) is ∙ waiting-push stack' o i) ∙ w)) [
@@ -148,7 +148,7 @@ filter_same : (f g : ℕ → Bool) → ((n : ℕ) → f n ≡ g n) → (xs : Lis
 filter_same f g same [] = refl
 filter_same f g same (x ∷ xs) = ap (λ b. cond b (x ∷ filter f xs) (filter f xs)) (same x) ∙ ap (λ ys. cond (g x) (x ∷ ys) ys) (filter_same f g same xs)
 
--- a set that has the letters of another, and no more
+-- a set that has exactly the letters of another
 pub same_set : (common may : ℕ) → ((letter : ℕ) → has common letter ≡ has may letter) → bytes_eq (letters_in common) (letters_in may) ≡ true
 same_set common may same = (bytes_eq-Decides (letters_in common) (letters_in may)).1 (filter_same (has common) (has may) same alphabet)
 
@@ -165,7 +165,7 @@ module _ (board : Board) (old : ℕ → ℕ → Bool) where
     stay = spread.stay;
   }
 
-  -- at a cell all letters stand that may, and the lights through it are marked
+  -- a cell gets all letters that it allows, and the lights through it are marked
   pub spread_raise : (letters : List ℕ) (cell may : ℕ) (marked waiting : ℕ → Bool) (coming : ℕ → ℕ → Bool) → cell < length letters
       → ((letter : ℕ) → has may letter ≡ may_stand board cell letter)
       → ((light place : ℕ) → IsPlace board light place → cell_at board light place ≡ cell → marked light ≡ true)
@@ -195,7 +195,7 @@ module _ (board : Board) (old : ℕ → ℕ → Bool) where
             | inr n ↦ set_has-there letters cell c may l n ∙ h
           ]
 
-  -- a light that waits is taken up: all its places are to come
+  -- a light is popped: all its positions are still to come
   pub spread_taken : (new : ℕ → ℕ → Bool) (marked : ℕ → Bool) (stack stack' : List ℕ) (o : ℕ) → stack ≡ stack' ++ o ∷ []
       → IsSpread board old new marked (is_waiting stack) no_places → IsSpread board old new marked (is_waiting stack') (places_from o 0)
   spread_taken new marked stack stack' o is spread = record {
@@ -209,7 +209,7 @@ module _ (board : Board) (old : ℕ → ℕ → Bool) where
     stay = spread.stay;
   }
 
-  -- a place is done
+  -- one position is done
   pub spread_place : (new : ℕ → ℕ → Bool) (marked waiting : ℕ → Bool) (o p : ℕ) → HasAll board new (cell_at board o p)
       → IsSpread board old new marked waiting (places_from o p) → IsSpread board old new marked waiting (places_from o (p + 1))
   spread_place new marked waiting o p done spread = record {
@@ -231,7 +231,7 @@ module _ (board : Board) (old : ℕ → ℕ → Bool) where
     stay = spread.stay;
   }
 
-  -- past the last place of the light nothing is to come
+  -- after the last position of the light nothing is to come
   pub spread_light : (new : ℕ → ℕ → Bool) (marked waiting : ℕ → Bool) (o p : ℕ) → ((q : ℕ) → IsPlace board o q → q < p)
       → IsSpread board old new marked waiting (places_from o p) → IsSpread board old new marked waiting no_places
   spread_light new marked waiting o p short spread = record {
@@ -247,7 +247,7 @@ module _ (board : Board) (old : ℕ → ℕ → Bool) where
     stay = spread.stay;
   }
 
-  -- where a letter is missing that may stand, one comes back
+  -- if an allowed letter is missing at a cell, it comes back there
   pub lacks_old : (new : ℕ → ℕ → Bool) (marked waiting : ℕ → Bool) (coming : ℕ → ℕ → Bool) (cell : ℕ) → IsSpread board old new marked waiting coming
       → ¬ HasAll board new cell → ¬ HasAll board old cell
   lacks_old new marked waiting coming cell spread lacks all = lacks (λ l may. spread.stay cell l may (all l may))
@@ -255,7 +255,7 @@ module _ (board : Board) (old : ℕ → ℕ → Bool) where
 -- ---- the first and the last step
 
 module _ (board : Board) where
-  -- at first the marked lights wait
+  -- at the start the marked lights are on the stack
   pub spread_start : (letters : ℕ → ℕ → Bool) (marked waiting : ℕ → Bool) → ((light : ℕ) → marked light ≡ waiting light) → IsSpread board letters letters marked waiting no_places
   spread_start letters marked waiting seeds = record {
     on = λ i q here m quiet later. absurd (both_ways (waiting i) quiet (sym (seeds i) ∙ m));
@@ -264,7 +264,7 @@ module _ (board : Board) where
     stay = λ c l may was. was;
   }
 
-  -- in the end none does
+  -- at the end no light is on the stack
   pub spread_end : (old new : ℕ → ℕ → Bool) (marked waiting : ℕ → Bool) → ((light : ℕ) → waiting light ≡ false)
       → IsSpread board old new marked waiting no_places → IsSpread board old new marked none_waits no_places
   spread_end old new marked waiting none spread = record {

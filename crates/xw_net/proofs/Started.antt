@@ -1,4 +1,4 @@
--- The state from which a revival begins after an edit.
+-- The state at which a revival starts after an edit.
 use Rattle.std.proofs.Common.{◌≡◌, ℕ, zero, suc, ◌<◌, Bool, true, false, not, ◌&&◌, List, [], ◌∷◌, length, get_or, Some, None, refl, sym, ◌∙◌, ap, arith, inl, inr}
 use Rattle.std.specs.Prelude.{Option, is_some}
 use Rattle.std.proofs.lemmas.Bool.{and_parts, and_from, cases_lt, cases_Bool, both_ways}
@@ -18,7 +18,7 @@ use Rattle.xw_net.proofs.Exact.{exact_base}
 use Rattle.xw_net.proofs.Revival.{was-gives, was-from}
 use Rattle.xw_net.proofs.Kept.{HaveSameEntries, AllowNoMore, entered_same, spelled_same}
 
--- the known words and entries of a light are those of before, but for its base words' being active
+-- a light keeps its known words and entries, except that fewer of its base words may be active
 pub record IsNarrowedBut (before after : Board) (old new : Dictionary) (cells : List ℕ) : Type 0 where
   pub entries : AllowNoMore before after cells
   pub words : spellings new (length cells) ≡ spellings old (length cells)
@@ -71,7 +71,7 @@ narrowed_one before after old new cells narrow choice h =
           )
     ]
 
--- a light with an empty cell is not wholly entered
+-- a light with an empty cell is not filled
 pub empty_not_whole : (board : Board) (cells : List ℕ) (k : ℕ) → k < length cells → entry board (get_or cells k 0) ≡ None → is_wholly_entered board cells ≡ false
 empty_not_whole board [] k below empty = absurd (omega arith)
 empty_not_whole board (first ∷ cells) zero below empty = ap (λ e. is_some e && is_wholly_entered board cells) empty
@@ -92,7 +92,7 @@ module _ (before after : Board) (old new : Dictionary) (same : ℕ → Option �
       split None empty = ap (λ e. allows e letter) empty
       split (Some entered) had = ap (λ e. allows e letter) (sym (started.entry_kept light cell entered in_board no_seed in_cells had)) ∙ h
 
-    -- if it was wholly entered nothing changed
+    -- if it was filled, no entry changed
     whole_same : is_wholly_entered before (light_at after light) ≡ true → HaveSameEntries before after (light_at after light)
     whole_same whole cell in_cells = split (entry before cell) refl where
       split : (o : Option ℕ) → entry before cell ≡ o → entry after cell ≡ entry before cell
@@ -102,7 +102,7 @@ module _ (before after : Board) (old new : Dictionary) (same : ℕ → Option �
     calm_same : start.queued light ≡ false → HaveSameEntries before after (light_at after light)
     calm_same calm cell in_cells = started.entry_calm light cell in_board calm no_seed in_cells
 
-    -- if it is wholly entered nothing changed
+    -- if it is filled, no entry changed
     whole_now : is_wholly_entered after (light_at after light) ≡ true → HaveSameEntries before after (light_at after light)
     whole_now whole = elim (cases_Bool (start.queued light)) [
       | inl queued ↦ absurd (both_ways _ no_seed (started.entered light in_board queued whole))
@@ -139,7 +139,7 @@ module _ (before after : Board) (old new : Dictionary) (same : ℕ → Option �
     as_many : known after new light ≡ length (row old (length (light_at after light)))
     as_many = sym (length-map (row new (length (light_at after light))) (λ (word : Entry). word.word)) ∙ ap length (started.spelled light in_board no_seed) ∙ length-map (row old (length (light_at after light))) (λ (word : Entry). word.word)
 
-    -- the number of a base word of before is that of the same word
+    -- the number of an earlier base word denotes the same word
     same_choice : (other choice : ℕ) → same light ≡ Some other → is_base_at before old other choice ≡ true → choice_at before old other choice ≡ choice_at after new light choice
     same_choice other choice at base_there =
         let cells_same = matching.cells light other in_board at in

@@ -1,4 +1,4 @@
--- Each step keeps what is true of the marks, and is paid from what is due.
+-- Each step of stripping keeps the invariant of the marks, and its ticks are paid from those due.
 use Rattle.std.proofs.Common.{◌≡◌, ◌≢◌, ℕ, ◌+◌, ◌-◌, ◌*◌, ◌/◌, ◌<◌, ◌≤◌, true, false, not, ◌&&◌, ◌||◌, cond, eqb, get_or, refl, sym, ap, ◌∙◌, subst, inl, inr, arith}
 use Rattle.std.specs.Prelude.{IsTrue}
 use Rattle.std.proofs.lemmas.Bool.{cases_eq, cases_Bool, cases_lt, and_parts, and_from, or_cases, or_left, or_right, both_ways, eq-eqb, eqb-true, not_from_false, not_from_true, and_right, false_from_ne_true}
@@ -16,7 +16,7 @@ use Rattle.xw_net.specs.Due.{sum_letters, chunks, due_of, due_letter, due_place,
 use Rattle.xw_net.proofs.Sums.{sum_to-le, sum_to-add, sum_to-times}
 use Rattle.xw_net.proofs.Dues.{due-same, due-fewer, due-cleared, due-dies, due-alike, due-nowhere, due-moves, due-falls, place-falls, IsFrom}
 
--- words with a pending letter at a place went from its light
+-- the words with a pending letter at a position were removed from the light
 pub record IsStruck (board : Board) (dictionary : Dictionary) (marks new : Marks) (i q : ℕ) : Type 0 where
   pub rest : (j k : ℕ) → j ≢ i → new.words j k ≡ marks.words j k
   pub fewer : (k : ℕ) → new.words i k ≡ true → marks.words i k ≡ true
@@ -29,7 +29,7 @@ pub record IsStruck (board : Board) (dictionary : Dictionary) (marks new : Marks
   pub cleared : (b : ℕ) → new.pending (slot_at board i q) b ≡ false
   pub pending_rest : (s b : ℕ) → s ≢ slot_at board i q → new.pending s b ≡ marks.pending s b
 
--- another word is held for a letter, and it stands
+-- another word in the net is held for a letter
 pub record IsHung (board : Board) (dictionary : Dictionary) (marks new : Marks) (i q b word : ℕ) : Type 0 where
   pub words : (j k : ℕ) → new.words j k ≡ marks.words j k
   pub held_here : new.held (slot_at board i q) b ≡ word
@@ -37,7 +37,7 @@ pub record IsHung (board : Board) (dictionary : Dictionary) (marks new : Marks) 
   pub within : word < known board dictionary i
   pub stands : marks.words i word ≡ true
 
--- and it is the first one that has the letter
+-- it is the first word that has the letter
 pub record IsMoved (board : Board) (dictionary : Dictionary) (marks new : Marks) (i q b word from : ℕ) : Type 0 where
   pub hung : IsHung board dictionary marks new i q b word
   pub letters : (x d : ℕ) → new.letters x d ≡ marks.letters x d
@@ -51,7 +51,7 @@ pub record IsMoved (board : Board) (dictionary : Dictionary) (marks new : Marks)
   pub from_is : IsFrom (known board dictionary i) (marks.held (slot_at board i q) b) (marks.restart (slot_at board i q) b) from
   pub lost : marks.held (slot_at board i q) b < known board dictionary i → marks.words i (marks.held (slot_at board i q) b) ≡ false
 
--- a letter dies that no word of a light has at a place
+-- a letter was removed that no word of a light has at a position
 pub record IsDropped (board : Board) (dictionary : Dictionary) (marks new : Marks) (i q b from : ℕ) : Type 0 where
   pub words : (j k : ℕ) → new.words j k ≡ marks.words j k
   pub held : (s d : ℕ) → new.held s d ≡ marks.held s d
@@ -61,18 +61,18 @@ pub record IsDropped (board : Board) (dictionary : Dictionary) (marks new : Mark
   pub no_word : (k : ℕ) → marks.words i k ≡ true → puts board dictionary i q b k ≡ true → ⊥
   pub from_is : IsFrom (known board dictionary i) (marks.held (slot_at board i q) b) (marks.restart (slot_at board i q) b) from
 
--- a letter that may stand is one
+-- an allowed letter is one of A to Z
 may_letter : (board : Board) (y d : ℕ) → IsTrue (may_stand board y d) → IsLetter d
 may_letter board y d may = capital_is_letter d (and_parts (is_open board y) (is_capital d) (and_parts (is_open board y && is_capital d) (allows (entry board y) d) may).0).1
 
 module _ (board : Board) (dictionary : Dictionary) (apart : AreSlotsApart board) where
-  -- what is true of a place is true of the same place
+  -- positions with the same slot are the same
   here_too : (P : ℕ → ℕ → Type 0) (i q j r : ℕ) → IsPlace board i q → IsPlace board j r → slot_at board j r ≡ slot_at board i q → P i q → P j r
   here_too P i q j r place here same h =
       let e = apart i q j r place here (sym same) in
       subst (λ n. P j n) e.1 (subst (λ n. P n q) e.0 h)
 
-  -- ---- words are taken out of a light
+  -- ---- words are removed from a light
 
   module _ (marks new : Marks) (i q : ℕ) (place : IsPlace board i q) (queued : marks.queued i ≡ true) (is : IsStruck board dictionary marks new i q) where
     in_old : (j k : ℕ) → new.words j k ≡ true → marks.words j k ≡ true
@@ -180,7 +180,7 @@ module _ (board : Board) (dictionary : Dictionary) (apart : AreSlotsApart board)
           fewer = λ x b h. paid.fewer x b (sym (is.letters x b) ∙ h);
         }
 
-  -- ---- a letter gets another word, or dies
+  -- ---- a letter gets another support, or is removed
 
   pub same_stays : (marks new : Marks) → ((j k : ℕ) → new.words j k ≡ marks.words j k) → ((s d : ℕ) → new.held s d ≡ marks.held s d) → (j r d : ℕ) → IsHeld board dictionary marks j r d → IsHeld board dictionary new j r d
   same_stays marks new words_same held_same j r d held =
@@ -191,7 +191,7 @@ module _ (board : Board) (dictionary : Dictionary) (apart : AreSlotsApart board)
       ]
 
   module _ (marks new : Marks) (i q b : ℕ) (place : IsPlace board i q) (letter : IsLetter b) where
-    -- this letter at this place, or another one
+    -- whether it is this letter at this slot
     data ThisLetter (s d : ℕ) : Type 0 where
       this : (s ≡ slot_at board i q) × (d ≡ b) → ThisLetter s d
       another : ((s ≡ slot_at board i q) × (d ≡ b) → ⊥) → ThisLetter s d
@@ -336,7 +336,7 @@ module _ (board : Board) (dictionary : Dictionary) (apart : AreSlotsApart board)
           let parts = and_parts (eqb y (cell_at board i q)) (eqb d b) both in
           n (eqb-true y (cell_at board i q) parts.0, eqb-true d b parts.1))))
 
-      -- this letter at this cell, or another one
+      -- whether it is this letter at this cell
       data ThisCell (y d : ℕ) : Type 0 where
         this_cell : y ≡ cell_at board i q → d ≡ b → ThisCell y d
         another_cell : ((y ≡ cell_at board i q) × (d ≡ b) → ⊥) → ThisCell y d

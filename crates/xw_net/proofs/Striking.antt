@@ -1,4 +1,4 @@
--- Words that go from a row because of a letter that they have.
+-- Removing words from a row because of their letter at a position.
 use Rattle.std.proofs.Common.{◌≡◌, ◌≤◌, ◌+◌, length, arith, ℕ, Bool, true, false, not, ◌&&◌, eqb, refl, sym, ap, ◌∙◌}
 use Rattle.std.specs.Prelude.{Option, Some, None, slice_get, List}
 use Rattle.std.specs.Int.{bit_at}
@@ -15,7 +15,7 @@ use Rattle.xw_net.proofs.Sums.{letter_count-is, sum_to-one}
 pub set_letter : (set letter : ℕ) → has set letter ≡ true → IsLetter letter
 set_letter set letter h = capital_is_letter letter (and_parts (is_capital letter) (eqb (bit_at set (letter - 65)) 1) h).0
 
--- a word with a letter has one of a set where the set has the letter
+-- a word with a letter has one of a set if and only if the set has that letter
 pub one_of_set : (words : List Entry) (position set letter word : ℕ) → has_letter words position letter word ≡ true → has_one_of words position set word ≡ has set letter
 one_of_set words position set letter word has_it = of_option (slice_get (entry_at words word).word position) has_it where
   of_option : (o : Option ℕ) → letter_is o letter ≡ true → is_among set o ≡ has set letter
@@ -30,7 +30,7 @@ one_of_only words position set letter word only = of_option (slice_get (entry_at
   of_option (Some other) = only other
 
 module _ (words : List Entry) (position pending alive : ℕ) (old new : ℕ → Bool) (apart : AreApart pending alive) where
-  -- only the words with a letter that stands are left
+  -- only the words with one of the letters left stay
   pub kept_alive : ((i : ℕ) → new i ≡ (old i && has_one_of words position alive i)) → Strikes words position pending alive old new
   kept_alive bits = record {
     fewer = λ word h. (and_parts (old word) (has_one_of words position alive word) (sym (bits word) ∙ h)).0;
@@ -47,7 +47,7 @@ module _ (words : List Entry) (position pending alive : ℕ) (old new : ℕ → 
         (not_from_false (has_one_of words position pending word) (one_of_set words position pending letter word has_it ∙ false_from_ne_true (has pending letter) (λ h. both_ways (has alive letter) (apart letter h) is_alive)));
   }
 
--- such a set has one letter
+-- a set of one letter has at most one letter
 pub only_one : (set letter : ℕ) → ((other : ℕ) → has set other ≡ eqb other letter) → length (letters_in set) ≤ 1
 unfolding letter_count
 only_one set letter only =

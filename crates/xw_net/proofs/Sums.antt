@@ -15,7 +15,7 @@ unfolding sum_to
 sum_to-le f g zero each = omega arith
 sum_to-le f g (suc n) each = omega (arith, sum_to-le f g n (λ k lt. each k (omega arith)), each n (omega arith))
 
--- every term falls or stays, and one of them falls by t
+-- no term increases, and one of them decreases by t
 pub sum_to-falls : (f g : ℕ → ℕ) (n k t : ℕ) → k < n → ((j : ℕ) → j < n → f j ≤ g j) → f k + t ≤ g k → sum_to f n + t ≤ sum_to g n
 unfolding sum_to
 sum_to-falls f g zero k t lt each falls = absurd (omega arith)
@@ -90,7 +90,7 @@ count_from-later f from n (suc k) =
     let many : suc k + n ≡ suc (k + n) = omega arith in
     omega (arith, ap (λ j. count_from f j n) place, ap (count_from f from) many, count_from-later f (from + 1) n k)
 
--- each place is counted for one number at most
+-- each index is counted for at most one number
 pub counts-le : (p : ℕ → ℕ → Bool) (n from m : ℕ) → ((w j k : ℕ) → p j w ≡ true → p k w ≡ true → j ≡ k) → sum_to (λ b. count_from (p b) from m) n ≤ m
 unfolding count_from
 counts-le p n from zero only = omega (arith, sum_to-none (λ b. 0) n (λ k lt. refl))
@@ -125,7 +125,7 @@ search_first f n word spent within cost =
     let many : word + (n - word) ≡ n = omega arith in
     omega (arith, cost, count_from-later f 0 (n - word) word, ap (λ k. count_from f k (n - word)) place, ap (count_from f 0) many)
 
--- ---- letters of a set
+-- ---- the letters of a set
 
 letters_below : (set n : ℕ) → n ≤ 26 → sum_to (λ k. cond (has set (65 + k)) 1 0) n ≡ length (filter (has set) (take n alphabet))
 unfolding sum_to

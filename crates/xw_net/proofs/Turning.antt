@@ -1,4 +1,4 @@
--- A net goes by the lights after an edit.
+-- A net switches to the lights after an edit.
 use Rattle.std.proofs.Common.{◌≡◌, ℕ, zero, suc, ◌<◌, Bool, true, false, List, [], ◌∷◌, ◌++◌, length, replicate, get_or, Some, None, refl, sym, ◌∙◌, ap, subst, inl, inr, arith}
 use Rattle.std.specs.Prelude.{Option}
 use Rattle.std.proofs.lemmas.Bool.{cases_lt, both_ways}
@@ -6,7 +6,7 @@ use Rattle.std.proofs.lemmas.List.{get_or_past, length-replicate, get_or-replica
 use Rattle.std.proofs.lemmas.Option.{slice_get_past}
 use Rattle.xw_bits.specs.Bits.{RowOfBits}
 use Rattle.xw_grid.specs.declared.lights.Light.{Light}
-use Rattle.xw_cells.specs.Grid.{Grid}
+use Rattle.xw_grid.specs.Grid.{Grid}
 use Rattle.xw_grid.specs.Light.{lights_of, no_light}
 use Rattle.xw_grid.proofs.LightLemmas.{size_of_light}
 use Rattle.xw_grid.proofs.OrderLemmas.{same_place}
@@ -18,7 +18,7 @@ use Rattle.xw_net.specs.Fit.{IsNear, AreNear}
 use Rattle.xw_net.specs.declared.net.Net.{Net}
 use Rattle.xw_net.proofs.Renumbers.{found_before, other_there, same_size}
 
--- among the lights of a grid none but itself has the cells of a light
+-- no two lights of a grid have the same cells
 pub same_self : (lights : List Light) → AreLights lights → (light other : ℕ) → same_before lights lights light ≡ Some other → other ≡ light
 same_self lights are light other h = itself are.grid lights are.are h where
   itself : (grid : Grid) (ls : List Light) → ls ≡ lights_of grid → same_before ls ls light ≡ Some other → other ≡ light

@@ -1,4 +1,4 @@
--- A net in which words and letters have come back, from which stripping may begin.
+-- A net to which words and letters came back, and from which stripping can start.
 use Rattle.std.proofs.Common.{◌≡◌, ℕ, ◌≤◌, Bool, false, [], sym, ap, ◌∙◌, subst, arith}
 use Rattle.std.specs.Prelude.{vec_items}
 use Rattle.xw_words.specs.Dictionary.{Dictionary, row}
@@ -12,7 +12,8 @@ use Rattle.xw_net.specs.Filled.{IsWholeNet, IsUnstripped}
 use Rattle.xw_net.specs.declared.net.Net.{Net}
 use Rattle.xw_net.proofs.HeldWords.{same_holding}
 
--- Old is the net before words and letters come back, back the one after it, and new the same with no light marked.
+-- `old` is the net before words and letters come back, `back` the one after, and `new` is `back`
+-- with no light marked
 module _ (board : Board) (dictionary : Dictionary) (old back new : Net) where
   pub brought_unstripped : IsWholeNet board (row dictionary) old → IsBase board dictionary old.base.items
       → IsShaped board new → IsChained board new → HasBits board (row dictionary) back → back.base ≡ old.base → back.stack.items ≡ []

@@ -1,4 +1,5 @@
--- Off the region of an edit a light is untouched, so a revival begins in the region, stays in it, and leaves the lights off it in order.
+-- Outside the region of an edit a light is untouched, so a revival starts in the region, stays in
+-- it, and keeps all other lights consistent.
 use Rattle.std.proofs.Common.{◌≡◌, ℕ, ◌<◌, Bool, false, ◌&&◌, List, [], length, get_or, Some, None, refl, sym, ◌∙◌, ap, subst, inl, inr}
 use Rattle.std.specs.Prelude.{Option, Ok, IsTrue, Contains, slice_index, unwrap_or}
 use Rattle.std.proofs.lemmas.Bool.{cases_Bool, both_ways}
@@ -6,7 +7,7 @@ use Rattle.std.proofs.lemmas.List.{get_or_default}
 use Rattle.std.proofs.lemmas.List.Elements.{Contains-get_or}
 use Rattle.xw_letters.specs.Letter.{is_capital}
 use Rattle.xw_words.specs.Dictionary.{row}
-use Rattle.xw_cells.specs.Grid.{IsGrid}
+use Rattle.xw_grid.specs.Grid.{IsGrid}
 use Rattle.xw_feas.specs.Board.{Board, board_of, light_at, entry, is_open, allows}
 use Rattle.xw_feas.specs.Feasible.{may_stand}
 use Rattle.xw_feas.specs.Choices.{choices, base_flags, choice_at, is_base_at, HasLetters, SupportsLight, CoversSupported, IsExact}
@@ -41,7 +42,7 @@ module _ (before now : State) (action : Action) (is : IsGrid before.grid) (made 
   pub edit_covers : (words letters words' letters' : ℕ → ℕ → Bool) → IsExact old_board before.words words letters → IsRevived old_board new_board before.words now.words same words letters words' letters' → CoversSupported new_board now.words words' letters'
   edit_covers words letters words' letters' exact revived = revival_covers old_board new_board before.words now.words same words letters words' letters' (same_is_matching before.grid now.grid written.width) exact revived
 
-  -- at a cell that is not edited the same letters may stand
+  -- a cell that is not edited allows the same letters
   pub may_stand_after : (cell letter : ℕ) → ¬ Contains (edited_cells before.grid action) cell → may_stand new_board cell letter ≡ may_stand old_board cell letter
   may_stand_after cell letter outside =
       ap (λ o. (o && is_capital letter) && allows (entry new_board cell) letter) (open_after before.grid now.grid (edited_cells before.grid action) cell written outside)
@@ -52,12 +53,12 @@ module _ (before now : State) (action : Action) (is : IsGrid before.grid) (made 
   matched light in_board (other, in_before, at) =
       (other, in_before, same_is_whole before.grid now.grid written.width light other in_board in_before (sym at ∙ get_or_default old_board.lights other (light_at new_board light) [] in_before))
 
-  -- a light before that none after is matched with does not stand after
+  -- a light before that no light after matches is not in the grid after
   pub gone_stands_not : (other : ℕ) → other < length old_board.lights → ¬ StandsOn new_board same other → ¬ StandsIn now (light_at old_board other)
   gone_stands_not other in_before gone (light, in_board, at) =
       gone (light, in_board, same_is_whole before.grid now.grid written.width light other in_board in_before (sym (get_or_default new_board.lights light (light_at old_board other) [] in_board) ∙ at))
 
-  -- the light stood, its cells hold what they held, and the words of its length are as they were
+  -- the light was there, and its entries and the known words of its length are unchanged
   pub record IsUntouched (light : ℕ) : Type 0 where
     pub other : ℕ
     pub at : same light ≡ Some other
@@ -97,25 +98,25 @@ module _ (before now : State) (action : Action) (is : IsGrid before.grid) (made 
       | inr off ↦ absurd (touched (off_region light in_board off))
     ]
 
-    -- ---- where a revival begins
+    -- ---- where a revival starts
 
     narrowed : (light : ℕ) → (still : IsUntouched light) → IsNarrowed old_board new_board before.words now.words (light_at new_board light)
     narrowed light still = narrowed_same old_board new_board before.words now.words (light_at new_board light) (λ cell in_light. entry_after before.grid now.grid (edited_cells before.grid action) cell written (still.unedited cell in_light)) still.words
 
-    -- a light to which a base word comes is in the region
+    -- a light that gets a base word is in the region
     pub new_word_within : (light choice : ℕ) → light < length new_board.lights → IsTrue (is_base_at new_board now.words light choice)
         → ¬ IsTrue (was old_board new_board before.words now.words same (is_base_at old_board before.words) light choice) → IsTrue (member (light_at new_board light))
     new_word_within light choice in_board base none = off_or_in light in_board (λ still. none (
         narrowed_kept old_board new_board before.words now.words same light still.other still.at still.cells (narrowed light still) choice base))
 
-    -- and so is each light through a cell at which a letter may stand that might not
+    -- so is each light through a cell that allows a letter it did not allow before
     pub new_letter_within : (light k letter : ℕ) → light < length new_board.lights → k < length (light_at new_board light) → IsTrue (may_stand new_board (slice_index (light_at new_board light) k) letter)
         → ¬ IsTrue (may_stand old_board (slice_index (light_at new_board light) k) letter) → IsTrue (member (light_at new_board light))
     new_letter_within light k letter in_board below may might_not = off_or_in light in_board (λ still.
         let outside = still.unedited (slice_index (light_at new_board light) k) (Contains-get_or (light_at new_board light) k 0 below) in
         might_not (sym (may_stand_after (slice_index (light_at new_board light) k) letter outside) ∙ may))
 
-    -- and each light through a cell of a light that is gone at which a letter comes back
+    -- and each light through a cell of a removed light where a letter comes back
     pub freed_letter_within : (words letters : ℕ → ℕ → Bool) → IsExact old_board before.words words letters
         → (other j light k letter : ℕ) → other < length old_board.lights → ¬ StandsOn new_board same other → j < length (light_at old_board other) → light < length new_board.lights → k < length (light_at new_board light)
         → slice_index (light_at new_board light) k ≡ slice_index (light_at old_board other) j
@@ -124,7 +125,7 @@ module _ (before now : State) (action : Action) (is : IsGrid before.grid) (made 
     freed_letter_within words letters exact other j light k letter in_before gone below in_board below' meets may not_stood =
         revival_spreads_gone before now action member region words letters exact other j light k letter in_before (gone_stands_not other in_before gone) below in_board below' meets may not_stood
 
-    -- and each light through a cell of a light to which a word with that letter came
+    -- and each light through a cell of a light that got back a word with that letter
     pub came_letter_within : (words letters words' letters' : ℕ → ℕ → Bool) → IsExact old_board before.words words letters → CameWithin before now same member words letters words' letters'
         → (light choice k other j : ℕ) → light < length new_board.lights → k < length (light_at new_board light) → other < length new_board.lights → j < length (light_at new_board other)
         → slice_index (light_at new_board other) j ≡ slice_index (light_at new_board light) k
@@ -135,7 +136,7 @@ module _ (before now : State) (action : Action) (is : IsGrid before.grid) (made 
     came_letter_within words letters words' letters' exact came light choice k other j in_board below in_board' below' meets stands not_stood may not_there =
         revival_spreads before now action member region words letters exact light k other j (slice_index (choice_at new_board now.words light choice) k) in_board below in_board' below' meets may not_there (came.words_within light choice in_board stands not_stood)
 
-    -- ---- the lights off the region
+    -- ---- the lights outside the region
 
     module _ (words letters words' letters' : ℕ → ℕ → Bool) (exact : IsExact old_board before.words words letters)
         (revived : IsRevived old_board new_board before.words now.words same words letters words' letters') (came : CameWithin before now same member words letters words' letters') where
@@ -179,7 +180,7 @@ module _ (before now : State) (action : Action) (is : IsGrid before.grid) (made 
           | inr not_stood ↦ absurd (both_ways _ off (came.letters_within light k letter in_board below stands (λ h. both_ways _ not_stood h)))
         ]
 
-        -- a base word of before is one still
+        -- an earlier base word is still one
         base_stays : (choice : ℕ) → IsTrue (words still.other choice) → IsTrue (is_base_at new_board now.words light choice) × (choice_at old_board before.words still.other choice ≡ choice_at new_board now.words light choice)
         base_stays choice stood =
             let same_entries : HaveSameEntries new_board old_board (light_at new_board light) = λ cell in_light. sym (entry_after before.grid now.grid (edited_cells before.grid action) cell written (still.unedited cell in_light)) in

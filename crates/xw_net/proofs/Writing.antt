@@ -1,14 +1,14 @@
--- What a list of cells that is written leaves of a grid.
+-- What writing a list of cells keeps of a grid.
 use Rattle.std.proofs.Common.{◌≡◌, ℕ, zero, suc, Bool, true, false, cond, not, List, [], ◌∷◌, set, Some, None, refl, sym, ◌∙◌, ap, subst, ◌⊎◌, inl, inr}
 use Rattle.std.specs.Prelude.{Option, Result, Ok, Err, slice_get, is_some}
 use Rattle.std.proofs.lemmas.Bool.{false≢true}
-use Rattle.xw_cells.specs.declared.cell.Cell.{Cell}
-use Rattle.xw_cells.specs.declared.cell.Square.{Square}
-use Rattle.xw_cells.specs.declared.cell.Square.TheVariants.{Block, Open}
-use Rattle.xw_cells.specs.declared.fault.GridFault.{GridFault}
-use Rattle.xw_cells.specs.declared.fault.GridFault.TheVariants as grids
-use Rattle.xw_cells.specs.Grid.{Grid, is_inside, is_block, is_block_square, is_open_square, letter_in, index_of}
-use Rattle.xw_cells.specs.Edit.{with_entry, set_entry}
+use Rattle.xw_grid.specs.declared.cell.Cell.{Cell}
+use Rattle.xw_grid.specs.declared.cell.Square.{Square}
+use Rattle.xw_grid.specs.declared.cell.Square.TheVariants.{Block, Open}
+use Rattle.xw_grid.specs.declared.fault.GridFault.{GridFault}
+use Rattle.xw_grid.specs.declared.fault.GridFault.TheVariants as grids
+use Rattle.xw_grid.specs.Grid.{Grid, is_inside, is_block, is_block_square, is_open_square, letter_in, index_of}
+use Rattle.xw_grid.specs.Edit.{with_entry, set_entry}
 use Rattle.xw_feas.specs.Board.{board_of, entry, is_open}
 use Rattle.xw_feas.specs.State.{then_write, write_list}
 use Rattle.xw_feas.proofs.BoardLemmas.{is_open-square, entry-square}
@@ -31,7 +31,7 @@ write_stays (square ∷ squares) zero (suc place) letter h = inl refl
 write_stays (square ∷ squares) (suc at) zero letter h = inl refl
 write_stays (square ∷ squares) (suc at) (suc place) letter h = write_stays squares at place letter h
 
--- squares alone are others, and these were open and are
+-- only squares change, and those are open before and after
 pub record LeavesOpen (old new : Grid) : Type 0 where
   pub alone : new ≡ record old { squares = new.squares }
   pub squares : (place : ℕ) → StaysOrOpen (slice_get old.squares place) (slice_get new.squares place)
@@ -68,7 +68,7 @@ lettered_is_open (Some (Open entered)) h = refl
 lettered_is_open (Some Block) h = absurd (false≢true h)
 lettered_is_open None h = absurd (false≢true h)
 
--- a cell that has a letter then was open
+-- a cell that has a letter afterwards was open
 pub list_open : (grid new : Grid) (list : List (Cell × Option ℕ)) (place : ℕ) → write_list list grid ≡ Ok new → is_some (entry (board_of new) place) ≡ true → is_open (board_of grid) place ≡ true
 list_open grid new list place ok has = is_open-square grid place ∙ by_square ((list_leaves list grid new ok).squares place) where
   by_square : StaysOrOpen (slice_get grid.squares place) (slice_get new.squares place) → is_open_square (slice_get grid.squares place) ≡ true

@@ -1,4 +1,4 @@
--- What is still due while pairs without support are taken away, and what it may cost in all.
+-- The ticks that stripping may still spend, and an upper bound for all of them.
 use Rattle.std.specs.Prelude.{◌≡◌, ℕ, zero, suc, ◌+◌, ◌-◌, ◌*◌, ◌/◌, ◌<◌, ◌≤◌, Bool, true, ◌&&◌, ◌||◌, ◌==◌, not, nat_lt, length, if◌then◌else◌}
 use Rattle.xw_words.specs.Dictionary.{Dictionary}
 use Rattle.xw_feas.specs.Board.{Board, light_at}
@@ -11,7 +11,7 @@ unfoldable pub sum_to : (ℕ → ℕ) → ℕ → ℕ
 sum_to f zero = 0
 sum_to f (suc n) = sum_to f n + f n
 
--- how many of so many numbers from one on pass
+-- the number of passing numbers among n consecutive ones
 unfoldable pub count_from : (ℕ → Bool) → ℕ → ℕ → ℕ
 count_from f from zero = 0
 count_from f from (suc n) = (if f from then 1 else 0) + count_from f (from + 1) n
@@ -20,72 +20,82 @@ count_from f from (suc n) = (if f from then 1 else 0) + count_from f (from + 1) 
 abbrev pub sum_letters : (ℕ → ℕ) → ℕ
 sum_letters f = sum_to (λ k. f (65 + k)) 26
 
--- Of so many words a letter has those that pass. The searches for them can still cost this much: from the word that is held on, if none before it can be found, or from the start.
+-- the ticks that the remaining searches for a letter's supports may spend, among `count` words of
+-- which those that pass `has` have the letter. A search goes on from the held word, unless it has
+-- to restart at the first word
 abbrev pub ahead_of : (ℕ → Bool) → ℕ → ℕ → Bool → ℕ
 ahead_of has count held restart =
     if nat_lt held count && not restart
     then (chunks_of count - held / 64) + count_from has held (count - held)
     else 2 * chunks_of count + count_from has 0 count
 
--- a letter that stands has its searches ahead, and to be taken out of the light once; a pending one only that
+-- the ticks a letter may still cost: its searches and one removal of its words if it is there, only
+-- the removal if it is pending
 unfoldable pub due_of : (ℕ → Bool) → ℕ → Bool → ℕ → Bool → Bool → ℕ
 due_of has count stands held restart pending = if stands then chunks_of count + ahead_of has count held restart else (if pending then chunks_of count else 0)
 
 module _ (board : Board) (dictionary : Dictionary) where
+  -- the number of chunks of the known words of a light's length
   abbrev pub chunks : ℕ → ℕ
   chunks light = chunks_of (known board dictionary light)
 
+  -- the ticks that a letter at a position may still cost
   unfoldable pub due_letter : Marks → ℕ → ℕ → ℕ → ℕ
   due_letter marks light place letter =
       due_of (puts board dictionary light place letter) (known board dictionary light) (marks.letters (cell_at board light place) letter)
       (marks.held (slot_at board light place) letter) (marks.restart (slot_at board light place) letter) (marks.pending (slot_at board light place) letter)
 
+  -- the ticks that a position may still cost
   unfoldable pub due_place : Marks → ℕ → ℕ → ℕ
   due_place marks light place = sum_letters (due_letter marks light place)
 
+  -- the ticks that a light may still cost
   unfoldable pub due_light : Marks → ℕ → ℕ
   due_light marks light = sum_to (due_place marks light) (length (light_at board light))
 
-  -- what is due at the lights of a set
+  -- the ticks that the lights of a set may still cost
   unfoldable pub due : (ℕ → Bool) → Marks → ℕ
   due member marks = sum_to (λ light. if member light then due_light marks light else 0) (length board.lights)
 
-  -- the most that may be spent on taking words and letters away from a light
+  -- an upper bound for the ticks of stripping a light
   abbrev pub strip_cost : ℕ → ℕ
   strip_cost light = length (light_at board light) * (100 * chunks light + 4 * known board dictionary light + 1)
 
+  -- an upper bound for the ticks of stripping the lights of a set
   unfoldable pub set_cost : (ℕ → Bool) → ℕ
   set_cost member = sum_to (λ light. if member light then strip_cost light else 0) (length board.lights)
 
-  -- A set of lights is closed if it has, with a light, every light through a cell of it at which some letter is not feasible.
+  -- a set of lights is closed if, with a light, it contains every light through a cell of it that
+  -- has a letter that is not feasible
   abbrev pub IsClosed : (ℕ → Bool) → (ℕ → ℕ → Bool) → Type 0
   IsClosed member letters =
       (light place other other_place letter : ℕ) → IsPlace board light place → IsPlace board other other_place
       → cell_at board other other_place ≡ cell_at board light place → letters (cell_at board light place) letter ≡ true
       → ¬ IsFeasibleLetter board dictionary (cell_at board light place) letter → member light ≡ true → member other ≡ true
 
--- the set has the lights that are to be seen to
+-- the set contains the queued lights
 abbrev pub HasQueued : Board → (ℕ → Bool) → Marks → Type 0
 HasQueued board member marks = (light : ℕ) → light < length board.lights → marks.queued light ≡ true → member light ≡ true
 
--- what stripping is to be measured by: the lights that it may reach, the letters that stood at first, and what may be spent
+-- what the cost of stripping is measured by: the lights it may reach, the letters at its start, and
+-- a budget of ticks
 pub record Measure : Type 0 where
   pub member : ℕ → Bool
   pub letters : ℕ → ℕ → Bool
   pub budget : ℕ
 
--- what was spent and what is due are within the budget
+-- the ticks spent and the ticks that may still come are within the budget
 pub record IsPaid (board : Board) (dictionary : Dictionary) (measure : Measure) (marks : Marks) (spent : ℕ) : Type 0 where
   pub closed : IsClosed board dictionary measure.member measure.letters
   pub within : spent + due board dictionary measure.member marks ≤ measure.budget
   pub queued : HasQueued board measure.member marks
   pub fewer : (cell letter : ℕ) → marks.letters cell letter ≡ true → measure.letters cell letter ≡ true
 
--- a step of stripping is under way
+-- the invariant of stripping: the marks are sound, and the ticks within budget
 pub record IsUnderway (board : Board) (dictionary : Dictionary) (measure : Measure) (marks : Marks) (free : ℕ → Bool) (spent : ℕ) : Type 0 where
   pub kept : IsKept board dictionary marks free
   pub paid : IsPaid board dictionary measure marks spent
 
--- the lights that are to be seen to and a light
+-- the queued lights and one more
 abbrev pub and_light : (ℕ → Bool) → ℕ → ℕ → Bool
 and_light queued light other = queued other || (other == light)

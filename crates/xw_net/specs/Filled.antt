@@ -1,4 +1,4 @@
--- A net in which nothing stands yet, and one that is settled.
+-- The states of a net: empty, ready for stripping, and settled.
 use Rattle.std.specs.Prelude.{◌≡◌, ℕ, ◌<◌, ◌≤◌, true, false, List, [], length, All}
 use Rattle.xw_bits.specs.Bits.{RowOfBits}
 use Rattle.xw_letters.specs.Letter.{is_capital}
@@ -12,15 +12,15 @@ use Rattle.xw_net.specs.Spread.{is_marked}
 use Rattle.xw_net.specs.Brought.{HasBase, IsBase}
 use Rattle.xw_net.specs.declared.net.Net.{Net}
 
--- each known word of the light's length is as long
+-- the known words that are read for a light's length have that length
 abbrev pub AreLong : Board → (ℕ → List Entry) → Type 0
 AreLong board entries = (light : ℕ) → light < length board.lights → All (λ (word : Entry). length word.word ≡ length (light_at board light)) (entries (length (light_at board light)))
 
--- the row of each light has room for a bit for each known word
+-- each light's row has room for a bit for each known word
 abbrev pub HasRowRoom : Board → (ℕ → List Entry) → List RowOfBits → Type 0
 HasRowRoom board entries rows = (light : ℕ) → light < length board.lights → length (entries (length (light_at board light))) ≤ (row_at rows light).room
 
--- there is a place for everything, with a bit for each known word
+-- the arrays have the right sizes, with a bit for each known word
 pub record IsWholeNet (board : Board) (entries : ℕ → List Entry) (net : Net) : Type 0 where
   pub shaped : IsShaped board net
   pub chained : IsChained board net
@@ -29,14 +29,14 @@ pub record IsWholeNet (board : Board) (entries : ℕ → List Entry) (net : Net)
   pub room : HasRowRoom board entries net.rows.items
   pub base_room : HasRowRoom board entries net.base.items
 
--- no light waits to be seen to, and no chain is under way
+-- no light is queued, and no light is marked
 pub record IsQuiet (net : Net) : Type 0 where
   pub queue : net.queue.items ≡ []
   pub queued : (light : ℕ) → queued_in net light ≡ false
   pub stack : net.stack.items ≡ []
   pub marked : (light : ℕ) → is_marked net.is_marked.items light ≡ false
 
--- no word stands, no place of a word is held, and nothing is pending
+-- no words are in the net, no supports are held, and nothing is pending
 pub record IsFresh (board : Board) (entries : ℕ → List Entry) (net : Net) : Type 0 where
   pub whole : IsWholeNet board entries net
   pub words : (light choice : ℕ) → word_stands net light choice ≡ false
@@ -44,7 +44,7 @@ pub record IsFresh (board : Board) (entries : ℕ → List Entry) (net : Net) : 
   pub pending : (slot letter : ℕ) → pending_in net slot letter ≡ false
   pub quiet : IsQuiet net
 
--- all that is feasible stands, and perhaps more: from here words and letters are taken away
+-- the net has all that is feasible, and perhaps more: it is ready for stripping
 pub record IsUnstripped (board : Board) (dictionary : Dictionary) (net : Net) : Type 0 where
   pub whole : IsWholeNet board (row dictionary) net
   pub is_base : IsBase board dictionary net.base.items
@@ -54,7 +54,7 @@ pub record IsUnstripped (board : Board) (dictionary : Dictionary) (net : Net) : 
   pub stack : net.stack.items ≡ []
   pub marked : (light : ℕ) → is_marked net.is_marked.items light ≡ false
 
--- exactly what is feasible stands, and the net is ready for the next edit
+-- the net has exactly what is feasible, and is ready for the next edit
 pub record IsFilled (board : Board) (dictionary : Dictionary) (net : Net) : Type 0 where
   pub whole : IsWholeNet board (row dictionary) net
   pub is_base : IsBase board dictionary net.base.items

@@ -1,4 +1,4 @@
--- A net is made to go by the lights and the words after an edit.
+-- A net is adapted to the lights and the known words after an edit.
 use Rattle.std.specs.Prelude.{◌≡◌, ℕ, ◌+◌, ◌*◌, ◌^◌, ◌<◌, ◌≤◌, Bool, true, false, List, [], ◌∷◌, ◌++◌, length, nat_lt, Option, Some, None, slice_index_or, vec_len, vec_capacity, if◌then◌else◌}
 use Rattle.xw_bits.specs.Bits.{RowOfBits}
 use Rattle.xw_grid.specs.declared.lights.Light.{Light}
@@ -9,23 +9,24 @@ use Rattle.xw_net.specs.Spread.{is_marked}
 use Rattle.xw_net.specs.declared.net.Net.{Net}
 use Rattle.xw_net.specs.declared.room.Spare.{Spare}
 
--- a false bit more where one is wanting for so many known words
+-- the bits, with one more clear bit if they are fewer than the known words
 abbrev pub fitted : ℕ → List Bool → List Bool
 fitted known bits = if nat_lt (length bits) known then bits ++ false ∷ [] else bits
 
--- at most one bit is wanting
+-- at most one bit is missing
 abbrev pub IsNear : ℕ → List Bool → Type 0
 IsNear known bits = (length bits ≤ known) × (known ≤ length bits + 1)
 
 module _ (lights : List Light) (counts : ℕ → ℕ) where
+  -- each light's row lacks at most one bit
   abbrev pub AreNear : List RowOfBits → Type 0
   AreNear rows = (light : ℕ) → light < length lights → IsNear (counts (size_at lights light)) (row_at rows light).bits
 
-  -- the rows of the lights have a bit for each known word
+  -- each light's row got the bit that it lacked
   abbrev pub AreFitted : List RowOfBits → List RowOfBits → Type 0
   AreFitted old new = (light : ℕ) → light < length lights → (row_at new light).bits ≡ fitted (counts (size_at lights light)) (row_at old light).bits
 
--- A net between edits has a place for everything, and nothing is to be seen to or marked.
+-- the state between edits: the arrays have the right sizes, and no light is queued or marked
 pub record IsAtRest (lights : List Light) (cells : ℕ) (net : Net) : Type 0 where
   pub few_cells : cells < 2 ^ 32
   pub rows : length lights ≤ vec_len net.rows
@@ -44,12 +45,12 @@ pub record IsAtRest (lights : List Light) (cells : ℕ) (net : Net) : Type 0 whe
   pub is_marked : (light : ℕ) → is_marked net.is_marked.items light ≡ false
   pub stack_room : vec_len net.is_marked ≤ vec_capacity net.stack
 
--- a net has room for the lights after an edit: its own, if no arrays wait
+-- the net has room for the lights after an edit: in spare arrays, or in its own if the lights stay
 abbrev pub HasRoomBetween : List Light → List Light → (ℕ → ℕ) → Net → Option Spare → Type 0
 HasRoomBetween before after counts net None = (after ≡ before) × HasRoom after counts net
 HasRoomBetween before after counts net (Some spare) = HasRoom before counts net × HasSpare after counts net spare
 
--- A net goes by the lights after an edit. Each one that stays has what it had.
+-- the net has switched to the lights after an edit, and each light that stays has the data it had
 pub record IsTurned (before after : List Light) (old new : Net) : Type 0 where
   pub rows : (light other : ℕ) → light < length after → same_before before after light ≡ Some other → (row_at new.rows.items light).bits ≡ (row_at old.rows.items other).bits
   pub base : (light other : ℕ) → light < length after → same_before before after light ≡ Some other → (row_at new.base.items light).bits ≡ (row_at old.base.items other).bits

@@ -1,7 +1,7 @@
--- Lights that are gone, and letters that come back at their cells.
+-- Removed lights, and letters that come back at their cells.
 use Rattle.std.specs.Prelude.{◌≡◌, ℕ, ◌<◌, Bool, true, List, length, slice_get, Some, None}
 use Rattle.xw_grid.specs.declared.lights.Light.{Light}
-use Rattle.xw_cells.specs.Grid.{Grid, index_of, is_inside}
+use Rattle.xw_grid.specs.Grid.{Grid, index_of, is_inside}
 use Rattle.xw_grid.specs.Light.{step}
 use Rattle.xw_feas.specs.Board.{Board}
 use Rattle.xw_feas.specs.Feasible.{may_stand}
@@ -10,23 +10,23 @@ use Rattle.xw_net.specs.Marks.{IsPlace, cell_at}
 use Rattle.xw_net.specs.Spread.{is_marked, is_waiting, no_places, HasAll, HasSeeds, IsSpread}
 use Rattle.xw_net.specs.Renumber.{same_before}
 
--- a light has the cell at a place
+-- the cell is that of a light at a position
 pub record IsAlong (grid : Grid) (light : Light) (place cell : ℕ) : Type 0 where
   pub inside : is_inside grid (step light.name.direction light.start place) ≡ true
   pub is : index_of grid (step light.name.direction light.start place) ≡ cell
 
--- at one of so many places
+-- the cell is that of a light at one of its first positions
 pub record IsAmong (grid : Grid) (light : Light) (count cell : ℕ) : Type 0 where
   pub place : ℕ
   pub below : place < count
   pub along : IsAlong grid light place cell
 
--- a light of before of which no light after has the cells
+-- the light was there before, and no light after the edit has its cells
 pub record IsGone (before after : List Light) (other : ℕ) (light : Light) : Type 0 where
   pub at : slice_get before other ≡ Some light
   pub none : same_before after before other ≡ None
 
--- one of so many lights of before is gone and had the cell
+-- the cell is one of a removed light
 pub record IsFreed (grid : Grid) (before after : List Light) (count cell : ℕ) : Type 0 where
   pub other : ℕ
   pub below : other < count
@@ -34,13 +34,14 @@ pub record IsFreed (grid : Grid) (before after : List Light) (count cell : ℕ) 
   pub gone : IsGone before after other light
   pub among : IsAmong grid light light.size cell
 
--- the light of before at a place is gone and had the cell
+-- the light with this index before the edit was removed, and had the cell
 pub record IsFreedAt (grid : Grid) (before after : List Light) (other cell : ℕ) : Type 0 where
   pub light : Light
   pub gone : IsGone before after other light
   pub among : IsAmong grid light light.size cell
 
--- At cells all letters come back that may stand, and the lights through a cell at which one does are marked.
+-- the freed cells have all letters that they allow, and the lights through a cell that got a letter
+-- back are marked
 pub record Raises (board : Board) (freed : ℕ → Type 0) (letters letters' : List ℕ) (marks marks' : List Bool) (stack stack' : List ℕ) : Type 0 where
   pub letters_len : length letters' ≡ length letters
   pub marks_len : length marks' ≡ length marks

@@ -1,4 +1,4 @@
--- What a net keeps, as its callers see it.
+-- A net as its callers see it.
 use Rattle.std.specs.Prelude.{◌≡◌, ℕ, ◌+◌, ◌≤◌, Bool, true, false, List, [], ◌∷◌, ◌++◌, map, drop, length, slice_index_or, position, Option, Some, None, option_map, IsTrue}
 use Rattle.std.specs.List.{range_with_len}
 use Rattle.xw_words.specs.Dictionary.{Dictionary, row}
@@ -17,64 +17,70 @@ use Rattle.xw_net.specs.declared.net.Net.{Net}
 use Rattle.xw_net.specs.declared.room.Spare.{Spare}
 use Rattle.xw_net.specs.Layout.{Layout, layout_of}
 
--- a flag for each known word of the light's length, and one for the word that its entries spell
+-- a flag for each known word of the light's length, and one for the word that its letters spell
 abbrev pub row_flags : Net → ℕ → List Bool
 row_flags net light = bits_for net light ++ slice_index_or net.entered.items light false ∷ []
 
--- the same for each light
+-- the flags of each light
 unfoldable pub flags_of : List Light → Net → List (List Bool)
 flags_of lights net = map (row_flags net) (range_with_len 0 (length lights))
 
--- for each cell the set of its letters
+-- the set of letters of each cell
 unfoldable pub sets_of : Net → List ℕ
 sets_of net = net.letters.items
 
--- the flags of the light at a place
+-- the flags of one light
 abbrev pub flags_at : List Light → Net → ℕ → List Bool
 flags_at lights net light = slice_index_or (flags_of lights net) light []
 
--- The net is settled: exactly the feasible words and letters stand, and it is ready for the next edit.
+-- the net is settled: it has exactly the feasible words and letters, and is ready for the next edit
 pub record IsSettledOn (layout : Layout) (dictionary : Dictionary) (net : Net) : Type 0 where
   pub rows : HasRows layout.board dictionary (flags_of layout.lights net) (sets_of net)
   pub exact : IsExact layout.board dictionary (flag_at (flags_of layout.lights net)) (set_has (sets_of net))
   pub filled : IsFilled layout.board dictionary net
 
+-- the net is settled for the grid and the dictionary
 abbrev pub IsSettledFor : State → Net → Type 0
 IsSettledFor state net = IsSettledOn (layout_of state.grid) state.words net
 
--- The net is revived after an edit: all that is feasible now stands, and perhaps more, and only lights of the region are to be seen to.
+-- the net is revived after an edit: it has all that is feasible, and perhaps more, and only lights
+-- of the region are queued
 pub record IsRevivedFor (before now : State) (action : Action) (net : Net) : Type 0 where
   pub unstripped : IsUnstripped (board_of now.grid) now.words net
   pub queued : (member : List ℕ → Bool) → IsRegion before now action member → (light : ℕ) → queued_in net light ≡ true → IsTrue (member (light_at (board_of now.grid) light))
 
--- there is room for these lights, where so many words of each length are known: in the arrays that wait for an edit, or where there are none, in the net's own
+-- there is room for these lights and numbers of known words: in the spare arrays, or in the net's
+-- own if there are none
 abbrev pub HasRoomIn : List Light → (ℕ → ℕ) → Net → Option Spare → Type 0
 HasRoomIn lights counts net None = HasRoom lights counts net
 HasRoomIn lights counts net (Some spare) = HasSpare lights counts net spare
 
+-- there is room for these lights and numbers of known words
 abbrev pub HasRoomFor : List Light → (ℕ → ℕ) → Net → Type 0
 HasRoomFor lights counts net = HasRoomIn lights counts net net.spare
 
--- how many words of each length are known
+-- the number of known words of a length
 abbrev pub known_counts : Dictionary → ℕ → ℕ
 known_counts dictionary count = length (row dictionary count)
 
--- the net is settled for a grid with these lights
+-- the net is settled for some grid with these lights
 pub record StandsFor (lights : List Light) (net : Net) : Type 0 where
   pub state : State
   pub are_lights : lights_of state.grid ≡ lights
   pub settled : ∥ IsSettledFor state net ∥₁
 
--- the net is settled for a grid with these lights, and since then at most one word of a length has become known
+-- the net is settled for some grid with these lights, and since then at most one word of each
+-- length has become known
 pub record StoodFor (lights : List Light) (counts : ℕ → ℕ) (net : Net) : Type 0 where
   pub stands : StandsFor lights net
   pub near : (count : ℕ) → (known_counts stands.state.words count ≤ counts count) × (counts count ≤ known_counts stands.state.words count + 1)
 
--- the first flag that stands, from a place on
+-- the first set flag from an index on
 abbrev pub first_from : List Bool → ℕ → Option ℕ
 first_from flags from = option_map (λ place. from + place) (position (λ flag. flag) (drop from flags))
 
--- Whatever a net stood for, the other stands for. If the same arrays wait, there is room for whatever there was.
+-- the new net has the answers of the old one, and is settled for whatever the old one was. If it
+-- has the same spare arrays, it has at least the old one's room
 pub record IsAlike (old new : Net) : Type 0 where
   pub flags : (lights : List Light) → flags_of lights new ≡ flags_of lights old
   pub sets : sets_of new ≡ sets_of old

@@ -1,4 +1,4 @@
--- A net in vectors.
+-- The marks that the arrays of a net represent, and the sizes of these arrays.
 use Rattle.std.specs.Prelude.{◌≡◌, ℕ, ◌+◌, ◌-◌, ◌*◌, ◌^◌, ◌<◌, ◌≤◌, Bool, true, false, not, List, [], ◌∷◌, ◌++◌, Option, Some, None, length, slice_get, slice_index, slice_index_or, count_by, vec_len, vec_capacity, All, Contains}
 use Rattle.xw_bits.specs.Bits.{RowOfBits}
 use Rattle.xw_words.specs.Dictionary.{Entry}
@@ -9,38 +9,45 @@ use Rattle.xw_net.specs.Room.{row_at}
 use Rattle.xw_net.specs.declared.place.Place.{Place}
 use Rattle.xw_net.specs.declared.net.Net.{Net}
 
+-- the bits of a row; none if there is no row
 abbrev pub bits_at : Option RowOfBits → List Bool
 bits_at None = []
 bits_at (Some row) = row.bits
 
--- the bits of the light's row, a flag for each known word
+-- the bits of a light's row: a flag for each known word
 abbrev pub bits_for : Net → ℕ → List Bool
 bits_for net light = bits_at (slice_get net.rows.items light)
 
--- the words that stand for a light, by numbers: the known ones, and after these the one that is entered
+-- whether the net has a word of a light, by its number: the known words come first, then the
+-- entered word
 unfoldable pub word_stands : Net → ℕ → ℕ → Bool
 word_stands net light choice = slice_index_or (bits_for net light ++ slice_index_or net.entered.items light false ∷ []) choice false
 
--- the letters that stand at a cell
+-- whether the net has a letter at a cell
 unfoldable pub letter_stands : Net → ℕ → ℕ → Bool
 letter_stands net cell letter = set_has net.letters.items cell letter
 
+-- the number of the word held for a letter at a slot
 unfoldable pub held_in : Net → ℕ → ℕ → ℕ
 held_in net slot letter = slice_index net.held.items (26 * slot + (letter - 65))
 
+-- whether the next search for a letter at a slot has to restart at the first word
 unfoldable pub restart_in : Net → ℕ → ℕ → Bool
 restart_in net slot letter = set_has net.restart.items slot letter
 
+-- whether a letter is pending at a slot
 unfoldable pub pending_in : Net → ℕ → ℕ → Bool
 pending_in net slot letter = set_has net.pending.items slot letter
 
+-- whether a light is queued
 unfoldable pub queued_in : Net → ℕ → Bool
 queued_in net light = slice_index_or net.is_queued.items light false
 
+-- the marks that a net represents
 abbrev pub marks_of : Net → Marks
 marks_of net = record { words = word_stands net; letters = letter_stands net; held = held_in net; restart = restart_in net; pending = pending_in net; queued = queued_in net }
 
--- there is a place for everything, and room in the queue for every light that is not in it
+-- the arrays have the right sizes, and the queue has room for every light that is not queued
 pub record IsShaped (board : Board) (net : Net) : Type 0 where
   pub few_cells : length board.open_cells < 2 ^ 32
   pub rows : length board.lights ≤ vec_len net.rows
@@ -53,14 +60,15 @@ pub record IsShaped (board : Board) (net : Net) : Type 0 where
   pub queue : All (λ light. light < length board.lights) net.queue.items
   pub room : vec_len net.queue + count_by (λ queued. not queued) net.is_queued.items ≤ vec_capacity net.queue
 
--- what else a chain of lights needs, and room on the stack for every light that is not marked
+-- the arrays for a chain have the right sizes, and the stack has room for every light that is not
+-- marked
 pub record IsChained (board : Board) (net : Net) : Type 0 where
   pub base : length board.lights ≤ vec_len net.base
   pub is_marked : length board.lights ≤ vec_len net.is_marked
   pub stack : All (λ light. light < length board.lights) net.stack.items
   pub room : vec_len net.stack + count_by (λ mark. not mark) net.is_marked.items ≤ vec_capacity net.stack
 
--- what stripping leaves as it is, and no room is lost
+-- what stripping leaves as it is; no room is lost
 pub record IsLeft (old new : Net) : Type 0 where
   pub base : new.base ≡ old.base
   pub stack : new.stack ≡ old.stack
@@ -70,11 +78,11 @@ pub record IsLeft (old new : Net) : Type 0 where
   pub rows : (light : ℕ) → (row_at old.rows.items light).room ≤ (row_at new.rows.items light).room
   pub queue : vec_capacity old.queue ≤ vec_capacity new.queue
 
--- the row of each light has a bit for each known word
+-- each light's row has a bit for each known word
 abbrev pub HasBits : Board → (ℕ → List Entry) → Net → Type 0
 HasBits board entries net = (light : ℕ) → light < length board.lights → length (bits_for net light) ≡ length (entries (length (light_at board light)))
 
--- the place is one of a light of the board
+-- the fields of a `Place` describe a position of a light of the board
 pub record IsThere (board : Board) (here : Place) : Type 0 where
   pub place : IsPlace board here.light here.place
   pub count : here.count ≡ length (light_at board here.light)
@@ -83,14 +91,14 @@ pub record IsThere (board : Board) (here : Place) : Type 0 where
   pub in_board : here.cell < length board.open_cells
   pub in_slots : here.slot < 2 * length board.open_cells
 
--- a light that is to be seen to is in the queue
+-- the light is in the queue if its flag is set
 abbrev pub Waits : Net → ℕ → Type 0
 Waits net light = queued_in net light ≡ true → Contains net.queue.items light
 
--- each light that is to be seen to is in the queue
+-- each light whose flag is set is in the queue
 abbrev pub IsQueue : Net → Type 0
 IsQueue net = (light : ℕ) → Waits net light
 
--- what falls with each step
+-- a number that decreases with each step of stripping
 abbrev pub left_of : Net → ℕ
 left_of net = 2 * set_sum net.letters.items + vec_len net.queue

@@ -1,10 +1,10 @@
--- A settling begins: from a net that was settled before an edit to what words and letters come back from.
+-- The first part of an update: from a settled net before an edit to the start of the revival.
 use Rattle.std.specs.Prelude.{◌≡◌, ℕ, ◌<◌, Bool, true, false, All, List, [], length, slice_index_or, Option, Some, None, IsTrue, Contains}
 use Rattle.xw_bits.specs.Bits.{RowOfBits}
 use Rattle.xw_words.specs.Dictionary.{Entry}
-use Rattle.xw_cells.specs.declared.cell.Cell.{Cell}
+use Rattle.xw_grid.specs.declared.cell.Cell.{Cell}
 use Rattle.xw_grid.specs.declared.lights.Light.{Light}
-use Rattle.xw_cells.specs.Grid.{Grid, index_of}
+use Rattle.xw_grid.specs.Grid.{Grid, index_of}
 use Rattle.xw_feas.specs.Board.{Board, board_of, light_at}
 use Rattle.xw_feas.specs.Flags.{set_has}
 use Rattle.xw_feas.specs.State.{State, Action}
@@ -20,7 +20,7 @@ use Rattle.xw_net.specs.Brought.{IsBase, IsBegun, IsReadyBut}
 use Rattle.xw_net.specs.Begin.{IsEdited, AreBaseBut, IsPrepared}
 use Rattle.xw_net.specs.Gone.{IsFreed}
 
--- the arrays that the beginning of a settling writes
+-- the arrays that the start of an update writes
 pub record Arrays : Type 0 where
   pub rows : List RowOfBits
   pub base : List RowOfBits
@@ -30,6 +30,7 @@ pub record Arrays : Type 0 where
   pub is_marked : List Bool
   pub stack : List ℕ
 
+-- these arrays of a net
 abbrev pub arrays_of : Net → Arrays
 arrays_of net = record {
   rows = net.rows.items;
@@ -41,7 +42,7 @@ arrays_of net = record {
   stack = net.stack.items;
 }
 
--- What was written, by what a net is told of an edit.
+-- what the start of an update has written, by the description of the edit
 pub record IsOpening (grid : Grid) (board : Board) (lights : List Light) (entries : ℕ → List Entry) (change : Change) (old new : Arrays) : Type 0 where
   pub in_queue : All (λ light. light < length board.lights) new.queue
   pub listed : HasSeeds new.is_queued new.queue
@@ -67,7 +68,8 @@ pub record IsOpening (grid : Grid) (board : Board) (lights : List Light) (entrie
       → (light : ℕ) → is_marked new.is_marked light ≡ true → member light ≡ true
 
 module _ (before now : State) where
-  -- A net that was settled goes by the lights after an edit. Each light that stays has what it had, but for the bit of a word that is new; nothing is to be seen to, and no light is marked.
+  -- a settled net was adapted to the lights after an edit: each light that stays has its data,
+  -- except for the bit of a new word, and no light is queued or marked
   pub record IsMoved (settled net : Net) : Type 0 where
     pub rows : (light other : ℕ) → light < length (board_of now.grid).lights → same_light before.grid now.grid light ≡ Some other → known (board_of now.grid) now.words light ≡ known (board_of before.grid) before.words other
         → bits_in net.rows.items light ≡ bits_in settled.rows.items other
@@ -85,7 +87,8 @@ module _ (before now : State) where
     pub stack : net.stack.items ≡ []
     pub is_marked : (light : ℕ) → is_marked net.is_marked.items light ≡ false
 
-  -- Base words are read where the edit comes to them; the marked lights are seeds, and every other one is ready to be stripped. What is to be seen to or marked lies in the region.
+  -- the net is ready for the revival: its base rows are up to date, the marked lights are seeds,
+  -- every other light is ready for stripping, and all queued and marked lights are in the region
   pub record IsOpened (action : Action) (settled net : Net) : Type 0 where
     pub is_base : IsBase (board_of now.grid) now.words net.base.items
     pub begun : IsBegun (board_of before.grid) (board_of now.grid) before.words now.words (same_light before.grid now.grid) (word_stands settled) (letter_stands settled) (word_stands net) (letter_stands net) (is_marked net.is_marked.items)

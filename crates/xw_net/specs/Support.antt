@@ -11,11 +11,12 @@ use Rattle.xw_feas.specs.Flags.{set_has}
 unfoldable pub supports : List Bool → List Entry → ℕ → ℕ → ℕ → Bool
 supports row words position letter word = slice_index_or row word false && has_letter words position letter word
 
--- how many letters a set has
+-- the number of letters in a set
 unfoldable pub letter_count : ℕ → ℕ
 letter_count set = sum_letters (λ letter. if has set letter then 1 else 0)
 
--- Words go from a row: no word is left that has a pending letter at the position, and each is left that has one of the letters that stand.
+-- words are removed from a row: every word that has a pending letter at the position, and none that
+-- has one of the letters left
 pub record Strikes (words : List Entry) (position pending alive : ℕ) (old new : ℕ → Bool) : Type 0 where
   pub fewer : (word : ℕ) → new word ≡ true → old word ≡ true
   pub struck : (word letter : ℕ) → has pending letter ≡ true → has_letter words position letter word ≡ true → new word ≡ false
@@ -25,28 +26,30 @@ pub record Strikes (words : List Entry) (position pending alive : ℕ) (old new 
 abbrev pub AreApart : ℕ → ℕ → Type 0
 AreApart pending alive = (letter : ℕ) → has pending letter ≡ true → has alive letter ≡ false
 
--- the places of held words by slot and letter, and by slot the letters whose search begins at the start
+-- the held supports by slot and letter, and by slot the letters whose search has to restart at the
+-- first word
 pub record Held : Type 0 where
   pub places : List ℕ
   pub restart : List ℕ
 
+-- the word held for a letter at a slot
 abbrev pub place_for : Held → ℕ → ℕ → ℕ
 place_for held slot letter = slice_index held.places (26 * slot + (letter - 65))
 
--- whether the held word is known, and no word before it can support the letter
+-- whether a known word is held, and no word before it can support the letter
 abbrev pub is_read_in : Held → ℕ → ℕ → ℕ → Bool
 is_read_in held slot letter words = nat_lt (place_for held slot letter) words && not (set_has held.restart slot letter)
 
--- the chunk that a search goes on from
+-- the chunk where the next search starts
 abbrev pub search_from : Held → ℕ → ℕ → ℕ → ℕ
 search_from held slot letter words = if is_read_in held slot letter words then place_for held slot letter / 64 else 0
 
--- what the search for a word of a letter comes to
+-- the outcomes of a search for a support of a letter
 pub data Finds (row : List Bool) (words : List Entry) (position slot letter : ℕ) (old new : Held) (found : Bool) (spent : ℕ) : Type 0 where
-  -- the held word still stands
+  -- the held word is still in the row
   stands : found ≡ true → place_for old slot letter < length row → slice_index_or row (place_for old slot letter) false ≡ true
       → new ≡ old → spent ≡ 0 → Finds row words position slot letter old new found spent
-  -- another one supports the letter
+  -- another word supports the letter; it is the first one from the start of the search on
   moves : (word : ℕ) → found ≡ true
       → (place_for old slot letter < length row → slice_index_or row (place_for old slot letter) false ≡ false)
       → 64 * search_from old slot letter (length row) ≤ word → supports row words position letter word ≡ true
@@ -55,7 +58,7 @@ pub data Finds (row : List Bool) (words : List Entry) (position slot letter : �
       → length new.restart ≡ length old.restart
       → ((other_slot other : ℕ) → set_has new.restart other_slot other ≡ (set_has old.restart other_slot other && not ((other_slot == slot) && (other == letter))))
       → spent + search_from old slot letter (length row) ≤ word / 64 + 1 → Finds row words position slot letter old new found spent
-  -- none does
+  -- no word does
   nowhere : found ≡ false
       → (place_for old slot letter < length row → slice_index_or row (place_for old slot letter) false ≡ false)
       → ((other : ℕ) → 64 * search_from old slot letter (length row) ≤ other → supports row words position letter other ≡ false)

@@ -1,4 +1,5 @@
-//! The base words of a light, as a row of bits.
+//! The base words of a light, as a row of bits with one bit for each known word of the light's
+//! length.
 ghost use Rattle.std.specs.Prelude.{◌≡◌, ℕ, ◌+◌, ◌*◌, ◌<◌, ◌≤◌, ◌&&◌, Bool, true, false, length, slice_index, slice_index_or, All, Some, IfSome, IfNone};
 ghost use Rattle.xw_bits.specs.Bits.{has_bit};
 ghost use Rattle.xw_words.specs.Columns.{is_active};
@@ -16,7 +17,8 @@ use xw_feas::board::{Board, Cells, has_all_entries};
 use xw_letters::letter_set::LetterSet;
 use xw_words::rows::Rows;
 
-/// The words of a chunk that have the letter that is entered at a place of the light.
+/// A bit for each word of a chunk: whether it has the letter of the light's cell at a position. If
+/// the cell is empty, all bits are set.
 fn agreeing_in<R: Rows>(
     rows: &mut R,
     board: &Board<'_>,
@@ -36,7 +38,8 @@ fn agreeing_in<R: Rows>(
     }
 }
 
-/// The words of a chunk that are active and agree with what is entered.
+/// A bit for each word of a chunk: whether it is active and agrees with the letters in the light's
+/// cells.
 fn base_in<R: Rows>(rows: &mut R, board: &Board<'_>, cells: &Cells, chunk: usize) -> u64
     requires { All (λ (word : Entry). length word.word ≡ length cells.now) (R.entries rows.old (length cells.now)) }
     ensures entries { R.entries rows.new ≡ R.entries rows.old }
@@ -54,7 +57,8 @@ fn base_in<R: Rows>(rows: &mut R, board: &Board<'_>, cells: &Cells, chunk: usize
     words
 }
 
-/// The words of a chunk that are base words. Where the light is wholly entered nothing is read.
+/// A bit for each word of a chunk: whether it is a base word. If every cell of the light has a
+/// letter, it reads nothing.
 fn base_chunk<R: Rows>(
     rows: &mut R,
     board: &Board<'_>,
@@ -77,7 +81,7 @@ fn base_chunk<R: Rows>(
     }
 }
 
-/// Writes which known words of a length are active.
+/// Sets the bit of each known word of a length that is active, and clears the others.
 fn read_active<R: Rows>(rows: &mut R, count: usize, row: &mut BitRow)
     requires { length row.old.bits ≡ length (R.entries rows.old count) }
     ensures entries { R.entries rows.new ≡ R.entries rows.old }
@@ -93,7 +97,8 @@ fn read_active<R: Rows>(rows: &mut R, count: usize, row: &mut BitRow)
     }
 }
 
-/// Keeps the words that agree with what is entered at a place of the light.
+/// Keeps the words that have the letter of the light's cell at a position. Does nothing if the cell
+/// is empty.
 fn keep_agreeing<R: Rows>(
     rows: &mut R,
     board: &Board<'_>,
@@ -115,7 +120,8 @@ fn keep_agreeing<R: Rows>(
     }
 }
 
-/// Writes which known words are active and agree with what is entered.
+/// Sets the bits of the known words that are active and agree with the letters in the light's
+/// cells.
 fn read_open<R: Rows>(rows: &mut R, board: &Board<'_>, cells: &Cells, row: &mut BitRow)
     requires long { All (λ (word : Entry). length word.word ≡ length cells.now) (R.entries rows.old (length cells.now)) }
     requires row { length row.old.bits ≡ length (R.entries rows.old (length cells.now)) }
@@ -132,7 +138,8 @@ fn read_open<R: Rows>(rows: &mut R, board: &Board<'_>, cells: &Cells, row: &mut 
     }
 }
 
-/// Writes which known words are base words of a light. Where it is wholly entered nothing is read.
+/// Sets the bits of a light's base words. If every cell of the light has a letter, it reads
+/// nothing.
 pub fn read_base<R: Rows>(rows: &mut R, board: &Board<'_>, light: usize, row: &mut BitRow)
     requires light { light < length board.now.lights }
     requires long { All (λ (word : Entry). length word.word ≡ length (light_at board.now light)) (R.entries rows.old (length (light_at board.now light))) }
@@ -152,7 +159,7 @@ pub fn read_base<R: Rows>(rows: &mut R, board: &Board<'_>, light: usize, row: &m
     }
 }
 
-/// Reads the chunk of a base row anew in which a known word has its place.
+/// Updates the chunk of a base row that has the word at index `place`.
 fn read_chunk<R: Rows>(
     rows: &mut R,
     board: &Board<'_>,
@@ -179,7 +186,7 @@ fn read_chunk<R: Rows>(
     row.set_chunk(place / 64, words);
 }
 
-/// The place of a word that is changed, if it is so long.
+/// The index of the changed word, if that word has length `count`.
 pub(crate) fn place_if_long(word: Option<(usize, usize)>, count: usize) -> Option<usize>
     ensures found { IfSome result (λ place. word ≡ Some (count, place)) }
     ensures none { IfNone result ((place : ℕ) → word ≡ Some (count, place) → ⊥) }
@@ -190,7 +197,8 @@ pub(crate) fn place_if_long(word: Option<(usize, usize)>, count: usize) -> Optio
     }
 }
 
-/// Reads a base row anew: where a word as long as the light is changed, the chunk with its place.
+/// Updates a base row: only the chunk of the changed word if that has the light's length, else the
+/// whole row.
 fn read_changed<R: Rows>(
     rows: &mut R,
     board: &Board<'_>,
@@ -214,7 +222,7 @@ fn read_changed<R: Rows>(
     }
 }
 
-/// The same for a light's row among those of all lights.
+/// Updates the base row of one light in the array of all base rows.
 fn read_row<R: Rows>(
     rows: &mut R,
     board: &Board<'_>,
@@ -237,7 +245,8 @@ fn read_row<R: Rows>(
     read_changed(rows, board, word, light, &mut base[light]);
 }
 
-/// Whether a word that is changed is as long as the light. A light's length is looked up only where one is.
+/// Whether the changed word has the light's length. Without a changed word it does not look up the
+/// length.
 fn is_long(board: &Board<'_>, word: Option<(usize, usize)>, light: usize) -> bool
     requires { light < length board.now.lights }
     ensures { result ≡ is_long_of word (length (light_at board.now light)) }
@@ -257,7 +266,7 @@ fn is_read(board: &Board<'_>, word: Option<(usize, usize)>, marks: &[bool], ligh
     marks[light] || is_long(board, word, light)
 }
 
-/// Reads anew the base row of each light that is marked or as long as a word that is changed, as far as the edit can have changed it.
+/// Updates the base row of each light that is marked or has the length of the changed word.
 pub fn read_marked<R: Rows>(
     rows: &mut R,
     board: &Board<'_>,

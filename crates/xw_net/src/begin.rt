@@ -1,7 +1,8 @@
-//! From where the revival and the stripping begin after an edit.
+//! The start of an update: finds the lights that an edit touches directly. It queues the lights
+//! that may lose words or letters, and marks as seeds the lights that may gain some.
 ghost use Rattle.std.specs.Prelude.{◌≡◌, ℕ, ◌+◌, ◌*◌, ◌^◌, ◌<◌, ◌≤◌, Bool, true, false, not, ◌&&◌, All, Contains, Option, List, None, Some, IfSome, slice_get, length, vec_len, vec_capacity, count_by, slice_index_or};
-ghost use Rattle.xw_cells.specs.declared.cell.Cell.{Cell as CellOfGrid};
-ghost use Rattle.xw_cells.specs.Grid.{index_of, is_inside};
+ghost use Rattle.xw_grid.specs.declared.cell.Cell.{Cell as CellOfGrid};
+ghost use Rattle.xw_grid.specs.Grid.{index_of, is_inside};
 ghost use Rattle.xw_feas.specs.Board.{light_at, entry};
 ghost use Rattle.xw_feas.specs.Feasible.{may_stand};
 ghost use Rattle.xw_feas.specs.Flags.{set_has};
@@ -22,15 +23,15 @@ use crate::narrow::narrow_row;
 use crate::seeds::{free_cell, mark_found, mark_new, mark_through};
 use crate::spread::letters_allowed;
 use xw_bits::bit_row::BitRow;
-use xw_cells::cell::Cell;
-use xw_cells::grid::Grid;
 use xw_feas::board::{Board, has_all_entries};
+use xw_grid::cell::Cell;
+use xw_grid::grid::Grid;
 use xw_grid::lights::Lights;
 use xw_letters::letter::Letter;
 use xw_letters::letter_set::LetterSet;
 use xw_words::rows::Rows;
 
-/// Of the letters that stand at a cell, leaves those that may.
+/// Removes from a cell the letters that it no longer allows.
 fn narrow_cell(board: &Board<'_>, cell: usize, letters: &mut [LetterSet])
     requires cell { cell < length letters.old }
     ensures len { length letters.new ≡ length letters.old }
@@ -42,8 +43,9 @@ fn narrow_cell(board: &Board<'_>, cell: usize, letters: &mut [LetterSet])
     letters[cell] = letters[cell].common(letters_allowed(board, cell));
 }
 
-/// Lets at an edited cell only letters stand that may, and the lights through it are queued. If
-/// more may stand than before, all that may stand there, and the lights are seeds.
+/// Updates the letters of an edited cell, and queues the lights through it. If the cell was empty
+/// and has a letter now, it only loses letters. Otherwise it gets all letters that it allows, and
+/// the lights through it become seeds.
 fn edit_cell(
     board: &Board<'_>,
     cell: usize,
@@ -89,7 +91,7 @@ fn edit_cell(
     }
 }
 
-/// The place of a cell of a grid.
+/// The index of a cell inside the grid.
 fn place_in(grid: &Grid, cell: Cell) -> usize
     requires { is_inside grid.now cell ≡ true }
     ensures place { result ≡ index_of grid.now cell }
@@ -101,8 +103,8 @@ fn place_in(grid: &Grid, cell: Cell) -> usize
     }
 }
 
-/// The same for each of the cells that an edit wrote, which are listed with their entries of
-/// before.
+/// Calls `edit_cell` for each cell that an edit wrote. The cells come with their entry before the
+/// edit.
 fn edit_cells(
     grid: &Grid,
     board: &Board<'_>,
@@ -147,8 +149,8 @@ fn edit_cells(
     }
 }
 
-/// Whether a word that is changed is among those of a light with so many cells, or is the last
-/// one known.
+/// Whether the changed word has this length and is in the row, or is the last known word or past
+/// the end of the row.
 fn may_have_word(word: Option<(usize, usize)>, count: usize, row: &BitRow) -> bool
     ensures { result ≡ may_have word count row.now.bits }
 {
@@ -160,7 +162,8 @@ fn may_have_word(word: Option<(usize, usize)>, count: usize, row: &BitRow) -> bo
     }
 }
 
-/// Whether a light to which an edit comes is a seed.
+/// Whether a queued light is a seed: it has a letter in every cell, or the changed word may be a
+/// base word of it.
 fn is_seed(board: &Board<'_>, word: Option<(usize, usize)>, base: &[BitRow], light: usize) -> bool
     requires light { light < length board.now.lights }
     requires base { light < length base.now }
@@ -170,7 +173,7 @@ fn is_seed(board: &Board<'_>, word: Option<(usize, usize)>, base: &[BitRow], lig
     has_all_entries(board, &cells) || may_have_word(word, cells.len(), &base[light])
 }
 
-/// Leaves of the words of a light the base words, and marks the light if it is a seed.
+/// Removes from a light the words that are not base words, and marks the light if it is a seed.
 fn touch_light(
     board: &Board<'_>,
     word: Option<(usize, usize)>,
@@ -208,7 +211,7 @@ fn touch_light(
     mark_found(found, marks, stack);
 }
 
-/// The same for each light that is queued.
+/// Calls `touch_light` for each queued light.
 fn touch_lights(
     board: &Board<'_>,
     word: Option<(usize, usize)>,
@@ -245,8 +248,8 @@ fn touch_lights(
     }
 }
 
-/// Whether a word that is changed is among the base words of a light with so many cells, or stood
-/// there.
+/// Whether the changed word may be a base word of a light of this length, or may be among its words
+/// in the net.
 fn has_changed_word(
     word: Option<(usize, usize)>,
     count: usize,
@@ -258,7 +261,7 @@ fn has_changed_word(
     may_have_word(word, count, base) || may_have_word(word, count, words)
 }
 
-/// Queues a light that has a word that is changed, or had it.
+/// Queues a light if the changed word may concern it.
 fn queue_if_changed(
     board: &Board<'_>,
     word: Option<(usize, usize)>,
@@ -287,7 +290,7 @@ fn queue_if_changed(
     }
 }
 
-/// Queues the lights that have a word that is changed, or had it.
+/// Queues the lights that the changed word may concern.
 fn queue_changed(
     board: &Board<'_>,
     word: Option<(usize, usize)>,
@@ -316,8 +319,9 @@ fn queue_changed(
     }
 }
 
-/// Reads the base rows anew as far as they can have changed, queues the lights that have a changed word or had it, and leaves of
-/// the words of the queued lights the base words. Those to which a word may come back are seeds.
+/// Updates the base rows as far as they can have changed, queues the lights that the changed word
+/// may concern, and removes from the queued lights the words that are not base words. Marks as
+/// seeds the lights that may get words back.
 fn prepare<R: Rows>(
     rows: &mut R,
     board: &Board<'_>,
@@ -364,9 +368,9 @@ fn prepare<R: Rows>(
     touch_lights(board, word, base, is_queued, words, marks, stack);
 }
 
-/// The state from which a revival begins after an edit, of arrays that go by the lights after it:
-/// the lights to which the edit comes are queued, and those to which words may come back are
-/// seeds, with the lights through a cell of a light that is gone at which a letter comes back.
+/// Prepares the arrays, which already match the lights after the edit, for a revival. It queues the
+/// lights that the edit touches. It marks as seeds the lights that may get words back, and the
+/// lights through a cell of a removed light that gets a letter back.
 pub fn begin<R: Rows>(
     rows: &mut R,
     grid: &Grid,

@@ -1,8 +1,8 @@
-//! A net before anything stands in it.
+//! Creates an empty net.
 use crate::net::Net;
 use crate::room::{make_flags, make_held, make_rows, make_sets};
 use std::alloc::{AllocError, Global};
-use xw_cells::grid::Grid;
+use xw_grid::grid::Grid;
 use xw_grid::lights::Lights;
 use xw_words::bank::Bank;
 
@@ -15,7 +15,7 @@ impl Net {
     ghost use Rattle.xw_net.specs.Nets.{IsShaped};
     ghost use Rattle.xw_net.specs.Room.{counts_of, HasRoom};
 
-    /// A net for a grid and a dictionary, in which nothing stands yet.
+    /// A net for a grid and a dictionary, with no words and no letters.
     pub(crate) fn blank(
         alloc: Global,
         grid: &Grid,

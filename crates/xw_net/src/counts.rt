@@ -1,10 +1,10 @@
-//! How many words of each light stand is counted once an edit, and not at each question.
+//! Counts the words of each light once per edit, so that queries need not.
 ghost use Rattle.std.specs.Prelude.{◌≡◌};
 
 use crate::net::Net;
 use xw_bits::bit_row::BitRow;
 
-/// Counts the bits of each row of which it is not known how many are set.
+/// Counts the set bits of each row whose count is not cached.
 fn keep_counts(rows: &mut [BitRow])
     ensures { rows.new ≡ rows.old }
 {
@@ -17,7 +17,7 @@ fn keep_counts(rows: &mut [BitRow])
 impl Net {
     ghost use Rattle.xw_net.specs.Room.{IsRoomier};
 
-    /// Counts the words that stand for each light of which one came or went since.
+    /// Caches the number of words of each light.
     pub(crate) fn keep_counts(&mut self)
         ensures { IsRoomier self.old self.new }
     {

@@ -1,4 +1,4 @@
-//! A net in which all stands that is feasible.
+//! Creates a net with the answers for a grid and a dictionary.
 ghost use Rattle.std.specs.Prelude.{◌≡◌, ℕ, length};
 ghost use Rattle.xw_feas.specs.Feasible.{may_stand};
 ghost use Rattle.xw_feas.specs.Flags.{set_has};
@@ -8,18 +8,18 @@ use crate::base::read_marked;
 use crate::net::Net;
 use crate::seeds::mark_all;
 use std::alloc::Global;
-use xw_cells::fault::GridFault;
-use xw_cells::grid::Grid;
 use xw_feas::board::{Board, allowed};
 use xw_feas::dictionary::known_distinct;
 use xw_feas::edit::Refusal;
+use xw_grid::fault::GridFault;
+use xw_grid::grid::Grid;
 use xw_grid::lights::Lights;
 use xw_letters::letter_set::LetterSet;
 use xw_words::bank::Bank;
 use xw_words::counted::Counted;
 use xw_words::rows::Rows;
 
-/// Lets at each cell the letters stand that may.
+/// Gives each cell all letters that it allows.
 fn fill_letters(board: &Board<'_>, letters: &mut [LetterSet])
     requires { length letters.old ≡ length board.now.open_cells }
     ensures len { length letters.new ≡ length letters.old }
@@ -40,7 +40,7 @@ impl Net {
     ghost use Rattle.xw_net.specs.Filled.{AreLong, IsFresh, IsFilled};
     ghost use Rattle.xw_net.specs.Net.{IsSettledFor, HasRoomFor, known_counts};
 
-    /// Lets exactly the feasible words and letters stand in a net in which nothing stands yet.
+    /// Fills an empty net with exactly the feasible words and letters.
     pub(crate) fn fill<R: Rows>(&mut self, rows: &mut R, board: &Board<'_>)
         requires fresh { IsFresh board.now (R.entries rows.old) self.old }
         requires long { AreLong board.now (R.entries rows.old) }
@@ -58,7 +58,8 @@ impl Net {
         self.keep_counts();
     }
 
-    /// A net with the answers for a grid and a dictionary.
+    /// A net with the feasible words and letters of a grid and a dictionary. Returns `Memory` if an
+    /// allocation fails.
     pub fn of(alloc: Global, grid: &Grid, lights: &Lights, bank: &Bank) -> Result<Net, Refusal>
         requires { lights.now ≡ lights_of grid.now }
         ensures settled { IfOk result (λ net. IsSettledFor (record { grid = grid.now; words = bank.now.words }) net) }

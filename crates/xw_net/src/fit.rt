@@ -1,4 +1,4 @@
-//! A net goes by the lights and the words after an edit.
+//! Adapts a net to the lights and the dictionary after an edit.
 ghost use Rattle.std.specs.Prelude.{◌≡◌, ℕ, ◌<◌, ◌≤◌, length};
 ghost use Rattle.xw_net.specs.Room.{counts_of, row_at, HaveRoom};
 ghost use Rattle.xw_net.specs.Fit.{fitted, AreFitted};
@@ -9,7 +9,7 @@ use xw_bits::bit_row::BitRow;
 use xw_grid::lights::Lights;
 use xw_words::rows::Rows;
 
-/// Adds a false bit to a row if one is wanting for so many known words.
+/// Appends a clear bit to a row if it has fewer than `known` bits.
 fn fit_row(row: &mut BitRow, known: usize)
     requires { known ≤ row.old.room }
     ensures bits { row.new.bits ≡ fitted known row.old.bits }
@@ -20,7 +20,7 @@ fn fit_row(row: &mut BitRow, known: usize)
     }
 }
 
-/// Adds a false bit to the row of each light where one is wanting.
+/// Appends a clear bit to the row of each light that lacks a bit for a known word.
 pub(crate) fn fit_rows<R: Rows>(words: &R, lights: &Lights, rows: &mut [BitRow])
     requires lights { length lights.now ≤ length rows.old }
     requires room { HaveRoom lights.now (counts_of (R.entries words.now)) rows.old }
@@ -47,7 +47,7 @@ impl Net {
     ghost use Rattle.xw_net.specs.Renumber.{AreLights};
     ghost use Rattle.xw_net.specs.Fit.{AreNear, IsAtRest, HasRoomBetween, IsTurned};
 
-    /// Takes the arrays that wait for the lights after an edit, if any do.
+    /// Switches to the spare arrays for the lights after an edit, if there are any.
     fn turn_to<R: Rows>(&mut self, words: &R, before: &Lights, lights: &Lights)
         requires lights { AreLights lights.now }
         requires rest { IsAtRest before.now (vec_len self.old.letters) self.old }
@@ -62,7 +62,7 @@ impl Net {
             self.renumber(words, spare, before, lights);
         }
     }
-    /// Makes the net go by the lights and the words after an edit.
+    /// Adapts the net to the lights and the known words after an edit.
     pub(crate) fn move_to<R: Rows>(&mut self, words: &R, before: &Lights, lights: &Lights)
         requires lights { AreLights lights.now }
         requires rest { IsAtRest before.now (vec_len self.old.letters) self.old }

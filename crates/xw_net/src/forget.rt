@@ -1,4 +1,4 @@
-//! Words that are held no more.
+//! Forgets supports that an edit may have made invalid.
 ghost use Rattle.std.specs.Prelude.{◌≡◌, ◌⊎◌, ℕ, ◌+◌, ◌-◌, ◌*◌, ◌^◌, ◌<◌, ◌≤◌, false, true, Option, is_some, length, slice_index};
 ghost use Rattle.xw_letters.specs.Letter.{is_capital};
 ghost use Rattle.xw_feas.specs.Board.{light_at};
@@ -15,7 +15,7 @@ use xw_grid::lights::Lights;
 use xw_letters::letter_set::LetterSet;
 use xw_words::rows::Rows;
 
-/// Lets a slot hold no word from a number on.
+/// Forgets the supports held at a slot whose index is at least `first`.
 fn forget_slot(slot: usize, first: usize, held: &mut [usize])
     requires { 26 * slot + 26 ≤ length held.old }
     ensures len { length held.new ≡ length held.old }
@@ -30,7 +30,8 @@ fn forget_slot(slot: usize, first: usize, held: &mut [usize])
     }
 }
 
-/// Lets a light hold no word from a number on. Nothing is pending there.
+/// Forgets the supports held at the slots of a light whose index is at least `first`, and clears
+/// its pending letters.
 fn forget_light(
     board: &Board<'_>,
     light: usize,
@@ -57,7 +58,8 @@ fn forget_light(
     }
 }
 
-/// The first number that a light may hold no more, which stays or is new.
+/// The least index of a support that a light has to forget: 0 for a new light, the index of the
+/// changed word if that is the last known word of the light's length, and else `NOWHERE`.
 fn lost_from(word: Option<(usize, usize)>, has_stayed: bool, size: usize, known: usize) -> usize
     ensures { (same : Option ℕ) → has_stayed ≡ is_some same → result ≡ lost_from_of word same size known }
 {
@@ -70,7 +72,7 @@ fn lost_from(word: Option<(usize, usize)>, has_stayed: bool, size: usize, known:
     }
 }
 
-/// Whether a light has the cells of one of before.
+/// Whether a light has the same cells as one before the edit.
 fn has_stayed(lights: &Lights, before: &Lights, stays: bool, light: usize) -> bool
     requires light { light < length lights.now }
     requires stays { stays ≡ true → lights.now ≡ before.now }
@@ -79,7 +81,7 @@ fn has_stayed(lights: &Lights, before: &Lights, stays: bool, light: usize) -> bo
     stays || lights.same(light, before).is_some()
 }
 
-/// The same for the light of a board after an edit.
+/// The least index of a support that a light of a board has to forget after an edit.
 fn lost_of<R: Rows>(
     rows: &R,
     board: &Board<'_>,
@@ -99,7 +101,7 @@ fn lost_of<R: Rows>(
     lost_from(change.word, has_stayed, size, known)
 }
 
-/// Lets a light hold no word that it may not hold after an edit.
+/// Forgets the supports of a light from `first` on. Does nothing if `first` is `NOWHERE`.
 fn forget_lost(
     board: &Board<'_>,
     light: usize,
@@ -124,7 +126,7 @@ fn forget_lost(
     }
 }
 
-/// Lets each light after an edit hold no word that it may not hold.
+/// Forgets, for each light, the supports that may be invalid after an edit.
 pub(crate) fn forget_lights<R: Rows>(
     rows: &R,
     board: &Board<'_>,

@@ -1,15 +1,15 @@
-//! Cells of lights that are gone.
+//! Restores letters at the cells of lights that an edit removed.
 ghost use Rattle.std.specs.Prelude.{◌≡◌, ℕ, ◌+◌, ◌<◌, ◌≤◌, true, not, All, None, IfSome, length, vec_len, vec_capacity, count_by};
 ghost use Rattle.xw_net.specs.Spread.{HasSeeds};
 ghost use Rattle.xw_net.specs.Gone.{IsAlong, IsAmong, IsFreed, IsFreedAt, Raises};
 
 use crate::seeds::raise_cell;
-use xw_cells::grid::Grid;
 use xw_feas::board::Board;
+use xw_grid::grid::Grid;
 use xw_grid::lights::{Light, Lights};
 use xw_letters::letter_set::LetterSet;
 
-/// The place in a grid of one of the cells of a light, if the grid has it.
+/// The index of cell `k` of a light, if it is inside the grid.
 fn place_along(grid: &Grid, light: &Light, k: u32) -> Option<usize>
     ensures along { IfSome result (λ cell. IsAlong grid.now light.now k cell) }
     ensures within { IfSome result (λ cell. cell < length grid.now.squares) }
@@ -22,7 +22,7 @@ fn place_along(grid: &Grid, light: &Light, k: u32) -> Option<usize>
     grid.index(light.cell(k))
 }
 
-/// Lets all letters stand that may at one of the cells of a light that is gone.
+/// Gives cell `k` of a removed light all letters that it allows.
 fn raise_at(
     grid: &Grid,
     board: &Board<'_>,
@@ -48,7 +48,7 @@ fn raise_at(
     }
 }
 
-/// The same at each of its cells.
+/// Gives each cell of a removed light all letters that it allows.
 fn raise_along(
     grid: &Grid,
     board: &Board<'_>,
@@ -73,7 +73,8 @@ fn raise_along(
     }
 }
 
-/// The same if no light after has the cells of a light of before.
+/// Calls `raise_along` for the light with index `other` before the edit, if no light after it has the
+/// same cells.
 fn raise_if_gone(
     grid: &Grid,
     board: &Board<'_>,
@@ -101,8 +102,9 @@ fn raise_if_gone(
     }
 }
 
-/// Lets all letters stand that may at the cells of the lights of before that are gone. The lights
-/// through a cell where one comes back are seeds. Where the lights are those of before, none is gone.
+/// Gives the cells of each removed light all letters that they allow, and marks as seeds the lights
+/// through a cell that gets a letter back. If `stays` is true no light was removed, and it does
+/// nothing.
 pub(crate) fn raise_gone(
     grid: &Grid,
     board: &Board<'_>,

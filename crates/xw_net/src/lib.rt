@@ -1,4 +1,9 @@
-//! What stands of the words and letters of a grid, settled after each edit.
+//! The net: the words and letters of a grid that support one another, and the algorithm that
+//! updates them after each edit.
+//!
+//! An update has two phases. The revival puts back words and letters that may have become feasible,
+//! along a chain of lights that starts where the edit touched the grid. Stripping then removes
+//! words and letters without support, until none is left.
 #![tactic(auto)]
 
 mod base;

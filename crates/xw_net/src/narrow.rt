@@ -1,4 +1,4 @@
-//! Of the words that stand for a light, those are left that are base words after an edit.
+//! Removes from a light the words that are no longer base words after an edit.
 ghost use Rattle.std.specs.Prelude.{◌≡◌, ℕ, ◌<◌, ◌≤◌, length, Some};
 ghost use Rattle.xw_feas.specs.Board.{light_at};
 ghost use Rattle.xw_net.specs.Begin.{IsNarrowedRow};
@@ -9,7 +9,7 @@ use crate::base::place_if_long;
 use xw_bits::bit_row::BitRow;
 use xw_feas::board::Board;
 
-/// Of the words in the chunk with a place, leaves the base words.
+/// Removes, from the chunk of the word at index `place`, the words that are not base words.
 fn narrow_at(base: &BitRow, place: usize, row: &mut BitRow)
     requires { length row.old.bits ≡ length base.now.bits }
     ensures room { row.new.room ≡ row.old.room }
@@ -23,8 +23,8 @@ fn narrow_at(base: &BitRow, place: usize, row: &mut BitRow)
     row.set_chunk(chunk, left);
 }
 
-/// Of some words as long as a light, leaves the base words. Where one of them is changed, only the chunk with its
-/// place is looked at.
+/// Removes the words that are not base words. If the changed word has the light's length, it only
+/// processes that word's chunk.
 fn narrow(word: Option<(usize, usize)>, count: usize, base: &BitRow, row: &mut BitRow)
     requires { length row.old.bits ≡ length base.now.bits }
     ensures room { row.new.room ≡ row.old.room }
@@ -36,7 +36,7 @@ fn narrow(word: Option<(usize, usize)>, count: usize, base: &BitRow, row: &mut B
     }
 }
 
-/// The same for the words that stand for a light.
+/// Narrows the row of one light in the array of all rows.
 pub(crate) fn narrow_row(
     board: &Board<'_>,
     word: Option<(usize, usize)>,

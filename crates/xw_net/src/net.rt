@@ -1,4 +1,4 @@
-//! What stands of the words and letters of a grid, stripped of what has no support.
+//! The net, and its stripping: removing words and letters without support.
 ghost use Rattle.std.specs.Prelude.{◌≡◌, ℕ, ◌+◌, ◌<◌, ◌≤◌, true, false, not, ◌++◌, [], ◌∷◌, length, vec_len, vec_capacity, count_by, slice_index_or, slice_set, if◌then◌else◌, All, IfSome, IfNone};
 ghost use Rattle.std.specs.List.Sorted.{IsPermutation};
 ghost use Rattle.xw_letters.specs.Letter.{IsLetter};
@@ -15,25 +15,43 @@ use xw_letters::letter::Letter;
 use xw_letters::letter_set::LetterSet;
 use xw_words::rows::Rows;
 
-/// The words and letters that stand, and by slot and letter where a word for it was found.
+/// The words of each light and the letters of each cell, with the state of the algorithm that
+/// updates them.
+///
+/// Each cell has two slots, one for each direction. Words are numbered: a known word by its index
+/// among the known words of the light's length, and after them the word that the letters of a
+/// filled light spell.
 #[derive(Drop)]
 pub struct Net {
     pub(crate) alloc: Global,
+    /// For each light, the known words in the net.
     pub(crate) rows: Vec<BitRow>,
+    /// For each light, its base words.
     pub(crate) base: Vec<BitRow>,
+    /// For each light, whether the net has the word that its letters spell.
     pub(crate) entered: Vec<bool>,
+    /// For each cell, its letters in the net.
     pub(crate) letters: Vec<LetterSet>,
+    /// For each slot and letter, the index of the known word last found to support the letter;
+    /// `NOWHERE` if there is none.
     pub(crate) held: Vec<usize>,
+    /// For each slot, the letters for which words before the held one may have come back. Their
+    /// next search starts at the first word.
     pub(crate) restart: Vec<LetterSet>,
+    /// For each slot, the letters that were removed from the cell, and whose words are still to be
+    /// removed from the light.
     pub(crate) pending: Vec<LetterSet>,
+    /// The lights to process, with `is_queued` as a flag for each light.
     pub(crate) queue: Vec<usize>,
     pub(crate) is_queued: Vec<bool>,
+    /// The marked lights to process in a revival, with `is_marked` as a flag for each light.
     pub(crate) stack: Vec<usize>,
     pub(crate) is_marked: Vec<bool>,
+    /// The arrays reserved for the lights after the next edit.
     pub(crate) spare: Option<Spare>,
 }
 
-/// Lets the light wait in the queue, unless it does.
+/// Queues the light if it is not queued.
 fn enqueue(is_queued: &mut [bool], queue: &mut Vec<usize>, light: usize)
     requires light { light < length is_queued.old }
     requires room { vec_len queue.old + count_by (λ queued. not queued) is_queued.old ≤ vec_capacity queue.old }
@@ -48,8 +66,8 @@ fn enqueue(is_queued: &mut [bool], queue: &mut Vec<usize>, light: usize)
     }
 }
 
-/// Takes a light from the queue. The turns go round, so that a light that comes anew waits for
-/// those before it.
+/// Takes a light from the queue. `turn` moves through the queue from start to end and over again,
+/// so a light that is queued late waits for the earlier ones.
 fn take_turn(queue: &mut Vec<usize>, turn: &mut usize) -> Option<usize>
     ensures taken { IfSome result (λ light. IsPermutation queue.old.items (light ∷ queue.new.items)) }
     ensures none { IfNone result (queue.old.items ≡ []) }
@@ -79,7 +97,7 @@ impl Net {
     ghost use Rattle.xw_net.specs.Nets.{marks_of, word_stands, letter_stands, pending_in, queued_in, IsShaped, IsLeft, HasBits, IsThere, IsQueue, Waits, left_of};
     ghost use Rattle.xw_net.specs.Filled.{IsUnstripped, IsFilled};
 
-    /// Takes the words with a pending letter at a place out of its light.
+    /// Removes from a light the words with a pending letter at a position.
     fn strike_place<R: Rows>(&mut self, rows: &mut R, board: &Board<'_>, light: usize, place: usize)
         requires shaped { IsShaped board.now self.old }
         requires bits { HasBits board.now (R.entries rows.old) self.old }
@@ -112,7 +130,7 @@ impl Net {
         self.entered[light] &= !pending.has(board.letter(here.cell));
     }
 
-    /// Whether no letter is pending at a place of a light.
+    /// Whether no letter is pending at a position of a light.
     fn is_clear(&self, board: &Board<'_>, light: usize, place: usize) -> bool
         requires shaped { IsShaped board.now self.now }
         requires place { IsPlace board.now light place }
@@ -122,7 +140,7 @@ impl Net {
         self.pending[here.slot].is_same(LetterSet::new())
     }
 
-    /// Takes the words with pending letters out of the light.
+    /// Removes from a light the words with a pending letter at any position.
     fn strike_light<R: Rows>(&mut self, rows: &mut R, board: &Board<'_>, light: usize)
         requires shaped { IsShaped board.now self.old }
         requires bits { HasBits board.now (R.entries rows.old) self.old }
@@ -148,7 +166,8 @@ impl Net {
         }
     }
 
-    /// Leaves a letter that died at a cell pending for a light there, which is to be seen to.
+    /// Makes a letter that was removed from a cell pending for a light through it, and queues the
+    /// light.
     fn leave_pending(&mut self, board: &Board<'_>, light: usize, cell: usize, letter: Letter)
         requires shaped { IsShaped board.now self.old }
         requires light { light < length board.now.lights }
@@ -166,7 +185,7 @@ impl Net {
         enqueue(&mut self.is_queued, &mut self.queue, light);
     }
 
-    /// Lets a letter die at a place.
+    /// Removes a letter from a cell, and makes it pending for the crossing light.
     fn drop_letter(&mut self, board: &Board<'_>, here: Place, letter: Letter)
         requires shaped { IsShaped board.now self.old }
         requires there { IsThere board.now here }
@@ -184,7 +203,8 @@ impl Net {
         }
     }
 
-    /// Sees to one letter that stands at a place: it keeps its word, gets another one, or dies.
+    /// Checks one letter of a cell: if its support is gone, it looks for another, and removes the
+    /// letter if there is none.
     fn keep_letter<R: Rows>(&mut self, rows: &mut R, board: &Board<'_>, here: Place, letter: Letter)
         requires letter { IsLetter letter }
         requires shaped { IsShaped board.now self.old }
@@ -214,7 +234,7 @@ impl Net {
         }
     }
 
-    /// Sees to each letter at a place.
+    /// Checks each letter at a position.
     fn keep_place<R: Rows>(&mut self, rows: &mut R, board: &Board<'_>, light: usize, place: usize)
         requires shaped { IsShaped board.now self.old }
         requires bits { HasBits board.now (R.entries rows.old) self.old }
@@ -243,7 +263,8 @@ impl Net {
         }
     }
 
-    /// Sees to each letter at each place of the light.
+    /// Checks each letter at each position of a light. A light whose entered word is in the net
+    /// needs no check.
     fn keep_light<R: Rows>(&mut self, rows: &mut R, board: &Board<'_>, light: usize)
         requires shaped { IsShaped board.now self.old }
         requires bits { HasBits board.now (R.entries rows.old) self.old }
@@ -268,7 +289,7 @@ impl Net {
         }
     }
 
-    /// Sees to a light that was taken from the queue.
+    /// Processes a light from the queue.
     fn see_to<R: Rows>(&mut self, rows: &mut R, board: &Board<'_>, light: usize)
         requires shaped { IsShaped board.now self.old }
         requires bits { HasBits board.now (R.entries rows.old) self.old }
@@ -292,7 +313,8 @@ impl Net {
         }
     }
 
-    /// Takes away words and letters until those that are left support one another.
+    /// Strips the net: processes queued lights until the words and letters left support one
+    /// another.
     pub(crate) fn strip_queued<R: Rows>(&mut self, rows: &mut R, board: &Board<'_>)
         requires shaped { IsShaped board.now self.old }
         requires bits { HasBits board.now (R.entries rows.old) self.old }

@@ -1,4 +1,4 @@
-//! Places of lights.
+//! Positions in lights.
 ghost use Rattle.std.specs.Prelude.{◌≡◌, ◌<◌, ◌≤◌, ◌+◌, ◌*◌, ◌^◌, length, slice_index};
 ghost use Rattle.xw_feas.specs.Board.{light_at};
 ghost use Rattle.xw_net.specs.Marks.{side_of, IsPlace, cell_at, slot_at};
@@ -6,7 +6,7 @@ ghost use Rattle.xw_net.specs.Nets.{IsThere};
 
 use xw_feas::board::{Board, Cells};
 
-/// A place of a light.
+/// A position in a light, with the light's length and the position's cell and slot.
 #[derive(Clone, Copy)]
 pub(crate) struct Place {
     pub light: usize,
@@ -16,7 +16,7 @@ pub(crate) struct Place {
     pub slot: usize,
 }
 
-/// 0 for cells of a light across, and 1 for down.
+/// 0 for the cells of an across light, and 1 for those of a down light.
 pub(crate) fn side(cells: &Cells) -> usize
     ensures side { result ≡ side_of cells.now }
     ensures small { result ≤ 1 }
@@ -32,7 +32,7 @@ pub(crate) fn side(cells: &Cells) -> usize
     }
 }
 
-/// A place of a light of a board.
+/// The position `place` of a light.
 pub(crate) fn place_of(board: &Board<'_>, light: usize, place: usize) -> Place
     requires place { IsPlace board.now light place }
     requires few { length board.now.open_cells < 2 ^ 32 }

@@ -1,4 +1,4 @@
-//! What a net answers.
+//! Queries of a net.
 use crate::net::Net;
 use xw_grid::lights::Lights;
 use xw_letters::letter_set::LetterSet;
@@ -8,7 +8,7 @@ impl Net {
     ghost use Rattle.xw_feas.specs.Flags.{standing_count};
     ghost use Rattle.xw_net.specs.Net.{sets_of, flags_at, StandsFor, first_from};
 
-    /// How many words of the light at a place stand.
+    /// The number of words of a light.
     pub fn word_count(&self, lights: &Lights, light: usize) -> usize
         requires light { light < length lights.now }
         requires settled { StandsFor lights.now self.now }
@@ -24,7 +24,7 @@ impl Net {
         }
     }
 
-    /// The number of the first word that stands of the light at a place, from a number on.
+    /// The first word of a light whose number is at least `from`.
     pub fn next_word(&self, lights: &Lights, light: usize, from: usize) -> Option<usize>
         requires light { light < length lights.now }
         requires settled { StandsFor lights.now self.now }
@@ -41,7 +41,7 @@ impl Net {
         }
     }
 
-    /// For each cell the letters that stand.
+    /// For each cell the set of its letters.
     #[tactic(auto, unfolding(crate::specs::Net::sets_of))]
     pub fn letters(&self) -> &[LetterSet]
         ensures { result.now ≡ sets_of self.now }

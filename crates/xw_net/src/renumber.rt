@@ -1,4 +1,4 @@
-//! Lights that stay keep what they have when the others change.
+//! Moves the data of the lights that stay to their new indices when an edit changes the lights.
 ghost use Rattle.std.specs.Prelude.{◌≡◌, ℕ, ◌<◌, ◌≤◌, false, [], length, replicate, Some, IfSome};
 ghost use Rattle.xw_net.specs.Room.{counts_of, row_at, AreEmpty};
 ghost use Rattle.xw_net.specs.Renumber.{AreLights, bits_from, room_from, AreRowsMoved, AreFlagsMoved};
@@ -10,7 +10,7 @@ use xw_bits::bit_row::BitRow;
 use xw_grid::lights::Lights;
 use xw_words::rows::Rows;
 
-/// Moves the row of a light that stays to its place, or fills the one that a new light has there.
+/// Swaps in the old row of a light that stays, or fills the row of a new light with clear bits.
 fn move_row(
     rows: &mut [BitRow],
     spare: &mut [BitRow],
@@ -36,7 +36,7 @@ fn move_row(
     }
 }
 
-/// Moves the rows of the lights that stay to their places among the lights after.
+/// Moves the rows of the lights that stay to their new indices.
 #[tactic(auto, using(crate::proofs::Renumbers::moving_steps))]
 fn move_rows<R: Rows>(
     words: &R,
@@ -56,7 +56,7 @@ fn move_rows<R: Rows>(
     }
 }
 
-/// Copies the flags of the lights that stay.
+/// Copies the flags of the lights that stay to their new indices.
 #[tactic(auto, using(crate::proofs::Renumbers::moving_steps))]
 fn move_flags(flags: &[bool], spare: &mut [bool], before: &Lights, after: &Lights)
     requires flags { length before.now ≤ length flags.now }
@@ -75,7 +75,7 @@ impl Spare {
     ghost use Rattle.xw_net.specs.Room.{counts_of, IsSpare};
     ghost use Rattle.xw_net.specs.Renumber.{AreLights, AreRowsMoved, AreFlagsMoved};
 
-    /// Takes over what the lights that stay have.
+    /// Takes over the data of the lights that stay.
     fn take_over<R: Rows>(
         &mut self,
         words: &R,
@@ -110,7 +110,7 @@ impl Net {
     ghost use Rattle.xw_net.specs.Room.{counts_of, IsWhole, HasRoom, HasSpare};
     ghost use Rattle.xw_net.specs.Renumber.{AreLights, IsRenumbered};
 
-    /// Takes the arrays for other lights. What the lights that stay have goes over to them.
+    /// Replaces the arrays by those for other lights. The lights that stay keep their data.
     pub(crate) fn renumber<R: Rows>(
         &mut self,
         words: &R,

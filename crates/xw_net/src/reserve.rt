@@ -1,9 +1,9 @@
-//! Room for an edit, made before it.
+//! Reserves room for an edit before it is made.
 use crate::net::Net;
 use crate::room::{Spare, push_bits, reserve_list, reserve_rows};
 use std::alloc::{AllocError, Global};
-use xw_cells::fault::GridFault;
 use xw_feas::edit::Refusal;
+use xw_grid::fault::GridFault;
 use xw_grid::lights::Lights;
 use xw_words::WordFault;
 use xw_words::bank::Bank;
@@ -15,7 +15,8 @@ impl Net {
     ghost use Rattle.xw_net.specs.Net.{known_counts, HasRoomFor, StandsFor, IsAlike};
     ghost use Rattle.xw_net.specs.Room.{counts_of, with_word, IsRoomier, HaveBitRoom, HaveBitMore, IsWhole, HasRoom, HasSpare};
 
-    /// Makes room for these lights in place of those that the net has.
+    /// Creates spare arrays for these lights, which replace those of the net, and reserves room in
+    /// the queue and the stack.
     pub(crate) fn reserve_lights(
         &mut self,
         alloc: Global,
@@ -30,7 +31,7 @@ impl Net {
         Spare::of(alloc, lights, bank)
     }
 
-    /// Makes room for these lights, which are those that the net has, and for one more word of a length.
+    /// Reserves room for one more word of length `count`. The lights are those of the net.
     pub(crate) fn reserve_word(
         &mut self,
         lights: &Lights,
@@ -48,7 +49,7 @@ impl Net {
         reserve_rows(&mut self.base, lights, bank, count)
     }
 
-    /// Makes room for these lights, to be taken when the net is settled on them.
+    /// Reserves spare arrays for these lights. The next `settle` takes them.
     fn reserve_shape(&mut self, lights: &Lights, bank: &Bank) -> Result<(), Refusal>
         ensures room { OnOk result (HasRoomFor lights.now (known_counts bank.now.words) self.new) }
         ensures waits { OnOk result (is_some self.new.spare ≡ true) }
@@ -66,7 +67,7 @@ impl Net {
         }
     }
 
-    /// Makes room for one more word of a length. Arrays that wait for other lights are given up.
+    /// Reserves room for one more word of length `count`, and drops any spare arrays.
     fn reserve_length(&mut self, lights: &Lights, bank: &Bank, count: usize) -> Result<(), Refusal>
         requires { StandsFor lights.now self.old }
         ensures room { OnOk result (HasRoomFor lights.now (with_word count (known_counts bank.now.words)) self.new) }
@@ -84,7 +85,12 @@ impl Net {
         }
     }
 
-    /// Makes room for these lights; with a length, also for one more word of it.
+    /// Reserves the memory for an edit, so that `settle` cannot fail. Without `len` it reserves
+    /// arrays for these lights. With `len` the lights must be those of the net, and it reserves
+    /// room for one more word of that length.
+    ///
+    /// Returns `Memory` if an allocation fails, as a grid fault without `len`, and as a word fault
+    /// with it.
     pub fn reserve(
         &mut self,
         lights: &Lights,
@@ -106,7 +112,7 @@ impl Net {
         }
     }
 
-    /// Adds a false bit to the rows of each light of so many cells, for a word that is new.
+    /// Appends a clear bit to the rows of each light of length `count`, for a new word.
     #[tactic(auto, using(crate::proofs::Rooms::bit_steps))]
     pub(crate) fn push_word(&mut self, lights: &Lights, count: usize)
         requires rows { length lights.now ≤ vec_len self.old.rows }

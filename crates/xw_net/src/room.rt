@@ -1,4 +1,4 @@
-//! The room that a net needs for its lights, its cells and its slots.
+//! Allocates the arrays of a net.
 ghost use Rattle.std.specs.Prelude.{◌≡◌, ℕ, ◌+◌, ◌-◌, ◌^◌, ◌<◌, ◌≤◌, false, [], length, replicate, vec_capacity, IfOk, OnOk};
 ghost use Rattle.xw_words.specs.Dictionary.{row as words_of};
 ghost use Rattle.xw_net.specs.Room.{counts_of, with_word, size_at as size_of_light, row_at, AreFalse, AreEmpty, AreRoomier, HaveRoom, HaveBitRoom, HaveBitMore};
@@ -9,10 +9,10 @@ use xw_grid::lights::Lights;
 use xw_letters::letter_set::LetterSet;
 use xw_words::bank::Bank;
 
-/// Where no word is held.
+/// Stands for the index of a word if there is no such word.
 pub(crate) const NOWHERE: usize = usize::MAX;
 
-/// How many cells the light at a place has.
+/// The number of cells of a light.
 #[tactic(auto, using(crate::proofs::Rooms::size_nowhere))]
 pub(crate) fn size_at(lights: &Lights, light: usize) -> usize
     ensures { result ≡ size_of_light lights.now light }
@@ -23,7 +23,7 @@ pub(crate) fn size_at(lights: &Lights, light: usize) -> usize
     }
 }
 
-/// How many words of a length are known.
+/// The number of known words of a length.
 #[tactic(auto, using(crate::proofs::Rooms::known_few))]
 fn known(bank: &Bank, count: usize) -> usize
     ensures words { result ≡ counts_of (words_of bank.now.words) count }
@@ -32,7 +32,7 @@ fn known(bank: &Bank, count: usize) -> usize
     bank.known(count)
 }
 
-/// How many words of a length are known once there is one more of the length that grows.
+/// The number of known words of a length, after one more word of length `grown`.
 fn known_with(bank: &Bank, grown: usize, count: usize) -> usize
     ensures words { result ≡ with_word grown (counts_of (words_of bank.now.words)) count }
     ensures few { result ≤ 1048577 }
@@ -41,20 +41,17 @@ fn known_with(bank: &Bank, grown: usize, count: usize) -> usize
     if count == grown { known + 1 } else { known }
 }
 
-/// Makes room in a row for so many bits in all.
+/// Reserves room for `room` bits in total.
 fn reserve_row(row: &mut BitRow, room: usize) -> Result<(), AllocError>
     requires { room < 2 ^ 57 }
     ensures bits { row.new.bits ≡ row.old.bits }
     ensures more { row.old.room ≤ row.new.room }
     ensures room { OnOk result (room ≤ row.new.room) }
 {
-    match row.reserve(room) {
-        Ok(()) => Ok(()),
-        Err(_) => Err(AllocError),
-    }
+    row.reserve(room)
 }
 
-/// A row of no bits, with room for so many.
+/// An empty row with room for `room` bits.
 fn make_empty_row(alloc: Global, room: usize) -> Result<BitRow, AllocError>
     requires { room < 2 ^ 57 }
     ensures bits { IfOk result (λ row. row.bits ≡ []) }
@@ -65,7 +62,7 @@ fn make_empty_row(alloc: Global, room: usize) -> Result<BitRow, AllocError>
     Ok(row)
 }
 
-/// Puts so many false bits into an empty row.
+/// Appends `bits` clear bits to an empty row.
 pub(crate) fn fill_row(row: &mut BitRow, bits: usize)
     requires empty { row.old.bits ≡ [] }
     requires room { bits ≤ row.old.room }
@@ -77,7 +74,7 @@ pub(crate) fn fill_row(row: &mut BitRow, bits: usize)
     }
 }
 
-/// A row of so many false bits.
+/// A row of `bits` clear bits.
 fn make_row(alloc: Global, bits: usize) -> Result<BitRow, AllocError>
     requires { bits < 2 ^ 57 }
     ensures bits { IfOk result (λ row. row.bits ≡ replicate bits false) }
@@ -88,7 +85,7 @@ fn make_row(alloc: Global, bits: usize) -> Result<BitRow, AllocError>
     Ok(row)
 }
 
-/// For each light a row with a false bit for each known word of its length.
+/// For each light a row with a clear bit for each known word of its length.
 pub(crate) fn make_rows(
     alloc: Global,
     lights: &Lights,
@@ -104,7 +101,7 @@ pub(crate) fn make_rows(
     Ok(rows)
 }
 
-/// For each light a row of no bits, with room for one for each known word of its length.
+/// For each light an empty row, with room for a bit for each known word of its length.
 fn make_empty_rows(alloc: Global, lights: &Lights, bank: &Bank) -> Result<Vec<BitRow>, AllocError>
     ensures { IfOk result (λ rows. AreEmpty lights.now (counts_of (words_of bank.now.words)) rows.items) }
 {
@@ -116,28 +113,28 @@ fn make_empty_rows(alloc: Global, lights: &Lights, bank: &Bank) -> Result<Vec<Bi
     Ok(rows)
 }
 
-/// So many flags, all false.
+/// `count` flags, all false.
 pub(crate) fn make_flags(alloc: Global, count: usize) -> Result<Vec<bool>, AllocError>
     ensures { IfOk result (λ flags. flags.items ≡ replicate count false) }
 {
     vec![in alloc; false; count]
 }
 
-/// So many sets of no letters.
+/// `count` empty sets.
 pub(crate) fn make_sets(alloc: Global, count: usize) -> Result<Vec<LetterSet>, AllocError>
     ensures { IfOk result (λ sets. sets.items ≡ replicate count 0) }
 {
     vec![in alloc; LetterSet::new(); count]
 }
 
-/// So many places of words, none of which is that of a word.
+/// `count` entries of `NOWHERE`.
 pub(crate) fn make_held(alloc: Global, count: usize) -> Result<Vec<usize>, AllocError>
     ensures { IfOk result (λ held. held.items ≡ replicate count (2 ^ 64 - 1)) }
 {
     vec![in alloc; NOWHERE; count]
 }
 
-/// Makes room for so many lights in all.
+/// Reserves room for `count` lights in total.
 pub(crate) fn reserve_list(list: &mut Vec<usize>, count: usize) -> Result<(), AllocError>
     ensures items { list.new.items ≡ list.old.items }
     ensures room { OnOk result (count ≤ vec_capacity list.new) }
@@ -149,7 +146,7 @@ pub(crate) fn reserve_list(list: &mut Vec<usize>, count: usize) -> Result<(), Al
     Ok(())
 }
 
-/// Makes room in the rows for the known words and for one more of a length.
+/// Reserves room in each light's row for the known words, and for one more of length `grown`.
 pub(crate) fn reserve_rows(
     rows: &mut [BitRow],
     lights: &Lights,
@@ -168,7 +165,7 @@ pub(crate) fn reserve_rows(
     Ok(())
 }
 
-/// Adds a false bit to the row of each light of so many cells.
+/// Appends a clear bit to the row of each light of length `count`.
 pub(crate) fn push_bits(rows: &mut [BitRow], lights: &Lights, count: usize)
     requires lights { length lights.now ≤ length rows.old }
     requires room { HaveBitRoom lights.now count rows.old }
@@ -183,7 +180,7 @@ pub(crate) fn push_bits(rows: &mut [BitRow], lights: &Lights, count: usize)
     }
 }
 
-/// The arrays of a net for lights to come.
+/// The arrays of a net that depend on the lights, reserved for the lights after an edit.
 #[derive(Drop)]
 pub(crate) struct Spare {
     pub(crate) rows: Vec<BitRow>,
@@ -198,7 +195,7 @@ impl Spare {
     ghost use Rattle.xw_words.specs.Dictionary.{row as words_of};
     ghost use Rattle.xw_net.specs.Room.{counts_of, IsSpare};
 
-    /// Arrays for these lights.
+    /// Creates arrays for these lights.
     pub(crate) fn of(alloc: Global, lights: &Lights, bank: &Bank) -> Result<Spare, AllocError>
         ensures { IfOk result (λ spare. IsSpare lights.now (counts_of (words_of bank.now.words)) spare) }
     {

@@ -1,4 +1,4 @@
-//! The lights with which a chain begins.
+//! Marks the seeds: the lights where a chain starts.
 ghost use Rattle.std.specs.Option.{option_and_then};
 ghost use Rattle.std.specs.Prelude.{◌≡◌, ℕ, ◌+◌, ◌*◌, ◌^◌, ◌<◌, ◌≤◌, Bool, true, false, not, All, IfSome, None, length, vec_len, vec_capacity, count_by, slice_index_or, slice_get};
 ghost use Rattle.xw_grid.specs.Light.{place_with_cells};
@@ -12,7 +12,7 @@ use xw_feas::board::Board;
 use xw_grid::lights::Lights;
 use xw_letters::letter_set::LetterSet;
 
-/// Unmarks every light.
+/// Unmarks all lights.
 pub(crate) fn clear_marks(marks: &mut [bool])
     ensures len { length marks.new ≡ length marks.old }
     ensures unmarked { (light : ℕ) → is_marked marks.new light ≡ false }
@@ -20,7 +20,7 @@ pub(crate) fn clear_marks(marks: &mut [bool])
     marks.fill(false);
 }
 
-/// Marks a light that was found.
+/// Marks the light, if there is one.
 pub(crate) fn mark_found(found: Option<usize>, marks: &mut [bool], stack: &mut Vec<usize>)
     requires light { IfSome found (λ light. light < length marks.old) }
     requires room { vec_len stack.old + count_by (λ mark. not mark) marks.old ≤ vec_capacity stack.old }
@@ -61,8 +61,8 @@ pub(crate) fn mark_through(
     mark_found(down, marks, stack);
 }
 
-/// Lets exactly the letters stand that may at a cell which was edited. The lights through it
-/// are seeds.
+/// Gives an edited cell exactly the letters that it allows, and marks the lights through it as
+/// seeds.
 pub fn free_cell(
     board: &Board<'_>,
     cell: usize,
@@ -92,8 +92,8 @@ pub fn free_cell(
     mark_through(board, cell, marks, stack);
 }
 
-/// Lets all letters stand that may at a cell of a light that is gone. If one of them comes back,
-/// the lights through the cell are seeds.
+/// Gives a cell of a removed light all letters that it allows. If it gets a letter back, marks the
+/// lights through it as seeds.
 pub fn raise_cell(
     board: &Board<'_>,
     cell: usize,
@@ -123,7 +123,7 @@ pub fn raise_cell(
     }
 }
 
-/// Queues and marks a light if none of before has its cells.
+/// Queues and marks a light if no light before the edit has its cells.
 fn mark_if_new(
     lights: &Lights,
     before: &Lights,
@@ -160,7 +160,7 @@ fn mark_if_new(
     }
 }
 
-/// Queues and marks the lights that are new. Where the lights are those of before, none is.
+/// Queues and marks the new lights. If `stays` is true there is none, and it does nothing.
 pub(crate) fn mark_new(
     lights: &Lights,
     before: &Lights,

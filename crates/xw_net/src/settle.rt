@@ -1,19 +1,19 @@
-//! A net is brought from one state to the next.
+//! Updates a net after an edit.
 use crate::begin::begin;
 use crate::change::Change;
 use crate::forget::forget_lights;
 use crate::net::Net;
 use crate::unmoved::are_same;
-use xw_cells::grid::Grid;
 use xw_feas::board::Board;
+use xw_grid::grid::Grid;
 use xw_grid::lights::Lights;
 use xw_words::rows::Rows;
 
 impl Net {
     ghost use Rattle.std.specs.Prelude.{◌≡◌, ℕ, ◌+◌, ◌<◌, ◌≤◌, Bool, true, false, List, Option, None, Contains, length, vec_len, vec_capacity};
     ghost use Rattle.xw_words.specs.Dictionary.{Dictionary};
-    ghost use Rattle.xw_cells.specs.declared.cell.Cell.{Cell as CellOfGrid};
-    ghost use Rattle.xw_cells.specs.Grid.{is_inside};
+    ghost use Rattle.xw_grid.specs.declared.cell.Cell.{Cell as CellOfGrid};
+    ghost use Rattle.xw_grid.specs.Grid.{is_inside};
     ghost use Rattle.xw_grid.specs.Light.{lights_of};
     ghost use Rattle.xw_feas.specs.Board.{board_of};
     ghost use Rattle.xw_feas.specs.Choices.{CoversSupported, IsWithinBase};
@@ -32,8 +32,7 @@ impl Net {
     ghost use Rattle.xw_net.specs.Opened.{IsMoved, IsOpened};
     ghost use Rattle.xw_net.specs.Begin.{is_read};
 
-    /// Brings a net that was settled before an edit, and goes by the lights after it, to the state
-    /// from which words and letters come back.
+    /// Prepares a net, which is already adapted to the lights after an edit, for the revival.
     pub(crate) fn begin<R: Rows>(
         &mut self,
         rows: &mut R,
@@ -100,7 +99,7 @@ impl Net {
             &mut self.stack,
         );
     }
-    /// Revives a net that goes by the lights after an edit.
+    /// Revives a net that is already adapted to the lights after an edit.
     fn revive_moved<R: Rows>(
         &mut self,
         rows: &mut R,
@@ -148,8 +147,9 @@ impl Net {
         self.bring_back(board);
         self.unmark();
     }
-    /// Gives the lights on the chain that an edit begins their base words back, and the cells of these lights
-    /// their letters, so that all that is feasible after the edit stands.
+    /// The first phase of an update. Along the chain of lights that starts at the edit, it puts
+    /// back all base words, and all letters that the cells allow. Then the net has all that is
+    /// feasible after the edit, and perhaps more.
     pub fn revive<R: Rows>(
         &mut self,
         rows: &mut R,
@@ -197,7 +197,8 @@ impl Net {
         let board = Board::new(grid, lights);
         self.revive_moved(rows, grid, &board, lights, change);
     }
-    /// Takes words and letters without support away until none is left, in a net that was revived.
+    /// The second phase of an update. Removes words and letters without support from a revived net
+    /// until none is left.
     pub fn strip<R: Rows>(
         &mut self,
         rows: &mut R,
@@ -227,7 +228,8 @@ impl Net {
         let board = Board::new(grid, lights);
         self.strip_queued(rows, &board);
     }
-    /// Brings the net to the answers of the state after an edit.
+    /// Updates the net to the feasible words and letters after an edit. The room must have been
+    /// reserved.
     pub fn settle<R: Rows>(
         &mut self,
         rows: &mut R,

@@ -1,16 +1,16 @@
-//! How much a net keeps.
+//! The sizes of a net's arrays.
 ghost use Rattle.std.specs.Prelude.{◌≡◌};
 ghost use Rattle.xw_net.specs.Sizes.{rows_waiting, lists_waiting, row_lists, other_lists};
 
 use crate::net::Net;
 use crate::room::Spare;
 
-/// How long the lists of a net are.
+/// The lengths of a net's arrays.
 #[derive(Clone, Copy, Debug, PartialEq, Eq)]
 pub struct Sizes {
-    /// Those of rows of bits.
+    /// The arrays of bit rows.
     pub rows: [usize; 4],
-    /// All others.
+    /// All other arrays.
     pub lists: [usize; 12],
 }
 
@@ -37,7 +37,7 @@ fn waiting_lists(spare: &Option<Spare>) -> [usize; 3]
 }
 
 impl Net {
-    /// How long each list is; of those that wait for an edit none is where they do not.
+    /// The length of each array. If there are no spare arrays, their lengths are 0.
     pub fn sizes(&self) -> Sizes
         ensures rows { result.rows ≡ row_lists self.now }
         ensures lists { result.lists ≡ other_lists self.now }

@@ -1,4 +1,4 @@
-//! The chain of lights along which words and letters come back.
+//! The revival: puts words and letters back along a chain of lights.
 ghost use Rattle.xw_net.specs.Room.{row_at};
 ghost use Rattle.std.specs.Prelude.{◌≡◌, ℕ, ◌+◌, ◌*◌, ◌^◌, ◌<◌, ◌≤◌, Bool, true, false, not, ◌++◌, [], ◌∷◌, IsTrue, IsFalse, All, Contains, length, vec_len, vec_capacity, count_by, slice_index, slice_index_or, slice_set, if◌then◌else◌};
 ghost use Rattle.xw_letters.specs.Letter.{is_capital};
@@ -16,7 +16,7 @@ use xw_bits::bit_row::BitRow;
 use xw_feas::board::{Board, allowed, has_all_entries};
 use xw_letters::letter_set::LetterSet;
 
-/// Marks the light, and lets it wait unless it was marked before.
+/// Marks a light and pushes it on the stack, unless it is marked.
 pub(crate) fn mark(marks: &mut [bool], stack: &mut Vec<usize>, light: usize)
     requires light { light < length marks.old }
     requires room { vec_len stack.old + count_by (λ mark. not mark) marks.old ≤ vec_capacity stack.old }
@@ -32,14 +32,14 @@ pub(crate) fn mark(marks: &mut [bool], stack: &mut Vec<usize>, light: usize)
     }
 }
 
-/// The letters that may stand at a cell.
+/// The letters that a cell allows.
 pub(crate) fn letters_allowed(board: &Board<'_>, cell: usize) -> LetterSet
     ensures { (letter : ℕ) → has result letter ≡ may_stand board.now cell letter }
 {
     allowed(board.is_open(cell), board.entry(cell))
 }
 
-/// Lets all these letters stand at a cell, and says whether one of them did not.
+/// Gives a cell the letters `may`. Returns whether one of them is new.
 pub(crate) fn raise(letters: &mut [LetterSet], cell: usize, may: LetterSet) -> bool
     requires { cell < length letters.old }
     ensures raised { IsTrue result → letters.new ≡ slice_set letters.old cell may }
@@ -54,7 +54,7 @@ pub(crate) fn raise(letters: &mut [LetterSet], cell: usize, may: LetterSet) -> b
     true
 }
 
-/// Marks the other light through a cell of a light, if there is one.
+/// Marks the light that crosses another at a position, if there is one.
 fn mark_crossing(
     board: &Board<'_>,
     light: usize,
@@ -80,8 +80,8 @@ fn mark_crossing(
     }
 }
 
-/// Lets all letters stand that may at a cell of a light. If one of them comes back there, the
-/// other light through the cell is marked.
+/// Gives the cell at a position of a light all letters that it allows. If it gets a letter back,
+/// marks the crossing light.
 fn raise_place(
     board: &Board<'_>,
     light: usize,
@@ -114,8 +114,8 @@ fn raise_place(
     }
 }
 
-/// Lets all letters stand that may at the cells of a light, and marks the lights through those
-/// cells at which one comes back.
+/// Gives the cells of a light all letters that they allow, and marks the lights that cross it where
+/// a letter comes back.
 fn raise_light(
     board: &Board<'_>,
     light: usize,
@@ -145,7 +145,7 @@ fn raise_light(
     }
 }
 
-/// Lets the search for a word of each letter begin anew at each place of a light.
+/// Makes each search for a support in a light start at the first word again.
 fn restart_light(board: &Board<'_>, light: usize, restart: &mut [LetterSet])
     requires few { length board.now.open_cells < 2 ^ 32 }
     requires light { light < length board.now.lights }
@@ -161,7 +161,7 @@ fn restart_light(board: &Board<'_>, light: usize, restart: &mut [LetterSet])
     }
 }
 
-/// Copies the base row of a light.
+/// Copies the base row of a light to its row of words.
 fn bring_row(base: &[BitRow], light: usize, rows: &mut [BitRow])
     requires base { light < length base.now }
     requires rows { light < length rows.old }
@@ -174,8 +174,7 @@ fn bring_row(base: &[BitRow], light: usize, rows: &mut [BitRow])
     rows[light].copy_from(&base[light]);
 }
 
-/// Lets every base word of a light stand, and lets the light wait in the queue of those that are
-/// to be seen to.
+/// Puts all base words of a light back, and queues the light.
 fn bring_words(
     board: &Board<'_>,
     base: &[BitRow],
@@ -212,9 +211,9 @@ fn bring_words(
     mark(is_queued, queue, light);
 }
 
-/// Lets words and letters come back along the chain that the marked lights begin: at each of its
-/// lights every base word, and at their cells every letter that may stand. The chain goes on to a
-/// light only through a cell at which a letter comes back.
+/// Puts words and letters back along the chain that starts at the marked lights: all base words of
+/// each of its lights, and all letters that their cells allow. The chain reaches a crossing light
+/// only if a letter comes back at the shared cell.
 pub(crate) fn spread(
     board: &Board<'_>,
     base: &[BitRow],
@@ -276,7 +275,7 @@ impl Net {
     ghost use Rattle.xw_net.specs.Spread.{is_marked, HasSeeds, IsReachClosed};
     ghost use Rattle.xw_net.specs.Brought.{HasBase, IsBase, IsBrought, IsBegun, IsReadyBut};
 
-    /// Lets words and letters come back along the chain that the marked lights begin.
+    /// Puts words and letters back along the chain that starts at the marked lights.
     pub(crate) fn bring_back(&mut self, board: &Board<'_>)
         requires shaped { IsShaped board.now self.old }
         requires chained { IsChained board.now self.old }
@@ -332,7 +331,7 @@ impl Net {
             &mut self.stack,
         );
     }
-    /// Unmarks the lights of a chain that has come to its end, so that the next one begins with none.
+    /// Unmarks the lights of a finished chain, so that the next one starts with none.
     pub(crate) fn unmark(&mut self)
         requires stack { self.old.stack.items ≡ [] }
         requires room { vec_len self.old.is_marked ≤ vec_capacity self.old.stack }

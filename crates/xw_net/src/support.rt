@@ -1,4 +1,4 @@
-//! The words that support a letter at a place of a light.
+//! Finds words that support a letter at a position of a light.
 ghost use Rattle.std.specs.Prelude.{◌≡◌, ℕ, ◌+◌, ◌-◌, ◌*◌, ◌/◌, ◌^◌, ◌<◌, ◌≤◌, true, false, not, ◌&&◌, length, slice_index_or, IfSome, IfNone, MatchOption, if◌then◌else◌};
 ghost use Rattle.xw_words.specs.Columns.{has_letter};
 ghost use Rattle.xw_letters.specs.Letter.{IsLetter};
@@ -32,8 +32,9 @@ fn first_support<R: Rows>(
     rows.next_with(count, position, letter, row, from)
 }
 
-/// Takes the words with a pending letter at the position out of the row. Where fewer letters are left,
-/// the words with one of these stay.
+/// Removes from the row the words that have a pending letter at the position. If fewer letters are
+/// left than are pending, it keeps the words with one of the letters left instead, which reads
+/// fewer columns.
 pub(crate) fn strike_row<R: Rows>(
     rows: &mut R,
     row: &mut BitRow,
@@ -57,7 +58,8 @@ pub(crate) fn strike_row<R: Rows>(
     }
 }
 
-/// Where the search for another word begins, unless the one that is held still stands.
+/// The chunk where the search for another support starts; `None` if the held one is still in the
+/// row.
 fn search_start(row: &BitRow, held: usize, is_new: bool) -> Option<usize>
     ensures stands { IfNone result ((held < length row.now.bits) × (slice_index_or row.now.bits held false ≡ true)) }
     ensures gone { IfSome result (λ _. held < length row.now.bits → slice_index_or row.now.bits held false ≡ false) }
@@ -76,7 +78,8 @@ fn search_start(row: &BitRow, held: usize, is_new: bool) -> Option<usize>
     }
 }
 
-/// Whether the letter has a word of the row. The first one is held for it.
+/// Whether the letter has a support in the row. If the held one is gone, it searches for the next
+/// one and holds that.
 pub(crate) fn find_support<R: Rows>(
     rows: &mut R,
     row: &BitRow,

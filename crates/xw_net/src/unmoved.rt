@@ -1,8 +1,9 @@
-//! Whether an edit leaves the lights as they are.
+//! Checks whether an edit left the lights as they were.
 ghost use Rattle.std.specs.Prelude.{◌≡◌, true, slice_get};
 
 use xw_grid::lights::Lights;
 
+/// Whether both lists have the same light at an index.
 fn is_same(lights: &Lights, before: &Lights, light: usize) -> bool
     ensures { result ≡ true → slice_get lights.now light ≡ slice_get before.now light }
 {
@@ -12,7 +13,7 @@ fn is_same(lights: &Lights, before: &Lights, light: usize) -> bool
     }
 }
 
-/// Whether the lights after an edit are those of before, each at its place.
+/// Whether the lights after an edit are the same as before, in the same order.
 pub(crate) fn are_same(lights: &Lights, before: &Lights) -> bool
     ensures { result ≡ true → lights.now ≡ before.now }
 {

@@ -1,4 +1,5 @@
--- A pair without support is in no supported family, so that its removal keeps each such family covered.
+-- A word or letter without support is in no supported family, so every such family stays covered
+-- when it is removed.
 use Rattle.std.proofs.Common.{◌≡◌, ℕ, ◌+◌, ◌<◌, ◌≤◌, Bool, true, false, cond, ◌&&◌, ◌||◌, List, [], length, get_or, set, refl, sym, ◌∙◌, ap, subst, arith, inl, inr}
 use Rattle.std.specs.Prelude.{IsTrue, Contains, slice_index, ◌↔◌}
 use Rattle.std.proofs.lemmas.Bool.{cases_eq, true≢false, and_parts, and_from}
@@ -13,7 +14,7 @@ use Rattle.xw_feas.specs.Standing.{HasWordWith, KeepsLettersBelow, StripsUnsuppo
 use Rattle.xw_plain.proofs.FlagsLemmas.{standing_counts-set, set_sum-set}
 use Rattle.xw_feas.proofs.Support.{number_of_base, base_words_here}
 
--- words that lack a letter may go
+-- words with a letter that is not set can be removed
 pub covers_without_words : (board : Board) (dictionary : Dictionary) (before after letter_stands : ℕ → ℕ → Bool) → CoversSupported board dictionary before letter_stands → ((light choice : ℕ) → light < length board.lights → IsTrue (before light choice) → HasLetters letter_stands (light_at board light) (choice_at board dictionary light choice) → IsTrue (after light choice)) → CoversSupported board dictionary after letter_stands
 covers_without_words board dictionary before after letter_stands covers kept family supported = record {
   words = λ light choice in_board base member. kept light choice in_board ((covers family supported).words light choice in_board base member) (λ k below.
@@ -21,7 +22,7 @@ covers_without_words board dictionary before after letter_stands covers kept fam
   letters = (covers family supported).letters;
 }
 
--- letters that are those of no word of some light through the cell may go
+-- letters that some light through the cell has no word for can be removed
 pub covers_without_letters : (board : Board) (dictionary : Dictionary) (word_stands before after : ℕ → ℕ → Bool) → CoversSupported board dictionary word_stands before → ((cell letter : ℕ) → IsTrue (before cell letter) → ((light k : ℕ) → light < length board.lights → k < length (light_at board light) → slice_index (light_at board light) k ≡ cell → (choice : ℕ) × IsTrue (word_stands light choice) × (slice_index (choice_at board dictionary light choice) k ≡ letter)) → IsTrue (after cell letter)) → CoversSupported board dictionary word_stands after
 covers_without_letters board dictionary word_stands before after covers kept family supported = record {
   words = (covers family supported).words;
@@ -33,7 +34,7 @@ covers_without_letters board dictionary word_stands before after covers kept fam
       (number.0, stands, ap (λ w. get_or w k 0) number.2 ∙ found.2));
 }
 
--- a flag of rows in which one row has another in its place
+-- a flag of rows with one row replaced
 pub flag_at-set_same : (rows : List (List Bool)) (k place : ℕ) (row : List Bool) → k < length rows → flag_at (set rows k row) k place ≡ get_or row place false
 flag_at-set_same rows k place row below = ap (λ r. get_or r place false) (get_or-set_same rows k row [] below)
 
@@ -75,7 +76,7 @@ StripsUnsupported-then board dictionary words letters words' letters' words'' le
   same_letters = λ e. let both = or_false first second e in b.same_letters both.1 ∙ a.same_letters both.0;
 }
 
--- the words of a light that lack a letter are struck
+-- the words of a light with a letter that is not set are removed
 pub StripsUnsupported-words : (board : Board) (dictionary : Dictionary) (words : List (List Bool)) (letters : List ℕ) (light : ℕ) (row : List Bool) (removed : Bool)
     → light < length words → length row ≡ length (get_or words light [])
     → ((choice : ℕ) → IsTrue (get_or row choice false) ↔ (IsTrue (get_or (get_or words light []) choice false) × HasLetters (set_has letters) (light_at board light) (choice_at board dictionary light choice)))
@@ -107,7 +108,7 @@ StripsUnsupported-words board dictionary words letters light row removed below l
   same_letters = λ e. refl;
 }
 
--- the letters that no word of a light has are struck
+-- the letters that no word of a light has are removed
 pub StripsUnsupported-letters : (board : Board) (dictionary : Dictionary) (words : List (List Bool)) (letters letters' : List ℕ) (light : ℕ) (removed : Bool)
     → light < length board.lights
     → KeepsLettersBelow (get_or words light []) (choices board dictionary (light_at board light)) (light_at board light) letters letters' removed (length (light_at board light))
@@ -124,7 +125,7 @@ StripsUnsupported-letters board dictionary words letters letters' light removed 
   same_letters = kept.same;
 }
 
--- a set among sets in which one has another in its place
+-- a set among sets with one set replaced
 set_has-set_same : (sets : List ℕ) (k letter put : ℕ) → k < length sets → set_has (set sets k put) k letter ≡ has put letter
 set_has-set_same sets k letter put below = ap (λ r. has r letter) (get_or-set_same sets k put 0 below)
 
@@ -186,7 +187,7 @@ KeepsLettersBelow-more words choices cells before now removed n cell rest seen m
     | inr apart ↦ set_has-set_other now cell c letter rest apart ∙ stands
   ]
 
--- where nothing was struck in a light, what stands supports it
+-- if nothing was removed from a light, the words and letters left support it
 pub SupportsLight-stripped : (board : Board) (dictionary : Dictionary) (words : List (List Bool)) (letters letters' : List ℕ) (light : ℕ) (before row : List Bool) (second : Bool)
     → light < length words
     → ((choice : ℕ) → IsTrue (get_or row choice false) ↔ (IsTrue (get_or before choice false) × HasLetters (set_has letters) (light_at board light) (choice_at board dictionary light choice)))

@@ -1,8 +1,8 @@
--- What a refused edit of words leaves of an engine.
+-- What a refused edit of words keeps.
 use Rattle.std.specs.Prelude.{◌≡◌}
 use Rattle.xw_plain.specs.declared.plain.Plain.{Plain}
 
--- the dictionary and the answers are those of before
+-- the dictionary and the answers are unchanged
 pub record SameAnswers (old new : Plain) : Type 0 where
   pub dictionary : new.bank.words ≡ old.bank.words
   pub words : new.words ≡ old.words

@@ -1,4 +1,5 @@
-//! The plain engine: all answers are worked out anew at each edit.
+//! The plain engine: a simple, slow engine that computes all answers from scratch after each
+//! edit.
 #![tactic(auto)]
 
 mod flags;

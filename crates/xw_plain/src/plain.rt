@@ -1,8 +1,8 @@
-//! An engine that works out all answers anew at each edit.
+//! An engine that computes all answers from scratch after each edit.
 ghost use Rattle.std.specs.Prelude.{◌≡◌, ◌+◌, ◌<◌, length, [], None, Some, true, map, IfOk, IfErr, OnOk, OnErr, IsOkUnless, Ok, Err, if◌then◌else◌};
 ghost use Rattle.xw_letters.specs.Letter.{folded};
 ghost use Rattle.xw_words.specs.Dictionary.{add_answer, IsNew, IsDictionary};
-ghost use Rattle.xw_cells.specs.Edit.{toggle_block as block_toggled, toggle_bar as bar_toggled};
+ghost use Rattle.xw_grid.specs.Edit.{toggle_block as block_toggled, toggle_bar as bar_toggled};
 ghost use Rattle.xw_grid.specs.EditLaws.{SameShape};
 ghost use Rattle.xw_grid.specs.Light.{lights_of};
 ghost use Rattle.xw_feas.specs.AnswersOf.{answers_of};
@@ -24,9 +24,6 @@ use crate::flags::Flags;
 use crate::rows::{make_grid_rows, make_grown_rows};
 use crate::standing::settle;
 use std::alloc::Global;
-use xw_cells::cell::{Cell, LightName, Side};
-use xw_cells::fault::GridFault;
-use xw_cells::grid::Grid;
 use xw_feas::arrays::make_grid_sets;
 use xw_feas::board::{Board, has_all_entries};
 use xw_feas::changed::Changed;
@@ -34,12 +31,15 @@ use xw_feas::dictionary::{add_in, known_distinct, reserve_in, return_in, strike_
 use xw_feas::edit::{Edit, Found, Refusal};
 use xw_feas::feasible::Feasible;
 use xw_feas::grid_edit::{edit_letters, with_bar, with_block};
+use xw_grid::cell::{Cell, LightName, Side};
+use xw_grid::fault::GridFault;
+use xw_grid::grid::Grid;
 use xw_grid::lights::Lights;
 use xw_letters::letter_set::LetterSet;
 use xw_words::WordFault;
 use xw_words::bank::{Added, Bank};
 
-/// Lets exactly the feasible words and letters of a grid stand.
+/// Computes the feasible words and letters of a grid, whatever the arrays held before.
 #[tactic(auto, using(xw_feas::proofs::FormedLemmas::formed_steps))]
 fn settle_grid(
     grid: &Grid,
@@ -60,7 +60,7 @@ fn settle_grid(
     settle(&Board::new(grid, lights), bank, words, letters);
 }
 
-/// Notes the letters that stand, and lets exactly the feasible ones and the feasible words stand.
+/// Copies the letters to `before`, and then computes the feasible words and letters.
 fn settle_anew(
     grid: &Grid,
     lights: &Lights,
@@ -83,7 +83,10 @@ fn settle_anew(
     settle_grid(grid, lights, bank, words, letters);
 }
 
-/// An engine that works out all answers anew at each edit.
+/// An engine that computes all answers from scratch after each edit.
+///
+/// It keeps a flag for each word of each light, a set of letters for each cell, and the sets from
+/// before the last edit.
 #[derive(Drop)]
 pub struct Plain {
     alloc: Global,
@@ -104,6 +107,7 @@ pub struct Plain {
 impl Plain {
     ghost use Rattle.xw_plain.specs.Plain.{SameAnswers};
 
+    /// An engine for a grid and a dictionary. Returns `Memory` if an allocation fails.
     pub fn new(alloc: Global, grid: Grid, bank: Bank) -> Result<Plain, Refusal>
         ensures grid { IfOk result (λ engine. engine.grid ≡ grid) }
         ensures words { IfOk result (λ engine. engine.bank.words ≡ bank.words) }
@@ -116,7 +120,8 @@ impl Plain {
         Ok(Plain::settled(alloc, grid, lights, bank, words, letters, before))
     }
 
-    /// An engine with the arrays for its grid, whatever they hold.
+    /// Builds an engine from its parts, and computes the answers. The contents of the arrays do not
+    /// matter.
     fn settled(
         alloc: Global,
         grid: Grid,
@@ -144,6 +149,7 @@ impl Plain {
         }
     }
 
+    /// Applies an edit that keeps the lights and the dictionary.
     fn edit_grid(&mut self, edit: &Edit<'_>) -> Result<(), Refusal>
         requires { is_of_letters (action_of edit.now) ≡ true }
         ensures ok { OnOk result (grid_after self.old.grid (action_of edit.now) ≡ Ok self.new.grid) }
@@ -164,7 +170,7 @@ impl Plain {
         Ok(())
     }
 
-    /// Takes another grid with as many cells.
+    /// Replaces the grid by one with the same number of cells.
     fn change_grid(&mut self, grid: Grid) -> Result<(), GridFault>
         requires { length grid.squares ≡ length self.old.grid.squares }
         ensures ok { OnOk result (self.new.grid ≡ grid) }
@@ -179,7 +185,7 @@ impl Plain {
         Ok(())
     }
 
-    /// Takes another grid with as many cells, its lights and the rows for them.
+    /// Replaces the grid, its lights and their rows, and computes the answers.
     fn settle_on(&mut self, grid: Grid, lights: Lights, words: Vec<Flags>)
         requires lights { lights ≡ lights_of grid }
         requires rows { HasRows (board_of grid) self.old.bank.words words.items self.old.letters.items }
@@ -254,6 +260,7 @@ impl Plain {
         }
     }
 
+    /// Makes a struck word active again.
     fn add_again(&mut self, word: &[u8]) -> Result<(), WordFault>
         requires { IsReturned (add_answer self.old.bank.words word.now) }
         ensures ok { OnOk result (add_word self.old.bank.words word.now ≡ Ok self.new.bank.words) }
@@ -274,7 +281,8 @@ impl Plain {
         Ok(())
     }
 
-    /// Adds a word that is not known; the arrays for it are made first.
+    /// Adds a word that is not known. It allocates the larger rows first, so a failed allocation
+    /// changes nothing.
     fn add_new(&mut self, word: &[u8]) -> Result<(), WordFault>
         requires { IsNew (add_answer self.old.bank.words word.now) }
         ensures ok { OnOk result (add_word self.old.bank.words word.now ≡ Ok self.new.bank.words) }
@@ -303,6 +311,7 @@ impl Plain {
         Ok(())
     }
 
+    /// Applies an edit, and computes the answers.
     fn apply(&mut self, edit: &Edit<'_>) -> Result<(), Refusal>
         ensures ok { OnOk result (after (record { grid = self.old.grid; words = self.old.bank.words }) (action_of edit.now) ≡ Ok (record { grid = self.new.grid; words = self.new.bank.words })) }
         ensures refused { IfErr result (λ refusal. IsRefused (record { grid = self.old.grid; words = self.old.bank.words }) (action_of edit.now) refusal) }
@@ -320,14 +329,14 @@ impl Plain {
         Ok(())
     }
 
-    /// The cells whose letters are not those of before.
+    /// The cells whose feasible letters the last edit changed.
     fn changed(&self) -> Changed<'_>
         ensures { changes_left result ≡ changed_sets self.now.grid self.now.before.items self.now.letters.items 0 }
     {
         Changed::new(&self.grid, self.before.as_slice(), self.letters.as_slice())
     }
 
-    /// Takes another grid, its lights and the arrays for it.
+    /// Replaces the grid, its lights and their arrays, and computes the answers.
     fn replace(
         &mut self,
         grid: Grid,
@@ -356,6 +365,7 @@ impl Plain {
         );
     }
 
+    /// Replaces the grid, with new arrays for it.
     fn take_grid(&mut self, grid: Grid) -> Result<(), GridFault>
         ensures ok { OnOk result (self.new.grid ≡ grid) }
         ensures memory { IsOkUnless result GridFault.Memory }
@@ -370,7 +380,7 @@ impl Plain {
         Ok(())
     }
 
-    /// How many feasible words the light at a place has.
+    /// The number of feasible words of a light.
     fn count_at(&self, light: usize) -> usize
         requires { light < length (lights_of self.now.grid) }
         ensures { result ≡ length (words_of (answers_of (board_of self.now.grid) self.now.bank.words self.now.words.items self.now.letters.items) light) }
@@ -379,7 +389,7 @@ impl Plain {
         row.count()
     }
 
-    /// The first feasible word of the light at a place, from a place of the dictionary on.
+    /// The first feasible word of a light whose index is at least `from`.
     fn next_at(&self, light: usize, from: usize) -> Option<Found>
         requires { light < length (lights_of self.now.grid) }
         ensures { result ≡ next_found (board_of self.now.grid) self.now.bank.words (answers_of (board_of self.now.grid) self.now.bank.words self.now.words.items self.now.letters.items) light from }

@@ -1,4 +1,4 @@
-//! The rows of flags that the plain engine keeps its words in.
+//! Creates the rows of flags in which the plain engine keeps its words.
 ghost use Rattle.std.specs.Prelude.{◌≡◌, length, None, Some, IfOk, IsOkUnless};
 ghost use Rattle.xw_grid.specs.Light.{lights_of};
 ghost use Rattle.xw_feas.specs.Board.{board_of};
@@ -6,14 +6,14 @@ ghost use Rattle.xw_feas.specs.Rows.{HasWordRows, row_len};
 
 use crate::flags::Flags;
 use std::alloc::{AllocError, Global};
-use xw_cells::fault::GridFault;
-use xw_cells::grid::Grid;
 use xw_feas::board::Board;
+use xw_grid::fault::GridFault;
+use xw_grid::grid::Grid;
 use xw_grid::lights::Lights;
 use xw_words::WordFault;
 use xw_words::bank::Bank;
 
-/// A row of flags for the choices of a light of some length, and one more where a word of a length is to be known.
+/// A row with a flag for each choice of a light with `len` cells, and one more if `grown` is `len`.
 fn make_row(
     alloc: Global,
     bank: &Bank,
@@ -47,7 +47,7 @@ fn make_rows(
     Ok(rows)
 }
 
-/// A row for each light of a grid.
+/// A row for each light of a grid. Returns `Memory` if an allocation fails.
 pub fn make_grid_rows(
     alloc: Global,
     grid: &Grid,
@@ -61,7 +61,8 @@ pub fn make_grid_rows(
     Ok(make_rows(alloc, &Board::new(grid, lights), bank, None)?)
 }
 
-/// A row for each light of a board, with room for one word more of a length.
+/// A row for each light of a board, with room for one more word of length `count`. Returns `Memory`
+/// if an allocation fails.
 pub fn make_grown_rows(
     alloc: Global,
     board: &Board<'_>,

@@ -1,4 +1,5 @@
-//! What stands, stripped of what has no support.
+//! Computes the feasible words and letters: starts with all base words and allowed letters, and
+//! removes those without support until nothing changes.
 ghost use Rattle.std.specs.Prelude.{◌≡◌, ◌<◌, ◌≤◌, ◌+◌, length, All, IsTrue, IsFalse, ◌↔◌, ◌&&◌, ℕ, slice_index, slice_index_or, [], false, if◌then◌else◌};
 ghost use Rattle.xw_feas.specs.Board.{agrees, allows, is_wholly_entered, spelled, light_at};
 ghost use Rattle.xw_feas.specs.Known.{spellings};
@@ -16,7 +17,7 @@ use xw_letters::letter::Letter;
 use xw_letters::letter_set::LetterSet;
 use xw_words::bank::Bank;
 
-/// Whether a letter agrees with an entry, if there is one.
+/// Whether a cell with this entry allows the letter.
 fn allowed_by(entry: Option<Letter>, letter: Letter) -> bool
     ensures { result ≡ allows entry letter }
 {
@@ -26,7 +27,7 @@ fn allowed_by(entry: Option<Letter>, letter: Letter) -> bool
     }
 }
 
-/// Whether the letters agree with what is entered in the cells.
+/// Whether each cell allows the word's letter at its position.
 #[tactic(auto, using(xw_feas::proofs::BoardLemmas::agrees_more))]
 fn agrees_with(board: &Board<'_>, cells: &Cells, word: &[Letter]) -> bool
     requires { length word.now ≡ length cells.now }
@@ -40,7 +41,7 @@ fn agrees_with(board: &Board<'_>, cells: &Cells, word: &[Letter]) -> bool
     true
 }
 
-/// The letter at a place of a choice: of a known word, or of what is entered.
+/// The letter at a position of a choice: of a known word, or of the entered word.
 fn choice_letter(
     board: &Board<'_>,
     bank: &Bank,
@@ -75,7 +76,7 @@ fn is_base(board: &Board<'_>, bank: &Bank, cells: &Cells, entered: bool, choice:
     }
 }
 
-/// Lets the base words of the light stand, and no other.
+/// Sets the flags of the light's base words, and clears all others.
 fn reset_words(board: &Board<'_>, bank: &Bank, cells: &Cells, words: &mut Flags)
     requires { length words.old ≡ length (spellings bank.now.words (length cells.now)) + 1 }
     ensures { words.new ≡ base_flags board.now bank.now.words cells.now }
@@ -86,7 +87,7 @@ fn reset_words(board: &Board<'_>, bank: &Bank, cells: &Cells, words: &mut Flags)
     }
 }
 
-/// Whether each letter of the choice stands at its cell.
+/// Whether each letter of the choice is set at its cell.
 fn has_letters(
     board: &Board<'_>,
     bank: &Bank,
@@ -107,7 +108,7 @@ fn has_letters(
     true
 }
 
-/// Removes the words that lack a letter, and says whether there was one.
+/// Removes the words with a letter that is not set at its cell. Returns whether it removed any.
 #[tactic(auto, using(crate::proofs::FlagsLemmas::strike))]
 fn strip_words(
     board: &Board<'_>,
@@ -134,7 +135,7 @@ fn strip_words(
     removed
 }
 
-/// The letters at a place of the words that stand.
+/// The letters that the light's words have at a position.
 fn letters_seen(
     board: &Board<'_>,
     bank: &Bank,
@@ -160,7 +161,7 @@ fn letters_seen(
     seen
 }
 
-/// Removes the letters that the other set lacks, and says whether there was one.
+/// Intersects `set` with `other`. Returns whether that removed a letter.
 fn keep_common(set: &mut LetterSet, other: LetterSet) -> bool
     ensures flags { (letter : ℕ) →
         has set.new letter ≡ (has set.old letter && has other letter) }
@@ -173,7 +174,8 @@ fn keep_common(set: &mut LetterSet, other: LetterSet) -> bool
     removed
 }
 
-/// Removes the letters that no word of the light has, and says whether there was one.
+/// Removes the letters at the light's cells that none of its words has there. Returns whether it
+/// removed any.
 fn strip_letters(
     board: &Board<'_>,
     bank: &Bank,
@@ -196,7 +198,7 @@ fn strip_letters(
     removed
 }
 
-/// Removes what has no support in one light, and says whether there was anything.
+/// Removes the words and letters without support in one light. Returns whether it removed any.
 fn strip_light(
     board: &Board<'_>,
     bank: &Bank,
@@ -216,7 +218,8 @@ fn strip_light(
     lacks_letters | lacks_words
 }
 
-/// Removes what has no support in some light, each light once, and says whether there was anything.
+/// Makes one pass over all lights that removes words and letters without support. Returns whether
+/// it removed any.
 fn strip_all(board: &Board<'_>, bank: &Bank, words: &mut [Flags], letters: &mut [LetterSet]) -> bool
     requires { HasRows board.now bank.now.words words.old letters.old }
     ensures strips { StripsUnsupported board.now bank.now.words words.old letters.old words.new letters.new result }
@@ -229,7 +232,7 @@ fn strip_all(board: &Board<'_>, bank: &Bank, words: &mut [Flags], letters: &mut 
     removed
 }
 
-/// Lets all base words stand, and all letters that the entries allow.
+/// Sets all base words of each light, and all letters that each cell allows.
 fn reset(board: &Board<'_>, bank: &Bank, words: &mut [Flags], letters: &mut [LetterSet])
     requires { HasRows board.now bank.now.words words.old letters.old }
     ensures rows { HasRows board.now bank.now.words words.new letters.new }
@@ -249,7 +252,7 @@ fn reset(board: &Board<'_>, bank: &Bank, words: &mut [Flags], letters: &mut [Let
     }
 }
 
-/// Lets exactly the feasible words and letters stand.
+/// Computes the feasible words and letters.
 pub fn settle(board: &Board<'_>, bank: &Bank, words: &mut [Flags], letters: &mut [LetterSet])
     requires { HasRows board.now bank.now.words words.old letters.old }
     ensures rows { HasRows board.now bank.now.words words.new letters.new }

@@ -1,4 +1,4 @@
--- Edits that are answered.
+-- Answering commands.
 use Rattle.std.proofs.Common.{◌≡◌, ℕ, true, leb, List, ◌++◌, length, refl, subst, sym, ◌∙◌, inl, inr, arith}
 use Rattle.std.proofs.lemmas.Bool.{cases_Bool, cases_lt}
 use Rattle.std.proofs.lemmas.Bool.Decides.{nat_tests}
@@ -21,13 +21,13 @@ use Rattle.xw_session.specs.declared.refusal.Refusal.TheVariants as refusals
 use Rattle.xw_session.specs.Reply.{Reply, shown, reply_to, want_of}
 use Rattle.xw_session.specs.Answer.{Answers, IsReply, AnswersBy, AnswersTo, AnswersParsed, AnswersLine, Edits, reply_of, text_of, step_of}
 
--- an edit that was done or refused, and what was then written
-pub edit_answers : {S E T : Type 0} (told : S → List ℕ) (failures : S → ℕ) (state after : State) (command : Command) (done : Result T Refusal) (result : Result Step E) (old new : S)
+-- a command was executed or refused, and then its answer was written
+pub edit_answers : {S E T : Type 0} (transcript : S → List ℕ) (failures : S → ℕ) (state after : State) (command : Command) (done : Result T Refusal) (result : Result Step E) (old new : S)
     → Edits state command done after
-    → ((g : State) → Sends told failures old new result (text_of (reply_of done g)))
+    → ((g : State) → Sends transcript failures old new result (text_of (reply_of done g)))
     → ((g : State) → IfOk result (λ o. o ≡ step_of (reply_of done g)))
-    → AnswersTo told failures state command result after old new
-edit_answers told failures state after command done result old new edits sends outcome = record {
+    → AnswersTo transcript failures state command result after old new
+edit_answers transcript failures state after command done result old new edits sends outcome = record {
   reply = reply_of done after;
   fits = edits.0;
   effect = edits.1;
@@ -35,10 +35,10 @@ edit_answers told failures state after command done result old new edits sends o
   step = outcome after;
 }
 
--- a line that asks for a command
-pub line_answers : {S E : Type 0} (told : S → List ℕ) (failures : S → ℕ) (state after : State) (line : List ℕ) (command : Command) (result : Result Step E) (old new : S)
-    → Ok (Some command) ≡ command_of line → AnswersTo told failures state command result after old new → AnswersLine told failures state line result after old new
-line_answers told failures state after line command result old new is a = record {
+-- a line with a command
+pub line_answers : {S E : Type 0} (transcript : S → List ℕ) (failures : S → ℕ) (state after : State) (line : List ℕ) (command : Command) (result : Result Step E) (old new : S)
+    → Ok (Some command) ≡ command_of line → AnswersTo transcript failures state command result after old new → AnswersLine transcript failures state line result after old new
+line_answers transcript failures state after line command result old new is a = record {
   outcome = step_of a.reply;
   answer = text_of a.reply;
   fits = subst (λ parsed. AnswersParsed state parsed (step_of a.reply) (text_of a.reply) after) is (a.reply, a.fits, refl, refl, a.effect);
@@ -46,13 +46,13 @@ line_answers told failures state after line command result old new is a = record
   is = a.step;
 }
 
--- a line that is no command
-pub line_refused : {S E : Type 0} (told : S → List ℕ) (failures : S → ℕ) (state : State) (line : List ℕ) (fault : SyntaxFault) (result : Result Step E) (old new : S)
+-- a line that is not a valid command
+pub line_refused : {S E : Type 0} (transcript : S → List ℕ) (failures : S → ℕ) (state : State) (line : List ℕ) (fault : SyntaxFault) (result : Result Step E) (old new : S)
     → Err fault ≡ command_of line
-    → ((g : State) → Sends told failures old new result (text_of (reply_of {T = Unit {0}} (Err (refusals.Syntax fault)) g)))
+    → ((g : State) → Sends transcript failures old new result (text_of (reply_of {T = Unit {0}} (Err (refusals.Syntax fault)) g)))
     → ((g : State) → IfOk result (λ o. o ≡ step_of (reply_of {T = Unit {0}} (Err (refusals.Syntax fault)) g)))
-    → AnswersLine told failures state line result state old new
-line_refused told failures state line fault result old new is sends outcome = record {
+    → AnswersLine transcript failures state line result state old new
+line_refused transcript failures state line fault result old new is sends outcome = record {
   outcome = Refused;
   answer = refused (refusals.Syntax fault);
   fits = subst (λ parsed. AnswersParsed state parsed Refused (refused (refusals.Syntax fault)) state) is (refl, refl, refl);
@@ -60,43 +60,43 @@ line_refused told failures state line fault result old new is sends outcome = re
   is = outcome state;
 }
 
--- ---- what is due was answered
+-- ---- the specified reply was answered
 
-module _ {S : Type 0} (told : S → List ℕ) (failures : S → ℕ) where
+module _ {S : Type 0} (transcript : S → List ℕ) (failures : S → ℕ) where
   -- the lines were written, and then the end of the answer
   pub reply_answers : {E : Type 0} (state : State) (due : Result Reply Refusal) (want : Option Refusal) (reply : Reply) (result : Result Step E) (old mid new : S)
       → due ≡ Ok reply
-      → (told mid ≡ told old ++ reply.lines) × (failures mid ≡ failures old)
-      → ((g : State) → Sends told failures mid new result (text_of (reply_of {T = Unit {0}} (Ok tt) g)))
+      → (transcript mid ≡ transcript old ++ reply.lines) × (failures mid ≡ failures old)
+      → ((g : State) → Sends transcript failures mid new result (text_of (reply_of {T = Unit {0}} (Ok tt) g)))
       → ((g : State) → IfOk result (λ o. o ≡ step_of (reply_of {T = Unit {0}} (Ok tt) g)))
-      → AnswersBy told failures state due want result reply.state old new
+      → AnswersBy transcript failures state due want result reply.state old new
   reply_answers state due want reply result old mid new is wrote sends outcome = record {
     reply = Ok reply;
     fits = is;
     effect = refl;
-    sends = sends-then told failures old mid new reply.lines accepted result wrote (sends state);
+    sends = sends-then transcript failures old mid new reply.lines accepted result wrote (sends state);
     step = outcome state;
   }
 
   -- the writer failed within the lines
   pub reply_stops : {E : Type 0} (state : State) (due : Result Reply Refusal) (want : Option Refusal) (reply : Reply) (error : E) (old new : S)
       → due ≡ Ok reply
-      → Begins (told old) (told new) reply.lines × HasFailed (failures old) (failures new)
-      → AnswersBy told failures state due want (Err error) reply.state old new
+      → Begins (transcript old) (transcript new) reply.lines × HasFailed (failures old) (failures new)
+      → AnswersBy transcript failures state due want (Err error) reply.state old new
   reply_stops state due want reply error old new is sends = record {
     reply = Ok reply;
     fits = is;
     effect = refl;
-    sends = stops-within told failures old new reply.lines accepted sends;
+    sends = stops-within transcript failures old new reply.lines accepted sends;
     step = tt;
   }
 
   -- a refusal was answered
   pub refused_answers : {E : Type 0} (state : State) (due : Result Reply Refusal) (want : Option Refusal) (refusal : Refusal) (result : Result Step E) (old new : S)
       → IsReply due want (Err refusal)
-      → ((g : State) → Sends told failures old new result (text_of (reply_of {T = Unit {0}} (Err refusal) g)))
+      → ((g : State) → Sends transcript failures old new result (text_of (reply_of {T = Unit {0}} (Err refusal) g)))
       → ((g : State) → IfOk result (λ o. o ≡ step_of (reply_of {T = Unit {0}} (Err refusal) g)))
-      → AnswersBy told failures state due want result state old new
+      → AnswersBy transcript failures state due want result state old new
   refused_answers state due want refusal result old new is sends outcome = record {
     reply = Err refusal;
     fits = is;
@@ -108,27 +108,27 @@ module _ {S : Type 0} (told : S → List ℕ) (failures : S → ℕ) where
   -- a query wrote its lines, and then the end of its answer
   pub query_answers : {E : Type 0} (state : State) (command : Command) (lines : List ℕ) (result : Result Step E) (old mid new : S)
       → reply_to state command ≡ shown state lines
-      → (told mid ≡ told old ++ lines) × (failures mid ≡ failures old)
-      → ((g : State) → Sends told failures mid new result (text_of (reply_of {T = Unit {0}} (Ok tt) g)))
+      → (transcript mid ≡ transcript old ++ lines) × (failures mid ≡ failures old)
+      → ((g : State) → Sends transcript failures mid new result (text_of (reply_of {T = Unit {0}} (Ok tt) g)))
       → ((g : State) → IfOk result (λ o. o ≡ step_of (reply_of {T = Unit {0}} (Ok tt) g)))
-      → AnswersTo told failures state command result state old new
+      → AnswersTo transcript failures state command result state old new
   query_answers state command lines result old mid new is wrote sends outcome =
       reply_answers state (reply_to state command) (want_of state command) (record { lines = lines; state = state }) result old mid new is wrote sends outcome
 
-  -- a query stopped within its lines
+  -- the writer failed within the lines of a query
   pub query_stops : {E : Type 0} (state : State) (command : Command) (lines : List ℕ) (error : E) (old new : S)
       → reply_to state command ≡ shown state lines
-      → Begins (told old) (told new) lines × HasFailed (failures old) (failures new)
-      → AnswersTo told failures state command (Err error) state old new
+      → Begins (transcript old) (transcript new) lines × HasFailed (failures old) (failures new)
+      → AnswersTo transcript failures state command (Err error) state old new
   query_stops state command lines error old new is sends =
       reply_stops state (reply_to state command) (want_of state command) (record { lines = lines; state = state }) error old new is sends
 
   -- a query was refused
   pub refusal_answers : {E : Type 0} (state : State) (command : Command) (refusal : Refusal) (result : Result Step E) (old new : S)
       → reply_to state command ≡ Err refusal
-      → ((g : State) → Sends told failures old new result (text_of (reply_of {T = Unit {0}} (Err refusal) g)))
+      → ((g : State) → Sends transcript failures old new result (text_of (reply_of {T = Unit {0}} (Err refusal) g)))
       → ((g : State) → IfOk result (λ o. o ≡ step_of (reply_of {T = Unit {0}} (Err refusal) g)))
-      → AnswersTo told failures state command result state old new
+      → AnswersTo transcript failures state command result state old new
   refusal_answers state command refusal result old new is sends outcome =
       refused_answers state (reply_to state command) (want_of state command) refusal result old new (inl is) sends outcome
 
@@ -141,7 +141,7 @@ pub not_silent : {E : Type 0} (P : Type 0) (reply : Result Reply Refusal) (resul
 not_silent P reply (Ok step) is = λ e. absurd (never_silent reply (sym is ∙ e))
 not_silent P reply (Err error) is = tt
 
--- ---- the pieces that a run hands in
+-- ---- the pieces that a run passes on
 
 held_is : (whole line : List ℕ) → held whole ≡ Some line → whole ≡ line
 held_is whole line h =
@@ -159,24 +159,24 @@ too_long whole h =
           let some : Some whole ≡ None = rw test at h in cc
     ]
 
-pub piece_answered : {S E : Type 0} (told : S → List ℕ) (failures : S → ℕ) (state after : State) (line : List ℕ) (step : Step) (old new : S)
-    → AnswersLine {E = E} told failures state line (Ok step) after old new → Answered Answers state (Some line) step after (told old) (told new)
-piece_answered told failures state after line step old new a = record {
+pub piece_answered : {S E : Type 0} (transcript : S → List ℕ) (failures : S → ℕ) (state after : State) (line : List ℕ) (step : Step) (old new : S)
+    → AnswersLine {E = E} transcript failures state line (Ok step) after old new → Answered Answers state (Some line) step after (transcript old) (transcript new)
+piece_answered transcript failures state after line step old new a = record {
   answer = a.answer;
   fits = λ whole h. subst (λ s. Answers state whole s a.answer after) (sym a.is) (subst (λ l. Answers state l a.outcome a.answer after) (sym (held_is whole line h)) a.fits);
-  told = a.sends.0;
+  transcript = a.sends.0;
 }
 
-pub piece_broke_off : {S E : Type 0} (told : S → List ℕ) (failures : S → ℕ) (state after : State) (line : List ℕ) (error : E) (old new : S)
-    → AnswersLine told failures state line (Err error) after old new → BrokeOff Answers state (Some line) after (told old) (told new)
-piece_broke_off told failures state after line error old new a = record {
+pub piece_broke_off : {S E : Type 0} (transcript : S → List ℕ) (failures : S → ℕ) (state after : State) (line : List ℕ) (error : E) (old new : S)
+    → AnswersLine transcript failures state line (Err error) after old new → BrokeOff Answers state (Some line) after (transcript old) (transcript new)
+piece_broke_off transcript failures state after line error old new a = record {
   outcome = a.outcome;
   answer = a.answer;
   fits = λ whole h. subst (λ l. Answers state l a.outcome a.answer after) (sym (held_is whole line h)) a.fits;
   begins = a.sends.0;
 }
 
--- a line too long to be held is refused
+-- a line that is too long is refused
 pub long_piece : (state : State) → AnswersPiece Answers state None Refused (refused (refusals.Syntax syntax.LineTooLong)) state
 long_piece state whole h =
     subst (λ parsed. AnswersParsed state parsed Refused (refused (refusals.Syntax syntax.LineTooLong)) state) (sym (too_long whole h)) (refl, refl, refl)

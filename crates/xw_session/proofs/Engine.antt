@@ -1,10 +1,10 @@
--- What an engine answers, as the replies of a session have it.
+-- The answers of an engine are those of the replies.
 use Rattle.std.proofs.Common.{◌≡◌, ℕ, Bool, true, false, not, ◌≤◌, ◌<◌, List, [], ap, sym, ◌∙◌, refl, inl, inr, arith}
 use Rattle.std.proofs.lemmas.Bool.Decides.{nat_tests}
 use Rattle.std.specs.Prelude.{Option, flat_map, length, map, option_map, Some, None, Result, Ok, Err, IsOk, IfOk, IfErr, OnErr, if◌then◌else◌, nat_lt}
 use Rattle.xw_letters.specs.LetterSet.{letters_in}
-use Rattle.xw_cells.specs.declared.cell.Cell.{Cell}
-use Rattle.xw_cells.specs.Grid.{is_inside, is_block, index_of, cell_at}
+use Rattle.xw_grid.specs.declared.cell.Cell.{Cell}
+use Rattle.xw_grid.specs.Grid.{is_inside, is_block, index_of, cell_at}
 use Rattle.xw_feas.specs.Board.{board_of}
 use Rattle.xw_feas.specs.State.{State as Position, Action, after}
 use Rattle.xw_feas.specs.Feasible.{Answers, AreAnswers}
@@ -13,7 +13,7 @@ use Rattle.xw_feas.specs.Engine.{IsEdited}
 use Rattle.xw_feas.specs.Queries.{cell_judged, on_light, words_of}
 use Rattle.xw_feas.specs.declared.edit.Refusal.{Refusal as EditRefusal}
 use Rattle.xw_feas.specs.declared.edit.Refusal.TheVariants as edits
-use Rattle.xw_cells.specs.declared.fault.GridFault.TheVariants as grids
+use Rattle.xw_grid.specs.declared.fault.GridFault.TheVariants as grids
 use Rattle.xw_feas.specs.declared.changed.Changed.{Changed}
 use Rattle.xw_fill.specs.declared.search.Filling.{Filling}
 use Rattle.xw_fill.specs.declared.search.Filling.TheVariants as fillings
@@ -48,7 +48,7 @@ may_move : (state : State) (r : Result Position EditRefusal) → IsOk r → IsOk
 may_move state (Ok position) is = is
 may_move state (Err refusal) is = is
 
--- an edit of the engine gives the reply that is due
+-- an edit of the engine gives an allowed reply
 pub edit_fits : (state : State) (now : Position) (a b : Answers) (action : Action) (result : Result Changed EditRefusal) → Knows state.position a → Knows now b → IsEdited state.position a action result now b
     → IsReply (moved state (after state.position action)) (want_of_action state action) (edit_reply state.is_watched result (record state { position = now }))
 edit_fits state now a b action (Ok changed) exact_before exact_now edited =
@@ -109,7 +109,7 @@ within limit n h = grind (arith, nat_tests, h)
 past : (limit n : ℕ) → limit < n → nat_lt limit n ≡ true
 past limit n h = grind (arith, nat_tests, h)
 
--- a search for a fill gives the reply that is due
+-- a search for a fill gives an allowed reply
 pub fill_fits : (state : State) (now : Position) (limit : ℕ) (result : Result Filling EditRefusal) → IfOk result (IsFilling limit state.position now) → IfErr result (λ refusal. refusal ≡ edits.Grid grids.Memory)
     → IsReply (fill_tried state limit) (Some grid_memory) (fill_reply result (record state { position = now }))
 fill_fits state now limit (Ok fillings.Filled) is memory = rw (within limit (due (position_of state.position)) is.0, is.1) (ap (λ (p : Position). Ok (record { lines = word_line (filling_name fillings.Filled); state = record state { position = p } })) (sym is.2))

@@ -1,4 +1,4 @@
--- Spelled texts, byte by byte.
+-- Escapes, byte by byte.
 use Rattle.std.proofs.Common.{◌≡◌, ℕ, Bool, true, false, not, ◌&&◌, ◌||◌, eqb, List, [], ◌∷◌, ◌++◌, length, map, flat_map, Some, None, refl, sym, ◌∙◌, ap, subst, inl, inr, append_assoc}
 use Rattle.std.specs.Prelude.{Option, nat_eq, slice_index, if◌then◌else◌}
 use Rattle.std.specs.Option.{is_some}
@@ -9,9 +9,9 @@ use Rattle.std.proofs.lemmas.List.FromFn.{fill_by_all}
 use Rattle.xw_session.specs.Escape.{meaning, added, one_byte, begins_escape, joined, text_left, text_spelled, letter_for, escaped, is_end, spelled_at, escaped_text}
 use Rattle.xw_session.specs.Reply.{has_nul}
 
--- ---- what is spelled reads back
+-- ---- a text with escapes is read back unchanged
 
--- the letter of an escape stands for the byte, and a byte without one is no backslash
+-- the letter of an escape gives the byte, and a byte without an escape is not a backslash
 abbrev Fits : ℕ → Option ℕ → Type 0
 Fits byte None = eqb byte 92 ≡ false
 Fits byte (Some letter) = meaning letter ≡ Some byte
@@ -48,19 +48,19 @@ reads_back text =
     pieces_read text (range_with_len 0 (length text))
     ∙ ap Some (sym (fill_by_all (λ place. slice_index text place) text (length text) 0 refl (λ k h. refl)))
 
--- ---- a spelling that is read
+-- ---- reading a spelling
 
 judged : (front rest : Option (List ℕ)) → not (is_some front) ≡ false → is_some (joined front rest) ≡ is_some rest
 judged None rest fine = cc
 judged (Some front) None fine = refl
 judged (Some front) (Some rest) fine = refl
 
--- a byte that is no fault leaves it to the others whether a text is spelled
+-- after a byte that is no fault, the rest decides whether the spelling is valid
 pub same_judged : (within : Bool) (byte : ℕ) (bytes : List ℕ) → not (is_some (added within byte)) ≡ false → is_some (text_left within (byte ∷ bytes)) ≡ is_some (text_left (begins_escape within byte) bytes)
 same_judged true byte bytes fine = judged (added true byte) (text_left (begins_escape true byte) bytes) fine
 same_judged false byte bytes fine = judged (added false byte) (text_left (begins_escape false byte) bytes) fine
 
--- the two parts of what is spelled
+-- the two parts of a text
 pub parts : (front rest : Option (List ℕ)) (piece : List ℕ) → joined front rest ≡ Some piece → (a : List ℕ) × (b : List ℕ) × (front ≡ Some a) × (rest ≡ Some b) × (piece ≡ a ++ b)
 parts None rest piece e = cc
 parts (Some a) None piece e = cc
@@ -75,7 +75,7 @@ pub nothing_left : (within : Bool) (piece : List ℕ) → text_left within [] �
 nothing_left true piece e = cc
 nothing_left false piece e = cc
 
--- ---- no escape stands for a NUL, or is spelled with one
+-- ---- a NUL has no escape
 
 not_nul : (byte n : ℕ) → eqb 0 n ≡ false → eqb byte n ≡ true → eqb 0 byte ≡ false
 not_nul byte n some is = subst (λ b. eqb 0 b ≡ false) (sym (eqb-true byte n is)) some
@@ -107,7 +107,7 @@ nul_spelled within (byte ∷ bytes) piece e =
     ∙ ap (λ b. b || has_nul found.1) (front_nul within byte found.0 found.2)
     ∙ ap (λ b. eqb 0 byte || b) (nul_spelled (begins_escape within byte) bytes found.1 found.3)
 
--- ---- a text that grows as its spelling is read
+-- ---- building the text of a spelling
 
 pub grown : (within : Bool) (byte : ℕ) (left bytes rest items front piece more : List ℕ) → left ≡ byte ∷ bytes → text_left within left ≡ Some rest → front ++ piece ≡ items ++ rest
     → ((a : List ℕ) → added within byte ≡ Some a → a ≡ more)
@@ -117,7 +117,7 @@ grown within byte left bytes rest items front piece more next is so_far adds =
     let same : found.0 ≡ more = adds found.0 found.2 in
     (found.1, found.3, so_far ∙ ap (λ xs. items ++ xs) (found.4 ∙ ap (λ a. a ++ found.1) same) ∙ sym (append_assoc items more found.1))
 
--- ---- only nothing spells nothing
+-- ---- only the empty spelling gives the empty text
 
 no_meaning : (found : Option ℕ) → one_byte found ≡ Some [] → ⊥
 no_meaning None e = cc

@@ -1,7 +1,7 @@
--- Texts that are told: one that is not empty has a line.
+-- A text that is not empty has a line in the answer to `texts`.
 use Rattle.std.proofs.Common.{◌≡◌, ℕ, false, eqb, List, [], ◌∷◌, ◌++◌, length, codes, refl}
 use Rattle.std.specs.Prelude.{decimal}
-use Rattle.xw_cells.specs.declared.cell.LightName.{LightName}
+use Rattle.xw_grid.specs.declared.cell.LightName.{LightName}
 use Rattle.xw_session.specs.Text.{line_of, direction_name}
 use Rattle.xw_session.specs.Escape.{escaped_text}
 use Rattle.xw_session.specs.Told.{field_line, clue_line}

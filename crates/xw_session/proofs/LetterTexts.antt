@@ -20,7 +20,7 @@ pub length-alphabet : length alphabet ≡ 26
 unfolding alphabet
 length-alphabet = refl
 
--- the next letter is in the set, and is put at the end
+-- the next letter is in the set, and is appended
 pub taken : (test : ℕ → Bool) (bytes letters : List ℕ) (count i : ℕ) → i < length letters → count < length bytes
     → take count bytes ≡ filter test (take i letters) → test (get_or letters i 0) ≡ true
     → take (count + 1) (set bytes count (get_or letters i 0)) ≡ filter test (take (i + 1) letters)
@@ -28,7 +28,7 @@ taken test bytes letters count i l m is h =
     take_more_set bytes count _ m ∙ ap (λ xs. xs ++ get_or letters i 0 ∷ []) is
     ∙ sym (filter_more test letters i 0 l ∙ ap (λ b. filter test (take i letters) ++ cond b (get_or letters i 0 ∷ []) []) h)
 
--- the next letter isn't in the set
+-- the next letter is not in the set
 pub passed : (test : ℕ → Bool) (bytes letters : List ℕ) (count i : ℕ) → i < length letters
     → take count bytes ≡ filter test (take i letters) → test (get_or letters i 0) ≡ false
     → take count bytes ≡ filter test (take (i + 1) letters)

@@ -8,7 +8,7 @@ pub mod LetterTexts
 pub mod LightTexts
 pub mod Escapes
 pub mod FieldTexts
-pub mod Telling
-pub mod Putting
+pub mod Report
+pub mod TextMode
 pub mod Recording
 pub mod Resumed

@@ -1,4 +1,4 @@
--- Lights as lines tell them.
+-- The lines of lights.
 use Rattle.std.proofs.Common.{◌≡◌, ℕ, ◌+◌, ◌-◌, ◌*◌, ◌<◌, ◌≤◌, true, ◌&&◌, List, [], ◌∷◌, ◌++◌, length, map, take, get_or, refl, sym, subst, ap, ◌∙◌, arith, zero-add, length-take}
 use Rattle.std.specs.Prelude.{Option, Some, None, slice_get}
 use Rattle.std.specs.Option.{option_and_then}
@@ -8,21 +8,21 @@ use Rattle.std.proofs.lemmas.Bool.{ne_eqb}
 use Rattle.std.proofs.lemmas.List.{take_more, take_all}
 use Rattle.std.proofs.lemmas.List.FromFn.{take-map-range_with_len, length-map-range_with_len, get_or-map-range_with_len}
 use Rattle.std.proofs.lemmas.List.Sums.{count_by-le-length}
-use Rattle.xw_letters.proofs.Position.{position_is_none}
-use Rattle.xw_cells.specs.declared.cell.Cell.{Cell}
-use Rattle.xw_cells.specs.declared.cell.LightName.{LightName}
-use Rattle.xw_cells.specs.declared.cell.Direction.{Direction}
-use Rattle.xw_cells.specs.declared.cell.Direction.TheVariants.{Across, Down}
+use Rattle.xw_text.proofs.Position.{position_is_none}
+use Rattle.xw_grid.specs.declared.cell.Cell.{Cell}
+use Rattle.xw_grid.specs.declared.cell.LightName.{LightName}
+use Rattle.xw_grid.specs.declared.cell.Direction.{Direction}
+use Rattle.xw_grid.specs.declared.cell.Direction.TheVariants.{Across, Down}
 use Rattle.xw_grid.specs.declared.lights.Light.{Light}
-use Rattle.xw_cells.specs.Grid.{Grid, IsGrid, is_inside, cells, cell_at, index_of, entry}
+use Rattle.xw_grid.specs.Grid.{Grid, IsGrid, is_inside, cells, cell_at, index_of, entry}
 use Rattle.xw_grid.specs.Light.{begins_some, lights_of, no_light, place_named, same_name, same_direction, step}
-use Rattle.xw_cells.proofs.GridLemmas.{IsInside-is_inside, length-cells, get_or-map-cells, size_small}
+use Rattle.xw_grid.proofs.GridLemmas.{IsInside-is_inside, length-cells, get_or-map-cells, size_small}
 use Rattle.xw_grid.proofs.LightLemmas.{size_of_light, step-zero}
 use Rattle.xw_grid.proofs.OrderLemmas.{lights_are_made, made_number}
 use Rattle.xw_grid.proofs.PlaceLemmas.{light_inside}
 use Rattle.xw_session.specs.Text.{letter_or_dot, pattern}
 
--- a line of cells that ends inside a grid has at most 255
+-- a run of cells inside a grid has at most 255 cells
 line_short : (grid : Grid) (direction : Direction) (start : Cell) (size : ℕ) → IsGrid grid → 2 ≤ size → is_inside grid start ≡ true → is_inside grid (step direction start (size - 1)) ≡ true
     → (size ≤ 255) × (start.row ≤ 255) × (start.col ≤ 255)
 line_short grid Across start size is several first last =
@@ -43,7 +43,7 @@ light_short grid place is within =
     let first : is_inside grid light.start ≡ true = ap (is_inside grid) (sym (step-zero light.name.direction light.start)) ∙ inside 0 (omega (arith, several)) in
     line_short grid light.name.direction light.start light.size is several first (inside (light.size - 1) (omega (arith, several)))
 
--- the same of a light that was found by its name
+-- the same for a light found by its name
 pub found_short : (grid : Grid) (lights : List Light) (light : Light) (at : Option ℕ) → lights ≡ lights_of grid → IsGrid grid → option_and_then (slice_get lights) at ≡ Some light
     → (light.size ≤ 255) × (light.start.row ≤ 255) × (light.start.col ≤ 255)
 found_short grid lights light None same is e = cc
@@ -52,7 +52,7 @@ found_short grid lights light (Some place) same is e =
     let within : place < length (lights_of grid) = slice_get_within (lights_of grid) place light there in
     subst (λ (l : Light). (l.size ≤ 255) × (l.start.row ≤ 255) × (l.start.col ≤ 255)) (get_or_from_slice_get (lights_of grid) place light no_light there) (light_short grid place is within)
 
--- no number of a light goes past 16 bits
+-- the numbers of lights fit in 16 bits
 numbers_small : (grid : Grid) (place : ℕ) → IsGrid grid → place < length (lights_of grid) → (get_or (lights_of grid) place no_light).name.number ≤ 65026
 numbers_small grid place is within =
     let light = get_or (lights_of grid) place no_light in
@@ -69,7 +69,7 @@ no_such_number grid name is large =
     let light = get_or (lights_of grid) k no_light in
     ap (λ b. b && same_direction light.name.direction name.direction) (ne_eqb light.name.number name.number (λ e. let no : 65536 ≤ 65026 = omega (arith, e, small, large) in absurd (omega (arith, no)))))
 
--- the bytes of a list that a function of its places makes, one after another
+-- the list of a function's values, after one more value
 pub one_more_made : (f : ℕ → ℕ) (k : ℕ) → map f (range_with_len 0 (k + 1)) ≡ map f (range_with_len 0 k) ++ f k ∷ []
 one_more_made f k =
     let all = map f (range_with_len 0 (k + 1)) in
@@ -79,7 +79,7 @@ one_more_made f k =
     ∙ ap (λ front. front ++ get_or all k 0 ∷ []) (take-map-range_with_len f 0 (k + 1) k (omega arith))
     ∙ ap (λ x. map f (range_with_len 0 k) ++ x ∷ []) (get_or-map-range_with_len f 0 (k + 1) k k 0 (omega arith) (zero-add k))
 
--- the pattern of a light by the places of its cells
+-- the letters of a light, from the indices of its cells
 map_twice : {A B C : Type 0} (g : B → C) (f : A → B) (xs : List A) → map g (map f xs) ≡ map (λ x. g (f x)) xs
 map_twice g f [] = refl
 map_twice g f (x ∷ xs) = ap (λ ys. g (f x) ∷ ys) (map_twice g f xs)

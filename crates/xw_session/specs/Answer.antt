@@ -1,4 +1,4 @@
--- How answers go out, and what state they leave.
+-- The answers that a command or line may get, and the state that they leave.
 use Rattle.std.specs.Prelude.{◌≡◌, ◌⊎◌, ℕ, Bool, List, [], ◌++◌, flat_map, Option, Some, None, Result, Ok, Err, IsOk, IfOk, if◌then◌else◌}
 use Rattle.xw_feas.specs.declared.edit.Edit.{Edit}
 use Rattle.xw_feas.specs.declared.edit.Refusal.{Refusal as EditRefusal}
@@ -20,12 +20,12 @@ use Rattle.xw_lines.specs.Sends.{Sends}
 use Rattle.xw_session.specs.State.{State}
 use Rattle.xw_session.specs.Text.{accepted, refused, word_line, change_line}
 
--- a reply that is allowed: the one that is due, or the want of memory where that one is no refusal
+-- an allowed reply: the specified one, or `want` (Memory) if the specified one is not a refusal
 abbrev pub IsReply : Result Reply Refusal → Option Refusal → Result Reply Refusal → Type 0
 IsReply due want (Ok reply) = due ≡ Ok reply
 IsReply due want (Err refusal) = (due ≡ Err refusal) ⊎ (IsOk due × (want ≡ Some refusal))
 
--- a reply that a command may have
+-- a reply that the command may get
 abbrev pub Replies : State → Command → Result Reply Refusal → Type 0
 Replies state command = IsReply (reply_to state command) (want_of state command)
 
@@ -42,31 +42,31 @@ abbrev pub step_of : Result Reply Refusal → Step
 step_of (Ok reply) = Accepted
 step_of (Err refusal) = Refused
 
--- A reply that is allowed was answered on a writer, or a beginning of the answer was written. Its effect stands either way.
-pub record AnswersBy {S E : Type 0} (told : S → List ℕ) (failures : S → ℕ) (state : State) (due : Result Reply Refusal) (want : Option Refusal) (result : Result Step E) (after : State) (old new : S) : Type 0 where
+-- An allowed reply was written to a writer, or a prefix of it if the writer failed. Its effect remains in both cases.
+pub record AnswersBy {S E : Type 0} (transcript : S → List ℕ) (failures : S → ℕ) (state : State) (due : Result Reply Refusal) (want : Option Refusal) (result : Result Step E) (after : State) (old new : S) : Type 0 where
   pub reply : Result Reply Refusal
   pub fits : IsReply due want reply
   pub effect : after ≡ state_after state reply
-  pub sends : Sends told failures old new result (text_of reply)
+  pub sends : Sends transcript failures old new result (text_of reply)
   pub step : IfOk result (λ s. s ≡ step_of reply)
 
--- a command was answered
+-- the command was answered
 abbrev pub AnswersTo : {S E : Type 0} → (S → List ℕ) → (S → ℕ) → State → Command → Result Step E → State → S → S → Type 0
-AnswersTo told failures state command result after old new = AnswersBy told failures state (reply_to state command) (want_of state command) result after old new
+AnswersTo transcript failures state command result after old new = AnswersBy transcript failures state (reply_to state command) (want_of state command) result after old new
 
--- ---- what one function does
+-- ---- what single functions of a session do
 
--- a command asks for an edit, or is refused before that
+-- the command asks for this edit, or is refused before it
 abbrev pub Asks : State → Command → Result Edit Refusal → Type 0
 Asks state command (Ok edit) = (reply_to state command ≡ moved state (after state.position (action_of edit))) × (want_of state command ≡ want_of_action state (action_of edit))
 Asks state command (Err refusal) = reply_to state command ≡ Err refusal
 
--- the result of an edit, as a reply without lines
+-- the result of a command without answer lines, as a reply
 abbrev pub reply_of : {T : Type 0} → Result T Refusal → State → Result Reply Refusal
 reply_of (Ok u) state = Ok (record { lines = []; state = state })
 reply_of (Err refusal) state = Err refusal
 
--- the result of an edit of the engine, as a reply that with the watch on tells the changed cells
+-- the result of an engine edit, as a reply with the changed cells if the watch is on
 abbrev pub edit_reply : Bool → Result Changed EditRefusal → State → Result Reply Refusal
 edit_reply is_watched (Ok changed) state = Ok (record { lines = if is_watched then flat_map change_line (spelled_out (changes_left changed)) else []; state = state })
 edit_reply is_watched (Err refusal) state = Err (refusal_of refusal)
@@ -76,13 +76,13 @@ abbrev pub fill_reply : Result Filling EditRefusal → State → Result Reply Re
 fill_reply (Ok filling) state = Ok (record { lines = word_line (filling_name filling); state = state })
 fill_reply (Err refusal) state = Err (refusal_of refusal)
 
--- An edit did what it is to do, or was refused.
+-- the command was executed or refused, and the state is the one that its reply leaves
 abbrev pub Edits : {T : Type 0} → State → Command → Result T Refusal → State → Type 0
 Edits state command result after = Replies state command (reply_of result after) × (after ≡ state_after state (reply_of result after))
 
 -- ---- lines
 
--- The answer of a line, what became of it, and the state afterwards.
+-- The outcome of a parsed line, its answer, and the state after it.
 abbrev pub AnswersParsed : State → Result (Option Command) SyntaxFault → Step → List ℕ → State → Type 0
 AnswersParsed state (Ok None) step answer after = (step ≡ Silent) × (answer ≡ []) × (after ≡ state)
 AnswersParsed state (Ok (Some command)) step answer after =
@@ -92,10 +92,11 @@ AnswersParsed state (Err fault) step answer after = (step ≡ Refused) × (answe
 abbrev pub Answers : State → List ℕ → Step → List ℕ → State → Type 0
 Answers state line = AnswersParsed state (command_of line)
 
--- A line was answered on a writer, or a beginning of an answer was written. The line's effect stands either way.
-pub record AnswersLine {S E : Type 0} (told : S → List ℕ) (failures : S → ℕ) (state : State) (line : List ℕ) (result : Result Step E) (after : State) (old new : S) : Type 0 where
+-- The line was answered on a writer, or a prefix of an answer was written if the writer failed. Its effect remains in
+-- both cases.
+pub record AnswersLine {S E : Type 0} (transcript : S → List ℕ) (failures : S → ℕ) (state : State) (line : List ℕ) (result : Result Step E) (after : State) (old new : S) : Type 0 where
   pub outcome : Step
   pub answer : List ℕ
   pub fits : Answers state line outcome answer after
-  pub sends : Sends told failures old new result answer
+  pub sends : Sends transcript failures old new result answer
   pub is : IfOk result (λ s. s ≡ outcome)

@@ -1,10 +1,10 @@
--- Texts as lines spell them: an escape is a backslash and a letter, and each other byte stands for itself.
+-- Escapes in texts: an escape is a backslash and a letter, and every other byte stands for itself.
 use Rattle.std.specs.Prelude.{ℕ, ◌+◌, Bool, true, false, not, ◌&&◌, ◌||◌, ◌==◌, List, [], ◌∷◌, ◌++◌, length, flat_map, slice_index, Option, Some, None, if◌then◌else◌}
 use Rattle.std.specs.List.{range_with_len}
 
 -- ---- what a spelling means
 
--- the byte that a letter after a backslash stands for: n, r, t, s, or a second backslash
+-- the byte of an escape, from the letter after its backslash: n, r, t, s or a backslash
 abbrev pub meaning : ℕ → Option ℕ
 meaning letter =
     if letter == 110 then Some 10
@@ -18,12 +18,12 @@ abbrev pub one_byte : Option ℕ → Option (List ℕ)
 one_byte None = None
 one_byte (Some byte) = Some (byte ∷ [])
 
--- what a byte adds to the text, in an escape whose backslash stands before it or not; the backslash adds nothing
+-- the bytes that a byte adds to the text; `true` means that a backslash of an escape precedes it
 abbrev pub added : Bool → ℕ → Option (List ℕ)
 added true letter = one_byte (meaning letter)
 added false byte = if byte == 92 then Some [] else Some (byte ∷ [])
 
--- whether the byte begins an escape
+-- the byte begins an escape
 abbrev pub begins_escape : Bool → ℕ → Bool
 begins_escape is_within byte = not is_within && (byte == 92)
 
@@ -32,19 +32,19 @@ joined None rest = None
 joined (Some front) None = None
 joined (Some front) (Some rest) = Some (front ++ rest)
 
--- the text of what is left of a spelling, in an escape or not; none where a backslash begins no escape
+-- the text of the rest of a spelling, which starts inside an escape or not; None if an escape is invalid or incomplete
 abbrev pub text_left : Bool → List ℕ → Option (List ℕ)
 text_left true [] = None
 text_left false [] = Some []
 text_left is_within (byte ∷ bytes) = joined (added is_within byte) (text_left (begins_escape is_within byte) bytes)
 
--- the text that a spelling stands for
+-- the text of a spelling, or None if it is invalid
 abbrev pub text_spelled : List ℕ → Option (List ℕ)
 text_spelled spelling = text_left false spelling
 
--- ---- the one spelling that answers have
+-- ---- how a text is written
 
--- the letter of the escape for a byte, at an end of its text or within it
+-- the escape letter of a byte, which for spaces and tabs depends on being at an end of the text
 abbrev pub letter_for : Bool → ℕ → Option ℕ
 letter_for is_end byte =
     if byte == 10 then Some 110
@@ -58,13 +58,13 @@ abbrev pub escaped : ℕ → Option ℕ → List ℕ
 escaped byte None = byte ∷ []
 escaped byte (Some letter) = 92 ∷ letter ∷ []
 
--- whether a place is that of the first byte or of the last one
+-- the index is that of the first or the last byte
 abbrev pub is_end : List ℕ → ℕ → Bool
 is_end text place = (place == 0) || (place + 1 == length text)
 
 abbrev pub spelled_at : List ℕ → ℕ → List ℕ
 spelled_at text place = escaped (slice_index text place) (letter_for (is_end text place) (slice_index text place))
 
--- a text with an escape for each LF, CR and backslash, and for a space or a tab at an end
+-- the text with an escape for each LF, CR and backslash, and for a space or tab at an end
 abbrev pub escaped_text : List ℕ → List ℕ
 escaped_text text = flat_map (spelled_at text) (range_with_len 0 (length text))

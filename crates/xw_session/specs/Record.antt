@@ -1,20 +1,20 @@
--- The commands that make a session again from any one that begins with the same words.
+-- The record of a session: the commands that rebuild it from any session that starts with the same words.
 use Rattle.std.specs.Prelude.{ℕ, ◌+◌, ◌-◌, ◌*◌, ◌/◌, List, [], ◌∷◌, ◌++◌, map, take, drop, length, flat_map, Option, Some, None, slice_index_or, if◌then◌else◌}
 use Rattle.std.specs.List.{range_with_len}
 use Rattle.xw_words.specs.Dictionary.{Dictionary, Entry, row}
-use Rattle.xw_cells.specs.declared.cell.Cell.{Cell}
-use Rattle.xw_cells.specs.declared.cell.Direction.{Direction}
-use Rattle.xw_cells.specs.declared.cell.Direction.TheVariants.{Across, Down}
-use Rattle.xw_cells.specs.declared.cell.Side.{Side}
-use Rattle.xw_cells.specs.declared.cell.Side.TheVariants.{Right, Below}
-use Rattle.xw_cells.specs.Grid.{Grid, cells, is_block, is_barred, entry}
+use Rattle.xw_grid.specs.declared.cell.Cell.{Cell}
+use Rattle.xw_grid.specs.declared.cell.Direction.{Direction}
+use Rattle.xw_grid.specs.declared.cell.Direction.TheVariants.{Across, Down}
+use Rattle.xw_grid.specs.declared.cell.Side.{Side}
+use Rattle.xw_grid.specs.declared.cell.Side.TheVariants.{Right, Below}
+use Rattle.xw_grid.specs.Grid.{Grid, cells, is_block, is_barred, entry}
 use Rattle.xw_grid.specs.Clue.{ClueMap, clue_at, is_circled}
 use Rattle.xw_commands.specs.declared.command.Command.{Command}
 use Rattle.xw_commands.specs.declared.command.Command.TheVariants.{Size, Symmetry as Turn, Add, Strike, Set, Block, Bar, Circle, Watch, Put}
 use Rattle.xw_commands.specs.declared.command.Field.{Field}
 use Rattle.xw_commands.specs.declared.command.Field.TheVariants as fields
-use Rattle.xw_commands.specs.declared.command.Putting.TheVariants.{Instead, Behind}
-use Rattle.xw_commands.specs.declared.command.Spot.{Spot}
+use Rattle.xw_commands.specs.declared.command.TextMode.TheVariants.{Instead, Behind}
+use Rattle.xw_commands.specs.declared.command.CellArg.{CellArg}
 use Rattle.xw_commands.specs.declared.command.TextField.TheVariants.{Title, Author, Copyright, Notes}
 use Rattle.xw_session.specs.declared.record.Part.{Part}
 use Rattle.xw_session.specs.declared.record.Part.TheVariants as parts
@@ -27,7 +27,7 @@ use Rattle.xw_session.specs.State.{State}
 
 -- ---- words
 
--- how many words of each length are known
+-- for each length, how many words are known
 abbrev pub known_counts : Dictionary → List ℕ
 known_counts words = map (λ count. length (row words count)) (range_with_len 0 256)
 
@@ -37,7 +37,7 @@ add_command entry = Add entry.word
 abbrev pub strike_commands : Entry → List Command
 strike_commands entry = if entry.active then [] else Strike entry.word ∷ []
 
--- the words of one length that came after the first ones, and then those that are struck
+-- for one length: add the words after the first `begun`, then strike those that are struck
 abbrev pub row_commands : List Entry → ℕ → List Command
 row_commands entries begun = map add_command (drop begun entries) ++ flat_map strike_commands entries
 
@@ -49,24 +49,24 @@ word_commands begun words = flat_map (length_commands begun words) (range_with_l
 
 -- ---- texts
 
--- so many bytes of a text, after some pieces of as many
+-- 2,000 bytes of a text after `before` such pieces; the last piece may be shorter
 abbrev pub piece_at : List ℕ → ℕ → List ℕ
 piece_at text before = take 2000 (drop (2000 * before) text)
 
--- how many pieces a text has after its first one
+-- the number of pieces after the first
 abbrev pub further_pieces : List ℕ → ℕ
 further_pieces text = (length text - 1) / 2000
 
 abbrev pub more_command : Field → List ℕ → ℕ → Command
 more_command field text before = Put Behind field (escaped_text (piece_at text (before + 1)))
 
--- a text in pieces, the first of them instead of what its field has
+-- the text in pieces: the first replaces the field, the others are appended
 abbrev pub text_commands : Field → List ℕ → List Command
 text_commands field text = Put Instead field (escaped_text (piece_at text 0)) ∷ map (more_command field text) (range_with_len 0 (further_pieces text))
 
--- ---- what is kept for cells
+-- ---- the contents of cells
 
-abbrev pub spot_of : Cell → Spot
+abbrev pub spot_of : Cell → CellArg
 spot_of cell = record { row = cell.row; col = cell.col }
 
 abbrev pub circle_commands : List Cell → Cell → List Command
@@ -82,7 +82,7 @@ abbrev pub letter_commands : Cell → Option ℕ → List Command
 letter_commands cell None = []
 letter_commands cell (Some letter) = Set (spot_of cell) letter ∷ []
 
--- the clue of a start cell and direction; an empty one is none
+-- the commands of a clue; none if the clue is empty
 abbrev pub clue_commands : Cell → Direction → List ℕ → List Command
 clue_commands cell direction [] = []
 clue_commands cell direction (byte ∷ bytes) = text_commands (fields.Clue (spot_of cell) direction) (byte ∷ bytes)
@@ -107,8 +107,8 @@ section_commands state sections.Symmetry = Turn state.position.grid.symmetry ∷
 section_commands state (sections.Text name) = text_commands (fields.Text name) (text_of_field state.texts name)
 section_commands state sections.Watch = Watch state.is_watched ∷ []
 
--- A new size leaves no clue, no circle, no bar and no symmetry. Circles are set while every cell is open, letters
--- once the blocks stand, and the symmetry once no block or bar is to come.
+-- The order matters. The new size removes clues, circles, bars and symmetry. Circles come while every cell is open,
+-- letters after the blocks, and the symmetry after all blocks and bars.
 abbrev pub record_sections : List Section
 record_sections =
     sections.Words
@@ -131,7 +131,7 @@ record_sections =
 abbrev pub record_commands : State → List Command
 record_commands state = flat_map (section_commands state) record_sections
 
--- commands, each on its line
+-- each command on a line
 abbrev pub command_lines : List Command → List ℕ
 command_lines commands = flat_map command_line commands
 

@@ -4,7 +4,7 @@ use Rattle.xw_feas.specs.declared.edit.Refusal.TheVariants as edits
 use Rattle.xw_session.specs.declared.refusal.Refusal.{Refusal}
 use Rattle.xw_session.specs.declared.refusal.Refusal.TheVariants as refusals
 
--- the refusal of an edit, as one of the command that asked for it
+-- the refusal of an edit, as a refusal of its command
 abbrev pub refusal_of : EditRefusal → Refusal
 refusal_of (edits.Word fault) = refusals.Word fault
 refusal_of (edits.Grid fault) = refusals.Grid fault

@@ -1,17 +1,17 @@
--- How a session replies to a command.
+-- How a session replies to each command.
 use Rattle.std.specs.Prelude.{ℕ, Bool, true, false, not, List, [], ◌∷◌, map, take, length, flat_map, codes, option_map, Option, Some, None, Result, Ok, Err, if◌then◌else◌, nat_eq, nat_lt}
 use Rattle.std.specs.List.{list_any}
-use Rattle.xw_bits.specs.declared.fault.WordFault.{WordFault}
-use Rattle.xw_bits.specs.declared.fault.WordFault.TheVariants as words
+use Rattle.xw_words.specs.declared.fault.WordFault.{WordFault}
+use Rattle.xw_words.specs.declared.fault.WordFault.TheVariants as words
 use Rattle.xw_letters.specs.Letter.{letter_of}
 use Rattle.xw_words.specs.Dictionary.{matching_answer}
-use Rattle.xw_cells.specs.declared.cell.Cell.{Cell}
-use Rattle.xw_cells.specs.declared.cell.LightName.{LightName}
-use Rattle.xw_cells.specs.declared.fault.GridFault.{GridFault}
-use Rattle.xw_cells.specs.declared.fault.GridFault.TheVariants as grids
+use Rattle.xw_grid.specs.declared.cell.Cell.{Cell}
+use Rattle.xw_grid.specs.declared.cell.LightName.{LightName}
+use Rattle.xw_grid.specs.declared.fault.GridFault.{GridFault}
+use Rattle.xw_grid.specs.declared.fault.GridFault.TheVariants as grids
 use Rattle.xw_grid.specs.declared.lights.Light.{Light}
-use Rattle.xw_cells.specs.Grid.{Grid, is_inside, is_open, is_block, index_of, cell_at}
-use Rattle.xw_cells.specs.Edit.{new_grid}
+use Rattle.xw_grid.specs.Grid.{Grid, is_inside, is_open, is_block, index_of, cell_at}
+use Rattle.xw_grid.specs.Edit.{new_grid}
 use Rattle.xw_grid.specs.Light.{lights_of, place_named}
 use Rattle.xw_grid.specs.Clue.{no_clues, with_clue, is_circled, with_circle}
 use Rattle.xw_feas.specs.declared.edit.Refusal.{Refusal as EditRefusal}
@@ -25,17 +25,17 @@ use Rattle.xw_fill.specs.Suggesting.{suggestion}
 use Rattle.xw_fill.specs.declared.search.Filling.{Filling}
 use Rattle.xw_fill.specs.declared.search.Filling.TheVariants as fillings
 use Rattle.xw_fill.specs.Listing.{duplicates_of, unlisted_of}
-use Rattle.xw_commands.specs.declared.command.Spot.{Spot}
-use Rattle.xw_commands.specs.declared.command.Named.{Named}
+use Rattle.xw_commands.specs.declared.command.CellArg.{CellArg}
+use Rattle.xw_commands.specs.declared.command.LightArg.{LightArg}
 use Rattle.xw_commands.specs.declared.command.TextField.{TextField}
 use Rattle.xw_commands.specs.declared.command.Command.{Command}
 use Rattle.xw_commands.specs.declared.command.Command.TheVariants as commands
 use Rattle.xw_session.specs.declared.refusal.Refusal.{Refusal}
 use Rattle.xw_session.specs.declared.refusal.Refusal.TheVariants as refusals
 use Rattle.xw_session.specs.Refusal.{refusal_of}
-use Rattle.xw_commands.specs.declared.command.Telling.{Telling}
-use Rattle.xw_commands.specs.declared.command.Telling.TheVariants.{Cells, Counts, Texts, Stats, Record}
-use Rattle.xw_commands.specs.declared.command.Putting.{Putting}
+use Rattle.xw_commands.specs.declared.command.Report.{Report}
+use Rattle.xw_commands.specs.declared.command.Report.TheVariants.{Cells, Counts, Texts, Stats, Record}
+use Rattle.xw_commands.specs.declared.command.TextMode.{TextMode}
 use Rattle.xw_commands.specs.declared.command.Field.{Field}
 use Rattle.xw_session.specs.State.{State, with_text_in}
 pub use Rattle.xw_session.specs.State.{cell_of}
@@ -47,45 +47,45 @@ use Rattle.xw_session.specs.Put.{place_of, has_place, with_piece}
 use Rattle.xw_session.specs.Text.{word_line, light_lines, circle_lines, change_line, letters_line, counted_lines, light_of, duplicate_line, spelled_line, suggestion_line}
 use Rattle.xw_session.specs.Show.{show_lines}
 
--- the lines before `ok`, and the state afterwards
+-- the answer lines before `ok`, and the state after the command
 pub record Reply : Type 0 where
   pub lines : List ℕ
   pub state : State
 
-abbrev pub name_of_light : Named → LightName
+abbrev pub name_of_light : LightArg → LightName
 name_of_light named = record { number = named.number; direction = named.direction }
 
--- ---- what a reply says and leaves
+-- ---- the lines of a reply and the state after it
 
--- what is done has no lines
+-- a command without answer lines
 abbrev pub edited : State → Result Reply Refusal
 edited state = Ok (record { lines = []; state = state })
 
--- a query leaves the state as it was
+-- a query, which leaves the state unchanged
 abbrev pub shown : State → List ℕ → Result Reply Refusal
 shown state lines = Ok (record { lines = lines; state = state })
 
--- the open cells whose feasible letters differ, each with its letters after, in reading order
+-- the open cells whose feasible letters changed, each with its new letters, in reading order
 abbrev pub changes_between : Position → Position → List (Cell × List ℕ)
 changes_between before after =
     map (λ place. (cell_at after.grid place, feasible_letters (position_of after) place))
     (cells_that_differ after.grid (feasible_letters (position_of before)) (feasible_letters (position_of after)) 0)
 
--- with the watch on an edit tells the cells that it changed
+-- the changed cells if the watch is on
 abbrev pub watch_lines : State → Position → List ℕ
 watch_lines state position = if state.is_watched then flat_map change_line (changes_between state.position position) else []
 
--- an edit of the grid or of the dictionary
+-- an edit of the grid or the dictionary
 abbrev pub moved : State → Result Position EditRefusal → Result Reply Refusal
 moved state (Ok position) = Ok (record { lines = watch_lines state position; state = record state { position = position } })
 moved state (Err refusal) = Err (refusal_of refusal)
 
--- a letter is judged before its cell
-abbrev pub with_letter : State → Spot → Option ℕ → Result Reply Refusal
+-- the letter is checked before the cell
+abbrev pub with_letter : State → CellArg → Option ℕ → Result Reply Refusal
 with_letter state spot None = Err (refusals.Word (words.BadLetter 1))
 with_letter state spot (Some letter) = moved state (after state.position (letter_set (cell_of spot) letter))
 
--- a new grid takes the clues and the circles with it
+-- a new grid; clues and circles are removed
 abbrev pub resized : State → Result Grid GridFault → Result Reply Refusal
 resized state (Ok grid) = edited (record state { position = record { grid = grid; words = state.position.words }; clues = no_clues; circles = [] })
 resized state (Err fault) = Err (refusals.Grid fault)
@@ -94,51 +94,51 @@ abbrev pub matched : State → Result (List (List ℕ)) WordFault → Result Rep
 matched state (Ok found) = shown state (flat_map word_line found)
 matched state (Err fault) = Err (refusals.Word fault)
 
--- the light that a line names
-abbrev pub light_named : Grid → Named → Option Light
+-- the light that a command names
+abbrev pub light_named : Grid → LightArg → Option Light
 light_named grid named = light_of grid (name_of_light named)
 
 abbrev pub has_nul : List ℕ → Bool
 has_nul text = list_any (nat_eq 0) text
 
--- the clue of a light stands at its first cell, in its direction
+-- the clue is stored at the light's start cell and direction
 abbrev pub with_clue_of : State → Option Light → List ℕ → Result Reply Refusal
 with_clue_of state None text = Err refusals.NoLight
 with_clue_of state (Some light) text = if has_nul text then Err refusals.NulByte else edited (record state { clues = with_clue state.clues light.start light.name.direction text })
 
--- a text takes the place of the one of its field
+-- the text replaces the one in the field
 abbrev pub written : State → TextField → List ℕ → Result Reply Refusal
 written state field text = if has_nul text then Err refusals.NulByte else edited (record state { texts = with_text_in state.texts field text })
 
--- what a line spells is put into a field
-abbrev pub put : State → Putting → Field → Option (List ℕ) → Result Reply Refusal
+-- the text replaces the one in the field or is appended to it
+abbrev pub put : State → TextMode → Field → Option (List ℕ) → Result Reply Refusal
 put state putting field None = Err refusals.Escape
 put state putting field (Some text) =
     if not (has_place state.position.grid (place_of field)) then Err (refusals.Grid grids.OutOfGrid)
     else if has_nul text then Err refusals.NulByte
     else edited (with_piece state putting (place_of field) text)
 
--- what is told of the whole puzzle
-abbrev pub told_lines : State → Telling → List ℕ
+-- the report on the whole puzzle
+abbrev pub told_lines : State → Report → List ℕ
 told_lines state Cells = cell_lines state.position
 told_lines state Counts = count_lines state.position
 told_lines state Texts = text_lines state
 told_lines state Stats = stat_lines state.position.grid
 told_lines state Record = record_lines state
 
--- a circle is set on an open cell, or taken away
+-- the circle of an open cell is set, or removed if it was there
 abbrev pub circle_toggled : State → Cell → Result Reply Refusal
 circle_toggled state cell =
     if not (is_inside state.position.grid cell) then Err (refusals.Grid grids.OutOfGrid)
     else if not (is_open state.position.grid cell) then Err (refusals.Grid grids.OnBlock)
     else edited (record state { circles = with_circle state.circles cell (not (is_circled state.circles cell)) })
 
--- the first words of a list, or all where no number is given
+-- the first words of a list, or all if no number is given
 abbrev pub first_words : Option ℕ → List (List ℕ) → List (List ℕ)
 first_words None found = found
 first_words (Some most) found = take most found
 
--- the feasible words of the light at a place: their number, and the words that are asked for
+-- the number of feasible words of a light, and the words that the command asks for
 abbrev pub worded : State → Option ℕ → Option ℕ → Result Reply Refusal
 worded state None most = Err refusals.NoLight
 worded state (Some light) most =
@@ -156,14 +156,14 @@ filling_name fillings.Filled = codes "filled"
 filling_name fillings.NoFill = codes "nofill"
 filling_name fillings.Limit = codes "limit"
 
--- a fill is found within so many placements, or there is none, or more are due
+-- Limit if more placements are due than allowed, Filled if a fill is found, and otherwise NoFill
 abbrev pub fill_tried : State → ℕ → Result Reply Refusal
 fill_tried state limit =
     if nat_lt limit (due (position_of state.position)) then shown state (word_line (filling_name fillings.Limit))
     else if found (position_of state.position) then Ok (record { lines = word_line (filling_name fillings.Filled); state = record state { position = filled_in state.position (end (position_of state.position)).board.entries } })
     else shown state (word_line (filling_name fillings.NoFill))
 
--- ---- the reply to each command, where no memory is wanting
+-- ---- the reply to each command if no allocation fails
 
 abbrev pub reply_to : State → Command → Result Reply Refusal
 reply_to state (commands.Size width height) = resized state (new_grid width height)
@@ -192,7 +192,7 @@ reply_to state (commands.Watch is_on) = edited (record state { is_watched = is_o
 reply_to state (commands.Tell telling) = shown state (told_lines state telling)
 reply_to state (commands.Put putting field spelling) = put state putting field (text_spelled spelling)
 
--- whether a command is answered with lines of its own
+-- the command has answer lines before `ok`
 abbrev pub has_lines : Command → Bool
 has_lines (commands.Match pattern) = true
 has_lines commands.Circles = true
@@ -207,12 +207,12 @@ has_lines (commands.Fill limit) = true
 has_lines (commands.Tell telling) = true
 has_lines other = false
 
--- ---- want of memory
+-- ---- failed allocations
 
 abbrev pub grid_memory : Refusal
 grid_memory = refusals.Grid grids.Memory
 
--- a text that is empty takes no memory
+-- an empty text needs no allocation
 abbrev pub want_of_text : List ℕ → Option Refusal
 want_of_text [] = None
 want_of_text (byte ∷ bytes) = Some grid_memory
@@ -220,7 +220,7 @@ want_of_text (byte ∷ bytes) = Some grid_memory
 abbrev pub want_of_action : State → Action → Option Refusal
 want_of_action state action = option_map refusal_of (want_of_edit state.position action)
 
--- what a command answers for want of memory, if it may meet it
+-- the refusal that a failed allocation gives, if the command may allocate
 abbrev pub want_of : State → Command → Option Refusal
 want_of state (commands.Size width height) = Some grid_memory
 want_of state (commands.Symmetry kind) = None

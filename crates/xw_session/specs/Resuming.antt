@@ -1,16 +1,111 @@
--- Lines done without their answers.
-use Rattle.std.specs.Prelude.{◌≡◌, ℕ, List, Option, Some, None}
-use Rattle.xw_session.specs.Answer.{Answers}
-use Rattle.xw_lines.specs.Spoken.{refusals}
-use Rattle.xw_session.specs.State.{State}
+-- Executing lines without writing their answers.
+use Rattle.std.specs.Prelude.{◌≡◌, ◌≢◌, ◌⊎◌, ℕ, ◌+◌, Bool, true, false, List, [], ◌∷◌, ◌++◌, codes, decimal, length, Option, Some, None, Result, Ok, Err, is_some, if◌then◌else◌}
+use Rattle.xw_words.specs.declared.fault.WordFault.TheVariants as words
+use Rattle.xw_grid.specs.declared.fault.GridFault.TheVariants as grids
+use Rattle.xw_lines.specs.Device.{HasFailed}
 use Rattle.xw_lines.specs.declared.outcome.Step.{Step}
 use Rattle.xw_lines.specs.declared.outcome.Step.TheVariants.{Refused}
+use Rattle.xw_commands.specs.Command.{command_of}
+use Rattle.xw_commands.specs.declared.command.Command.{Command}
+use Rattle.xw_commands.specs.declared.command.Command.TheVariants as commands
+use Rattle.xw_commands.specs.declared.command.SyntaxFault.{SyntaxFault}
+use Rattle.xw_session.specs.declared.refusal.Refusal.{Refusal}
+use Rattle.xw_session.specs.declared.refusal.Refusal.TheVariants as refusals
+use Rattle.xw_session.specs.declared.resuming.Stop.{Stop}
+use Rattle.xw_session.specs.declared.resuming.Stop.TheVariants.{NoCommand, Memory}
+use Rattle.xw_session.specs.Answer.{Answers}
+use Rattle.xw_session.specs.Escape.{text_spelled}
+use Rattle.xw_session.specs.State.{State}
+use Rattle.xw_session.specs.Text.{name_of, refused, word_line}
 
--- in a state a line may be done, leave this state, and be refused so many times
-abbrev pub Does : State → List ℕ → ℕ → State → Type 0
-Does state line refused after = (step : Step) × (answer : List ℕ) × Answers state line step answer after × (refused ≡ refusals step)
+-- ---- lines that are not commands
 
--- a line was done, and this is its answer, where that is a refusal
-abbrev pub IsDone : State → List ℕ → Option (List ℕ) → State → Type 0
-IsDone state line (Some answer) after = Answers state line Refused answer after
-IsDone state line None after = Does state line 0 after
+-- why a command is none after all: the spelling of its text has a wrong escape
+abbrev pub command_fault : Option Command → Option Refusal
+command_fault (Some (commands.Put putting field spelling)) = if is_some (text_spelled spelling) then None else Some refusals.Escape
+command_fault other = None
+
+abbrev pub parsed_fault : Result (Option Command) SyntaxFault → Option Refusal
+parsed_fault (Ok command) = command_fault command
+parsed_fault (Err fault) = Some (refusals.Syntax fault)
+
+-- why a line is not a command in any session, or None if it is one
+abbrev pub line_fault : List ℕ → Option Refusal
+line_fault line = parsed_fault (command_of line)
+
+-- ---- a command
+
+abbrev pub is_memory : Refusal → Bool
+is_memory (refusals.Word words.Memory) = true
+is_memory (refusals.Grid grids.Memory) = true
+is_memory other = false
+
+-- from a state the line may be executed and leave this state, refused with this answer or else not refused
+abbrev pub IsAnswered : State → List ℕ → Option (List ℕ) → State → Type 0
+IsAnswered state line None after = (step : Step) × (answer : List ℕ) × Answers state line step answer after × (step ≢ Refused)
+IsAnswered state line (Some answer) after = Answers state line Refused answer after
+
+-- from a state a command may be accepted, or refused for this reason other than memory, and leave this state
+abbrev pub IsDone : State → List ℕ → Option Refusal → State → Type 0
+IsDone state line None after = (line_fault line ≡ None) × IsAnswered state line None after
+IsDone state line (Some refusal) after = (line_fault line ≡ None) × IsAnswered state line (Some (refused refusal)) after × (is_memory refusal ≡ false)
+
+-- from a state the line may leave this state, whatever its answer
+abbrev pub MayBeDone : State → List ℕ → State → Type 0
+MayBeDone state line after = (step : Step) × (answer : List ℕ) × Answers state line step answer after
+
+-- ---- what is reported
+
+abbrev pub count : Option Refusal → ℕ
+count None = 0
+count (Some refusal) = 1
+
+-- the report of a refused line: its number and the name of the refusal
+abbrev pub refused_line : List ℕ → ℕ → Refusal → List ℕ
+refused_line file number refusal = codes "xw: " ++ file ++ codes ": line " ++ decimal number ++ codes ": " ++ word_line (name_of refusal)
+
+abbrev pub told_of : List ℕ → ℕ → Option Refusal → List ℕ
+told_of file number None = []
+told_of file number (Some refusal) = refused_line file number refusal
+
+-- the text was written and no write failed, or a write failed; the arguments are the transcript and the failures of the writer
+abbrev pub Tells : {S : Type 0} → (S → List ℕ) → (S → ℕ) → S → S → List ℕ → Type 0
+Tells transcript failures old new text = ((transcript new ≡ transcript old ++ text) × (failures new ≡ failures old)) ⊎ HasFailed (failures old) (failures new)
+
+-- how the line with this number ends: executed and perhaps reported, not a command, or with a failed allocation
+abbrev pub ResumesLine : {S : Type 0} → (S → List ℕ) → (S → ℕ) → List ℕ → ℕ → State → List ℕ → Result ℕ Stop → State → S → S → Type 0
+ResumesLine transcript failures file number state line (Ok refused) after old new =
+    (refusal : Option Refusal) × IsDone state line refusal after × (refused ≡ count refusal) × Tells transcript failures old new (told_of file number refusal)
+ResumesLine transcript failures file number state line (Err (NoCommand place refusal)) after old new =
+    (place ≡ number) × (line_fault line ≡ Some refusal) × (after ≡ state) × (new ≡ old)
+ResumesLine transcript failures file number state line (Err Memory) after old new =
+    (line_fault line ≡ None) × MayBeDone state line after × (new ≡ old)
+
+-- ---- all lines
+
+-- the commands, the first of which has this line number, may be executed one after another: the reports of refused lines, their
+-- number, and the state that is left
+abbrev pub AreDone : List ℕ → ℕ → State → List (List ℕ) → List ℕ → ℕ → State → Type 0
+AreDone file number start [] transcript refused end = (transcript ≡ []) × (refused ≡ 0) × (end ≡ start)
+AreDone file number start (line ∷ lines) transcript refused end =
+    (refusal : Option Refusal) × (mid : State) × (others : List ℕ) × (more : ℕ)
+    × IsDone start line refusal mid × AreDone file (number + 1) mid lines others more end
+    × (transcript ≡ told_of file number refusal ++ others) × (refused ≡ count refusal + more)
+
+-- the line with this number is reached: all lines before it are commands, and were executed
+pub record IsReached (file : List ℕ) (start : State) (lines : List (List ℕ)) (transcript : List ℕ) (state : State) (line : List ℕ) (number : ℕ) : Type 0 where
+  pub before : List (List ℕ)
+  pub after : List (List ℕ)
+  pub refused : ℕ
+  pub parts : lines ≡ before ++ line ∷ after
+  pub place : number ≡ length before + 1
+  pub done : AreDone file 1 start before transcript refused state
+
+-- how a replay ends, what it reports, and the state it leaves: all lines are commands and were executed; or the first line that is
+-- not a command is reached, and is not executed; or an allocation failed for a line, which may have been executed
+abbrev pub Resumes : List ℕ → State → List (List ℕ) → Result ℕ Stop → List ℕ → State → Type 0
+Resumes file start lines (Ok refused) transcript end = AreDone file 1 start lines transcript refused end
+Resumes file start lines (Err (NoCommand number refusal)) transcript end =
+    (line : List ℕ) × (line_fault line ≡ Some refusal) × IsReached file start lines transcript end line number
+Resumes file start lines (Err Memory) transcript end =
+    (number : ℕ) × (line : List ℕ) × (state : State) × (line_fault line ≡ None) × IsReached file start lines transcript state line number × MayBeDone state line end

@@ -1,16 +1,16 @@
 -- The line of a command.
 use Rattle.std.specs.Prelude.{ℕ, Bool, true, false, List, [], ◌∷◌, codes, decimal, Option, Some, None}
-use Rattle.xw_cells.specs.declared.cell.Side.{Side}
-use Rattle.xw_cells.specs.declared.cell.Side.TheVariants.{Right, Below}
-use Rattle.xw_cells.specs.declared.cell.Symmetry.{Symmetry}
-use Rattle.xw_cells.specs.declared.cell.Symmetry.TheVariants as kinds
+use Rattle.xw_grid.specs.declared.cell.Side.{Side}
+use Rattle.xw_grid.specs.declared.cell.Side.TheVariants.{Right, Below}
+use Rattle.xw_grid.specs.declared.cell.Symmetry.{Symmetry}
+use Rattle.xw_grid.specs.declared.cell.Symmetry.TheVariants as kinds
 use Rattle.xw_commands.specs.declared.command.Command.{Command}
 use Rattle.xw_commands.specs.declared.command.Command.TheVariants as commands
 use Rattle.xw_commands.specs.declared.command.Field.{Field}
 use Rattle.xw_commands.specs.declared.command.Field.TheVariants as fields
 use Rattle.xw_commands.specs.declared.command.Name.TheVariants as names
-use Rattle.xw_commands.specs.declared.command.Named.{Named}
-use Rattle.xw_commands.specs.declared.command.Spot.{Spot}
+use Rattle.xw_commands.specs.declared.command.LightArg.{LightArg}
+use Rattle.xw_commands.specs.declared.command.CellArg.{CellArg}
 use Rattle.xw_commands.specs.declared.command.TextField.{TextField}
 use Rattle.xw_commands.specs.declared.command.TextField.TheVariants.{Title, Author, Copyright, Notes}
 use Rattle.xw_commands.specs.declared.command.WithWord.TheVariants as with_word
@@ -40,11 +40,11 @@ field_name Author = codes "author"
 field_name Copyright = codes "copyright"
 field_name Notes = codes "notes"
 
--- the words of a cell, of a light and of a text's place, with further ones behind them
-abbrev pub at_spot : Spot → List (List ℕ) → List (List ℕ)
+-- the words of a cell, a light or a field, followed by further words
+abbrev pub at_spot : CellArg → List (List ℕ) → List (List ℕ)
 at_spot spot rest = decimal spot.row ∷ decimal spot.col ∷ rest
 
-abbrev pub at_light : Named → List (List ℕ) → List (List ℕ)
+abbrev pub at_light : LightArg → List (List ℕ) → List (List ℕ)
 at_light named rest = decimal named.number ∷ direction_name named.direction ∷ rest
 
 abbrev pub in_field : Field → List (List ℕ) → List (List ℕ)
@@ -55,7 +55,7 @@ abbrev number_if_any : Option ℕ → List (List ℕ)
 number_if_any None = []
 number_if_any (Some number) = decimal number ∷ []
 
--- the words of a command; a text is one word, whatever it has
+-- the words of a command; a text counts as one word, even if it contains spaces
 abbrev pub command_words : Command → List (List ℕ)
 command_words (commands.Size width height) = word_of names.Size ∷ decimal width ∷ decimal height ∷ []
 command_words (commands.Symmetry kind) = word_of names.Symmetry ∷ symmetry_name kind ∷ []

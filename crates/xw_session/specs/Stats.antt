@@ -1,12 +1,12 @@
--- Counts over a whole grid.
+-- The counts of the command `stats`.
 use Rattle.std.specs.Prelude.{ℕ, ◌+◌, ◌*◌, ◌/◌, ◌%◌, Bool, not, ◌==◌, List, [], ◌∷◌, ◌++◌, length, flat_map, codes, decimal, Option, Some, None, true, false, if◌then◌else◌}
 use Rattle.std.specs.List.{range_with_len, count_by, sum_by}
 use Rattle.std.specs.Option.{is_some}
-use Rattle.xw_cells.specs.declared.cell.Cell.{Cell}
-use Rattle.xw_cells.specs.declared.cell.Side.TheVariants.{Right, Below}
-use Rattle.xw_cells.specs.declared.cell.Direction.TheVariants.{Across, Down}
+use Rattle.xw_grid.specs.declared.cell.Cell.{Cell}
+use Rattle.xw_grid.specs.declared.cell.Side.TheVariants.{Right, Below}
+use Rattle.xw_grid.specs.declared.cell.Direction.TheVariants.{Across, Down}
 use Rattle.xw_grid.specs.declared.lights.Light.{Light}
-use Rattle.xw_cells.specs.Grid.{Grid, cells, is_block, is_barred, entry}
+use Rattle.xw_grid.specs.Grid.{Grid, cells, is_block, is_barred, entry}
 use Rattle.xw_grid.specs.Light.{lights_of, place_through}
 use Rattle.xw_session.specs.declared.stats.Tally.{Tally}
 use Rattle.xw_session.specs.declared.stats.Tally.TheVariants as tallies
@@ -18,7 +18,7 @@ abbrev pub is_letter : ℕ → Option ℕ → Bool
 is_letter letter None = false
 is_letter letter (Some entered) = entered == letter
 
--- whether lights pass in one of two directions alone
+-- exactly one of the two directions has a light
 abbrev pub in_one : Bool → Bool → Bool
 in_one true down = not down
 in_one false down = down
@@ -26,7 +26,7 @@ in_one false down = down
 abbrev pub is_unchecked : Grid → Cell → Bool
 is_unchecked grid cell = in_one (is_some (place_through (lights_of grid) Across cell)) (is_some (place_through (lights_of grid) Down cell))
 
--- whether a cell is counted: a block, a cell with a bar at a side, one with a letter, one in one light alone, one with this letter
+-- the cell is a block, has a bar on this side, has a letter, is in exactly one light, or has this letter
 abbrev pub is_counted : Grid → Tally → Cell → Bool
 is_counted grid tallies.Block cell = is_block grid cell
 is_counted grid (tallies.Bar side) cell = is_barred grid cell side
@@ -45,11 +45,11 @@ count_of_size lights size = count_by (λ light. light.size == size) lights
 abbrev pub total_size : List Light → ℕ
 total_size lights = sum_by (λ light. light.size) lights
 
--- hundredths of the mean of so many numbers of this sum, to the nearest, a half up; none of no numbers
+-- the mean of `count` numbers with this sum, in hundredths, rounded to the nearest, with halves up; 0 for no numbers
 abbrev pub mean_hundredths : ℕ → ℕ → ℕ
 mean_hundredths count sum = if count == 0 then 0 else (200 * sum + count) / (2 * count)
 
--- hundredths as a number with two places
+-- hundredths as a number with two decimals
 abbrev pub two_places : ℕ → List ℕ
 two_places hundredths = decimal (hundredths / 100) ++ (46 ∷ (48 + hundredths / 10 % 10) ∷ (48 + hundredths % 10) ∷ [])
 
@@ -58,7 +58,7 @@ two_places hundredths = decimal (hundredths / 100) ++ (46 ∷ (48 + hundredths /
 abbrev pub number_line : List ℕ → ℕ → List ℕ
 number_line name number = line_of (name ∷ decimal number ∷ [])
 
--- so many of a thing; no line for none
+-- the count of a thing; no line for 0
 abbrev pub some_line : List ℕ → List ℕ → ℕ → List ℕ
 some_line name thing count = if count == 0 then [] else line_of (name ∷ thing ∷ decimal count ∷ [])
 
@@ -86,7 +86,7 @@ cells_and_blocks grid = cells_line grid ++ number_line (codes "blocks") (count_o
 abbrev pub bars_and_entries : Grid → List ℕ
 bars_and_entries grid = bars_line grid ++ number_line (codes "entered") (count_of grid tallies.Entered)
 
--- the lengths of 2 to 255 cells that lights have
+-- for each length from 2 to 255, how many lights have it
 abbrev pub size_lines : Grid → List ℕ
 size_lines grid = flat_map (λ before. size_line grid (before + 2)) (range_with_len 0 254)
 
@@ -96,7 +96,7 @@ lights_and_sizes grid = lights_line grid ++ size_lines grid
 abbrev pub unchecked_and_mean : Grid → List ℕ
 unchecked_and_mean grid = number_line (codes "unchecked") (count_of grid tallies.Unchecked) ++ mean_line grid
 
--- the letters A to Z that are entered
+-- for each letter from A to Z, how many cells have it
 abbrev pub letter_lines : Grid → List ℕ
 letter_lines grid = flat_map (λ before. letter_line grid (before + 65)) (range_with_len 0 26)
 

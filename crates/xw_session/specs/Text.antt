@@ -1,23 +1,23 @@
 -- The lines of answers.
 use Rattle.std.specs.Prelude.{ℕ, List, [], ◌∷◌, ◌++◌, map, ◌&&◌, flat_map, codes, decimal, slice_get, Option, Some, None, if◌then◌else◌}
 use Rattle.std.specs.Option.{option_and_then}
-use Rattle.xw_cells.specs.declared.cell.Cell.{Cell}
-use Rattle.xw_cells.specs.declared.cell.Direction.{Direction}
-use Rattle.xw_cells.specs.declared.cell.Direction.TheVariants.{Across, Down}
-use Rattle.xw_cells.specs.declared.fault.GridFault.{GridFault}
-use Rattle.xw_cells.specs.declared.fault.GridFault.TheVariants as grids
+use Rattle.xw_grid.specs.declared.cell.Cell.{Cell}
+use Rattle.xw_grid.specs.declared.cell.Direction.{Direction}
+use Rattle.xw_grid.specs.declared.cell.Direction.TheVariants.{Across, Down}
+use Rattle.xw_grid.specs.declared.fault.GridFault.{GridFault}
+use Rattle.xw_grid.specs.declared.fault.GridFault.TheVariants as grids
 use Rattle.xw_grid.specs.declared.lights.Light.{Light}
-use Rattle.xw_cells.specs.Grid.{Grid, entry, is_open, cells}
+use Rattle.xw_grid.specs.Grid.{Grid, entry, is_open, cells}
 use Rattle.xw_grid.specs.Clue.{is_circled}
 use Rattle.xw_grid.specs.Light.{cells_of, lights_of, place_named}
-use Rattle.xw_cells.specs.declared.cell.LightName.{LightName}
+use Rattle.xw_grid.specs.declared.cell.LightName.{LightName}
 use Rattle.xw_words.specs.Dictionary.{entry_at, row as known_words}
 use Rattle.xw_feas.specs.State.{State as Position}
 use Rattle.xw_fill.specs.declared.listing.Duplicate.{Duplicate}
 use Rattle.xw_fill.specs.declared.suggesting.Suggestion.{Suggestion}
 use Rattle.xw_fill.specs.declared.suggesting.Suggestion.TheVariants as suggestions
-use Rattle.xw_bits.specs.declared.fault.WordFault.{WordFault}
-use Rattle.xw_bits.specs.declared.fault.WordFault.TheVariants as words
+use Rattle.xw_words.specs.declared.fault.WordFault.{WordFault}
+use Rattle.xw_words.specs.declared.fault.WordFault.TheVariants as words
 use Rattle.xw_commands.specs.declared.command.SyntaxFault.{SyntaxFault}
 use Rattle.xw_commands.specs.declared.command.SyntaxFault.TheVariants as syntax
 use Rattle.xw_session.specs.declared.refusal.Refusal.{Refusal}
@@ -32,7 +32,7 @@ line_of (word ∷ next ∷ words) = (word ++ codes " ") ++ line_of (next ∷ wor
 abbrev pub accepted : List ℕ
 accepted = line_of (codes "ok" ∷ [])
 
--- a word of the dictionary on a line of its own
+-- a word on a line
 abbrev pub word_line : List ℕ → List ℕ
 word_line word = line_of (word ∷ [])
 
@@ -60,7 +60,7 @@ syntax_fault syntax.LineTooLong = codes "LineTooLong"
 syntax_fault syntax.Command = codes "Command"
 syntax_fault syntax.Arguments = codes "Arguments"
 
--- the name of a refusal, without its place
+-- the name of a refusal, without the place of the fault
 abbrev pub name_of : Refusal → List ℕ
 name_of (refusals.Syntax fault) = syntax_fault fault
 name_of (refusals.Word fault) = word_fault fault
@@ -75,7 +75,7 @@ refused refusal = line_of (codes "no" ∷ name_of refusal ∷ [])
 
 -- ---- lights and cells
 
--- letters, or a dash where there are none
+-- the letters, or a dash if there are none
 abbrev pub letters_or_dash : List ℕ → List ℕ
 letters_or_dash [] = codes "-"
 letters_or_dash (letter ∷ letters) = letter ∷ letters
@@ -84,11 +84,11 @@ letters_or_dash (letter ∷ letters) = letter ∷ letters
 abbrev pub letters_line : List ℕ → List ℕ
 letters_line letters = line_of (letters_or_dash letters ∷ [])
 
--- a cell whose feasible letters changed, with its letters now
+-- a cell with its new feasible letters
 abbrev pub change_line : Cell × List ℕ → List ℕ
 change_line change = line_of (codes "cell" ∷ decimal change.0.row ∷ decimal change.0.col ∷ letters_or_dash change.1 ∷ [])
 
--- feasible words, their number first
+-- the number of words, and then the words
 abbrev pub counted_lines : ℕ → List (List ℕ) → List ℕ
 counted_lines count found = line_of (decimal count ∷ []) ++ flat_map word_line found
 
@@ -96,45 +96,45 @@ abbrev pub direction_name : Direction → List ℕ
 direction_name Across = codes "across"
 direction_name Down = codes "down"
 
--- a letter, or a dot where there is none
+-- the letter, or a dot if there is none
 abbrev pub letter_or_dot : Option ℕ → ℕ
 letter_or_dot None = 46
 letter_or_dot (Some letter) = letter
 
--- the letters of a light
+-- the letters of a light, with a dot for each empty cell
 abbrev pub pattern : Grid → Light → List ℕ
 pattern grid light = map (λ cell. letter_or_dot (entry grid cell)) (cells_of light)
 
 abbrev pub light_line : Grid → Light → List ℕ
 light_line grid light = line_of (decimal light.name.number ∷ direction_name light.name.direction ∷ decimal light.start.row ∷ decimal light.start.col ∷ pattern grid light ∷ [])
 
--- the light of a name
+-- the light with this name
 abbrev pub light_of : Grid → LightName → Option Light
 light_of grid name = option_and_then (slice_get (lights_of grid)) (place_named (lights_of grid) name)
 
--- the letters of the light of a name
+-- the letters of a light, or none if there is no light
 abbrev pub pattern_of : Grid → Option Light → List ℕ
 pattern_of grid None = []
 pattern_of grid (Some light) = pattern grid light
 
--- a light that spells what an earlier one does: both, and what they spell
+-- a light, the first earlier light that spells the same, and the word
 abbrev pub duplicate_line : Grid → Duplicate → List ℕ
 duplicate_line grid found = line_of (decimal found.light.number ∷ direction_name found.light.direction ∷ decimal found.first.number ∷ direction_name found.first.direction ∷ pattern_of grid (light_of grid found.light) ∷ [])
 
--- a light and what it spells
+-- a light and its word
 abbrev pub spelled_line : Grid → LightName → List ℕ
 spelled_line grid name = line_of (decimal name.number ∷ direction_name name.direction ∷ pattern_of grid (light_of grid name) ∷ [])
 
--- the length of the light of a name
+-- the length of a light, or 0 if there is no light
 abbrev pub size_of : Option Light → ℕ
 size_of None = 0
 size_of (Some light) = light.size
 
--- the known word at a place among those as long as a light
+-- the known word at an index among those of the light's length
 abbrev pub word_at : Position → LightName → ℕ → List ℕ
 word_at position name place = (entry_at (known_words position.words (size_of (light_of position.grid name))) place).word
 
--- what is proposed
+-- the line of a suggestion
 abbrev pub suggestion_line : Position → Suggestion → List ℕ
 suggestion_line position (suggestions.Dead name) = line_of (codes "dead" ∷ decimal name.number ∷ direction_name name.direction ∷ [])
 suggestion_line position suggestions.Done = line_of (codes "done" ∷ [])
@@ -145,14 +145,14 @@ suggestion_line position (suggestions.NoWord name) = line_of (codes "noword" ∷
 abbrev pub light_lines : Grid → List ℕ
 light_lines grid = flat_map (light_line grid) (lights_of grid)
 
--- a cell by its row and column
+-- the row and column of a cell
 abbrev pub cell_line : Cell → List ℕ
 cell_line cell = line_of (decimal cell.row ∷ decimal cell.col ∷ [])
 
--- the line of a cell that is open and circled, and none for another one
+-- the line of an open circled cell, and nothing for any other cell
 abbrev pub circle_line : Grid → List Cell → Cell → List ℕ
 circle_line grid circles cell = if is_open grid cell && is_circled circles cell then cell_line cell else []
 
--- the circled cells of a grid that are open, in reading order
+-- the open circled cells, in reading order
 abbrev pub circle_lines : Grid → List Cell → List ℕ
 circle_lines grid circles = flat_map (circle_line grid circles) (cells grid)

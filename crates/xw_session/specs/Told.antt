@@ -1,10 +1,10 @@
--- What is told of a whole puzzle.
+-- What the commands `cells`, `counts` and `texts` report.
 use Rattle.std.specs.Prelude.{ℕ, List, [], ◌∷◌, ◌++◌, length, flat_map, codes, decimal, slice_index_or, if◌then◌else◌}
 use Rattle.std.specs.List.{range_with_len}
-use Rattle.xw_cells.specs.declared.cell.Cell.{Cell}
-use Rattle.xw_cells.specs.declared.cell.LightName.{LightName}
+use Rattle.xw_grid.specs.declared.cell.Cell.{Cell}
+use Rattle.xw_grid.specs.declared.cell.LightName.{LightName}
 use Rattle.xw_grid.specs.declared.lights.Light.{Light}
-use Rattle.xw_cells.specs.Grid.{Grid, is_open, index_of, cells}
+use Rattle.xw_grid.specs.Grid.{Grid, is_open, index_of, cells}
 use Rattle.xw_grid.specs.Light.{lights_of, no_light}
 use Rattle.xw_grid.specs.Clue.{ClueMap}
 use Rattle.xw_feas.specs.State.{State as Position}
@@ -16,7 +16,7 @@ use Rattle.xw_session.specs.State.{State}
 use Rattle.xw_session.specs.Text.{line_of, change_line, direction_name}
 use Rattle.xw_session.specs.Escape.{escaped_text}
 
--- an open cell with its feasible letters, as the watch tells it; nothing for a block
+-- an open cell with its feasible letters, in the form of the watch; nothing for a block
 abbrev pub letters_told : Position → Cell → List ℕ
 letters_told position cell = if is_open position.grid cell then change_line (cell, feasible_letters (position_of position) (index_of position.grid cell)) else []
 
@@ -24,11 +24,11 @@ letters_told position cell = if is_open position.grid cell then change_line (cel
 abbrev pub cell_lines : Position → List ℕ
 cell_lines position = flat_map (letters_told position) (cells position.grid)
 
--- a light with a number
+-- a light's name with a number
 abbrev pub numbered_line : LightName → ℕ → List ℕ
 numbered_line name count = line_of (decimal name.number ∷ direction_name name.direction ∷ decimal count ∷ [])
 
--- the light at a place with the number of its feasible words
+-- the light at an index, with the number of its feasible words
 abbrev pub count_line : Position → ℕ → List ℕ
 count_line position place = numbered_line (slice_index_or (lights_of position.grid) place no_light).name (length (feasible_words (position_of position) place))
 
@@ -36,7 +36,7 @@ count_line position place = numbered_line (slice_index_or (lights_of position.gr
 abbrev pub count_lines : Position → List ℕ
 count_lines position = flat_map (count_line position) (range_with_len 0 (length (lights_of position.grid)))
 
--- a text behind its name; nothing where it is empty
+-- the name of a text and the text; nothing if it is empty
 abbrev pub field_line : List ℕ → List ℕ → List ℕ
 field_line name [] = []
 field_line name (byte ∷ bytes) = line_of (name ∷ escaped_text (byte ∷ bytes) ∷ [])
@@ -55,7 +55,7 @@ copyright_and_notes texts = field_line (codes "copyright") texts.copyright ++ fi
 abbrev pub field_lines : TextsShown → List ℕ
 field_lines texts = title_and_author texts ++ copyright_and_notes texts
 
--- the clue of a light
+-- the clue of a light; nothing if it is empty
 abbrev pub clue_told : ClueMap → Light → List ℕ
 clue_told clues light = clue_line light.name (clue_of clues light)
 

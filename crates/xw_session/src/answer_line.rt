@@ -1,14 +1,14 @@
-//! Lines of an answer, put together to be written at once.
+//! A buffer for answer lines, so that they are written in few calls.
 ghost use Rattle.std.specs.Prelude.{◌≡◌, ◌+◌, ◌<◌, ◌≤◌, true, false, [], ◌∷◌, ◌++◌, length, map};
 ghost use Rattle.xw_session.specs.Text.{line_of};
 
 use std::marker::Model;
 use xw_letters::Letter;
 
-/// How many bytes are put together: a row of the largest grid has 510.
+/// The capacity in bytes. A row of the largest grid has 510 bytes.
 const MOST: usize = 512;
 
-/// The bytes of a line so far, which take no memory.
+/// A fixed-size buffer for answer lines. It allocates nothing.
 #[derive(Drop)]
 pub struct AnswerLine {
     bytes: [u8; MOST],
@@ -25,7 +25,7 @@ impl Model for AnswerLine {
     ghost invariant = { λ line. line.len ≤ 512 };
 }
 
-/// Puts letters down as bytes.
+/// Copies letters into a buffer of the same length.
 fn put_letters(bytes: &mut [u8], letters: &[Letter])
     requires { length bytes.old ≡ length letters.now }
     ensures { bytes.new ≡ letters.now }
@@ -45,14 +45,14 @@ impl AnswerLine {
         }
     }
 
-    /// Begins the line anew.
+    /// Empties the buffer.
     pub fn clear(&mut self)
         ensures { self.new ≡ [] }
     {
         self.len = 0;
     }
 
-    /// Puts a byte at the end, where there is room.
+    /// Appends a byte if it fits. Returns whether it did.
     pub fn push_byte(&mut self, byte: u8) -> bool
         ensures fits { result ≡ true → self.new ≡ self.old ++ byte ∷ [] }
         ensures room { length self.old < 512 → result ≡ true }
@@ -65,7 +65,7 @@ impl AnswerLine {
         true
     }
 
-    /// Puts two bytes at the end, where there is room.
+    /// Appends two bytes. Returns whether both fit; the contents are unspecified if not.
     pub fn push_pair(&mut self, pair: [u8; 2]) -> bool
         ensures fits { result ≡ true → self.new ≡ self.old ++ pair }
         ensures room { length self.old + 2 ≤ 512 → result ≡ true }
@@ -73,7 +73,7 @@ impl AnswerLine {
         self.push_byte(pair[0]) && self.push_byte(pair[1])
     }
 
-    /// Puts bytes at the end, where there is room; else the line is not to be used.
+    /// Appends bytes if they fit. Returns whether they did.
     pub fn push(&mut self, bytes: &[u8]) -> bool
         ensures fits { result ≡ true → self.new ≡ self.old ++ bytes.now }
         ensures room { length self.old + length bytes.now ≤ 512 → result ≡ true }
@@ -87,7 +87,7 @@ impl AnswerLine {
         true
     }
 
-    /// Puts a word and an LF at the end, where there is room.
+    /// Appends a word and an LF if both fit. Returns whether they did; the buffer is unchanged if not.
     pub fn push_word(&mut self, word: &[Letter]) -> bool
         ensures fits { result ≡ true → self.new ≡ self.old ++ line_of (word.now ∷ []) }
         ensures full { result ≡ false → self.new ≡ self.old }
@@ -101,7 +101,8 @@ impl AnswerLine {
         self.push_byte(b'\n')
     }
 
-    /// Puts words at the end, with a space between them and an LF behind them, where there is room.
+    /// Appends words with a space between them and an LF after them. Returns `false` if they do not fit; the contents
+    /// are then unspecified.
     pub fn join(&mut self, words: &[&[u8]]) -> bool
         ensures { result ≡ true → self.new ≡ self.old ++ line_of (map (λ word. word.now) words.now) }
     {

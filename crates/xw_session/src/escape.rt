@@ -1,4 +1,4 @@
-//! Texts as lines spell them, with escapes.
+//! Escapes in texts: LF, CR, tab, space and backslash as a backslash and a letter.
 ghost use Rattle.std.specs.Prelude.{◌≡◌, ℕ, ◌<◌, ◌++◌, [], ◌∷◌, List, Some, length, not, IfOk, MatchOption};
 ghost use Rattle.std.specs.Option.{is_some};
 ghost use Rattle.xw_lines.specs.Sends.{Sends};
@@ -8,7 +8,7 @@ ghost use Rattle.xw_session.specs.Escape.{meaning as meaning_of, added as added_
 use std::alloc::{AllocError, Global};
 use xw_lines::device::{self, Sink, WriteFailed};
 
-/// What a letter after a backslash stands for.
+/// Returns the byte of an escape, from the letter after its backslash.
 fn meaning(letter: u8) -> Option<u8>
     ensures { result ≡ meaning_of letter }
 {
@@ -28,14 +28,14 @@ fn begins_escape(is_within: bool, byte: u8) -> bool
     !is_within && byte == b'\\'
 }
 
-/// Whether a byte ends an escape that there is not.
+/// Returns whether a byte ends an invalid escape.
 fn is_fault(is_within: bool, byte: u8) -> bool
     ensures { result ≡ not (is_some (added_so is_within byte)) }
 {
     is_within && meaning(byte).is_none()
 }
 
-/// Whether each backslash begins an escape or ends one.
+/// Returns whether all escapes of a spelling are valid and complete.
 pub fn is_spelling(spelling: &[u8]) -> bool
     ensures { result ≡ is_some (text_spelled spelling.now) }
 {
@@ -49,7 +49,8 @@ pub fn is_spelling(spelling: &[u8]) -> bool
     !is_within
 }
 
-/// The byte that a byte of a spelling adds to its text, in an escape or not.
+/// Returns the byte that a byte of a spelling adds to its text. `is_within` says whether a backslash of an escape
+/// precedes it. A backslash that begins an escape adds nothing.
 fn added(is_within: bool, byte: u8) -> Option<u8>
     ensures { MatchOption result
         ((front : List ℕ) → added_so is_within byte ≡ Some front → front ≡ [])
@@ -65,7 +66,7 @@ fn added(is_within: bool, byte: u8) -> Option<u8>
     }
 }
 
-/// A text with the one that is spelled behind it.
+/// Appends the text of a spelling to another text. The spelling must be valid for the result to be its text.
 pub fn behind(alloc: Global, front: &[u8], spelling: &[u8]) -> Result<Vec<u8>, AllocError>
     ensures { IfOk result (λ text. (piece : List ℕ) → text_spelled spelling.now ≡ Some piece → text.items ≡ front.now ++ piece) }
 {
@@ -80,7 +81,7 @@ pub fn behind(alloc: Global, front: &[u8], spelling: &[u8]) -> Result<Vec<u8>, A
     Ok(text)
 }
 
-/// The letter of the escape for a byte, at an end of its text or within it.
+/// Returns the escape letter of a byte, if it needs one. Spaces and tabs need one only at an end of the text.
 fn letter_for(is_end: bool, byte: u8) -> Option<u8>
     ensures { result ≡ letter_for_byte is_end byte }
 {
@@ -101,9 +102,9 @@ fn is_end(text: &[u8], place: usize) -> bool
     place == 0 || place + 1 == text.len()
 }
 
-/// Writes a byte, with a backslash and a letter in place of it where it has an escape.
+/// Writes a byte, or its escape if it has an escape letter.
 fn write_escaped<W: Sink>(sink: &mut W, byte: u8, letter: Option<u8>) -> Result<(), WriteFailed>
-    ensures { Sends W.told W.failures sink.old sink.new result (escaped byte letter) }
+    ensures { Sends W.transcript W.failures sink.old sink.new result (escaped byte letter) }
 {
     match letter {
         Some(letter) => device::write_all(sink, &[b'\\', letter]),
@@ -111,17 +112,17 @@ fn write_escaped<W: Sink>(sink: &mut W, byte: u8, letter: Option<u8>) -> Result<
     }
 }
 
-/// Writes the byte at a place of a text.
+/// Writes the byte of a text at an index, escaped if needed.
 fn write_at<W: Sink>(sink: &mut W, text: &[u8], place: usize) -> Result<(), WriteFailed>
     requires { place < length text.now }
-    ensures { Sends W.told W.failures sink.old sink.new result (spelled_at text.now place) }
+    ensures { Sends W.transcript W.failures sink.old sink.new result (spelled_at text.now place) }
 {
     let byte = text[place];
     write_escaped(sink, byte, letter_for(is_end(text, place), byte))
 }
 
 fn write<W: Sink>(sink: &mut W, text: &[u8]) -> Result<(), WriteFailed>
-    ensures { Sends W.told W.failures sink.old sink.new result (escaped_text text.now) }
+    ensures { Sends W.transcript W.failures sink.old sink.new result (escaped_text text.now) }
 {
     for place in 0..text.len() {
         write_at(sink, text, place)?;
@@ -129,9 +130,9 @@ fn write<W: Sink>(sink: &mut W, text: &[u8]) -> Result<(), WriteFailed>
     Ok(())
 }
 
-/// Writes a text, and ends the line.
+/// Writes a text with escapes, and an LF.
 pub fn write_line<W: Sink>(sink: &mut W, text: &[u8]) -> Result<(), WriteFailed>
-    ensures { Sends W.told W.failures sink.old sink.new result (line_of (escaped_text text.now ∷ [])) }
+    ensures { Sends W.transcript W.failures sink.old sink.new result (line_of (escaped_text text.now ∷ [])) }
 {
     write(sink, text)?;
     device::write_all(sink, b"\n")

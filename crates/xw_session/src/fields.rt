@@ -1,4 +1,4 @@
-//! The texts and the clues of a puzzle, as answers tell them.
+//! Writes the texts and clues of a puzzle for the command `texts`.
 ghost use Rattle.std.specs.Prelude.{◌≡◌, ◌<◌, [], ◌∷◌, length, decimal, slice_index_or};
 ghost use Rattle.xw_grid.specs.Light.{lights_of, no_light};
 ghost use Rattle.xw_grid.specs.Puzzle.{texts_view};
@@ -8,14 +8,13 @@ ghost use Rattle.xw_session.specs.Escape.{escaped_text};
 ghost use Rattle.xw_session.specs.Told.{field_line, title_and_author, copyright_and_notes, field_lines, clue_line, clue_told, clue_lines};
 
 use crate::{escape, text};
-use xw_cells::{Direction, Grid, LightName};
 use xw_grid::puzzle::Texts;
-use xw_grid::{Clues, Lights};
+use xw_grid::{Clues, Direction, Grid, LightName, Lights};
 use xw_lines::device::{Sink, WriteFailed};
 
-/// Writes a text behind its name, where it is not empty.
+/// Writes the name of a text and the text. Writes nothing if the text is empty.
 fn write_field<W: Sink>(sink: &mut W, name: &[u8], text: &[u8]) -> Result<(), WriteFailed>
-    ensures { Sends W.told W.failures sink.old sink.new result (field_line name.now text.now) }
+    ensures { Sends W.transcript W.failures sink.old sink.new result (field_line name.now text.now) }
 {
     if text.is_empty() {
         return Ok(());
@@ -25,14 +24,14 @@ fn write_field<W: Sink>(sink: &mut W, name: &[u8], text: &[u8]) -> Result<(), Wr
 }
 
 fn write_title_and_author<W: Sink>(sink: &mut W, texts: &Texts) -> Result<(), WriteFailed>
-    ensures { Sends W.told W.failures sink.old sink.new result (title_and_author (texts_view texts.now)) }
+    ensures { Sends W.transcript W.failures sink.old sink.new result (title_and_author (texts_view texts.now)) }
 {
     write_field(sink, b"title", &texts.title)?;
     write_field(sink, b"author", &texts.author)
 }
 
 fn write_copyright_and_notes<W: Sink>(sink: &mut W, texts: &Texts) -> Result<(), WriteFailed>
-    ensures { Sends W.told W.failures sink.old sink.new result (copyright_and_notes (texts_view texts.now)) }
+    ensures { Sends W.transcript W.failures sink.old sink.new result (copyright_and_notes (texts_view texts.now)) }
 {
     write_field(sink, b"copyright", &texts.copyright)?;
     write_field(sink, b"notes", &texts.notes)
@@ -40,39 +39,39 @@ fn write_copyright_and_notes<W: Sink>(sink: &mut W, texts: &Texts) -> Result<(),
 
 /// Writes the texts that are not empty.
 pub fn write_fields<W: Sink>(sink: &mut W, texts: &Texts) -> Result<(), WriteFailed>
-    ensures { Sends W.told W.failures sink.old sink.new result (field_lines (texts_view texts.now)) }
+    ensures { Sends W.transcript W.failures sink.old sink.new result (field_lines (texts_view texts.now)) }
 {
     write_title_and_author(sink, texts)?;
     write_copyright_and_notes(sink, texts)
 }
 
-/// Writes the way of a light and a text, and ends the line.
+/// Writes a direction, a text with escapes, and an LF.
 pub fn write_directed_text<W: Sink>(
     sink: &mut W,
     direction: Direction,
     text: &[u8],
 ) -> Result<(), WriteFailed>
-    ensures { Sends W.told W.failures sink.old sink.new result (line_of (name_of_direction direction ∷ escaped_text text.now ∷ [])) }
+    ensures { Sends W.transcript W.failures sink.old sink.new result (line_of (name_of_direction direction ∷ escaped_text text.now ∷ [])) }
 {
     text::write_direction_spaced(sink, direction)?;
     escape::write_line(sink, text)
 }
 
-/// Writes a light and a text, and ends the line.
+/// Writes a light's name, a text with escapes, and an LF.
 fn write_light_and_text<W: Sink>(
     sink: &mut W,
     light: LightName,
     text: &[u8],
 ) -> Result<(), WriteFailed>
-    ensures { Sends W.told W.failures sink.old sink.new result (line_of (decimal light.number ∷ name_of_direction light.direction ∷ escaped_text text.now ∷ [])) }
+    ensures { Sends W.transcript W.failures sink.old sink.new result (line_of (decimal light.number ∷ name_of_direction light.direction ∷ escaped_text text.now ∷ [])) }
 {
     text::write_number_spaced(sink, light.number)?;
     write_directed_text(sink, light.direction, text)
 }
 
-/// Writes the clue of a light, where it has one.
+/// Writes the clue of a light. Writes nothing if it is empty.
 fn write_clue<W: Sink>(sink: &mut W, light: LightName, text: &[u8]) -> Result<(), WriteFailed>
-    ensures { Sends W.told W.failures sink.old sink.new result (clue_line light text.now) }
+    ensures { Sends W.transcript W.failures sink.old sink.new result (clue_line light text.now) }
 {
     if text.is_empty() {
         return Ok(());
@@ -81,7 +80,7 @@ fn write_clue<W: Sink>(sink: &mut W, light: LightName, text: &[u8]) -> Result<()
     write_light_and_text(sink, light, text)
 }
 
-/// Writes the clue of the light at a place.
+/// Writes the clue of the light at an index.
 fn write_clue_at<W: Sink>(
     sink: &mut W,
     lights: &Lights,
@@ -89,7 +88,7 @@ fn write_clue_at<W: Sink>(
     place: usize,
 ) -> Result<(), WriteFailed>
     requires { place < length lights.now }
-    ensures { Sends W.told W.failures sink.old sink.new result (clue_told clues.now (slice_index_or lights.now place no_light)) }
+    ensures { Sends W.transcript W.failures sink.old sink.new result (clue_told clues.now (slice_index_or lights.now place no_light)) }
 {
     match lights.get(place) {
         Some(light) => {
@@ -100,7 +99,7 @@ fn write_clue_at<W: Sink>(
     }
 }
 
-/// Writes the clues of the lights.
+/// Writes the clues of the lights that have one, in light order.
 pub fn write_clues<W: Sink>(
     sink: &mut W,
     grid: &Grid,
@@ -108,7 +107,7 @@ pub fn write_clues<W: Sink>(
     clues: &Clues,
 ) -> Result<(), WriteFailed>
     requires { lights.now ≡ lights_of grid.now }
-    ensures { Sends W.told W.failures sink.old sink.new result (clue_lines clues.now grid.now) }
+    ensures { Sends W.transcript W.failures sink.old sink.new result (clue_lines clues.now grid.now) }
 {
     for place in 0..lights.len() {
         write_clue_at(sink, lights, clues, place)?;

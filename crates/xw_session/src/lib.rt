@@ -1,10 +1,9 @@
-//! A session: what is kept between lines, and the answer to each.
+//! A session: the puzzle being edited, and the answer to each line of commands.
 #![tactic(auto)]
 
 mod answer_line;
 mod escape;
 mod fields;
-mod gathered;
 mod light_line;
 mod lists;
 mod lookup;
@@ -17,6 +16,7 @@ mod show;
 mod spelling;
 mod stats;
 mod text;
+mod vec_sink;
 
 pub use session::Session;
 pub use xw_lines::{DeviceFault, FromRead, RunEnd, Sink, Source, Step, ToWrite, WriteFailed};

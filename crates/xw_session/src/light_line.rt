@@ -1,13 +1,12 @@
-//! The line of a light, put together.
+//! Builds the line of a light for the command `lights`.
 ghost use Rattle.std.specs.Prelude.{◌≡◌, ◌+◌, ◌<◌, ◌≤◌, ◌^◌, ◌++◌, codes, decimal, length};
 ghost use Rattle.xw_session.specs.Text.{direction_name as name_of_direction, pattern as pattern_in, light_line};
 
 use crate::answer_line::AnswerLine;
 use crate::text::{Decimal, direction_name, letter_or_dot};
-use xw_cells::{Direction, Grid};
-use xw_grid::Light;
+use xw_grid::{Direction, Grid, Light};
 
-/// Puts a word and a space at the end of a line.
+/// Appends a word and a space.
 fn put_spaced(line: &mut AnswerLine, word: &[u8])
     requires { length line.old + length word.now + 1 ≤ 512 }
     ensures { line.new ≡ line.old ++ word.now ++ codes " " }
@@ -16,7 +15,7 @@ fn put_spaced(line: &mut AnswerLine, word: &[u8])
     let _ = line.push_byte(b' ');
 }
 
-/// Puts a number and a space at the end of a line.
+/// Appends a number and a space.
 fn put_number(line: &mut AnswerLine, number: u64)
     requires { length line.old + 21 ≤ 512 }
     ensures is { line.new ≡ line.old ++ decimal number ++ codes " " }
@@ -26,7 +25,7 @@ fn put_number(line: &mut AnswerLine, number: u64)
     put_spaced(line, number.digits());
 }
 
-/// Puts the way of a light and a space at the end of a line.
+/// Appends a direction and a space.
 fn put_direction(line: &mut AnswerLine, direction: Direction)
     requires { length line.old + 7 ≤ 512 }
     ensures is { line.new ≡ line.old ++ name_of_direction direction ++ codes " " }
@@ -35,7 +34,7 @@ fn put_direction(line: &mut AnswerLine, direction: Direction)
     put_spaced(line, direction_name(direction).as_bytes());
 }
 
-/// Puts the letters of a light at the end of a line, with a dot for each empty cell.
+/// Appends the letters of a light, with a dot for each empty cell.
 fn put_letters(line: &mut AnswerLine, grid: &Grid, light: &Light)
     requires room { length line.old + 255 ≤ 512 }
     requires short { light.now.size ≤ 255 }
@@ -48,7 +47,7 @@ fn put_letters(line: &mut AnswerLine, grid: &Grid, light: &Light)
     }
 }
 
-/// Puts a light with its start cell and its letters together.
+/// Builds the line of a light: its name, its start cell and its letters.
 pub fn put_light(line: &mut AnswerLine, grid: &Grid, light: &Light)
     requires short { light.now.size ≤ 255 }
     requires inside { (light.now.start.row ≤ 255) × (light.now.start.col ≤ 255) }

@@ -1,4 +1,4 @@
-//! Lists that are answered, one line after another.
+//! Writes answers that are lists, one line per item.
 ghost use Rattle.std.specs.Prelude.{◌≡◌, ◌<◌, ◌≤◌, flat_map, length, slice_index_or, take};
 ghost use Rattle.xw_grid.specs.Light.{lights_of, no_light};
 ghost use Rattle.xw_feas.specs.Changed.{changes_left};
@@ -9,18 +9,17 @@ ghost use Rattle.xw_session.specs.Text.{word_line, light_line, light_lines, circ
 use crate::answer_line::AnswerLine;
 use crate::spelling::gather_letters_line;
 use crate::{light_line, text};
-use xw_cells::{Cell, Grid, LightName};
 use xw_feas::changed::Changed;
 use xw_feas::feasible::Feasible;
-use xw_feas::words::WordIter;
+use xw_feas::word_iter::WordIter;
 use xw_fill::listing::Duplicate;
-use xw_grid::{Circles, Light, Lights};
+use xw_grid::{Cell, Circles, Grid, Light, LightName, Lights};
 use xw_lines::device::{self, Sink, WriteFailed};
 use xw_words::Matching;
 
-/// Writes words, each on a line.
+/// Writes each word on a line.
 pub fn write_words<W: Sink>(sink: &mut W, words: Matching<'_>) -> Result<(), WriteFailed>
-    ensures { Sends W.told W.failures sink.old sink.new result (flat_map word_line words.entry) }
+    ensures { Sends W.transcript W.failures sink.old sink.new result (flat_map word_line words.entry) }
 {
     let mut lines = AnswerLine::new();
     for word in words {
@@ -29,10 +28,10 @@ pub fn write_words<W: Sink>(sink: &mut W, words: Matching<'_>) -> Result<(), Wri
     device::write_all(sink, lines.bytes())
 }
 
-/// Writes lights, each on a line.
+/// Writes each light on a line.
 pub fn write_lights<W: Sink>(sink: &mut W, grid: &Grid, lights: &Lights) -> Result<(), WriteFailed>
     requires { lights.now ≡ lights_of grid.now }
-    ensures { Sends W.told W.failures sink.old sink.new result (light_lines grid.now) }
+    ensures { Sends W.transcript W.failures sink.old sink.new result (light_lines grid.now) }
 {
     let mut line = AnswerLine::new();
     for place in 0..lights.len() {
@@ -41,7 +40,7 @@ pub fn write_lights<W: Sink>(sink: &mut W, grid: &Grid, lights: &Lights) -> Resu
     Ok(())
 }
 
-/// Writes the light at a place.
+/// Writes the line of the light at an index.
 fn write_light_at<W: Sink>(
     sink: &mut W,
     line: &mut AnswerLine,
@@ -51,7 +50,7 @@ fn write_light_at<W: Sink>(
 ) -> Result<(), WriteFailed>
     requires lights { lights.now ≡ lights_of grid.now }
     requires place { place < length lights.now }
-    ensures { Sends W.told W.failures sink.old sink.new result (light_line grid.now (slice_index_or lights.now place no_light)) }
+    ensures { Sends W.transcript W.failures sink.old sink.new result (light_line grid.now (slice_index_or lights.now place no_light)) }
 {
     grid.well_formed();
     match lights.get(place) {
@@ -60,7 +59,7 @@ fn write_light_at<W: Sink>(
     }
 }
 
-/// Writes a light with its start cell and its letters.
+/// Writes the line of a light: its name, its start cell and its letters.
 fn write_light<W: Sink>(
     sink: &mut W,
     line: &mut AnswerLine,
@@ -69,20 +68,20 @@ fn write_light<W: Sink>(
 ) -> Result<(), WriteFailed>
     requires short { light.now.size ≤ 255 }
     requires inside { (light.now.start.row ≤ 255) × (light.now.start.col ≤ 255) }
-    ensures { Sends W.told W.failures sink.old sink.new result (light_line grid.now light.now) }
+    ensures { Sends W.transcript W.failures sink.old sink.new result (light_line grid.now light.now) }
 {
     light_line::put_light(line, grid, light);
     device::write_all(sink, line.bytes())
 }
 
-/// Writes a cell on a line where it is open and circled.
+/// Writes the line of a cell if the cell is open and circled.
 fn write_circle<W: Sink>(
     sink: &mut W,
     grid: &Grid,
     circles: &Circles,
     cell: Cell,
 ) -> Result<(), WriteFailed>
-    ensures { Sends W.told W.failures sink.old sink.new result (circle_line grid.now circles.now cell) }
+    ensures { Sends W.transcript W.failures sink.old sink.new result (circle_line grid.now circles.now cell) }
 {
     if grid.is_open(cell) && circles.has(cell) {
         text::write_cell(sink, cell)
@@ -91,13 +90,13 @@ fn write_circle<W: Sink>(
     }
 }
 
-/// Writes the open cells that are circled, each on a line.
+/// Writes each open circled cell on a line, in reading order.
 pub fn write_circles<W: Sink>(
     sink: &mut W,
     grid: &Grid,
     circles: &Circles,
 ) -> Result<(), WriteFailed>
-    ensures { Sends W.told W.failures sink.old sink.new result (circle_lines grid.now circles.now) }
+    ensures { Sends W.transcript W.failures sink.old sink.new result (circle_lines grid.now circles.now) }
 {
     for place in 0..grid.size() {
         write_circle(sink, grid, circles, grid.cell_at(place))?;
@@ -105,9 +104,9 @@ pub fn write_circles<W: Sink>(
     Ok(())
 }
 
-/// Writes the cells that changed, each with its letters on a line.
+/// Writes each changed cell with its feasible letters on a line.
 pub fn write_changes<W: Sink>(sink: &mut W, changed: Changed<'_>) -> Result<(), WriteFailed>
-    ensures { Sends W.told W.failures sink.old sink.new result (flat_map change_line (spelled_out (changes_left changed.entry))) }
+    ensures { Sends W.transcript W.failures sink.old sink.new result (flat_map change_line (spelled_out (changes_left changed.entry))) }
 {
     for change in changed {
         let (cell, letters) = change;
@@ -116,12 +115,12 @@ pub fn write_changes<W: Sink>(sink: &mut W, changed: Changed<'_>) -> Result<(), 
     Ok(())
 }
 
-/// Writes feasible words, each on a line.
+/// Writes each feasible word on a line.
 pub fn write_feasible<E: Feasible, W: Sink>(
     sink: &mut W,
     words: WordIter<'_, E>,
 ) -> Result<(), WriteFailed>
-    ensures { Sends W.told W.failures sink.old sink.new result (flat_map word_line words.entry) }
+    ensures { Sends W.transcript W.failures sink.old sink.new result (flat_map word_line words.entry) }
 {
     let mut lines = AnswerLine::new();
     for word in words {
@@ -130,13 +129,13 @@ pub fn write_feasible<E: Feasible, W: Sink>(
     device::write_all(sink, lines.bytes())
 }
 
-/// Writes the first feasible words, no more than so many, each on a line.
+/// Writes at most `most` feasible words, each on a line.
 pub fn write_first_feasible<E: Feasible, W: Sink>(
     sink: &mut W,
     words: WordIter<'_, E>,
     most: u64,
 ) -> Result<(), WriteFailed>
-    ensures { Sends W.told W.failures sink.old sink.new result (flat_map word_line (take most words.entry)) }
+    ensures { Sends W.transcript W.failures sink.old sink.new result (flat_map word_line (take most words.entry)) }
 {
     let mut lines = AnswerLine::new();
     let mut left = most;
@@ -150,7 +149,7 @@ pub fn write_first_feasible<E: Feasible, W: Sink>(
     device::write_all(sink, lines.bytes())
 }
 
-/// Writes lights that spell what earlier ones do, each on a line.
+/// Writes each light that spells the same as an earlier light on a line, with that earlier light.
 pub fn write_duplicates<W: Sink>(
     sink: &mut W,
     grid: &Grid,
@@ -158,7 +157,7 @@ pub fn write_duplicates<W: Sink>(
     found: &[Duplicate],
 ) -> Result<(), WriteFailed>
     requires { lights.now ≡ lights_of grid.now }
-    ensures { Sends W.told W.failures sink.old sink.new result (flat_map (duplicate_line grid.now) found.now) }
+    ensures { Sends W.transcript W.failures sink.old sink.new result (flat_map (duplicate_line grid.now) found.now) }
 {
     for duplicate in found {
         text::write_duplicate(sink, grid, lights, duplicate)?;
@@ -166,7 +165,7 @@ pub fn write_duplicates<W: Sink>(
     Ok(())
 }
 
-/// Writes lights and what they spell, each on a line.
+/// Writes each light with its word on a line.
 pub fn write_unlisted<W: Sink>(
     sink: &mut W,
     grid: &Grid,
@@ -174,7 +173,7 @@ pub fn write_unlisted<W: Sink>(
     found: &[LightName],
 ) -> Result<(), WriteFailed>
     requires { lights.now ≡ lights_of grid.now }
-    ensures { Sends W.told W.failures sink.old sink.new result (flat_map (spelled_line grid.now) found.now) }
+    ensures { Sends W.transcript W.failures sink.old sink.new result (flat_map (spelled_line grid.now) found.now) }
 {
     for name in found {
         text::write_light_word(sink, grid, lights, *name)?;

@@ -1,15 +1,14 @@
-//! Lights by the names that lines give them.
+//! Finds lights by the names in command lines.
 ghost use Rattle.std.specs.Prelude.{◌≡◌, ◌≤◌, IfSome, IfNone, slice_get};
 ghost use Rattle.std.specs.Option.{option_and_then};
 ghost use Rattle.xw_grid.specs.Light.{place_named};
 ghost use Rattle.xw_session.specs.Reply.{name_of_light};
 
-use xw_cells::LightName;
-use xw_commands::command::Named;
-use xw_grid::{Light, Lights};
+use xw_commands::command::LightArg;
+use xw_grid::{Light, LightName, Lights};
 
-/// The name of a light, where its number is not too large for one.
-pub fn light_name(named: Named) -> Option<LightName>
+/// Converts a light's name from a command. Returns `None` if its number does not fit in 16 bits.
+pub fn light_name(named: LightArg) -> Option<LightName>
     ensures some { IfSome result (λ name. name ≡ name_of_light named) }
     ensures none { IfNone result (65536 ≤ named.number) }
 {
@@ -22,7 +21,7 @@ pub fn light_name(named: Named) -> Option<LightName>
     }
 }
 
-/// The light of a name.
+/// Returns the light with this name, if the grid has one.
 pub fn light_named(lights: &Lights, name: LightName) -> Option<Light>
     ensures { result ≡ option_and_then (slice_get lights.now) (place_named lights.now name) }
 {

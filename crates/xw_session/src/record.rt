@@ -1,9 +1,9 @@
-//! The record of a session: lines of commands, section by section.
+//! Writes the record of a session: commands that rebuild it, section by section.
 ghost use Rattle.std.specs.Prelude.{◌≡◌, ℕ, ◌+◌, ◌*◌, ◌<◌, ◌≤◌, ◌++◌, [], ◌∷◌, map, flat_map, drop, length, codes, decimal};
 ghost use Rattle.std.specs.List.{range_with_len};
 ghost use Rattle.xw_words.specs.Dictionary.{row as words_of, entry_at};
 ghost use Rattle.xw_grid.specs.Clue.{clue_at};
-ghost use Rattle.xw_cells.specs.Grid.{entry as entry_of};
+ghost use Rattle.xw_grid.specs.Grid.{entry as entry_of};
 ghost use Rattle.xw_commands.specs.declared.command.Command.TheVariants as commands;
 ghost use Rattle.xw_commands.specs.declared.command.Name.TheVariants as names;
 ghost use Rattle.xw_lines.specs.Sends.{Sends};
@@ -15,14 +15,13 @@ ghost use Rattle.xw_session.specs.Record.{command_lines, known_counts, add_comma
 
 use crate::text::{self, Decimal};
 use crate::{escape, fields};
-use xw_cells::{Cell, Direction, Grid, Side, Symmetry};
-use xw_commands::command::{Field, Putting, Spot, TextField};
-use xw_grid::{Circles, Clues};
+use xw_commands::command::{CellArg, Field, TextField, TextMode};
+use xw_grid::{Cell, Circles, Clues, Direction, Grid, Side, Symmetry};
 use xw_letters::Letter;
 use xw_lines::device::{Sink, WriteFailed};
 use xw_words::Bank;
 
-/// What is kept for some cells of a grid.
+/// The kinds of content that a record lists cell by cell.
 #[derive(Clone, Copy)]
 pub enum Part {
     Circles,
@@ -32,7 +31,7 @@ pub enum Part {
     Clues(Direction),
 }
 
-/// Commands of a record that belong together.
+/// A group of commands in a record.
 #[derive(Clone, Copy)]
 pub enum Section {
     Words,
@@ -43,7 +42,7 @@ pub enum Section {
     Watch,
 }
 
-/// The sections, in their order.
+/// The sections in the order in which they are written.
 pub const SECTIONS: &[Section; 15] = &[
     Section::Words,
     Section::Size,
@@ -62,13 +61,13 @@ pub const SECTIONS: &[Section; 15] = &[
     Section::Watch,
 ];
 
-/// How many lengths of words there are, 0 to 255.
+/// The number of word lengths, 0 to 255.
 pub const LENGTHS: usize = 256;
 
-/// How many bytes of a text one line spells at most.
+/// The maximum number of bytes of a text in one command, counted before escaping.
 const PIECE: usize = 2000;
 
-/// How many words of each length are known.
+/// Returns, for each length, how many words are known.
 pub fn known_words(bank: &Bank) -> [usize; LENGTHS]
     ensures { result ≡ known_counts bank.now.words }
 {
@@ -81,26 +80,26 @@ pub fn known_words(bank: &Bank) -> [usize; LENGTHS]
 
 // ---- words
 
-/// Writes what is done with a word.
+/// Writes a command that takes a word.
 fn write_word_command<W: Sink>(
     sink: &mut W,
     name: &[u8],
     word: &[Letter],
 ) -> Result<(), WriteFailed>
-    ensures { Sends W.told W.failures sink.old sink.new result (line_of (name.now ∷ word.now ∷ [])) }
+    ensures { Sends W.transcript W.failures sink.old sink.new result (line_of (name.now ∷ word.now ∷ [])) }
 {
     text::write_spaced(sink, name)?;
     text::write_word(sink, word)
 }
 
-/// Writes that the words of a length are added that came after the first ones.
+/// Writes an `add` command for each word of a length after the first `begun` words.
 fn write_added<W: Sink>(
     sink: &mut W,
     bank: &Bank,
     count: usize,
     begun: usize,
 ) -> Result<(), WriteFailed>
-    ensures { Sends W.told W.failures sink.old sink.new result (command_lines (map add_command (drop begun (words_of bank.now.words count)))) }
+    ensures { Sends W.transcript W.failures sink.old sink.new result (command_lines (map add_command (drop begun (words_of bank.now.words count)))) }
 {
     for place in begun..bank.known(count) {
         write_word_command(sink, b"add", bank.word(count, place))?;
@@ -108,7 +107,7 @@ fn write_added<W: Sink>(
     Ok(())
 }
 
-/// Writes that a word is struck, where it is.
+/// Writes a `strike` command for the word at an index if it is struck.
 fn write_struck_at<W: Sink>(
     sink: &mut W,
     bank: &Bank,
@@ -116,7 +115,7 @@ fn write_struck_at<W: Sink>(
     place: usize,
 ) -> Result<(), WriteFailed>
     requires { place < length (words_of bank.now.words count) }
-    ensures { Sends W.told W.failures sink.old sink.new result (command_lines (strike_commands (entry_at (words_of bank.now.words count) place))) }
+    ensures { Sends W.transcript W.failures sink.old sink.new result (command_lines (strike_commands (entry_at (words_of bank.now.words count) place))) }
 {
     if bank.is_active(count, place) {
         return Ok(());
@@ -124,9 +123,9 @@ fn write_struck_at<W: Sink>(
     write_word_command(sink, b"strike", bank.word(count, place))
 }
 
-/// Writes which words of a length are struck.
+/// Writes a `strike` command for each struck word of a length.
 fn write_struck<W: Sink>(sink: &mut W, bank: &Bank, count: usize) -> Result<(), WriteFailed>
-    ensures { Sends W.told W.failures sink.old sink.new result (command_lines (flat_map strike_commands (words_of bank.now.words count))) }
+    ensures { Sends W.transcript W.failures sink.old sink.new result (command_lines (flat_map strike_commands (words_of bank.now.words count))) }
 {
     for place in 0..bank.known(count) {
         write_struck_at(sink, bank, count, place)?;
@@ -140,19 +139,19 @@ fn write_row<W: Sink>(
     count: usize,
     begun: usize,
 ) -> Result<(), WriteFailed>
-    ensures { Sends W.told W.failures sink.old sink.new result (command_lines (row_commands (words_of bank.now.words count) begun)) }
+    ensures { Sends W.transcript W.failures sink.old sink.new result (command_lines (row_commands (words_of bank.now.words count) begun)) }
 {
     write_added(sink, bank, count, begun)?;
     write_struck(sink, bank, count)
 }
 
-/// Writes the words that were added to so many of each length, and those that are struck.
+/// Writes the words added since the start of the session, and then the struck words, for each length.
 pub fn write_words<W: Sink>(
     sink: &mut W,
     bank: &Bank,
     begun: &[usize; LENGTHS],
 ) -> Result<(), WriteFailed>
-    ensures { Sends W.told W.failures sink.old sink.new result (command_lines (word_commands begun.now bank.now.words)) }
+    ensures { Sends W.transcript W.failures sink.old sink.new result (command_lines (word_commands begun.now bank.now.words)) }
 {
     for count in 0..LENGTHS {
         write_row(sink, bank, count, begun[count])?;
@@ -162,7 +161,7 @@ pub fn write_words<W: Sink>(
 
 // ---- texts
 
-/// So many bytes of a text, after some pieces of as many.
+/// Returns the piece of a text after `before` full pieces.
 fn piece(text: &[u8], before: usize) -> &[u8]
     requires { 2000 * before ≤ length text.now }
     ensures { result.now ≡ piece_at text.now before }
@@ -182,26 +181,26 @@ fn field_name(field: TextField) -> &'static str
     }
 }
 
-fn putting_name(putting: Putting) -> &'static str
+fn putting_name(putting: TextMode) -> &'static str
     ensures { result.now ≡ word_of (names.Put putting) }
 {
     match putting {
-        Putting::Instead => "text",
-        Putting::Behind => "more",
+        TextMode::Instead => "text",
+        TextMode::Behind => "more",
     }
 }
 
-/// Writes a text behind its name, and ends the line.
+/// Writes the name of a field, a text with escapes, and an LF.
 fn write_named_text<W: Sink>(sink: &mut W, name: &[u8], text: &[u8]) -> Result<(), WriteFailed>
-    ensures { Sends W.told W.failures sink.old sink.new result (line_of (name.now ∷ escaped_text text.now ∷ [])) }
+    ensures { Sends W.transcript W.failures sink.old sink.new result (line_of (name.now ∷ escaped_text text.now ∷ [])) }
 {
     text::write_spaced(sink, name)?;
     escape::write_line(sink, text)
 }
 
-/// Writes a row and a column, and a space after each.
-fn write_spot_spaced<W: Sink>(sink: &mut W, spot: Spot) -> Result<(), WriteFailed>
-    ensures { Sends W.told W.failures sink.old sink.new result ((decimal spot.row ++ codes " ") ++ (decimal spot.col ++ codes " ")) }
+/// Writes a row and a column, each with a space after it.
+fn write_spot_spaced<W: Sink>(sink: &mut W, spot: CellArg) -> Result<(), WriteFailed>
+    ensures { Sends W.transcript W.failures sink.old sink.new result ((decimal spot.row ++ codes " ") ++ (decimal spot.col ++ codes " ")) }
 {
     let row = Decimal::new(spot.row);
     let col = Decimal::new(spot.col);
@@ -209,14 +208,14 @@ fn write_spot_spaced<W: Sink>(sink: &mut W, spot: Spot) -> Result<(), WriteFaile
     text::write_spaced(sink, col.digits())
 }
 
-/// Writes a cell, the way of a light and a text, and ends the line.
+/// Writes a cell, a direction, a text with escapes, and an LF.
 fn write_spot_text<W: Sink>(
     sink: &mut W,
-    spot: Spot,
+    spot: CellArg,
     direction: Direction,
     text: &[u8],
 ) -> Result<(), WriteFailed>
-    ensures { Sends W.told W.failures sink.old sink.new result (line_of (at_spot spot (name_of_direction direction ∷ escaped_text text.now ∷ []))) }
+    ensures { Sends W.transcript W.failures sink.old sink.new result (line_of (at_spot spot (name_of_direction direction ∷ escaped_text text.now ∷ []))) }
 {
     write_spot_spaced(sink, spot)?;
     fields::write_directed_text(sink, direction, text)
@@ -224,24 +223,24 @@ fn write_spot_text<W: Sink>(
 
 fn write_clue_text<W: Sink>(
     sink: &mut W,
-    spot: Spot,
+    spot: CellArg,
     direction: Direction,
     text: &[u8],
 ) -> Result<(), WriteFailed>
-    ensures { Sends W.told W.failures sink.old sink.new result (line_of (codes "clue" ∷ at_spot spot (name_of_direction direction ∷ escaped_text text.now ∷ []))) }
+    ensures { Sends W.transcript W.failures sink.old sink.new result (line_of (codes "clue" ∷ at_spot spot (name_of_direction direction ∷ escaped_text text.now ∷ []))) }
 {
     text::write_spaced(sink, b"clue")?;
     write_spot_text(sink, spot, direction, text)
 }
 
-/// Writes that a piece of a text is put into a field.
+/// Writes the command that puts a piece of a text into a field.
 fn write_put<W: Sink>(
     sink: &mut W,
-    putting: Putting,
+    putting: TextMode,
     field: Field,
     text: &[u8],
 ) -> Result<(), WriteFailed>
-    ensures { Sends W.told W.failures sink.old sink.new result (command_line (commands.Put putting field (escaped_text text.now))) }
+    ensures { Sends W.transcript W.failures sink.old sink.new result (command_line (commands.Put putting field (escaped_text text.now))) }
 {
     text::write_spaced(sink, putting_name(putting).as_bytes())?;
     match field {
@@ -250,30 +249,30 @@ fn write_put<W: Sink>(
     }
 }
 
-/// Writes the pieces of a text after its first one.
+/// Writes `more` commands for the pieces of a text after the first.
 fn write_further<W: Sink>(sink: &mut W, field: Field, text: &[u8]) -> Result<(), WriteFailed>
-    ensures { Sends W.told W.failures sink.old sink.new result (command_lines (map (more_command field text.now) (range_with_len 0 (further_pieces text.now)))) }
+    ensures { Sends W.transcript W.failures sink.old sink.new result (command_lines (map (more_command field text.now) (range_with_len 0 (further_pieces text.now)))) }
 {
     let further = text.len().saturating_sub(1) / PIECE;
     for before in 0..further {
-        write_put(sink, Putting::Behind, field, piece(text, before + 1))?;
+        write_put(sink, TextMode::Behind, field, piece(text, before + 1))?;
     }
     Ok(())
 }
 
-/// Writes a text in pieces.
+/// Writes a text as a `text` command and, if it is long, `more` commands.
 pub fn write_text<W: Sink>(sink: &mut W, field: Field, text: &[u8]) -> Result<(), WriteFailed>
-    ensures { Sends W.told W.failures sink.old sink.new result (command_lines (text_commands field text.now)) }
+    ensures { Sends W.transcript W.failures sink.old sink.new result (command_lines (text_commands field text.now)) }
 {
-    write_put(sink, Putting::Instead, field, piece(text, 0))?;
+    write_put(sink, TextMode::Instead, field, piece(text, 0))?;
     write_further(sink, field, text)
 }
 
 // ---- the grid
 
-/// Writes the width and height of a grid.
+/// Writes the `size` command.
 pub fn write_size<W: Sink>(sink: &mut W, grid: &Grid) -> Result<(), WriteFailed>
-    ensures { Sends W.told W.failures sink.old sink.new result (command_lines (commands.Size grid.now.width grid.now.height ∷ [])) }
+    ensures { Sends W.transcript W.failures sink.old sink.new result (command_lines (commands.Size grid.now.width grid.now.height ∷ [])) }
 {
     let width = Decimal::new(u64::from(grid.width()));
     let height = Decimal::new(u64::from(grid.height()));
@@ -293,34 +292,34 @@ fn symmetry_name(kind: Symmetry) -> &'static str
 }
 
 pub fn write_symmetry<W: Sink>(sink: &mut W, kind: Symmetry) -> Result<(), WriteFailed>
-    ensures { Sends W.told W.failures sink.old sink.new result (command_lines (commands.Symmetry kind ∷ [])) }
+    ensures { Sends W.transcript W.failures sink.old sink.new result (command_lines (commands.Symmetry kind ∷ [])) }
 {
     text::write_line(sink, &[b"sym", symmetry_name(kind).as_bytes()])
 }
 
 pub fn write_watch<W: Sink>(sink: &mut W, is_on: bool) -> Result<(), WriteFailed>
-    ensures { Sends W.told W.failures sink.old sink.new result (command_lines (commands.Watch is_on ∷ [])) }
+    ensures { Sends W.transcript W.failures sink.old sink.new result (command_lines (commands.Watch is_on ∷ [])) }
 {
     let switch = if is_on { b"on".as_slice() } else { b"off" };
     text::write_line(sink, &[b"watch", switch])
 }
 
-/// Writes what is done with a cell.
+/// Writes a command that takes a cell.
 fn write_cell_command<W: Sink>(sink: &mut W, name: &[u8], cell: Cell) -> Result<(), WriteFailed>
-    ensures { Sends W.told W.failures sink.old sink.new result (line_of (name.now ∷ at_spot (spot_of cell) [])) }
+    ensures { Sends W.transcript W.failures sink.old sink.new result (line_of (name.now ∷ at_spot (spot_of cell) [])) }
 {
     text::write_spaced(sink, name)?;
     text::write_cell(sink, cell)
 }
 
-/// Writes what is done with a cell, and a word more.
+/// Writes a command that takes a cell and one more word.
 fn write_cell_and_word<W: Sink>(
     sink: &mut W,
     name: &[u8],
     cell: Cell,
     word: &[u8],
 ) -> Result<(), WriteFailed>
-    ensures { Sends W.told W.failures sink.old sink.new result (line_of (name.now ∷ at_spot (spot_of cell) (word.now ∷ []))) }
+    ensures { Sends W.transcript W.failures sink.old sink.new result (line_of (name.now ∷ at_spot (spot_of cell) (word.now ∷ []))) }
 {
     let row = Decimal::new(u64::from(cell.row));
     let col = Decimal::new(u64::from(cell.col));
@@ -328,7 +327,7 @@ fn write_cell_and_word<W: Sink>(
 }
 
 fn write_circle<W: Sink>(sink: &mut W, circles: &Circles, cell: Cell) -> Result<(), WriteFailed>
-    ensures { Sends W.told W.failures sink.old sink.new result (command_lines (circle_commands circles.now cell)) }
+    ensures { Sends W.transcript W.failures sink.old sink.new result (command_lines (circle_commands circles.now cell)) }
 {
     if !circles.has(cell) {
         return Ok(());
@@ -346,7 +345,7 @@ fn side_name(side: Side) -> &'static str
 }
 
 fn write_bar<W: Sink>(sink: &mut W, grid: &Grid, side: Side, cell: Cell) -> Result<(), WriteFailed>
-    ensures { Sends W.told W.failures sink.old sink.new result (command_lines (bar_commands grid.now side cell)) }
+    ensures { Sends W.transcript W.failures sink.old sink.new result (command_lines (bar_commands grid.now side cell)) }
 {
     if !grid.is_barred(cell, side) {
         return Ok(());
@@ -355,7 +354,7 @@ fn write_bar<W: Sink>(sink: &mut W, grid: &Grid, side: Side, cell: Cell) -> Resu
 }
 
 fn write_block<W: Sink>(sink: &mut W, grid: &Grid, cell: Cell) -> Result<(), WriteFailed>
-    ensures { Sends W.told W.failures sink.old sink.new result (command_lines (block_commands grid.now cell)) }
+    ensures { Sends W.transcript W.failures sink.old sink.new result (command_lines (block_commands grid.now cell)) }
 {
     if !grid.is_block(cell) {
         return Ok(());
@@ -364,7 +363,7 @@ fn write_block<W: Sink>(sink: &mut W, grid: &Grid, cell: Cell) -> Result<(), Wri
 }
 
 fn write_letter<W: Sink>(sink: &mut W, grid: &Grid, cell: Cell) -> Result<(), WriteFailed>
-    ensures { Sends W.told W.failures sink.old sink.new result (command_lines (letter_commands cell (entry_of grid.now cell))) }
+    ensures { Sends W.transcript W.failures sink.old sink.new result (command_lines (letter_commands cell (entry_of grid.now cell))) }
 {
     match grid.entry(cell) {
         Some(letter) => write_cell_and_word(sink, b"set", cell, &[letter.byte()]),
@@ -378,20 +377,20 @@ fn write_clue<W: Sink>(
     direction: Direction,
     cell: Cell,
 ) -> Result<(), WriteFailed>
-    ensures { Sends W.told W.failures sink.old sink.new result (command_lines (clue_commands cell direction (clue_at clues.now cell direction))) }
+    ensures { Sends W.transcript W.failures sink.old sink.new result (command_lines (clue_commands cell direction (clue_at clues.now cell direction))) }
 {
     let text = clues.get(cell, direction);
     if text.is_empty() {
         return Ok(());
     }
-    let spot = Spot {
+    let spot = CellArg {
         row: u64::from(cell.row),
         col: u64::from(cell.col),
     };
     write_text(sink, Field::Clue(spot, direction), text)
 }
 
-/// Writes what is kept for a cell.
+/// Writes the commands for one kind of content of a cell.
 fn write_kept<W: Sink>(
     sink: &mut W,
     grid: &Grid,
@@ -400,7 +399,7 @@ fn write_kept<W: Sink>(
     part: Part,
     cell: Cell,
 ) -> Result<(), WriteFailed>
-    ensures { Sends W.told W.failures sink.old sink.new result (command_lines (cell_commands grid.now clues.now circles.now part cell)) }
+    ensures { Sends W.transcript W.failures sink.old sink.new result (command_lines (cell_commands grid.now clues.now circles.now part cell)) }
 {
     match part {
         Part::Circles => write_circle(sink, circles, cell),
@@ -411,7 +410,7 @@ fn write_kept<W: Sink>(
     }
 }
 
-/// Writes what is kept for the cells of a grid, whether it is shown or not.
+/// Writes the commands for one kind of content of all cells. Circles on blocks and clues without a light are included.
 pub fn write_part<W: Sink>(
     sink: &mut W,
     grid: &Grid,
@@ -419,7 +418,7 @@ pub fn write_part<W: Sink>(
     circles: &Circles,
     part: Part,
 ) -> Result<(), WriteFailed>
-    ensures { Sends W.told W.failures sink.old sink.new result (command_lines (part_commands grid.now clues.now circles.now part)) }
+    ensures { Sends W.transcript W.failures sink.old sink.new result (command_lines (part_commands grid.now clues.now circles.now part)) }
 {
     for place in 0..grid.size() {
         write_kept(sink, grid, clues, circles, part, grid.cell_at(place))?;

@@ -1,10 +1,10 @@
-//! Why a command was refused.
+//! The reasons for which a command is refused, and their names.
 ghost use Rattle.std.specs.Prelude.{◌≡◌};
 ghost use Rattle.xw_session.specs.Text.{word_fault, grid_fault, syntax_fault, name_of};
 
-use xw_cells::GridFault;
 use xw_commands::command::SyntaxFault;
 use xw_feas::edit::Refusal as EditRefusal;
+use xw_grid::GridFault;
 use xw_words::WordFault;
 
 /// Why a command was refused.
@@ -19,7 +19,7 @@ pub enum Refusal {
     Escape,
 }
 
-/// The name of a refusal, without its place.
+/// Returns the name of a refusal. The name does not include the place of the fault.
 pub fn name(refusal: Refusal) -> &'static str
     ensures { result.now ≡ name_of refusal }
 {

@@ -1,30 +1,51 @@
-//! A session that starts with the lines of a file.
-ghost use Rattle.std.specs.Prelude.{◌≡◌, ℕ, ◌≤◌, ◌<◌, List, ◌∷◌, length, IfOk, position, option_map};
-ghost use Rattle.xw_letters.specs.Lines.{is_line_feed};
+//! Replays the lines of a session file into a session.
+ghost use Rattle.std.specs.Prelude.{◌≡◌, ℕ, ◌<◌, ◌≤◌, List, ◌∷◌, length, IfOk, OnOk, OnErr, position, option_map};
+ghost use Rattle.xw_text.specs.Lines.{is_line_feed};
 ghost use Rattle.xw_lines.specs.Cut.{lines_of};
-ghost use Rattle.xw_lines.specs.Spoken.{Spoken};
-ghost use Rattle.xw_session.specs.Answer.{Answers};
 ghost use Rattle.xw_session.specs.Text.{refused, word_line, name_of};
 ghost use Rattle.xw_session.specs.declared.refusal.Refusal.{Refusal};
-ghost use Rattle.xw_session.specs.Resuming.{Does, IsDone};
+ghost use Rattle.xw_session.specs.Resuming.{line_fault as fault_of_line, is_memory as is_want_of_memory, refused_line, IsAnswered, MayBeDone, ResumesLine, Resumes, Tells};
 
-use crate::gathered::Gathered;
+use crate::escape::is_spelling;
+use crate::refusal::Refusal;
 use crate::session::Session;
+use crate::vec_sink::VecSink;
 use std::alloc::{AllocError, Global};
+use xw_commands::command::{self, Command};
 use xw_feas::feasible::Feasible;
 use xw_lines::{Sink, Step, device};
 
-/// How many bytes of the answer to a refused line stand before the name: `no` and a space.
+/// The length of `no `, which precedes the name in the answer to a refused line.
 const BEFORE_NAME: usize = 3;
 
-/// The place of the first line feed.
+/// Why a replay stops before the last line.
+#[derive(Clone, Copy, Debug, PartialEq, Eq)]
+pub enum Stop {
+    /// The line with this number, from 1, is not a command in any session; `refusal` says why.
+    NoCommand { number: usize, refusal: Refusal },
+    /// An allocation failed.
+    Memory,
+}
+
+impl From<AllocError> for Stop {
+    ghost use Rattle.std.specs.Prelude.{◌≡◌};
+    ghost use Rattle.xw_session.specs.declared.resuming.Stop.TheVariants.{Memory};
+
+    ghost from_gives = { λ _ stop. stop ≡ Memory };
+
+    fn from(_error: AllocError) -> Stop {
+        Stop::Memory
+    }
+}
+
+/// Returns the index of the first LF.
 fn line_end(text: &[u8]) -> Option<usize>
     ensures { result ≡ position is_line_feed text.now }
 {
     text.iter().position(|byte| *byte == b'\n')
 }
 
-/// The first line, and what comes after it.
+/// Splits a text into its first line and what follows.
 fn first_line(text: &[u8]) -> (&[u8], &[u8])
     requires { 0 < length text.now }
     ensures lines { lines_of text.now ≡ result.0.now ∷ lines_of result.1.now }
@@ -36,15 +57,43 @@ fn first_line(text: &[u8]) -> (&[u8], &[u8])
     }
 }
 
-/// Does a line, and returns its answer where that is a refusal.
+/// Returns why a line is not a command in any session, or `None` if it is one.
+fn line_fault(line: &[u8]) -> Option<Refusal>
+    ensures { result ≡ fault_of_line line.now }
+{
+    match command::parse(line) {
+        Ok(Some(Command::Put(_, _, spelling))) if !is_spelling(spelling.bytes()) => {
+            Some(Refusal::Escape)
+        }
+        Ok(_) => None,
+        Err(fault) => Some(Refusal::Syntax(fault)),
+    }
+}
+
+/// Returns the name and LF of a refusal's answer.
+fn name_line(answer: &[u8]) -> &[u8]
+    ensures { (refusal : Refusal) → answer.now ≡ refused refusal → result.now ≡ word_line (name_of refusal) }
+{
+    &answer[answer.len().min(BEFORE_NAME)..]
+}
+
+/// Whether a refusal's answer says that an allocation failed.
+fn is_memory(answer: &[u8]) -> bool
+    ensures { (refusal : Refusal) → answer.now ≡ refused refusal → result ≡ is_want_of_memory refusal }
+{
+    name_line(answer) == b"Memory\n".as_slice()
+}
+
+/// Executes a line, and returns its answer if the line was refused.
 fn redo<F: Feasible>(
     alloc: Global,
     session: &mut Session<F>,
     line: &[u8],
 ) -> Result<Option<Vec<u8>>, AllocError>
-    ensures { IfOk result (λ answer. IsDone session.old line.now (option_map (λ bytes. bytes.items) answer) session.new) }
+    ensures done { IfOk result (λ answer. IsAnswered session.old line.now (option_map (λ bytes. bytes.items) answer) session.new) }
+    ensures memory { OnErr result (MayBeDone session.old line.now session.new) }
 {
-    let mut answer = Gathered::new(alloc);
+    let mut answer = VecSink::new(alloc);
     match session.step(line, &mut answer) {
         Ok(Step::Refused) => Ok(Some(answer.into_bytes())),
         Ok(Step::Silent | Step::Accepted) => Ok(None),
@@ -52,28 +101,32 @@ fn redo<F: Feasible>(
     }
 }
 
-/// The name in an answer that refuses, with its line feed.
-fn name_line(answer: &[u8]) -> &[u8]
-    ensures { (refusal : Refusal) → answer.now ≡ refused refusal → result.now ≡ word_line (name_of refusal) }
+/// Writes a text. Write errors are ignored.
+fn tell<E: Sink>(errors: &mut E, text: &[u8])
+    ensures { Tells E.transcript E.failures errors.old errors.new text.now }
 {
-    &answer[answer.len().min(BEFORE_NAME)..]
+    let _ = device::write_all(errors, text);
 }
 
-/// Tells that a line of a file is refused. A fault of the writer is passed over.
+/// Reports a refused line of a file. Write errors are ignored.
 fn tell_refused<E: Sink>(
     alloc: Global,
     errors: &mut E,
     file: &str,
     number: usize,
     answer: &[u8],
-) -> Result<(), AllocError> {
+) -> Result<(), AllocError>
+    ensures transcript { (refusal : Refusal) → answer.now ≡ refused refusal → OnOk result (Tells E.transcript E.failures errors.old errors.new (refused_line file.now number refusal)) }
+    ensures untold { OnErr result (errors.new ≡ errors.old) }
+{
     let place = format!(in alloc; "xw: {file}: line {number}: ")?;
-    let _ = device::write_all(errors, place.as_bytes());
-    let _ = device::write_all(errors, name_line(answer));
+    tell(errors, place.as_bytes());
+    tell(errors, name_line(answer));
     Ok(())
 }
 
-/// Does a line of a file, tells if it is refused, and counts it then.
+/// Executes a line of a file, and reports it if the session refuses it. Returns 1 if it was refused, 0 otherwise. Fails
+/// with `NoCommand` if the line is not a command, and with `Memory` if an allocation fails.
 fn resume_line<F: Feasible, E: Sink>(
     alloc: Global,
     session: &mut Session<F>,
@@ -81,30 +134,34 @@ fn resume_line<F: Feasible, E: Sink>(
     number: usize,
     line: &[u8],
     errors: &mut E,
-) -> Result<usize, AllocError>
-    ensures done { IfOk result (λ refused. Does session.old line.now refused session.new) }
+) -> Result<usize, Stop>
+    ensures done { ResumesLine E.transcript E.failures file.now number session.old line.now result session.new errors.old errors.new }
     ensures once { IfOk result (λ refused. refused ≤ 1) }
 {
+    if let Some(refusal) = line_fault(line) {
+        return Err(Stop::NoCommand { number, refusal });
+    }
     match redo(alloc, session, line)? {
+        None => Ok(0),
+        Some(answer) if is_memory(answer.as_slice()) => Err(Stop::Memory),
         Some(answer) => {
             tell_refused(alloc, errors, file, number, answer.as_slice())?;
             Ok(1)
         }
-        None => Ok(0),
     }
 }
 
-/// Does the lines of a file's text without their answers, tells of those that are refused, and
-/// returns how many they are.
+/// Executes the lines of a session file without writing their answers. Reports each refused line on `errors`, in the
+/// form `xw: FILE: line N: NAME`. Returns the number of refused lines. Stops at the first line that is not a command,
+/// and if an allocation fails.
 pub fn resume<F: Feasible, E: Sink>(
     alloc: Global,
     session: &mut Session<F>,
     file: &str,
     text: &[u8],
     errors: &mut E,
-) -> Result<usize, AllocError>
-    // The session is as the answers to these lines leave it.
-    ensures { IfOk result (λ refused. (out : List ℕ) × Spoken Answers session.old (lines_of text.now) out refused session.new) }
+) -> Result<usize, Stop>
+    ensures { (transcript : List ℕ) × Resumes file.now session.old (lines_of text.now) result transcript session.new × Tells E.transcript E.failures errors.old errors.new transcript }
 {
     let mut rest = text;
     let mut number = 0;

@@ -1,4 +1,4 @@
-//! A session: lines answered, one after another.
+//! The session type, and the answering of lines.
 mod asking;
 mod changing;
 mod putting;
@@ -7,12 +7,12 @@ mod recording;
 mod telling;
 
 ghost use Rattle.std.specs.Prelude.{◌≡◌, ℕ, ◌+◌, ◌-◌, ◌^◌, ◌≤◌, List, ◌++◌, length, IfOk, IfErr, IsTrue, IsOkUnless, true, false, []};
-ghost use Rattle.xw_cells.specs.Grid.{is_inside};
+ghost use Rattle.xw_grid.specs.Grid.{is_inside};
 ghost use Rattle.xw_grid.specs.Clue.{no_clues};
 ghost use Rattle.xw_grid.specs.Puzzle.{texts_view, puzzle_view};
 ghost use Rattle.xw_lines.specs.Cut.{lines_of, ended_lines};
 ghost use Rattle.xw_lines.specs.Device.{saturated, HasFailed};
-ghost use Rattle.xw_lines.specs.Run.{Speaks, StopsIn, IfDone, OnReadFailed, OnWriteFailed, OnEndless, OnMemory, UnlessWriteFailed};
+ghost use Rattle.xw_lines.specs.Run.{Speaks, StopsIn, IfDone, OnReadFailed, OnWriteFailed, OnEndless, OnMemory, UnlessWriteFailed, read_failures_after};
 ghost use Rattle.xw_lines.specs.Sends.{Sends};
 ghost use Rattle.xw_session.specs.State.{State};
 ghost use Rattle.xw_session.specs.Record.{known_counts};
@@ -24,17 +24,17 @@ use crate::refusal::Refusal;
 use crate::text;
 use std::alloc::Global;
 use std::marker::Model;
-use xw_cells::{Cell, GridFault};
-use xw_commands::command::{self, Command, Spot, SyntaxFault};
+use xw_commands::command::{self, CellArg, Command, SyntaxFault};
 use xw_feas::edit::Refusal as EditRefusal;
 use xw_feas::feasible::Feasible;
 use xw_grid::puzzle::{Puzzle, Texts};
-use xw_grid::{Circles, Clues};
+use xw_grid::{Cell, Circles, Clues, GridFault};
 use xw_lines::device::{Sink, Source, WriteFailed};
 use xw_lines::outcome::{RunEnd, Step};
-use xw_lines::run::{self, Speaker};
+use xw_lines::run::{self, LineHandler};
 
-/// A session over an engine.
+/// A session over an engine: the puzzle, the watch, and the word counts at the start. `begun` holds, for each length,
+/// how many words were known when the session started.
 #[derive(Drop)]
 pub struct Session<E: Feasible> {
     alloc: Global,
@@ -62,9 +62,9 @@ impl<E: Feasible> Model for Session<E> {
     } };
 }
 
-/// Ends an answer whose lines are written, or refuses.
+/// Writes the end of an answer: `ok`, or the refusal.
 fn end_answer<W: Sink>(sink: &mut W, done: Result<(), Refusal>) -> Result<Step, WriteFailed>
-    ensures sends { (state : State) → Sends W.told W.failures sink.old sink.new result (text_of (reply_of done state)) }
+    ensures sends { (state : State) → Sends W.transcript W.failures sink.old sink.new result (text_of (reply_of done state)) }
     ensures step { (state : State) → IfOk result (λ step. step ≡ step_of (reply_of done state)) }
 {
     match done {
@@ -79,7 +79,7 @@ fn end_answer<W: Sink>(sink: &mut W, done: Result<(), Refusal>) -> Result<Step, 
     }
 }
 
-/// Texts equal to these.
+/// Copies the texts. Fails only if an allocation fails.
 fn copy_texts(texts: &Texts) -> Result<Texts, GridFault>
     ensures ok { IfOk result (λ copy. texts_view copy ≡ texts_view texts.now) }
     ensures memory { IsOkUnless result GridFault.Memory }
@@ -95,7 +95,7 @@ fn copy_texts(texts: &Texts) -> Result<Texts, GridFault>
 impl<E: Feasible> Session<E> {
     ghost use Rattle.xw_commands.specs.declared.command.Command.TheVariants as commands;
 
-    /// A session over an engine, without texts, clues and circles, and with the watch off.
+    /// Starts a session over an engine, with empty texts, no clues, no circles, and the watch off.
     pub fn new(alloc: Global, engine: E) -> Session<E>
         ensures { result ≡ record {
           position = E.state engine;
@@ -115,7 +115,7 @@ impl<E: Feasible> Session<E> {
         Session::open(engine, texts, Clues::new(alloc), Circles::new(alloc))
     }
 
-    /// A session over an engine, with these texts, clues and circles, and with the watch off.
+    /// Starts a session over an engine with these texts, clues and circles, and with the watch off.
     pub fn open(engine: E, texts: Texts, clues: Clues, circles: Circles) -> Session<E>
         ensures { result ≡ record {
           position = E.state engine;
@@ -139,7 +139,7 @@ impl<E: Feasible> Session<E> {
         }
     }
 
-    /// A copy of the grid, the texts, the clues and the circles.
+    /// Copies the grid, the texts, the clues and the circles. Returns `Memory` if an allocation fails.
     pub fn puzzle(&self) -> Result<Puzzle, EditRefusal>
         ensures ok { IfOk result (λ puzzle. puzzle_view puzzle ≡ record {
           grid = self.now.position.grid;
@@ -172,8 +172,8 @@ impl<E: Feasible> Session<E> {
         })
     }
 
-    /// The cell of a spot; one that no grid has where a number is too large for a cell.
-    fn cell(&self, spot: Spot) -> Result<Cell, Refusal>
+    /// Returns the cell at a row and column. Returns `OutOfGrid` if it is not in the grid.
+    fn cell(&self, spot: CellArg) -> Result<Cell, Refusal>
         ensures ok { IfOk result (λ cell. (cell ≡ cell_of spot) × (is_inside self.now.position.grid cell ≡ true)) }
         ensures refused { IfErr result (λ refusal. (refusal ≡ Refusal.Grid GridFault.OutOfGrid) × (is_inside self.now.position.grid (cell_of spot) ≡ false)) }
     {
@@ -189,9 +189,9 @@ impl<E: Feasible> Session<E> {
         })
     }
 
-    /// Does a command and answers it.
+    /// Executes a command and writes its answer.
     fn answer<W: Sink>(&mut self, command: Command<'_>, sink: &mut W) -> Result<Step, WriteFailed>
-        ensures { AnswersTo W.told W.failures self.old command.entry result self.new sink.old sink.new }
+        ensures { AnswersTo W.transcript W.failures self.old command.entry result self.new sink.old sink.new }
     {
         match command {
             Command::Size(width, height) => end_answer(sink, self.resize(width, height)),
@@ -214,14 +214,14 @@ impl<E: Feasible> Session<E> {
         }
     }
 
-    /// Does a command that is answered with lines of its own, and answers it.
+    /// Executes a command whose answer has lines before `ok`, and writes the answer.
     fn answer_with_lines<W: Sink>(
         &mut self,
         command: Command<'_>,
         sink: &mut W,
     ) -> Result<Step, WriteFailed>
         requires { has_lines command ≡ true }
-        ensures { AnswersTo W.told W.failures self.old command.entry result self.new sink.old sink.new }
+        ensures { AnswersTo W.transcript W.failures self.old command.entry result self.new sink.old sink.new }
     {
         match command {
             Command::Match(pattern) => self.answer_match(pattern.bytes(), sink),
@@ -239,10 +239,10 @@ impl<E: Feasible> Session<E> {
         }
     }
 
-    /// Answers a line, which comes without its LF; a silent line has no answer.
-    /// After an `Err` a beginning of the answer went out, and what the command did stands.
+    /// Executes a line, which must not contain its LF, and writes its answer. A silent line has no answer. After an
+    /// error a prefix of the answer was written, and the effect of the line remains.
     pub fn step<W: Sink>(&mut self, line: &[u8], sink: &mut W) -> Result<Step, WriteFailed>
-        ensures answer { AnswersLine W.told W.failures self.old line.now result self.new sink.old sink.new }
+        ensures answer { AnswersLine W.transcript W.failures self.old line.now result self.new sink.old sink.new }
         ensures silent { IfOk result (λ step. step ≡ Step.Silent → sink.new ≡ sink.old) }
     {
         match command::parse(line) {
@@ -252,49 +252,53 @@ impl<E: Feasible> Session<E> {
         }
     }
 
-    /// Reads lines to the end of the reader, and answers each on the writer. What the writer tells is all these answers,
-    /// each with its flush before anything of the next one.
+    /// Reads lines until the reader ends, and writes the answer of each. Each answer is flushed before the next one is
+    /// started. Stops early if the reader or the writer fails. Returns `Memory`, before the first read, if the line
+    /// buffer cannot be allocated.
     pub fn run_lines<R: Source, W: Sink>(&mut self, source: &mut R, sink: &mut W) -> RunEnd
-        // The reader came to its end, and all lines of what was read are answered.
-        ensures done { IfDone result (λ refused. (text : List ℕ) × (R.told source.new ≡ R.told source.old ++ text)
+        // The reader reached its end, and all lines are answered.
+        ensures done { IfDone result (λ refused. (text : List ℕ) × (R.transcript source.new ≡ R.transcript source.old ++ text)
             × IsTrue (R.is_at_end source.new)
             × (count : ℕ) × (refused ≡ saturated count)
-            × Speaks Answers self.old (lines_of text) count self.new (W.told sink.old) (W.told sink.new)) }
+            × Speaks Answers self.old (lines_of text) count self.new (W.transcript sink.old) (W.transcript sink.new)) }
 
-        // The reader failed in this call, and the complete lines before it are answered.
-        ensures read_failed { OnReadFailed result ((text : List ℕ) × (R.told source.new ≡ R.told source.old ++ text)
+        // The reader failed in this call. All complete lines before the failure are answered.
+        ensures read_failed { OnReadFailed result ((text : List ℕ) × (R.transcript source.new ≡ R.transcript source.old ++ text)
             × HasFailed (R.failures source.old) (R.failures source.new)
             × (count : ℕ)
-            × Speaks Answers self.old (ended_lines text) count self.new (W.told sink.old) (W.told sink.new)) }
+            × Speaks Answers self.old (ended_lines text) count self.new (W.transcript sink.old) (W.transcript sink.new)) }
 
-        // The writer failed in this call, or took no byte of a write.
-        ensures write_failed { OnWriteFailed result ((text : List ℕ) × (R.told source.new ≡ R.told source.old ++ text)
+        // The writer failed in this call, or took no bytes.
+        ensures write_failed { OnWriteFailed result ((text : List ℕ) × (R.transcript source.new ≡ R.transcript source.old ++ text)
             × HasFailed (W.failures sink.old) (W.failures sink.new)
-            × StopsIn Answers self.old text self.new (W.told sink.old) (W.told sink.new)) }
+            × StopsIn Answers self.old text self.new (W.transcript sink.old) (W.transcript sink.new)) }
 
-        // The greatest u64 of bytes came, and no end.
-        ensures endless { OnEndless result ((text : List ℕ) × (R.told source.new ≡ R.told source.old ++ text)
+        // At least `u64::MAX` bytes were read, and the reader did not end.
+        ensures endless { OnEndless result ((text : List ℕ) × (R.transcript source.new ≡ R.transcript source.old ++ text)
             × (2 ^ 64 - 1 ≤ length text)
             × (count : ℕ)
-            × Speaks Answers self.old (ended_lines text) count self.new (W.told sink.old) (W.told sink.new)) }
+            × Speaks Answers self.old (ended_lines text) count self.new (W.transcript sink.old) (W.transcript sink.new)) }
 
-        // Neither reader nor writer was called.
+        // Neither the reader nor the writer was called.
         ensures memory { OnMemory result ((source.new ≡ source.old) × (sink.new ≡ sink.old) × (self.new ≡ self.old)) }
 
-        // In no other case did the writer fail: after a write or a flush that failed no line is read.
+        // The writer failed in no other case: after a failed write or flush the run stops.
         ensures unfailed { UnlessWriteFailed result (W.failures sink.new ≡ W.failures sink.old) }
+
+        // The reader failed once if the end says so, and never otherwise: no failed read is ignored.
+        ensures reads { R.failures source.new ≡ read_failures_after result (R.failures source.old) }
     {
         let alloc = self.alloc;
         run::run_lines(alloc, self, source, sink)
     }
 }
 
-impl<E: Feasible> Speaker for Session<E> {
+impl<E: Feasible> LineHandler for Session<E> {
     ghost use Rattle.xw_session.specs.Answer.{Answers};
 
     ghost answers = { Answers };
 
-    fn speak<W: Sink>(&mut self, line: Option<&[u8]>, sink: &mut W) -> Result<Step, WriteFailed> {
+    fn handle<W: Sink>(&mut self, line: Option<&[u8]>, sink: &mut W) -> Result<Step, WriteFailed> {
         match line {
             Some(line) => {
                 let step = self.step(line, sink)?;

@@ -1,13 +1,13 @@
-//! A grid as it is shown.
+//! Writes the grid for the command `show`.
 ghost use Rattle.std.specs.Prelude.{◌≡◌, ◌+◌, ◌<◌, ◌≤◌, if◌then◌else◌, []};
 ghost use Rattle.std.specs.List.{list_any};
 ghost use Rattle.xw_lines.specs.Sends.{Sends};
-ghost use Rattle.xw_cells.specs.declared.cell.Side.TheVariants.{Below};
-ghost use Rattle.xw_cells.specs.Grid.{is_barred as is_barred_edge};
+ghost use Rattle.xw_grid.specs.declared.cell.Side.TheVariants.{Below};
+ghost use Rattle.xw_grid.specs.Grid.{is_barred as is_barred_edge};
 ghost use Rattle.xw_session.specs.Show.{cell_glyph as glyph_of, after_cell as byte_after, cell_pair as pair_of_cell, bar_pair as pair_of_bar, cell_in as nth_cell, columns as columns_of, row_line, bar_line, has_bar_below as is_barred_below_row, row_lines, show_lines};
 
 use crate::answer_line::AnswerLine;
-use xw_cells::{Cell, Grid, Side};
+use xw_grid::{Cell, Grid, Side};
 use xw_lines::device::{self, Sink, WriteFailed};
 
 fn cell_glyph(grid: &Grid, cell: Cell) -> u8
@@ -56,7 +56,7 @@ fn bar_pair(grid: &Grid, cell: Cell) -> [u8; 2]
     [bar, after]
 }
 
-/// The cell of a row after so many others.
+/// Returns the cell of a row after `before` other cells.
 fn cell_in(row: u32, before: u32) -> Cell
     requires { before < 255 }
     ensures { result ≡ nth_cell row before }
@@ -67,7 +67,7 @@ fn cell_in(row: u32, before: u32) -> Cell
     }
 }
 
-/// Whether an edge below a row is barred.
+/// Returns whether a bar lies below a cell of the row.
 fn has_bar_below(grid: &Grid, row: u32) -> bool
     ensures { result ≡ is_barred_below_row grid.now row }
 {
@@ -79,7 +79,7 @@ fn has_bar_below(grid: &Grid, row: u32) -> bool
     false
 }
 
-/// Puts a row of cells together.
+/// Builds the line of a row's cells.
 fn put_cells(line: &mut AnswerLine, grid: &Grid, row: u32)
     ensures { line.new ≡ row_line grid.now row }
 {
@@ -90,7 +90,7 @@ fn put_cells(line: &mut AnswerLine, grid: &Grid, row: u32)
     }
 }
 
-/// Puts the bars below a row together.
+/// Builds the line of the bars below a row.
 fn put_bars(line: &mut AnswerLine, grid: &Grid, row: u32)
     ensures { line.new ≡ bar_line grid.now row }
 {
@@ -107,7 +107,7 @@ fn write_row<W: Sink>(
     grid: &Grid,
     row: u32,
 ) -> Result<(), WriteFailed>
-    ensures { Sends W.told W.failures sink.old sink.new result (row_line grid.now row) }
+    ensures { Sends W.transcript W.failures sink.old sink.new result (row_line grid.now row) }
 {
     put_cells(line, grid, row);
     device::write_all(sink, line.bytes())
@@ -119,20 +119,20 @@ fn write_bars<W: Sink>(
     grid: &Grid,
     row: u32,
 ) -> Result<(), WriteFailed>
-    ensures { Sends W.told W.failures sink.old sink.new result (bar_line grid.now row) }
+    ensures { Sends W.transcript W.failures sink.old sink.new result (bar_line grid.now row) }
 {
     put_bars(line, grid, row);
     device::write_all(sink, line.bytes())
 }
 
-/// Writes a row, and a line of bars where one is barred below.
+/// Writes the line of a row, and a line of bars if the row has a bar below it.
 fn write_row_lines<W: Sink>(
     sink: &mut W,
     line: &mut AnswerLine,
     grid: &Grid,
     row: u32,
 ) -> Result<(), WriteFailed>
-    ensures { Sends W.told W.failures sink.old sink.new result (row_lines grid.now row) }
+    ensures { Sends W.transcript W.failures sink.old sink.new result (row_lines grid.now row) }
 {
     write_row(sink, line, grid, row)?;
     if has_bar_below(grid, row) {
@@ -142,9 +142,9 @@ fn write_row_lines<W: Sink>(
     }
 }
 
-/// Writes a grid, row by row.
+/// Writes the grid row by row.
 pub fn write_grid<W: Sink>(sink: &mut W, grid: &Grid) -> Result<(), WriteFailed>
-    ensures { Sends W.told W.failures sink.old sink.new result (show_lines grid.now) }
+    ensures { Sends W.transcript W.failures sink.old sink.new result (show_lines grid.now) }
 {
     let mut line = AnswerLine::new();
     for above in 0..grid.height() {

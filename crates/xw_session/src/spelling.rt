@@ -1,4 +1,4 @@
-//! Letters, many of which are written at once.
+//! Writes letters in chunks instead of one by one.
 ghost use Rattle.std.specs.Prelude.{◌≡◌, ◌<◌, ◌≤◌, [], ◌∷◌, length, min, take, IfOk};
 ghost use Rattle.xw_lines.specs.Sends.{Sends, Gathers};
 ghost use Rattle.xw_session.specs.Text.{line_of};
@@ -7,10 +7,10 @@ use crate::answer_line::AnswerLine;
 use xw_letters::Letter;
 use xw_lines::device::{self, Sink, WriteFailed};
 
-/// How many letters are put together to be written at once.
+/// The number of letters per chunk.
 const TOGETHER: usize = 64;
 
-/// Puts letters together as bytes, as many as there is room for.
+/// Copies as many letters as fit into the chunk, and returns their count.
 fn spell(letters: &[Letter], bytes: &mut [u8; TOGETHER]) -> usize
     ensures count { result ≡ min (length letters.now) 64 }
     ensures bytes { take result bytes.new ≡ take result letters.now }
@@ -22,7 +22,7 @@ fn spell(letters: &[Letter], bytes: &mut [u8; TOGETHER]) -> usize
     count
 }
 
-/// Puts few letters together as a line.
+/// Copies fewer than 64 letters and an LF into the chunk, and returns the number of bytes.
 fn spell_line(letters: &[Letter], bytes: &mut [u8; TOGETHER]) -> usize
     requires { length letters.now < 64 }
     ensures count { result ≤ 64 }
@@ -33,9 +33,9 @@ fn spell_line(letters: &[Letter], bytes: &mut [u8; TOGETHER]) -> usize
     count + 1
 }
 
-/// Writes letters on a line of their own, which goes out at once where they are few.
+/// Writes letters and an LF. Fewer than 64 letters are written together with the LF.
 pub fn write_letters_line<W: Sink>(sink: &mut W, letters: &[Letter]) -> Result<(), WriteFailed>
-    ensures { Sends W.told W.failures sink.old sink.new result (line_of (letters.now ∷ [])) }
+    ensures { Sends W.transcript W.failures sink.old sink.new result (line_of (letters.now ∷ [])) }
 {
     if letters.len() < TOGETHER {
         let mut bytes = [0; TOGETHER];
@@ -46,9 +46,9 @@ pub fn write_letters_line<W: Sink>(sink: &mut W, letters: &[Letter]) -> Result<(
     device::write_all(sink, b"\n")
 }
 
-/// Writes letters, many at once.
+/// Writes letters chunk by chunk.
 fn write_letters<W: Sink>(sink: &mut W, letters: &[Letter]) -> Result<(), WriteFailed>
-    ensures { Sends W.told W.failures sink.old sink.new result letters.now }
+    ensures { Sends W.transcript W.failures sink.old sink.new result letters.now }
 {
     let mut bytes = [0; TOGETHER];
     let count = spell(letters, &mut bytes);
@@ -60,9 +60,9 @@ fn write_letters<W: Sink>(sink: &mut W, letters: &[Letter]) -> Result<(), WriteF
     }
 }
 
-/// Writes the lines that are put together, and begins anew.
+/// Writes the buffered lines and empties the buffer.
 pub fn send_lines<W: Sink>(sink: &mut W, lines: &mut AnswerLine) -> Result<(), WriteFailed>
-    ensures sends { Sends W.told W.failures sink.old sink.new result lines.old }
+    ensures sends { Sends W.transcript W.failures sink.old sink.new result lines.old }
     ensures cleared { IfOk result (λ _. lines.new ≡ []) }
 {
     device::write_all(sink, lines.bytes())?;
@@ -70,13 +70,13 @@ pub fn send_lines<W: Sink>(sink: &mut W, lines: &mut AnswerLine) -> Result<(), W
     Ok(())
 }
 
-/// Puts letters on a line of their own behind those that are put together, which go out where there is no room for one more.
+/// Appends letters and an LF to the buffered lines. If they do not fit, the buffer is written first.
 pub fn gather_letters_line<W: Sink>(
     sink: &mut W,
     lines: &mut AnswerLine,
     letters: &[Letter],
 ) -> Result<(), WriteFailed>
-    ensures { Gathers W.told W.failures sink.old sink.new lines.old lines.new result (line_of (letters.now ∷ [])) }
+    ensures { Gathers W.transcript W.failures sink.old sink.new lines.old lines.new result (line_of (letters.now ∷ [])) }
 {
     if lines.push_word(letters) {
         return Ok(());

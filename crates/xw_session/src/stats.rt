@@ -1,4 +1,4 @@
-//! Counts over a whole grid.
+//! Writes the counts of the command `stats`.
 ghost use Rattle.std.specs.Prelude.{◌≡◌, ◌+◌, ◌*◌, ◌<◌, ◌≤◌, ◌++◌, [], ◌∷◌, length, codes, decimal, slice_index_or};
 ghost use Rattle.xw_grid.specs.Light.{lights_of, no_light};
 ghost use Rattle.xw_lines.specs.Sends.{Sends};
@@ -6,11 +6,10 @@ ghost use Rattle.xw_session.specs.Text.{line_of};
 ghost use Rattle.xw_session.specs.Stats.{is_unchecked as is_unchecked_cell, is_counted as is_counted_cell, count_of, count_of_size, total_size, mean_hundredths, two_places, number_line, some_line, size_line, letter_line, mean_line, cells_line, bars_line, lights_line, cells_and_blocks, bars_and_entries, size_lines, lights_and_sizes, unchecked_and_mean, letter_lines, stat_lines};
 
 use crate::text::{self, Decimal};
-use xw_cells::{Cell, Grid, Side};
-use xw_grid::Lights;
+use xw_grid::{Cell, Grid, Lights, Side};
 use xw_lines::device::{self, Sink, WriteFailed};
 
-/// What a cell is counted for.
+/// What a cell is counted as.
 #[derive(Clone, Copy)]
 pub enum Tally {
     Block,
@@ -20,7 +19,7 @@ pub enum Tally {
     Letter(u8),
 }
 
-/// Whether a cell is in one light alone.
+/// Returns whether exactly one light passes through a cell.
 fn is_unchecked(grid: &Grid, lights: &Lights, cell: Cell) -> bool
     requires { lights.now ≡ lights_of grid.now }
     ensures { result ≡ is_unchecked_cell grid.now cell }
@@ -69,7 +68,7 @@ fn count(grid: &Grid, lights: &Lights, tally: Tally) -> u64
     count
 }
 
-/// How many cells the light at a place has.
+/// Returns the length of the light at an index.
 fn size_at(lights: &Lights, place: usize) -> u32
     requires { place < length lights.now }
     ensures { result ≡ (slice_index_or lights.now place no_light).size }
@@ -92,7 +91,7 @@ fn count_size(lights: &Lights, size: u32) -> u64
     count
 }
 
-/// The sum of the lengths of lights.
+/// Returns the sum of the lengths of all lights.
 fn total(lights: &Lights) -> u64
     ensures total { result ≡ total_size lights.now }
     ensures small { result ≤ 64770 * 4294967295 }
@@ -104,14 +103,14 @@ fn total(lights: &Lights) -> u64
     total
 }
 
-/// Hundredths of the mean length of lights.
+/// Returns the mean length of the lights in hundredths.
 fn mean(lights: &Lights) -> u64
     ensures { result ≡ mean_hundredths (length lights.now) (total_size lights.now) }
 {
     hundredths(lights.len() as u64, total(lights))
 }
 
-/// Hundredths of a mean, to the nearest, a half up.
+/// Returns the mean in hundredths, rounded to the nearest, with halves rounded up. The mean of no lights is 0.
 fn hundredths(count: u64, total: u64) -> u64
     requires few { count ≤ 64770 }
     requires small { total ≤ 64770 * 4294967295 }
@@ -124,20 +123,20 @@ fn hundredths(count: u64, total: u64) -> u64
 }
 
 fn write_number<W: Sink>(sink: &mut W, name: &[u8], number: u64) -> Result<(), WriteFailed>
-    ensures { Sends W.told W.failures sink.old sink.new result (number_line name.now number) }
+    ensures { Sends W.transcript W.failures sink.old sink.new result (number_line name.now number) }
 {
     let number = Decimal::new(number);
     text::write_line(sink, &[name, number.digits()])
 }
 
-/// Writes how many there are of a thing, where there are some.
+/// Writes the count of a thing. Writes nothing if the count is 0.
 fn write_some<W: Sink>(
     sink: &mut W,
     name: &[u8],
     thing: &[u8],
     count: u64,
 ) -> Result<(), WriteFailed>
-    ensures { Sends W.told W.failures sink.old sink.new result (some_line name.now thing.now count) }
+    ensures { Sends W.transcript W.failures sink.old sink.new result (some_line name.now thing.now count) }
 {
     if count == 0 {
         return Ok(());
@@ -147,7 +146,7 @@ fn write_some<W: Sink>(
 }
 
 fn write_cells<W: Sink>(sink: &mut W, grid: &Grid) -> Result<(), WriteFailed>
-    ensures { Sends W.told W.failures sink.old sink.new result (cells_line grid.now) }
+    ensures { Sends W.transcript W.failures sink.old sink.new result (cells_line grid.now) }
 {
     write_number(sink, b"cells", grid.size() as u64)
 }
@@ -160,14 +159,14 @@ fn write_count<W: Sink>(
     tally: Tally,
 ) -> Result<(), WriteFailed>
     requires { lights.now ≡ lights_of grid.now }
-    ensures { Sends W.told W.failures sink.old sink.new result (number_line name.now (count_of grid.now tally)) }
+    ensures { Sends W.transcript W.failures sink.old sink.new result (number_line name.now (count_of grid.now tally)) }
 {
     write_number(sink, name, count(grid, lights, tally))
 }
 
 fn write_bars<W: Sink>(sink: &mut W, grid: &Grid, lights: &Lights) -> Result<(), WriteFailed>
     requires { lights.now ≡ lights_of grid.now }
-    ensures { Sends W.told W.failures sink.old sink.new result (bars_line grid.now) }
+    ensures { Sends W.transcript W.failures sink.old sink.new result (bars_line grid.now) }
 {
     let right = count(grid, lights, Tally::Bar(Side::Right));
     let below = count(grid, lights, Tally::Bar(Side::Below));
@@ -176,7 +175,7 @@ fn write_bars<W: Sink>(sink: &mut W, grid: &Grid, lights: &Lights) -> Result<(),
 
 fn write_light_count<W: Sink>(sink: &mut W, grid: &Grid, lights: &Lights) -> Result<(), WriteFailed>
     requires { lights.now ≡ lights_of grid.now }
-    ensures { Sends W.told W.failures sink.old sink.new result (lights_line grid.now) }
+    ensures { Sends W.transcript W.failures sink.old sink.new result (lights_line grid.now) }
 {
     write_number(sink, b"lights", lights.len() as u64)
 }
@@ -187,7 +186,7 @@ fn write_cells_and_blocks<W: Sink>(
     lights: &Lights,
 ) -> Result<(), WriteFailed>
     requires { lights.now ≡ lights_of grid.now }
-    ensures { Sends W.told W.failures sink.old sink.new result (cells_and_blocks grid.now) }
+    ensures { Sends W.transcript W.failures sink.old sink.new result (cells_and_blocks grid.now) }
 {
     write_cells(sink, grid)?;
     write_count(sink, b"blocks", grid, lights, Tally::Block)
@@ -199,13 +198,13 @@ fn write_bars_and_entries<W: Sink>(
     lights: &Lights,
 ) -> Result<(), WriteFailed>
     requires { lights.now ≡ lights_of grid.now }
-    ensures { Sends W.told W.failures sink.old sink.new result (bars_and_entries grid.now) }
+    ensures { Sends W.transcript W.failures sink.old sink.new result (bars_and_entries grid.now) }
 {
     write_bars(sink, grid, lights)?;
     write_count(sink, b"entered", grid, lights, Tally::Entered)
 }
 
-/// Writes how many lights there are of a length, where there are some.
+/// Writes how many lights have a length. Writes nothing if none has it.
 fn write_size<W: Sink>(
     sink: &mut W,
     grid: &Grid,
@@ -213,7 +212,7 @@ fn write_size<W: Sink>(
     size: u32,
 ) -> Result<(), WriteFailed>
     requires { lights.now ≡ lights_of grid.now }
-    ensures { Sends W.told W.failures sink.old sink.new result (size_line grid.now size) }
+    ensures { Sends W.transcript W.failures sink.old sink.new result (size_line grid.now size) }
 {
     let length = Decimal::new(u64::from(size));
     write_some(sink, b"light", length.digits(), count_size(lights, size))
@@ -221,7 +220,7 @@ fn write_size<W: Sink>(
 
 fn write_sizes<W: Sink>(sink: &mut W, grid: &Grid, lights: &Lights) -> Result<(), WriteFailed>
     requires { lights.now ≡ lights_of grid.now }
-    ensures { Sends W.told W.failures sink.old sink.new result (size_lines grid.now) }
+    ensures { Sends W.transcript W.failures sink.old sink.new result (size_lines grid.now) }
 {
     for before in 0..254 {
         write_size(sink, grid, lights, before + 2)?;
@@ -235,22 +234,22 @@ fn write_lights_and_sizes<W: Sink>(
     lights: &Lights,
 ) -> Result<(), WriteFailed>
     requires { lights.now ≡ lights_of grid.now }
-    ensures { Sends W.told W.failures sink.old sink.new result (lights_and_sizes grid.now) }
+    ensures { Sends W.transcript W.failures sink.old sink.new result (lights_and_sizes grid.now) }
 {
     write_light_count(sink, grid, lights)?;
     write_sizes(sink, grid, lights)
 }
 
 fn write_digits<W: Sink>(sink: &mut W, number: u64) -> Result<(), WriteFailed>
-    ensures { Sends W.told W.failures sink.old sink.new result (decimal number) }
+    ensures { Sends W.transcript W.failures sink.old sink.new result (decimal number) }
 {
     let number = Decimal::new(number);
     device::write_all(sink, number.digits())
 }
 
-/// Writes hundredths as a number with two places, and ends the line.
+/// Writes hundredths as a number with two decimals, and an LF.
 fn write_two_places<W: Sink>(sink: &mut W, hundredths: u64) -> Result<(), WriteFailed>
-    ensures { Sends W.told W.failures sink.old sink.new result (line_of (two_places hundredths ∷ [])) }
+    ensures { Sends W.transcript W.failures sink.old sink.new result (line_of (two_places hundredths ∷ [])) }
 {
     let tenth = b'0' + (hundredths / 10 % 10) as u8;
     let hundredth = b'0' + (hundredths % 10) as u8;
@@ -259,7 +258,7 @@ fn write_two_places<W: Sink>(sink: &mut W, hundredths: u64) -> Result<(), WriteF
 }
 
 fn write_hundredths<W: Sink>(sink: &mut W, hundredths: u64) -> Result<(), WriteFailed>
-    ensures { Sends W.told W.failures sink.old sink.new result (line_of (codes "mean" ∷ two_places hundredths ∷ [])) }
+    ensures { Sends W.transcript W.failures sink.old sink.new result (line_of (codes "mean" ∷ two_places hundredths ∷ [])) }
 {
     text::write_spaced(sink, b"mean")?;
     write_two_places(sink, hundredths)
@@ -267,7 +266,7 @@ fn write_hundredths<W: Sink>(sink: &mut W, hundredths: u64) -> Result<(), WriteF
 
 fn write_mean<W: Sink>(sink: &mut W, grid: &Grid, lights: &Lights) -> Result<(), WriteFailed>
     requires { lights.now ≡ lights_of grid.now }
-    ensures { Sends W.told W.failures sink.old sink.new result (mean_line grid.now) }
+    ensures { Sends W.transcript W.failures sink.old sink.new result (mean_line grid.now) }
 {
     write_hundredths(sink, mean(lights))
 }
@@ -278,13 +277,13 @@ fn write_unchecked_and_mean<W: Sink>(
     lights: &Lights,
 ) -> Result<(), WriteFailed>
     requires { lights.now ≡ lights_of grid.now }
-    ensures { Sends W.told W.failures sink.old sink.new result (unchecked_and_mean grid.now) }
+    ensures { Sends W.transcript W.failures sink.old sink.new result (unchecked_and_mean grid.now) }
 {
     write_count(sink, b"unchecked", grid, lights, Tally::Unchecked)?;
     write_mean(sink, grid, lights)
 }
 
-/// Writes in how many cells a letter is entered, where it is in some.
+/// Writes in how many cells a letter is entered. Writes nothing if it is in none.
 fn write_letter<W: Sink>(
     sink: &mut W,
     grid: &Grid,
@@ -292,7 +291,7 @@ fn write_letter<W: Sink>(
     letter: u8,
 ) -> Result<(), WriteFailed>
     requires { lights.now ≡ lights_of grid.now }
-    ensures { Sends W.told W.failures sink.old sink.new result (letter_line grid.now letter) }
+    ensures { Sends W.transcript W.failures sink.old sink.new result (letter_line grid.now letter) }
 {
     let count = count(grid, lights, Tally::Letter(letter));
     write_some(sink, b"letter", &[letter], count)
@@ -300,7 +299,7 @@ fn write_letter<W: Sink>(
 
 fn write_letters<W: Sink>(sink: &mut W, grid: &Grid, lights: &Lights) -> Result<(), WriteFailed>
     requires { lights.now ≡ lights_of grid.now }
-    ensures { Sends W.told W.failures sink.old sink.new result (letter_lines grid.now) }
+    ensures { Sends W.transcript W.failures sink.old sink.new result (letter_lines grid.now) }
 {
     for before in 0..26 {
         write_letter(sink, grid, lights, before + b'A')?;
@@ -310,7 +309,7 @@ fn write_letters<W: Sink>(sink: &mut W, grid: &Grid, lights: &Lights) -> Result<
 
 fn write_grid_stats<W: Sink>(sink: &mut W, grid: &Grid, lights: &Lights) -> Result<(), WriteFailed>
     requires { lights.now ≡ lights_of grid.now }
-    ensures { Sends W.told W.failures sink.old sink.new result (cells_and_blocks grid.now ++ bars_and_entries grid.now) }
+    ensures { Sends W.transcript W.failures sink.old sink.new result (cells_and_blocks grid.now ++ bars_and_entries grid.now) }
 {
     write_cells_and_blocks(sink, grid, lights)?;
     write_bars_and_entries(sink, grid, lights)
@@ -318,25 +317,25 @@ fn write_grid_stats<W: Sink>(sink: &mut W, grid: &Grid, lights: &Lights) -> Resu
 
 fn write_light_stats<W: Sink>(sink: &mut W, grid: &Grid, lights: &Lights) -> Result<(), WriteFailed>
     requires { lights.now ≡ lights_of grid.now }
-    ensures { Sends W.told W.failures sink.old sink.new result (lights_and_sizes grid.now ++ unchecked_and_mean grid.now) }
+    ensures { Sends W.transcript W.failures sink.old sink.new result (lights_and_sizes grid.now ++ unchecked_and_mean grid.now) }
 {
     write_lights_and_sizes(sink, grid, lights)?;
     write_unchecked_and_mean(sink, grid, lights)
 }
 
-/// Writes the counts of cells and those of lights.
+/// Writes the counts of cells and of lights.
 fn write_counts<W: Sink>(sink: &mut W, grid: &Grid, lights: &Lights) -> Result<(), WriteFailed>
     requires { lights.now ≡ lights_of grid.now }
-    ensures { Sends W.told W.failures sink.old sink.new result ((cells_and_blocks grid.now ++ bars_and_entries grid.now) ++ (lights_and_sizes grid.now ++ unchecked_and_mean grid.now)) }
+    ensures { Sends W.transcript W.failures sink.old sink.new result ((cells_and_blocks grid.now ++ bars_and_entries grid.now) ++ (lights_and_sizes grid.now ++ unchecked_and_mean grid.now)) }
 {
     write_grid_stats(sink, grid, lights)?;
     write_light_stats(sink, grid, lights)
 }
 
-/// Writes all counts over a grid.
+/// Writes all counts of a grid.
 pub fn write_stats<W: Sink>(sink: &mut W, grid: &Grid, lights: &Lights) -> Result<(), WriteFailed>
     requires { lights.now ≡ lights_of grid.now }
-    ensures { Sends W.told W.failures sink.old sink.new result (stat_lines grid.now) }
+    ensures { Sends W.transcript W.failures sink.old sink.new result (stat_lines grid.now) }
 {
     write_counts(sink, grid, lights)?;
     write_letters(sink, grid, lights)

@@ -1,7 +1,7 @@
-//! The lines of answers.
+//! Writes the lines of answers.
 ghost use Rattle.std.specs.Prelude.{◌≡◌, ◌≤◌, ◌<◌, ◌^◌, ◌++◌, [], ◌∷◌, codes, map, decimal, length, slice_index_or};
 ghost use Rattle.xw_letters.specs.LetterSet.{has, letters_in};
-ghost use Rattle.xw_cells.specs.Grid.{entry as entry_of};
+ghost use Rattle.xw_grid.specs.Grid.{entry as entry_of};
 ghost use Rattle.xw_grid.specs.Light.{lights_of};
 ghost use Rattle.xw_feas.specs.Spelled.{spelling};
 ghost use Rattle.xw_lines.specs.Sends.{Sends, Gathers};
@@ -13,15 +13,14 @@ use crate::lookup::light_named;
 use crate::refusal::{self, Refusal};
 use crate::spelling::{gather_letters_line, send_lines, write_letters_line};
 use std::marker::Model;
-use xw_cells::{Cell, Direction, Grid, LightName};
-use xw_feas::words::{Entries, Spelled};
+use xw_feas::word_iter::{Entries, Spelled};
 use xw_fill::listing::Duplicate;
-use xw_grid::{Light, Lights};
+use xw_grid::{Cell, Direction, Grid, Light, LightName, Lights};
 use xw_letters::{Letter, LetterSet};
 use xw_lines::device::{self, Sink, WriteFailed};
 use xw_words::word::LONGEST;
 
-/// The digits of a number, which take no memory.
+/// The decimal digits of a number. Allocates nothing.
 #[derive(Drop)]
 pub struct Decimal {
     digits: [u8; 20],
@@ -63,7 +62,7 @@ impl Decimal {
 
 /// Writes a word and a space.
 pub fn write_spaced<W: Sink>(sink: &mut W, word: &[u8]) -> Result<(), WriteFailed>
-    ensures { Sends W.told W.failures sink.old sink.new result (word.now ++ codes " ") }
+    ensures { Sends W.transcript W.failures sink.old sink.new result (word.now ++ codes " ") }
 {
     device::write_all(sink, word)?;
     device::write_all(sink, b" ")
@@ -71,62 +70,62 @@ pub fn write_spaced<W: Sink>(sink: &mut W, word: &[u8]) -> Result<(), WriteFaile
 
 /// Writes a number and a space.
 pub fn write_number_spaced<W: Sink>(sink: &mut W, number: u16) -> Result<(), WriteFailed>
-    ensures { Sends W.told W.failures sink.old sink.new result (decimal number ++ codes " ") }
+    ensures { Sends W.transcript W.failures sink.old sink.new result (decimal number ++ codes " ") }
 {
     let number = Decimal::new(u64::from(number));
     write_spaced(sink, number.digits())
 }
 
-/// Writes the way of a light and a space.
+/// Writes a direction and a space.
 pub fn write_direction_spaced<W: Sink>(
     sink: &mut W,
     direction: Direction,
 ) -> Result<(), WriteFailed>
-    ensures { Sends W.told W.failures sink.old sink.new result (name_of_direction direction ++ codes " ") }
+    ensures { Sends W.transcript W.failures sink.old sink.new result (name_of_direction direction ++ codes " ") }
 {
     write_spaced(sink, direction_name(direction).as_bytes())
 }
 
-/// Writes the way of a light and a word, and ends the line.
+/// Writes a direction, a word and an LF.
 fn write_directed_word<W: Sink>(
     sink: &mut W,
     direction: Direction,
     word: &[Letter],
 ) -> Result<(), WriteFailed>
-    ensures { Sends W.told W.failures sink.old sink.new result (line_of (name_of_direction direction ∷ word.now ∷ [])) }
+    ensures { Sends W.transcript W.failures sink.old sink.new result (line_of (name_of_direction direction ∷ word.now ∷ [])) }
 {
     write_direction_spaced(sink, direction)?;
     write_word(sink, word)
 }
 
-/// Writes a light and a word, and ends the line.
+/// Writes a light's name, a word and an LF.
 fn write_light_and_word<W: Sink>(
     sink: &mut W,
     light: LightName,
     word: &[Letter],
 ) -> Result<(), WriteFailed>
-    ensures { Sends W.told W.failures sink.old sink.new result (line_of (decimal light.number ∷ name_of_direction light.direction ∷ word.now ∷ [])) }
+    ensures { Sends W.transcript W.failures sink.old sink.new result (line_of (decimal light.number ∷ name_of_direction light.direction ∷ word.now ∷ [])) }
 {
     write_number_spaced(sink, light.number)?;
     write_directed_word(sink, light.direction, word)
 }
 
-/// Writes what is said of a light with a word.
+/// Writes a key word, a light's name, a word and an LF.
 pub fn write_named_word<W: Sink>(
     sink: &mut W,
     said: &[u8],
     light: LightName,
     word: &[Letter],
 ) -> Result<(), WriteFailed>
-    ensures { Sends W.told W.failures sink.old sink.new result (line_of (said.now ∷ decimal light.number ∷ name_of_direction light.direction ∷ word.now ∷ [])) }
+    ensures { Sends W.transcript W.failures sink.old sink.new result (line_of (said.now ∷ decimal light.number ∷ name_of_direction light.direction ∷ word.now ∷ [])) }
 {
     write_spaced(sink, said)?;
     write_light_and_word(sink, light, word)
 }
 
-/// Writes a light by its name, and ends the line.
+/// Writes a light's name and an LF.
 fn write_light_name<W: Sink>(sink: &mut W, light: LightName) -> Result<(), WriteFailed>
-    ensures { Sends W.told W.failures sink.old sink.new result (line_of (decimal light.number ∷ name_of_direction light.direction ∷ [])) }
+    ensures { Sends W.transcript W.failures sink.old sink.new result (line_of (decimal light.number ∷ name_of_direction light.direction ∷ [])) }
 {
     let number = Decimal::new(u64::from(light.number));
     write_line(
@@ -135,17 +134,17 @@ fn write_light_name<W: Sink>(sink: &mut W, light: LightName) -> Result<(), Write
     )
 }
 
-/// Writes what is said of a light.
+/// Writes a key word, a light's name and an LF.
 pub fn write_named<W: Sink>(sink: &mut W, said: &[u8], light: LightName) -> Result<(), WriteFailed>
-    ensures { Sends W.told W.failures sink.old sink.new result (line_of (said.now ∷ decimal light.number ∷ name_of_direction light.direction ∷ [])) }
+    ensures { Sends W.transcript W.failures sink.old sink.new result (line_of (said.now ∷ decimal light.number ∷ name_of_direction light.direction ∷ [])) }
 {
     write_spaced(sink, said)?;
     write_light_name(sink, light)
 }
 
-/// Writes words with a space between them, and ends the line.
+/// Writes words with a space between them, and an LF.
 pub fn write_line<W: Sink>(sink: &mut W, words: &[&[u8]]) -> Result<(), WriteFailed>
-    ensures { Sends W.told W.failures sink.old sink.new result (line_of (map (λ word. word.now) words.now)) }
+    ensures { Sends W.transcript W.failures sink.old sink.new result (line_of (map (λ word. word.now) words.now)) }
 {
     let mut line = AnswerLine::new();
     if line.join(words) {
@@ -155,9 +154,9 @@ pub fn write_line<W: Sink>(sink: &mut W, words: &[&[u8]]) -> Result<(), WriteFai
     }
 }
 
-/// Writes a line that is too long to be put together, word by word.
+/// Writes a line that does not fit in the buffer, word by word.
 fn write_apart<W: Sink>(sink: &mut W, words: &[&[u8]]) -> Result<(), WriteFailed>
-    ensures { Sends W.told W.failures sink.old sink.new result (line_of (map (λ word. word.now) words.now)) }
+    ensures { Sends W.transcript W.failures sink.old sink.new result (line_of (map (λ word. word.now) words.now)) }
 {
     match words {
         [] => device::write_all(sink, b"\n"),
@@ -172,23 +171,23 @@ fn write_apart<W: Sink>(sink: &mut W, words: &[&[u8]]) -> Result<(), WriteFailed
     }
 }
 
-/// Writes a word of the dictionary on a line of its own.
+/// Writes a dictionary word and an LF.
 pub fn write_word<W: Sink>(sink: &mut W, word: &[Letter]) -> Result<(), WriteFailed>
-    ensures { Sends W.told W.failures sink.old sink.new result (line_of (word.now ∷ [])) }
+    ensures { Sends W.transcript W.failures sink.old sink.new result (line_of (word.now ∷ [])) }
 {
     write_letters_line(sink, word)
 }
 
-/// Answers that a command was accepted.
+/// Writes the line `ok`.
 pub fn write_accepted<W: Sink>(sink: &mut W) -> Result<(), WriteFailed>
-    ensures { Sends W.told W.failures sink.old sink.new result accepted }
+    ensures { Sends W.transcript W.failures sink.old sink.new result accepted }
 {
     device::write_all(sink, b"ok\n")
 }
 
-/// Answers that a command was refused.
+/// Writes the line `no` with the name of the refusal.
 pub fn write_refused<W: Sink>(sink: &mut W, refusal: Refusal) -> Result<(), WriteFailed>
-    ensures { Sends W.told W.failures sink.old sink.new result (refused refusal) }
+    ensures { Sends W.transcript W.failures sink.old sink.new result (refused refusal) }
 {
     write_line(sink, &[b"no", refusal::name(refusal).as_bytes()])
 }
@@ -202,7 +201,7 @@ pub fn direction_name(direction: Direction) -> &'static str
     }
 }
 
-/// The letter in a cell, or a dot.
+/// Returns the letter of a cell, or a dot if it has none.
 pub fn letter_or_dot(grid: &Grid, cell: Cell) -> u8
     ensures { result ≡ byte_of_entry (entry_of grid.now cell) }
 {
@@ -212,7 +211,7 @@ pub fn letter_or_dot(grid: &Grid, cell: Cell) -> u8
     }
 }
 
-/// The letters of a light, with a dot for each empty cell. They take no memory.
+/// The letters of a light, with a dot for each empty cell. Allocates nothing.
 #[derive(Drop)]
 struct Pattern {
     bytes: [u8; LONGEST],
@@ -245,7 +244,7 @@ impl Pattern {
         }
     }
 
-    /// The letters of the light of a name, none where there is no such light.
+    /// Returns the letters of the light with this name, or no letters if there is no such light.
     fn named(grid: &Grid, lights: &Lights, name: LightName) -> Pattern
         requires { lights.now ≡ lights_of grid.now }
         ensures { result ≡ pattern_of grid.now (light_of grid.now name) }
@@ -267,30 +266,30 @@ impl Pattern {
     }
 }
 
-/// Writes a cell by its row and column.
+/// Writes the row and column of a cell, and an LF.
 pub fn write_cell<W: Sink>(sink: &mut W, cell: Cell) -> Result<(), WriteFailed>
-    ensures { Sends W.told W.failures sink.old sink.new result (cell_line cell) }
+    ensures { Sends W.transcript W.failures sink.old sink.new result (cell_line cell) }
 {
     let row = Decimal::new(u64::from(cell.row));
     let col = Decimal::new(u64::from(cell.col));
     write_line(sink, &[row.digits(), col.digits()])
 }
 
-/// Writes a number on a line of its own.
+/// Writes a number and an LF.
 pub fn write_number<W: Sink>(sink: &mut W, number: u64) -> Result<(), WriteFailed>
-    ensures { Sends W.told W.failures sink.old sink.new result (line_of (decimal number ∷ [])) }
+    ensures { Sends W.transcript W.failures sink.old sink.new result (line_of (decimal number ∷ [])) }
 {
     let number = Decimal::new(number);
     write_line(sink, &[number.digits()])
 }
 
-/// Writes a light with a number.
+/// Writes a light's name, a number and an LF.
 pub fn write_numbered<W: Sink>(
     sink: &mut W,
     light: LightName,
     number: u64,
 ) -> Result<(), WriteFailed>
-    ensures { Sends W.told W.failures sink.old sink.new result (numbered_line light number) }
+    ensures { Sends W.transcript W.failures sink.old sink.new result (numbered_line light number) }
 {
     let name = Decimal::new(u64::from(light.number));
     let number = Decimal::new(number);
@@ -304,10 +303,10 @@ pub fn write_numbered<W: Sink>(
     )
 }
 
-/// The letters, in order.
+/// The capital letters in order.
 const ALPHABET: &[u8; 26] = b"ABCDEFGHIJKLMNOPQRSTUVWXYZ";
 
-/// The letters of a set, or a dash where it has none. They take no memory.
+/// The letters of a set in order, or a dash for the empty set. Allocates nothing.
 #[derive(Drop)]
 pub struct LetterText {
     bytes: [u8; 26],
@@ -351,7 +350,7 @@ impl LetterText {
     }
 }
 
-/// Whether a set has the letter of this capital.
+/// Returns whether a set contains a capital letter.
 fn is_in(set: LetterSet, capital: u8) -> bool
     requires { (65 ≤ capital) × (capital ≤ 90) }
     ensures { result ≡ has set capital }
@@ -359,21 +358,21 @@ fn is_in(set: LetterSet, capital: u8) -> bool
     Letter::of(capital).is_some_and(|letter| set.has(letter))
 }
 
-/// Writes the letters of a set on a line.
+/// Writes the letters of a set and an LF.
 pub fn write_letter_set<W: Sink>(sink: &mut W, letters: LetterSet) -> Result<(), WriteFailed>
-    ensures { Sends W.told W.failures sink.old sink.new result (letters_line (letters_in letters)) }
+    ensures { Sends W.transcript W.failures sink.old sink.new result (letters_line (letters_in letters)) }
 {
     let letters = LetterText::new(letters);
     write_line(sink, &[letters.letters()])
 }
 
-/// Writes a cell that changed, with its letters now.
+/// Writes the line of a changed cell with its feasible letters.
 pub fn write_change<W: Sink>(
     sink: &mut W,
     cell: Cell,
     letters: LetterSet,
 ) -> Result<(), WriteFailed>
-    ensures { Sends W.told W.failures sink.old sink.new result (change_line (cell, letters_in letters)) }
+    ensures { Sends W.transcript W.failures sink.old sink.new result (change_line (cell, letters_in letters)) }
 {
     let row = Decimal::new(u64::from(cell.row));
     let col = Decimal::new(u64::from(cell.col));
@@ -384,10 +383,10 @@ pub fn write_change<W: Sink>(
     )
 }
 
-/// Writes the letter that is entered at a place of a light.
+/// Writes the letter at an index of a light.
 fn write_entry<W: Sink>(sink: &mut W, entries: &Entries<'_>, k: usize) -> Result<(), WriteFailed>
     requires { k < length entries.now }
-    ensures { Sends W.told W.failures sink.old sink.new result (slice_index_or entries.now k 0 ∷ []) }
+    ensures { Sends W.transcript W.failures sink.old sink.new result (slice_index_or entries.now k 0 ∷ []) }
 {
     match entries.letter(k) {
         Some(letter) => device::write_all(sink, &[letter.byte()]),
@@ -395,9 +394,9 @@ fn write_entry<W: Sink>(sink: &mut W, entries: &Entries<'_>, k: usize) -> Result
     }
 }
 
-/// Writes what is entered in a light.
+/// Writes the letters of a light.
 fn write_entries<W: Sink>(sink: &mut W, entries: &Entries<'_>) -> Result<(), WriteFailed>
-    ensures { Sends W.told W.failures sink.old sink.new result entries.now }
+    ensures { Sends W.transcript W.failures sink.old sink.new result entries.now }
 {
     for k in 0..entries.len() {
         write_entry(sink, entries, k)?;
@@ -405,33 +404,33 @@ fn write_entries<W: Sink>(sink: &mut W, entries: &Entries<'_>) -> Result<(), Wri
     Ok(())
 }
 
-/// Writes what is entered in a light on a line of its own.
+/// Writes the letters of a light and an LF.
 fn write_entries_line<W: Sink>(sink: &mut W, entries: &Entries<'_>) -> Result<(), WriteFailed>
-    ensures { Sends W.told W.failures sink.old sink.new result (line_of (entries.now ∷ [])) }
+    ensures { Sends W.transcript W.failures sink.old sink.new result (line_of (entries.now ∷ [])) }
 {
     write_entries(sink, entries)?;
     device::write_all(sink, b"\n")
 }
 
-/// Puts what is entered in a light on a line of its own behind the lines that are put together, which go out.
+/// Writes the buffered lines, and then the letters of a light and an LF.
 fn gather_entries_line<W: Sink>(
     sink: &mut W,
     lines: &mut AnswerLine,
     entries: &Entries<'_>,
 ) -> Result<(), WriteFailed>
-    ensures { Gathers W.told W.failures sink.old sink.new lines.old lines.new result (line_of (entries.now ∷ [])) }
+    ensures { Gathers W.transcript W.failures sink.old sink.new lines.old lines.new result (line_of (entries.now ∷ [])) }
 {
     send_lines(sink, lines)?;
     write_entries_line(sink, entries)
 }
 
-/// Puts a feasible word on a line of its own behind the lines that are put together, which go out where there is no room for one more.
+/// Appends a feasible word and an LF to the buffered lines. If they do not fit, the buffer is written first.
 pub fn gather_spelled<W: Sink>(
     sink: &mut W,
     lines: &mut AnswerLine,
     word: &Spelled<'_>,
 ) -> Result<(), WriteFailed>
-    ensures { Gathers W.told W.failures sink.old sink.new lines.old lines.new result (line_of (spelling word.now ∷ [])) }
+    ensures { Gathers W.transcript W.failures sink.old sink.new lines.old lines.new result (line_of (spelling word.now ∷ [])) }
 {
     match word {
         Spelled::Listed(letters) => gather_letters_line(sink, lines, letters),
@@ -439,7 +438,7 @@ pub fn gather_spelled<W: Sink>(
     }
 }
 
-/// Writes a light that spells what an earlier one does, the first such, and what both spell.
+/// Writes a light that spells the same as an earlier light, the first such earlier light, and the word.
 pub fn write_duplicate<W: Sink>(
     sink: &mut W,
     grid: &Grid,
@@ -447,7 +446,7 @@ pub fn write_duplicate<W: Sink>(
     found: &Duplicate,
 ) -> Result<(), WriteFailed>
     requires { lights.now ≡ lights_of grid.now }
-    ensures { Sends W.told W.failures sink.old sink.new result (duplicate_line grid.now found.now) }
+    ensures { Sends W.transcript W.failures sink.old sink.new result (duplicate_line grid.now found.now) }
 {
     let number = Decimal::new(u64::from(found.light.number));
     let first = Decimal::new(u64::from(found.first.number));
@@ -464,7 +463,7 @@ pub fn write_duplicate<W: Sink>(
     )
 }
 
-/// Writes a light and what it spells.
+/// Writes a light's name and its word.
 pub fn write_light_word<W: Sink>(
     sink: &mut W,
     grid: &Grid,
@@ -472,7 +471,7 @@ pub fn write_light_word<W: Sink>(
     name: LightName,
 ) -> Result<(), WriteFailed>
     requires { lights.now ≡ lights_of grid.now }
-    ensures { Sends W.told W.failures sink.old sink.new result (spelled_line grid.now name) }
+    ensures { Sends W.transcript W.failures sink.old sink.new result (spelled_line grid.now name) }
 {
     let number = Decimal::new(u64::from(name.number));
     let word = Pattern::named(grid, lights, name);

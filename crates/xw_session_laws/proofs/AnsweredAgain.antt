@@ -1,4 +1,4 @@
--- The lines of a record as a session answers them.
+-- The lines of a record, as a session answers them.
 use Rattle.std.proofs.Common.{◌≡◌, ℕ, List, [], ◌∷◌, ◌++◌, Some, None, refl, sym, ◌∙◌, ap, inl, inr, arith}
 use Rattle.std.specs.Prelude.{Option, Result, Ok, Err}
 use Rattle.std.specs.Option.{option_and_then}
@@ -14,7 +14,7 @@ use Rattle.xw_session.specs.Answer.{IsReply, Replies, text_of, step_of, state_af
 use Rattle.xw_lines.specs.Spoken.{Spoken, refusals}
 use Rattle.xw_session_laws.specs.Replay.{state_left, left_by_line, replayed_lines, WantsMemory}
 
--- ---- lines of which none is refused
+-- ---- no line is refused
 
 module _ (state next : State) where
   reply_left : (command : Command) (reply : Result Reply Refusal) (outcome : Step) → Replies state command reply → outcome ≡ step_of reply → next ≡ state_after state reply → refusals outcome ≡ 0
@@ -33,7 +33,7 @@ spoken_left (line ∷ lines) state last out count (outcome, answer, mid, others,
     ap (option_and_then (λ next. replayed_lines next lines)) (line_left state mid (command_of line) outcome answer said (omega (arith, count-is, none)))
     ∙ spoken_left lines mid last others more rest (omega (arith, count-is, none))
 
--- ---- a line that is refused
+-- ---- a line is refused
 
 one_and_others : (left : Option State) (front rest : List (List ℕ))
     → ((next : State) → replayed_lines next (front ++ rest) ≡ option_and_then (λ mid. replayed_lines mid rest) (replayed_lines next front))

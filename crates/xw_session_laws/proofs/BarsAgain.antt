@@ -1,19 +1,19 @@
--- Bars of a record, set in a grid without symmetry.
+-- The bar commands of a record, on a grid without symmetry.
 use Rattle.std.proofs.Common.{◌≡◌, ℕ, ◌*◌, ◌+◌, ◌<◌, Bool, true, false, not, ◌&&◌, eqb, List, [], ◌∷◌, length, map, get_or, set, replicate, Some, refl, sym, ◌∙◌, ap, inl, length-set, arith}
 use Rattle.std.specs.Prelude.{Ok, Err, slice_index_or, if◌then◌else◌}
 use Rattle.std.proofs.lemmas.List.{length-map, length-replicate, get_or-replicate, get_or_default, same_lists}
-use Rattle.xw_cells.specs.declared.cell.Cell.{Cell}
-use Rattle.xw_cells.specs.declared.cell.Side.{Side}
-use Rattle.xw_cells.specs.declared.cell.Side.TheVariants.{Right, Below}
-use Rattle.xw_cells.specs.declared.cell.Square.{Square}
-use Rattle.xw_cells.specs.declared.cell.Symmetry.TheVariants as kinds
-use Rattle.xw_cells.specs.declared.fault.GridFault.TheVariants.{OutOfGrid, Border}
-use Rattle.xw_cells.specs.Grid.{Grid, IsGrid, is_inside, index_of, cell_at, cells, same_cell, same_side, beyond, is_edge, bars, is_barred}
-use Rattle.xw_cells.specs.Edit.{bars_with, with_edges}
-use Rattle.xw_cells.specs.Orbit.{is_between, is_in_edge_orbit}
+use Rattle.xw_grid.specs.declared.cell.Cell.{Cell}
+use Rattle.xw_grid.specs.declared.cell.Side.{Side}
+use Rattle.xw_grid.specs.declared.cell.Side.TheVariants.{Right, Below}
+use Rattle.xw_grid.specs.declared.cell.Square.{Square}
+use Rattle.xw_grid.specs.declared.cell.Symmetry.TheVariants as kinds
+use Rattle.xw_grid.specs.declared.fault.GridFault.TheVariants.{OutOfGrid, Border}
+use Rattle.xw_grid.specs.Grid.{Grid, IsGrid, is_inside, index_of, cell_at, cells, same_cell, same_side, beyond, is_edge, bars, is_barred}
+use Rattle.xw_grid.specs.Edit.{bars_with, with_edges}
+use Rattle.xw_grid.specs.Orbit.{is_between, is_in_edge_orbit}
 use Rattle.xw_grid.specs.Clue.{ClueMap}
-use Rattle.xw_cells.proofs.EdgeLemmas.{is_between-IsEdgeBetween}
-use Rattle.xw_cells.proofs.GridLemmas.{cell_at-inside, index_of-cell_at, same_cell-cell_at, get_set, length-cells, get_or-map-cells}
+use Rattle.xw_grid.proofs.EdgeLemmas.{is_between-IsEdgeBetween}
+use Rattle.xw_grid.proofs.GridLemmas.{cell_at-inside, index_of-cell_at, same_cell-cell_at, get_set, length-cells, get_or-map-cells}
 use Rattle.xw_feas.specs.State.{with_grid as with_edited, by_fault}
 use Rattle.xw_commands.specs.declared.command.Command.TheVariants as commands
 use Rattle.xw_session.specs.declared.record.Part.TheVariants as parts
@@ -24,7 +24,7 @@ use Rattle.xw_session_laws.specs.Replay.{state_left, replayed, with_grid, BarsAr
 use Rattle.xw_session_laws.proofs.Replaying.{next_done}
 use Rattle.xw_session_laws.proofs.CellsAgain.{each_cell_again, mixed, mixed_more, mixed_next, mixed_same, mixed_all, length-mixed, four_times}
 
--- ---- an edge is its own orbit
+-- ---- the orbit of an edge is the edge alone
 
 edge_alone : (grid : Grid) (cell other : Cell) (side towards : Side) → grid.symmetry ≡ kinds.None
     → is_in_edge_orbit grid cell side other towards ≡ (same_side side towards && same_cell other cell)
@@ -73,7 +73,7 @@ barred_edge state true true true to p q r = cc
 barred_edge state true false is_bar to p q r = cc
 barred_edge state false edge is_bar to p q r = cc
 
--- ---- the bars at one side of the cells
+-- ---- the bars on one side of the cells
 
 module _ (state : State) (made : Grid) (is : IsGrid made) (only : BarsAreOnEdges made) (squares : List Square) where
   abbrev none : List Bool
@@ -93,7 +93,7 @@ module _ (state : State) (made : Grid) (is : IsGrid made) (only : BarsAreOnEdges
   edge_of true bit e = refl
   edge_of false bit e = cc
 
-  -- no bar stands at the next edge
+  -- the next edge has no bar yet
   free_at : (now : List Bool) (k : ℕ) (edge : Bool) → edge ≡ true → get_or now k false ≡ false → (edge && slice_index_or now (index_of made (cell_at made k)) false) ≡ false
   free_at now k edge there free =
       ap (λ b. b && slice_index_or now (index_of made (cell_at made k)) false) there ∙ ap (λ n. get_or now n false) (index_of-cell_at made k) ∙ free

@@ -1,4 +1,4 @@
--- What a record has for cells, done for one cell after another.
+-- The cell commands of a record, cell by cell.
 use Rattle.std.proofs.Common.{◌≡◌, ℕ, ◌+◌, ◌*◌, ◌<◌, ◌≤◌, zero, suc, Bool, true, false, not, ◌&&◌, ◌||◌, eqb, leb, le-leb, ◌-◌, List, [], ◌∷◌, ◌++◌, length, map, take, drop, get_or, set, replicate, flat_map, Some, None, refl, sym, ◌∙◌, ap, append_assoc, append-nil, zero-add, add-one, drop-cons, length-set, arith}
 use Rattle.std.specs.Prelude.{Ok, Err, slice_get, is_some, if◌then◌else◌}
 use Rattle.std.specs.Option.{option_and_then}
@@ -9,17 +9,17 @@ use Rattle.std.proofs.lemmas.List.{take_more, take_all, length-take-le, length-d
 use Rattle.std.proofs.lemmas.List.Elements.{All-get_or}
 use Rattle.std.proofs.lemmas.Option.{slice_get-get_or}
 use Rattle.xw_letters.specs.Letter.{IsLetter, letter_of}
-use Rattle.xw_cells.specs.declared.cell.Cell.{Cell}
-use Rattle.xw_cells.specs.declared.cell.Square.{Square}
-use Rattle.xw_cells.specs.declared.cell.Square.TheVariants.{Block, Open}
-use Rattle.xw_cells.specs.declared.cell.Symmetry.TheVariants as kinds
-use Rattle.xw_cells.specs.declared.fault.GridFault.TheVariants.{OutOfGrid, OnBlock, Occupied}
-use Rattle.xw_cells.specs.Grid.{Grid, IsGrid, IsSquare, is_inside, index_of, cell_at, cells, is_block_square, letter_in, square_at, is_block, entry, same_cell}
-use Rattle.xw_cells.specs.Edit.{with_entry, is_occupied, with_orbit, turned, square_of}
-use Rattle.xw_cells.specs.Orbit.{moved_by, moved as moved_cell, is_in_orbit}
+use Rattle.xw_grid.specs.declared.cell.Cell.{Cell}
+use Rattle.xw_grid.specs.declared.cell.Square.{Square}
+use Rattle.xw_grid.specs.declared.cell.Square.TheVariants.{Block, Open}
+use Rattle.xw_grid.specs.declared.cell.Symmetry.TheVariants as kinds
+use Rattle.xw_grid.specs.declared.fault.GridFault.TheVariants.{OutOfGrid, OnBlock, Occupied}
+use Rattle.xw_grid.specs.Grid.{Grid, IsGrid, IsSquare, is_inside, index_of, cell_at, cells, is_block_square, letter_in, square_at, is_block, entry, same_cell}
+use Rattle.xw_grid.specs.Edit.{with_entry, is_occupied, with_orbit, turned, square_of}
+use Rattle.xw_grid.specs.Orbit.{moved_by, moved as moved_cell, is_in_orbit}
 use Rattle.xw_grid.specs.Clue.{ClueMap}
 use Rattle.xw_feas.specs.State.{with_grid as with_edited, by_fault}
-use Rattle.xw_cells.proofs.GridLemmas.{cell_at-inside, index_of-cell_at, same_cell-cell_at, get_set, length-cells, get_or-map-cells}
+use Rattle.xw_grid.proofs.GridLemmas.{cell_at-inside, index_of-cell_at, same_cell-cell_at, get_set, length-cells, get_or-map-cells}
 use Rattle.xw_commands.specs.declared.command.Command.{Command}
 use Rattle.xw_commands.specs.declared.command.Command.TheVariants as commands
 use Rattle.xw_session.specs.declared.record.Part.TheVariants.{Letters, Blocks}
@@ -31,7 +31,7 @@ use Rattle.xw_session_laws.proofs.Replaying.{replayed_both, next_done}
 
 -- ---- one cell after another
 
--- what is done for each cell in turn leads through the states of so many first cells
+-- if the commands of each cell lead from one state to the next, all of them lead from the first to the last
 cells_from : (grid : Grid) (made : Cell → List Command) (after : ℕ → State) (k n : ℕ)
     → ((i : ℕ) → i < k + n → replayed (after i) (made (cell_at grid i)) ≡ Some (after (i + 1)))
     → replayed (after k) (flat_map made (map (cell_at grid) (range_with_len k n))) ≡ Some (after (k + n))
@@ -51,7 +51,7 @@ each_cell_again grid made after step =
     cells_from grid made after 0 (grid.width * grid.height) (λ i within. step i (omega (arith, within)))
     ∙ ap (λ i. Some (after i)) (zero-add (grid.width * grid.height))
 
--- ---- some first items of one list, and then those of another one
+-- ---- the first elements of one list, followed by those of another
 
 abbrev pub mixed : {X : Type 0} → List X → List X → ℕ → List X
 mixed xs ys k = take k xs ++ drop k ys
@@ -63,7 +63,7 @@ module _ {X : Type 0} (xs ys : List X) (long : length xs ≡ length ys) (k : ℕ
   rest_is : drop k ys ≡ get_or ys k d ∷ drop (k + 1) ys
   rest_is = let there : k < length ys = omega (arith, within, long) in rw add-one (drop-cons ys k d there)
 
-  -- one item more
+  -- one more element from the first list
   pub mixed_more : mixed xs ys (k + 1) ≡ set (mixed xs ys k) k (get_or xs k d)
   mixed_more =
       let rest = drop (k + 1) ys in
@@ -72,7 +72,7 @@ module _ {X : Type 0} (xs ys : List X) (long : length xs ≡ length ys) (k : ℕ
       ap (λ front. front ++ rest) (take_more xs k d within) ∙ append_assoc (take k xs) (get_or xs k d ∷ []) rest
       ∙ sym (ap (λ zs. set (take k xs ++ zs) k (get_or xs k d)) rest_is ∙ seam)
 
-  -- the next item
+  -- the next element
   pub mixed_next : get_or (mixed xs ys k) k d ≡ get_or ys k d
   mixed_next =
       ap (λ zs. get_or (take k xs ++ zs) k d) rest_is
@@ -93,7 +93,7 @@ mixed_all xs ys k long all =
 
 -- ---- letters
 
--- what stands in a square, read by its place
+-- the square of a cell, by its index
 pub square_is : (grid : Grid) (k : ℕ) → is_inside grid (cell_at grid k) ≡ true → k < length grid.squares → square_at grid (cell_at grid k) ≡ Some (get_or grid.squares k Block)
 square_is grid k inside within =
     ap (λ b. if b then slice_get grid.squares (index_of grid (cell_at grid k)) else None) inside
@@ -169,7 +169,7 @@ module _ (state : State) (grid : Grid) (is : IsGrid grid) where
       each_cell_again grid (cell_commands grid clues circles Letters) lettered (λ k below. letters_at k below)
       ∙ ap (λ squares. Some (with_squares state grid squares)) (mixed_all grid.squares bare (grid.width * grid.height) as_long (sym is.squares))
 
--- ---- blocks, under no symmetry
+-- ---- blocks, without symmetry
 
 toggled : (state : State) (inside blocks occupied : Bool) (to : Bool → Grid) → inside ≡ true → blocks ≡ false → occupied ≡ false
     → state_left (moved state (with_edited state.position (by_fault (if not inside then Err OutOfGrid else if not blocks && occupied then Err Occupied else Ok (to (not blocks)))))) ≡ Some (with_grid state (to true))
@@ -182,7 +182,7 @@ pub four_times : (t : Bool) → (t || (t || (t || (t || false)))) ≡ t
 four_times true = refl
 four_times false = refl
 
--- a cell is its own orbit
+-- the orbit of a cell is the cell alone
 block_alone : (grid : Grid) (k : ℕ) → grid.symmetry ≡ kinds.None → is_inside grid (cell_at grid k) ≡ true → length grid.squares ≡ grid.width * grid.height
     → map (λ other. if is_in_orbit grid (cell_at grid k) other then turned true (square_of grid other) else square_of grid other) (cells grid) ≡ set grid.squares k Block
 block_alone grid k alone inside long =

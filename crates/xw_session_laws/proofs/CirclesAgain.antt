@@ -1,4 +1,4 @@
--- Circles of a record, set in reading order.
+-- The circle commands of a record, in reading order.
 use Rattle.std.proofs.Common.{◌≡◌, ℕ, ◌+◌, ◌*◌, ◌/◌, ◌%◌, ◌<◌, ◌≤◌, Bool, true, false, not, ◌||◌, List, [], ◌∷◌, ◌++◌, length, take, get_or, filter, Some, None, refl, sym, ◌∙◌, ap, inl, inr, append-nil, arith}
 use Rattle.std.specs.Prelude.{Err, if◌then◌else◌, All}
 use Rattle.std.specs.declared.cmp.Ordering.TheVariants.{Equal, Greater}
@@ -11,14 +11,14 @@ use Rattle.std.proofs.lemmas.Nat.{mod_below, mul-le}
 use Rattle.std.proofs.lemmas.List.{get_or-take, get_or-replicate, length-take, length-replicate}
 use Rattle.std.proofs.lemmas.List.FromFn.{get_or-map-range_with_len}
 use Rattle.std.proofs.lemmas.List.Elements.{All-tail, All-from_get_or, All-filter, filter-append}
-use Rattle.xw_cells.specs.declared.cell.Cell.{Cell}
-use Rattle.xw_cells.specs.declared.cell.Square.TheVariants.{Block, Open}
-use Rattle.xw_cells.specs.declared.fault.GridFault.TheVariants.{OutOfGrid, OnBlock}
-use Rattle.xw_cells.specs.Grid.{Grid, IsGrid, is_inside, is_open, is_open_square, cell_at, cells, cell_cmp}
-use Rattle.xw_cells.specs.Edit.{blank}
+use Rattle.xw_grid.specs.declared.cell.Cell.{Cell}
+use Rattle.xw_grid.specs.declared.cell.Square.TheVariants.{Block, Open}
+use Rattle.xw_grid.specs.declared.fault.GridFault.TheVariants.{OutOfGrid, OnBlock}
+use Rattle.xw_grid.specs.Grid.{Grid, IsGrid, is_inside, is_open, is_open_square, cell_at, cells, cell_cmp}
+use Rattle.xw_grid.specs.Edit.{blank}
 use Rattle.xw_grid.specs.Clue.{ClueMap, is_circled, with_circle}
 use Rattle.xw_grid.proofs.ClueLemmas.{same_at}
-use Rattle.xw_cells.proofs.GridLemmas.{cell_at-inside, take-cells, all-cells}
+use Rattle.xw_grid.proofs.GridLemmas.{cell_at-inside, take-cells, all-cells}
 use Rattle.xw_commands.specs.declared.command.Command.TheVariants as commands
 use Rattle.xw_session.specs.declared.record.Part.TheVariants.{Circles}
 use Rattle.xw_session.specs.declared.refusal.Refusal.TheVariants as refusals
@@ -38,7 +38,7 @@ after_col : (row other col way : ℕ) → row ≡ other → way < col → orderi
 after_col row other col way same less =
     ap (λ o. ordering_then o (nat_cmp col way)) (sym (nat_cmp_is row other Equal same)) ∙ sym (nat_cmp_is col way Greater less)
 
--- a cell comes after those of lower places
+-- a cell comes after those with lower indices
 pub in_order : (grid : Grid) (k i : ℕ) → 0 < grid.width → i < k → cell_cmp (cell_at grid k) (cell_at grid i) ≡ Greater
 in_order grid k i wide less =
     let w = grid.width in
@@ -100,7 +100,7 @@ module _ (state : State) (grid : Grid) (is : IsGrid grid) (circles : List Cell) 
         get_or-take k (cells grid) i here before ∙ get_or-map-range_with_len (cell_at grid) 0 (grid.width * grid.height) i i here (omega (arith, before, below)) (omega arith) in
         ap (cell_cmp here) at ∙ in_order grid k i (omega (arith, is.wide)) before))
 
-    -- the circled cells with the next cell, where it is circled
+    -- the circled cells, with the next cell added if it is circled
     one_more : (b : Bool) → is_circled circles here ≡ b → some_cells (k + 1) ≡ some_cells k ++ (if b then here ∷ [] else [])
     one_more b e =
         ap (filter (is_circled circles)) (take-cells grid k below) ∙ filter-append (is_circled circles) (take k (cells grid)) (here ∷ [])

@@ -1,12 +1,12 @@
--- Clues of a record, put in reading order.
+-- The clue commands of a record, in reading order.
 use Rattle.std.proofs.Common.{◌≡◌, ℕ, ◌+◌, ◌*◌, ◌<◌, false, List, [], ◌∷◌, ◌++◌, Some, refl, sym, ◌∙◌, ap, append-nil, arith}
 use Rattle.std.specs.Option.{option_and_then}
-use Rattle.xw_cells.specs.declared.cell.Cell.{Cell}
-use Rattle.xw_cells.specs.declared.cell.Direction.{Direction}
-use Rattle.xw_cells.specs.declared.cell.Direction.TheVariants.{Across, Down}
-use Rattle.xw_cells.specs.Grid.{Grid, IsGrid, cell_at}
+use Rattle.xw_grid.specs.declared.cell.Cell.{Cell}
+use Rattle.xw_grid.specs.declared.cell.Direction.{Direction}
+use Rattle.xw_grid.specs.declared.cell.Direction.TheVariants.{Across, Down}
+use Rattle.xw_grid.specs.Grid.{Grid, IsGrid, cell_at}
 use Rattle.xw_grid.specs.Clue.{Texts, ClueMap, no_clues, clue_at, text_at, with_clue}
-use Rattle.xw_cells.proofs.GridLemmas.{cell_at-inside}
+use Rattle.xw_grid.proofs.GridLemmas.{cell_at-inside}
 use Rattle.xw_commands.specs.declared.command.Field.TheVariants as fields
 use Rattle.xw_session.specs.declared.record.Part.TheVariants.{Clues}
 use Rattle.xw_session.specs.State.{State}
@@ -17,7 +17,7 @@ use Rattle.xw_session_laws.proofs.Replaying.{replayed_both, text_again}
 use Rattle.xw_session_laws.proofs.CellsAgain.{each_cell_again}
 use Rattle.xw_session_laws.proofs.InOrder.{texts_before, no_texts_before, all_texts_before, entry_of_text, one_text_more, plain_at, put_last}
 
--- the clues with others in one direction
+-- the clues with those of one direction replaced
 abbrev pub with_clues : ClueMap → Direction → Texts → ClueMap
 with_clues clues Across texts = record clues { across = texts }
 with_clues clues Down texts = record clues { down = texts }

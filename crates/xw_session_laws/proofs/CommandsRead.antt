@@ -1,4 +1,4 @@
--- The line of each command that a record has, read again.
+-- The line of each command of a record parses as the command.
 use Rattle.std.proofs.Common.{◌≡◌, ℕ, ◌+◌, ◌-◌, ◌*◌, ◌<◌, ◌≤◌, suc, Bool, true, false, not, ◌&&◌, ◌||◌, le-leb, List, [], ◌∷◌, ◌++◌, length, get_or, take, flat_map, codes, Some, None, refl, sym, ◌∙◌, ap, subst, append-nil, arith}
 use Rattle.std.specs.Prelude.{Option, Ok, Err, decimal, nat_lt, nat_eq, slice_index, if◌then◌else◌, All}
 use Rattle.std.specs.List.{list_all, range_with_len}
@@ -7,18 +7,18 @@ use Rattle.std.proofs.lemmas.Bool.Decides.{nat_tests}
 use Rattle.std.proofs.lemmas.List.{length-append}
 use Rattle.std.proofs.lemmas.List.FromFn.{length-range_with_len}
 use Rattle.xw_letters.specs.Letter.{IsLetter}
-use Rattle.xw_cells.specs.declared.cell.Direction.{Direction}
-use Rattle.xw_cells.specs.declared.cell.Direction.TheVariants.{Across, Down}
-use Rattle.xw_cells.specs.declared.cell.Side.{Side}
-use Rattle.xw_cells.specs.declared.cell.Side.TheVariants.{Right, Below}
-use Rattle.xw_cells.specs.declared.cell.Symmetry.{Symmetry}
-use Rattle.xw_cells.specs.declared.cell.Symmetry.TheVariants as kinds
+use Rattle.xw_grid.specs.declared.cell.Direction.{Direction}
+use Rattle.xw_grid.specs.declared.cell.Direction.TheVariants.{Across, Down}
+use Rattle.xw_grid.specs.declared.cell.Side.{Side}
+use Rattle.xw_grid.specs.declared.cell.Side.TheVariants.{Right, Below}
+use Rattle.xw_grid.specs.declared.cell.Symmetry.{Symmetry}
+use Rattle.xw_grid.specs.declared.cell.Symmetry.TheVariants as kinds
 use Rattle.xw_commands.specs.declared.command.Command.{Command}
 use Rattle.xw_commands.specs.declared.command.Command.TheVariants as commands
 use Rattle.xw_commands.specs.declared.command.Field.{Field}
 use Rattle.xw_commands.specs.declared.command.Field.TheVariants as fields
-use Rattle.xw_commands.specs.declared.command.Putting.TheVariants.{Instead, Behind}
-use Rattle.xw_commands.specs.declared.command.Spot.{Spot}
+use Rattle.xw_commands.specs.declared.command.TextMode.TheVariants.{Instead, Behind}
+use Rattle.xw_commands.specs.declared.command.CellArg.{CellArg}
 use Rattle.xw_commands.specs.declared.command.SyntaxFault.TheVariants as faults
 use Rattle.xw_commands.specs.declared.command.TextField.{TextField}
 use Rattle.xw_commands.specs.declared.command.TextField.TheVariants.{Title, Author, Copyright, Notes}
@@ -33,7 +33,7 @@ use Rattle.xw_session_laws.proofs.LinesRead.{spaced, line_parts, first_read, rea
 use Rattle.xw_commands.proofs.Passing.{each_passes}
 use Rattle.xw_session_laws.proofs.SpelledLines.{IsInked, inked, starts_inked, spelled_trimmed}
 
--- ---- bytes that stand in a line: no LF and no CR
+-- ---- bytes that may occur in a line: no LF and no CR
 
 abbrev pub stands : ℕ → Bool
 stands byte = not (nat_eq byte 10 || nat_eq byte 13)
@@ -68,7 +68,7 @@ high_stands byte h =
     let high : 48 ≤ byte = grind (arith, nat_tests, h) in
     ap (λ b. not (b || nat_eq byte 13)) (ne_eqb byte 10 (λ e. absurd (omega (arith, e, high)))) ∙ ap (λ b. not (false || b)) (ne_eqb byte 13 (λ e. absurd (omega (arith, e, high))))
 
--- ---- words that fit a line, so many bytes with the spaces before them
+-- ---- words that fit in a line, counted with the spaces before them
 
 abbrev Fit : ℕ → List (List ℕ) → Type 0
 Fit most ws = (list_all stands (spaced ws) ≡ true) × (length (spaced ws) ≤ most)
@@ -86,7 +86,7 @@ high_fit n m w ws high short fit = more_fit n m w ws (each_weaker is_high stands
 number_fit : (number m : ℕ) (ws : List (List ℕ)) → number ≤ 255 → Fit m ws → Fit (1 + 3 + m) (decimal number ∷ ws)
 number_fit number m ws small fit = high_fit 3 m (decimal number) ws (high_number number small) (short_number number small) fit
 
--- ---- a line of a command, from its words on
+-- ---- the line of a command, from its words
 
 abbrev pub IsReadAs : List ℕ → Command → Type 0
 IsReadAs line command = HasNoLf line × (command_of line ≡ Ok (Some command))
@@ -183,16 +183,16 @@ symmetry_fit kinds.Quarter = more_fit 9 0 (codes "quarter") [] refl (omega arith
 symmetry_fit kinds.LeftRight = more_fit 9 0 (codes "leftright") [] refl (omega arith) none_fit
 symmetry_fit kinds.UpDown = more_fit 9 0 (codes "updown") [] refl (omega arith) none_fit
 
--- ---- places of texts
+-- ---- fields of texts
 
-abbrev pub IsSmallSpot : Spot → Type 0
+abbrev pub IsSmallSpot : CellArg → Type 0
 IsSmallSpot at = (at.row ≤ 255) × (at.col ≤ 255)
 
 abbrev pub IsSmallField : Field → Type 0
 IsSmallField (fields.Text name) = Unit {0}
 IsSmallField (fields.Clue at way) = IsSmallSpot at
 
-spot_fit : (at : Spot) (m : ℕ) (ws : List (List ℕ)) → IsSmallSpot at → Fit m ws → Fit (1 + 3 + (1 + 3 + m)) (decimal at.row ∷ decimal at.col ∷ ws)
+spot_fit : (at : CellArg) (m : ℕ) (ws : List (List ℕ)) → IsSmallSpot at → Fit m ws → Fit (1 + 3 + (1 + 3 + m)) (decimal at.row ∷ decimal at.col ∷ ws)
 spot_fit at m ws small fit = number_fit at.row (1 + 3 + m) (decimal at.col ∷ ws) small.0 (number_fit at.col m ws small.1 fit)
 
 field_fit : (where_put : Field) (ws : List (List ℕ)) → IsSmallField where_put → Fit 4001 ws → Fit 4030 (in_field where_put ws)
@@ -222,7 +222,7 @@ reads_field (fields.Clue at way) ws small =
     ∙ then_read spot (λ start. direction >>= (λ way. given (fields.Clue start way))) (spaced place) (spaced (direction_name way ∷ ws)) at (reads_spot at (direction_name way ∷ ws) small.0 small.1)
     ∙ then_read direction (λ way. given (fields.Clue at way)) (spaced (direction_name way ∷ ws)) (spaced ws) way (reads_direction way ws)
 
--- ---- commands as records have them
+-- ---- the commands of records
 
 abbrev pub IsKnownWord : List ℕ → Type 0
 IsKnownWord letters = All IsLetter letters × (2 ≤ length letters) × (length letters ≤ 255)
@@ -259,7 +259,7 @@ abbrev words_line : List (List ℕ) → List ℕ
 words_line [] = []
 words_line (w ∷ ws) = w ++ spaced ws
 
--- the line of a command, without its LF
+-- the line of a command without its LF
 abbrev pub line_without_lf : Command → List ℕ
 line_without_lf command = words_line (command_words command)
 
@@ -279,7 +279,7 @@ letters_high letters is = (omega (arith, is.1), each_high letters (λ k within. 
   each_high [] good = refl
   each_high (x ∷ xs) good = list_all_both is_high x xs (le-leb 48 x (omega (arith, (good 0 (omega arith)).0))) (each_high xs (λ k within. good (suc k) (omega (arith, within))))
 
-cell_name : (name : List ℕ) (command : Command) (at : Spot) (ws : List (List ℕ)) (m : ℕ) → IsHigh name → length name ≤ 10 → IsSmallSpot at → Fit m ws → m ≤ 100
+cell_name : (name : List ℕ) (command : Command) (at : CellArg) (ws : List (List ℕ)) (m : ℕ) → IsHigh name → length name ≤ 10 → IsSmallSpot at → Fit m ws → m ≤ 100
     → command_words command ≡ name ∷ decimal at.row ∷ decimal at.col ∷ ws → command_named name (spaced (decimal at.row ∷ decimal at.col ∷ ws)) ≡ Ok (command, []) → IsRead command
 cell_name name command at ws m high short small fit few is reads =
     made_of name (decimal at.row ∷ decimal at.col ∷ ws) command is

@@ -1,10 +1,10 @@
--- An example of a record, which the definitions compute.
+-- An example of a record, computed from the definitions.
 use Rattle.std.specs.Prelude.{◌≡◌, true, false, List, [], ◌∷◌, codes, replicate, set, Some, None, refl}
 use Rattle.std.specs.Fmt.{digits}
 use Rattle.xw_words.specs.Dictionary.{Dictionary, Entry}
-use Rattle.xw_cells.specs.declared.cell.Square.TheVariants.{Open}
-use Rattle.xw_cells.specs.declared.cell.Symmetry.TheVariants as kinds
-use Rattle.xw_cells.specs.Edit.{blank}
+use Rattle.xw_grid.specs.declared.cell.Square.TheVariants.{Open}
+use Rattle.xw_grid.specs.declared.cell.Symmetry.TheVariants as kinds
+use Rattle.xw_grid.specs.Edit.{blank}
 use Rattle.xw_grid.specs.Clue.{no_clues}
 use Rattle.xw_session.specs.State.{State}
 use Rattle.xw_session.specs.Record.{known_counts, record_commands, record_lines}
@@ -27,7 +27,7 @@ at_first = record {
   begun = known_counts (words_of_two (first_word ∷ []));
 }
 
--- one with a word more, the first one struck, two cells with a bar between them, a circle and a clue
+-- a session with one more word, the first word struck, two cells with a bar between them, a circle and a clue
 abbrev later : State
 later = record {
   position = record {

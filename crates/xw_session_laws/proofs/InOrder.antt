@@ -1,4 +1,4 @@
--- What is kept for cells in reading order, up to some place.
+-- Contents of cells in reading order, up to an index.
 use Rattle.std.proofs.Common.{◌≡◌, ℕ, ◌+◌, ◌*◌, ◌<◌, ◌≤◌, zero, suc, Bool, true, false, ◌||◌, cond, eqb, List, [], ◌∷◌, ◌++◌, length, take, filter, Some, refl, sym, ◌∙◌, ap, inl, inr, arith}
 use Rattle.std.specs.Prelude.{nat_lt, if◌then◌else◌}
 use Rattle.std.specs.Map.{lookup}
@@ -8,15 +8,15 @@ use Rattle.std.specs.Ordering.{match_ordering}
 use Rattle.std.proofs.lemmas.Bool.{cases_Bool, cases_lt, eq-eqb}
 use Rattle.std.proofs.lemmas.Bool.Decides.{nat_tests}
 use Rattle.std.proofs.lemmas.List.Elements.{filter-append}
-use Rattle.xw_cells.specs.declared.cell.Cell.{Cell}
-use Rattle.xw_cells.specs.Grid.{Grid, is_inside, index_of, cell_at, cells, same_cell, cell_cmp}
+use Rattle.xw_grid.specs.declared.cell.Cell.{Cell}
+use Rattle.xw_grid.specs.Grid.{Grid, is_inside, index_of, cell_at, cells, same_cell, cell_cmp}
 use Rattle.xw_grid.specs.Clue.{Texts, text_at, is_circled}
-use Rattle.xw_cells.proofs.GridLemmas.{index_of-lt, cell_at-index_of, same_cell-cell_at, take-cells, all-cells}
+use Rattle.xw_grid.proofs.GridLemmas.{index_of-lt, cell_at-index_of, same_cell-cell_at, take-cells, all-cells}
 use Rattle.xw_session.specs.Reply.{has_nul}
 use Rattle.xw_session_laws.specs.Replay.{AreFrom, AreTextsFrom}
 use Rattle.xw_session_laws.proofs.CirclesAgain.{in_order}
 
--- ---- one item more of those before a place
+-- ---- one more element below an index
 
 step_less : {X : Type 0} (x : X) (more less new : List X) (a b : Bool) → a ≡ true → b ≡ true → more ≡ less ++ new → cond a (x ∷ more) more ≡ cond b (x ∷ less) less ++ new
 step_less x more less new true true p q e = ap (λ xs. x ∷ xs) e
@@ -45,7 +45,7 @@ apart i k other = elim (cases_Bool (eqb k i)) [ inl same ↦ absurd (other (eqb_
   eqb_same h = grind (arith, nat_tests, h)
 
 module _ (grid : Grid) where
-  -- the cells before a place
+  -- the cells below an index
   abbrev pub cells_before : ℕ → List Cell → List Cell
   cells_before k kept = filter (λ cell. nat_lt (index_of grid cell) k) kept
 
@@ -113,7 +113,7 @@ module _ (grid : Grid) where
       ap (λ b. cond b (entry ∷ rest) rest) (is_less (index_of grid entry.0) (grid.width * grid.height) (index_of-lt grid entry.0 are.0))
       ∙ ap (λ xs. entry ∷ xs) (all_texts_before texts (index_of grid entry.0 + 1) are.4)
 
-  -- the entry of a text, and none of an empty one
+  -- the entry of a text; none for an empty text
   abbrev pub entry_of_text : Cell → List ℕ → Texts
   entry_of_text cell [] = []
   entry_of_text cell (byte ∷ bytes) = (cell, byte ∷ bytes) ∷ []
@@ -157,12 +157,12 @@ module _ (grid : Grid) where
   plain_one texts cell text true plain others = plain
   plain_one texts cell text false plain others = others
 
-  -- no text that is kept has a NUL
+  -- no stored text has a NUL
   pub plain_at : (texts : Texts) (from : ℕ) (cell : Cell) → AreTextsFrom grid from texts → has_nul (text_at texts cell) ≡ false
   plain_at [] from cell are = refl
   plain_at (entry ∷ texts) from cell are = plain_one texts cell entry.1 (same_cell cell entry.0) are.3 (plain_at texts (index_of grid entry.0 + 1) cell are.4)
 
-  -- the text of the next cell is put at the end of those before it
+  -- the text of the next cell is appended to those before it
   module _ (k : ℕ) (text : List ℕ) (wide : 0 < grid.width) where
     put_behind : (entry : Cell × List ℕ) (before : Texts) (b : Bool) → nat_lt (index_of grid entry.0) k ≡ b → is_inside grid entry.0 ≡ true
         → insert_entry cell_cmp before (cell_at grid k) text ≡ before ++ (cell_at grid k, text) ∷ []
@@ -178,7 +178,7 @@ module _ (grid : Grid) where
     put_last [] from are = refl
     put_last (entry ∷ texts) from are = put_behind entry (texts_before k texts) (nat_lt (index_of grid entry.0) k) refl are.0 (put_last texts (index_of grid entry.0 + 1) are.4)
 
--- ---- circles that are kept in reading order
+-- ---- circles stored in reading order
 
 module _ (grid : Grid) (circles : List Cell) (are : AreFrom grid 0 circles) where
   some_circles : (k : ℕ) → k ≤ grid.width * grid.height → filter (is_circled circles) (take k (cells grid)) ≡ cells_before grid k circles

@@ -1,20 +1,20 @@
--- Bars stand on edges, whatever edit is done.
+-- Every edit leaves bars only on inner edges.
 use Rattle.std.proofs.Common.{◌≡◌, ◌⊎◌, ℕ, zero, suc, ◌*◌, ◌<◌, Bool, true, false, ◌||◌, get_or, replicate, refl, sym, ◌∙◌, ap, inl, inr}
 use Rattle.std.specs.Prelude.{slice_index_or, if◌then◌else◌}
 use Rattle.std.proofs.lemmas.Bool.{true≢false}
-use Rattle.xw_cells.specs.declared.cell.Cell.{Cell}
-use Rattle.xw_cells.specs.declared.cell.Edge.{Edge}
-use Rattle.xw_cells.specs.declared.cell.Side.{Side}
-use Rattle.xw_cells.specs.declared.cell.Side.TheVariants.{Right, Below}
-use Rattle.xw_cells.specs.Grid.{Grid, IsGrid, is_inside, is_edge, index_of, beyond, same_side, same_cell, bars}
-use Rattle.xw_cells.specs.Edit.{blank, bars_with, with_edges}
-use Rattle.xw_cells.specs.Orbit.{moved, is_between, IsEdgeBetween, AreNeighbours, is_in_edge_orbit}
-use Rattle.xw_cells.proofs.OrbitCellLemmas.{moved_inside}
-use Rattle.xw_cells.proofs.GridLemmas.{and-true, index_of-lt, cell_at-index_of, cells_same, get_or-map-cells}
-use Rattle.xw_cells.proofs.EdgeLemmas.{moved_neighbours, is_edge-inside, is_between-IsEdgeBetween}
+use Rattle.xw_grid.specs.declared.cell.Cell.{Cell}
+use Rattle.xw_grid.specs.declared.cell.Edge.{Edge}
+use Rattle.xw_grid.specs.declared.cell.Side.{Side}
+use Rattle.xw_grid.specs.declared.cell.Side.TheVariants.{Right, Below}
+use Rattle.xw_grid.specs.Grid.{Grid, IsGrid, is_inside, is_edge, index_of, beyond, same_side, same_cell, bars}
+use Rattle.xw_grid.specs.Edit.{blank, bars_with, with_edges}
+use Rattle.xw_grid.specs.Orbit.{moved, is_between, IsEdgeBetween, AreNeighbours, is_in_edge_orbit}
+use Rattle.xw_grid.proofs.OrbitCellLemmas.{moved_inside}
+use Rattle.xw_grid.proofs.GridLemmas.{and-true, index_of-lt, cell_at-index_of, cells_same, get_or-map-cells}
+use Rattle.xw_grid.proofs.EdgeLemmas.{moved_neighbours, is_edge-inside, is_between-IsEdgeBetween}
 use Rattle.xw_session_laws.specs.Replay.{BarsAreOnEdges}
 
--- ---- the edges of an orbit are there
+-- ---- the edges of an orbit are inner edges
 
 same_side_is : (one other : Side) → same_side one other ≡ true → one ≡ other
 same_side_is Right Right e = refl

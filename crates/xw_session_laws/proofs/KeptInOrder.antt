@@ -1,4 +1,4 @@
--- What is kept in reading order stays so when something is put in or taken out.
+-- Lists in reading order stay so when an element is added or removed.
 use Rattle.std.proofs.Common.{◌≡◌, ℕ, ◌+◌, ◌*◌, ◌/◌, ◌%◌, ◌<◌, ◌≤◌, Bool, true, false, cond, List, [], ◌∷◌, length, filter, sym, ◌∙◌, ap, subst, inl, inr, arith}
 use Rattle.std.specs.BTreeMap.{insert_entry}
 use Rattle.std.specs.BTreeSet.{insert_key}
@@ -9,12 +9,12 @@ use Rattle.std.specs.Cmp.{nat_cmp_is}
 use Rattle.std.proofs.Math.Nat.{div-add-mod}
 use Rattle.std.proofs.lemmas.Bool.{cases_lt}
 use Rattle.std.proofs.lemmas.Nat.{mod_below, mul-le}
-use Rattle.xw_cells.specs.declared.cell.Cell.{Cell}
-use Rattle.xw_cells.specs.declared.cell.Direction.{Direction}
-use Rattle.xw_cells.specs.declared.cell.Direction.TheVariants.{Across, Down}
-use Rattle.xw_cells.specs.Grid.{Grid, is_inside, index_of, cell_at, cell_cmp}
+use Rattle.xw_grid.specs.declared.cell.Cell.{Cell}
+use Rattle.xw_grid.specs.declared.cell.Direction.{Direction}
+use Rattle.xw_grid.specs.declared.cell.Direction.TheVariants.{Across, Down}
+use Rattle.xw_grid.specs.Grid.{Grid, is_inside, index_of, cell_at, cell_cmp}
 use Rattle.xw_grid.specs.Clue.{Texts, ClueMap, with_text, with_circle, with_clue}
-use Rattle.xw_cells.proofs.GridLemmas.{cell_at-index_of}
+use Rattle.xw_grid.proofs.GridLemmas.{cell_at-index_of}
 use Rattle.xw_session.specs.Reply.{has_nul}
 use Rattle.xw_session_laws.specs.Replay.{AreFrom, AreTextsFrom, clues_of}
 use Rattle.xw_session_laws.proofs.CirclesAgain.{in_order}
@@ -29,7 +29,7 @@ before_col : (row other col way : ℕ) → row ≡ other → col < way → order
 before_col row other col way same less =
     ap (λ o. ordering_then o (nat_cmp col way)) (sym (nat_cmp_is row other Equal same)) ∙ sym (nat_cmp_is col way Less less)
 
--- a cell comes before those of higher places
+-- a cell comes before those with higher indices
 in_order_before : (grid : Grid) (i k : ℕ) → 0 < grid.width → i < k → cell_cmp (cell_at grid i) (cell_at grid k) ≡ Less
 in_order_before grid i k wide less =
     let w = grid.width in

@@ -1,8 +1,8 @@
--- The words of the beginning stay the first ones.
+-- The words known at the start stay the first ones.
 use Rattle.std.proofs.Common.{◌≡◌, ℕ, zero, suc, Bool, List, [], ◌∷◌, length, map, take, set, true, false, refl, sym, ◌∙◌, ap, subst}
 use Rattle.std.specs.Prelude.{Result, Ok, Err}
 use Rattle.std.proofs.lemmas.List.{take-append-le}
-use Rattle.xw_bits.specs.declared.fault.WordFault.{WordFault}
+use Rattle.xw_words.specs.declared.fault.WordFault.{WordFault}
 use Rattle.xw_words.specs.declared.bank.Added.{Added}
 use Rattle.xw_words.specs.declared.bank.Added.TheVariants.{New, Returned}
 use Rattle.xw_words.specs.Dictionary.{Dictionary, Entry, row, marked, with_added, after_add, after_strike}

@@ -9,29 +9,29 @@ use Rattle.std.proofs.lemmas.List.{length-append}
 use Rattle.std.proofs.lemmas.Fmt.{decimal_is_IsNumeral, decimal_nonempty, length-decimal-le}
 use Rattle.std.proofs.lemmas.Str.Parse.{digit_from_value}
 use Rattle.std.proofs.lemmas.Bool.{ne_eqb}
-use Rattle.xw_cells.specs.declared.cell.Direction.{Direction}
-use Rattle.xw_cells.specs.declared.cell.Direction.TheVariants.{Across, Down}
-use Rattle.xw_cells.specs.declared.cell.Side.{Side}
-use Rattle.xw_cells.specs.declared.cell.Side.TheVariants.{Right, Below}
-use Rattle.xw_cells.specs.declared.cell.Symmetry.{Symmetry}
-use Rattle.xw_cells.specs.declared.cell.Symmetry.TheVariants as kinds
-use Rattle.xw_letters.proofs.Position.{position_is_some, position_is_none}
+use Rattle.xw_grid.specs.declared.cell.Direction.{Direction}
+use Rattle.xw_grid.specs.declared.cell.Direction.TheVariants.{Across, Down}
+use Rattle.xw_grid.specs.declared.cell.Side.{Side}
+use Rattle.xw_grid.specs.declared.cell.Side.TheVariants.{Right, Below}
+use Rattle.xw_grid.specs.declared.cell.Symmetry.{Symmetry}
+use Rattle.xw_grid.specs.declared.cell.Symmetry.TheVariants as kinds
+use Rattle.xw_text.proofs.Position.{position_is_some, position_is_none}
 use Rattle.xw_commands.specs.declared.command.SyntaxFault.{SyntaxFault}
 use Rattle.xw_commands.specs.declared.command.SyntaxFault.TheVariants as faults
 use Rattle.xw_commands.specs.Line.{is_blank, is_ink, is_digit, number_in, byte_in, first_place, trimmed_start, parted, first_word}
-use Rattle.xw_commands.specs.declared.command.Spot.{Spot}
+use Rattle.xw_commands.specs.declared.command.CellArg.{CellArg}
 use Rattle.xw_commands.specs.Reading.{Reading, ◌>>=◌, given, wanted, word, number, byte, lookup, key_word, direction, side, symmetry, switch, spot}
 use Rattle.xw_session.specs.Spelling.{symmetry_name, side_name, switch_name}
 use Rattle.xw_session.specs.Text.{line_of, direction_name}
 
 -- ---- words with a space between them
 
--- words, each behind a space
+-- words with a space before each
 abbrev pub spaced : List (List ℕ) → List ℕ
 spaced [] = []
 spaced (w ∷ ws) = 32 ∷ w ++ spaced ws
 
--- a line is its first word and the others, each behind a space, and an LF
+-- a line is its first word, the others with a space before each, and an LF
 pub line_parts : (w : List ℕ) (ws : List (List ℕ)) → line_of (w ∷ ws) ≡ (w ++ spaced ws) ++ 10 ∷ []
 line_parts w [] = ap (λ xs. xs ++ 10 ∷ []) (sym (append-nil w))
 line_parts w (next ∷ ws) =
@@ -39,12 +39,12 @@ line_parts w (next ∷ ws) =
     ∙ append_assoc w (32 ∷ []) ((next ++ spaced ws) ++ 10 ∷ [])
     ∙ sym (append_assoc w (32 ∷ next ++ spaced ws) (10 ∷ []))
 
--- a word has a byte, and no space or tab
+-- the word is not empty, and has no space or tab
 abbrev pub IsOneWord : List ℕ → Type 0
 IsOneWord [] = ⊥
 IsOneWord (byte ∷ bytes) = list_all is_ink (byte ∷ bytes) ≡ true
 
--- ---- the first place of a byte
+-- ---- the first index of a byte
 
 first_place_is : (test : ℕ → Bool) (xs : List ℕ) (n : ℕ) → n ≤ length xs → ((k : ℕ) → k < n → test (get_or xs k 0) ≡ false) → (n < length xs → test (get_or xs n 0) ≡ true) → first_place test xs ≡ n
 first_place_is test xs n most before here =
@@ -66,7 +66,7 @@ not_blank byte h = turned (is_blank byte) h where
   turned false e = refl
   turned true e = cc
 
--- what comes after a word begins with a space, or is nothing
+-- what follows a word is empty or begins with a space or tab
 abbrev IsApart : List ℕ → Type 0
 IsApart [] = Unit {0}
 IsApart (byte ∷ bytes) = is_blank byte ≡ true
@@ -149,7 +149,7 @@ next_of (Some found) = Ok found
 pub reads_word : (w : List ℕ) (ws : List (List ℕ)) → IsOneWord w → word (spaced (w ∷ ws)) ≡ Ok (w, spaced ws)
 reads_word w ws is = ap next_of (next_read w ws is)
 
--- what is read first, and then others
+-- reading one thing, and then others
 pub then_read : {A B : Type 0} (read : Reading A) (others : A → Reading B) (line rest : List ℕ) (x : A) → read line ≡ Ok (x, rest) → (read >>= others) line ≡ others x rest
 then_read read others line rest x e = ap (λ found. ((λ l. found) >>= others) line) e
 
@@ -158,7 +158,7 @@ then_read read others line rest x e = ap (λ found. ((λ l. found) >>= others) l
 pub list_all_both : (p : ℕ → Bool) (b : ℕ) (bs : List ℕ) → p b ≡ true → list_all p bs ≡ true → list_all p (b ∷ bs) ≡ true
 list_all_both p b bs e f = ap (λ t. t && list_all p bs) e ∙ f
 
--- a byte past the comma and the full stop: digits and letters are
+-- the byte is at least that of the digit 0, like all digits and letters
 abbrev pub is_high : ℕ → Bool
 is_high byte = nat_le 48 byte
 
@@ -173,7 +173,7 @@ high_ink byte h =
     let high : 48 ≤ byte = grind (arith, nat_tests, h) in
     ap (λ b. not (b || nat_eq byte 9)) (ne_eqb byte 32 (λ e. absurd (omega (arith, e, high)))) ∙ ap (λ b. not (false || b)) (ne_eqb byte 9 (λ e. absurd (omega (arith, e, high))))
 
--- a word of high bytes
+-- a word of such bytes
 abbrev pub IsHigh : List ℕ → Type 0
 IsHigh w = (0 < length w) × (list_all is_high w ≡ true)
 
@@ -221,7 +221,7 @@ module _ (n : ℕ) (small : n ≤ 255) where
 
 -- ---- spots, letters and names
 
-pub reads_spot : (at : Spot) (ws : List (List ℕ)) → at.row ≤ 255 → at.col ≤ 255 → spot (spaced (decimal at.row ∷ decimal at.col ∷ ws)) ≡ Ok (at, spaced ws)
+pub reads_spot : (at : CellArg) (ws : List (List ℕ)) → at.row ≤ 255 → at.col ≤ 255 → spot (spaced (decimal at.row ∷ decimal at.col ∷ ws)) ≡ Ok (at, spaced ws)
 reads_spot at ws low left =
     then_read number (λ row. number >>= (λ col. given (record { row = row; col = col }))) (spaced (decimal at.row ∷ decimal at.col ∷ ws)) (spaced (decimal at.col ∷ ws)) at.row (reads_number at.row low (decimal at.col ∷ ws))
     ∙ then_read number (λ col. given (record { row = at.row; col = col })) (spaced (decimal at.col ∷ ws)) (spaced ws) at.col (reads_number at.col left ws)

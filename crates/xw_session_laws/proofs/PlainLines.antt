@@ -1,4 +1,4 @@
--- A text file without a NUL has none in its lines.
+-- The lines of a text file without a NUL have none.
 use Rattle.std.proofs.Common.{◌≡◌, ℕ, zero, suc, ◌-◌, ◌≤◌, Bool, false, ◌&&◌, List, [], ◌∷◌, ◌++◌, length, length-drop, map, filter, take, drop, refl, sym, subst, arith}
 use Rattle.std.specs.Prelude.{◌==◌, nat_lt, nat_eq, slice_index}
 use Rattle.std.specs.List.{AllByRecursion, join_with_byte, starts_with}

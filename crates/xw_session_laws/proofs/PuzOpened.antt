@@ -1,15 +1,15 @@
--- What is read of a `.puz` file is what a session has.
+-- The puzzle of a `.puz` file meets the premises of the laws.
 use Rattle.std.proofs.Common.{◌≡◌, ℕ, ◌+◌, ◌*◌, ◌<◌, ◌≤◌, true, false, ◌&&◌, List, [], ◌∷◌, length, take, drop, Some, None, refl, sym, subst, arith}
 use Rattle.std.specs.Prelude.{Option, Ok, ◌==◌, nat_lt}
 use Rattle.std.proofs.lemmas.Bool.{cond_both, eqb-true, ne_eqb}
-use Rattle.xw_cells.specs.declared.cell.Cell.{Cell}
-use Rattle.xw_cells.specs.declared.cell.Direction.{Direction}
+use Rattle.xw_grid.specs.declared.cell.Cell.{Cell}
+use Rattle.xw_grid.specs.declared.cell.Direction.{Direction}
 use Rattle.xw_grid.specs.declared.lights.Light.{Light}
-use Rattle.xw_cells.specs.Grid.{Grid, IsGrid, is_inside, is_open, cell_at}
-use Rattle.xw_cells.specs.Edit.{grid_of}
+use Rattle.xw_grid.specs.Grid.{Grid, IsGrid, is_inside, is_open, cell_at}
+use Rattle.xw_grid.specs.Edit.{grid_of}
 use Rattle.xw_grid.specs.Clue.{ClueMap, no_clues, with_clue, with_circle}
 use Rattle.xw_grid.specs.Light.{lights_of}
-use Rattle.xw_cells.proofs.GridLemmas.{cell_at-inside}
+use Rattle.xw_grid.proofs.GridLemmas.{cell_at-inside}
 use Rattle.xw_files.specs.declared.fault.TextName.TheVariants as names
 use Rattle.xw_files.specs.declared.puz.header.Header.{Header}
 use Rattle.xw_grid.specs.Puzzle.{PuzzleShown}
@@ -67,7 +67,7 @@ module _ (grid : Grid) (is : IsGrid grid) where
       let summed = passed (sum_from 0 section.body == section.sum) _ _ circles long.1 in
       subst (AreFrom grid 0) (ok_is (with_marks grid [] 0 section.body) circles summed.1) (marks_kept section.body 0 [] (omega (arith, same)) tt)
 
--- the texts of a file
+-- the texts of a file have no NUL
 record ArePlain (fields : Fields) : Type 0 where
   title : HasNoNul fields.title
   author : HasNoNul fields.author

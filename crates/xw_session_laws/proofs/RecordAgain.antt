@@ -1,16 +1,16 @@
--- The sections of a record, done one after another.
+-- The sections of a record, executed one after another.
 use Rattle.std.proofs.Common.{◌≡◌, ℕ, ◌*◌, false, List, [], ◌++◌, map, drop, flat_map, replicate, Some, None, refl, ◌∙◌, ap}
 use Rattle.std.specs.Prelude.{Option}
 use Rattle.std.specs.Option.{option_and_then}
 use Rattle.std.proofs.lemmas.List.{length-replicate}
 use Rattle.xw_words.specs.Dictionary.{Dictionary}
-use Rattle.xw_cells.specs.declared.cell.Direction.TheVariants.{Across, Down}
-use Rattle.xw_cells.specs.declared.cell.Side.TheVariants.{Right, Below}
-use Rattle.xw_cells.specs.declared.cell.Square.{Square}
-use Rattle.xw_cells.specs.declared.cell.Square.TheVariants.{Open}
-use Rattle.xw_cells.specs.declared.cell.Symmetry.TheVariants as kinds
-use Rattle.xw_cells.specs.Grid.{Grid}
-use Rattle.xw_cells.specs.Edit.{blank}
+use Rattle.xw_grid.specs.declared.cell.Direction.TheVariants.{Across, Down}
+use Rattle.xw_grid.specs.declared.cell.Side.TheVariants.{Right, Below}
+use Rattle.xw_grid.specs.declared.cell.Square.{Square}
+use Rattle.xw_grid.specs.declared.cell.Square.TheVariants.{Open}
+use Rattle.xw_grid.specs.declared.cell.Symmetry.TheVariants as kinds
+use Rattle.xw_grid.specs.Grid.{Grid}
+use Rattle.xw_grid.specs.Edit.{blank}
 use Rattle.xw_grid.specs.Clue.{no_clues}
 use Rattle.xw_commands.specs.declared.command.Command.{Command}
 use Rattle.xw_commands.specs.declared.command.Field.TheVariants as fields
@@ -40,7 +40,7 @@ module _ (words : Dictionary) (made state : State) (is : BeganWith words made) (
   abbrev free : List Square
   free = replicate (grid.width * grid.height) (Open None)
 
-  -- the states after the sections, one after another
+  -- the states after the sections
   abbrev worded : State
   worded = with_words state made.position.words
 
@@ -83,7 +83,7 @@ module _ (words : Dictionary) (made state : State) (is : BeganWith words made) (
   abbrev whole : State
   whole = record made { begun = state.begun }
 
-  -- the commands of the sections behind so many
+  -- the commands of the sections after the first `count`
   abbrev after_sections : ℕ → List Command
   after_sections count = flat_map (section_commands made) (drop count record_sections)
 
@@ -101,7 +101,7 @@ module _ (words : Dictionary) (made state : State) (is : BeganWith words made) (
   text_done : (now : State) (name : TextField) → replayed now (section_commands made (sections.Text name)) ≡ Some (with_text now name)
   text_done now name = text_again now (fields.Text name) (text_of_field made.texts name) refl (is.texts name)
 
-  -- the commands of a record, none of which is refused, make the session again
+  -- the commands of a record are all accepted and rebuild the session
   pub commands_again : replayed state (record_commands made) ≡ Some whole
   commands_again =
       section_then state worded (section_commands made sections.Words) (after_sections 1) _ words_done

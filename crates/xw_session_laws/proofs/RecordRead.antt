@@ -1,4 +1,4 @@
--- The lines of a record, read and done one after another.
+-- The lines of a record, parsed and executed one after another.
 use Rattle.std.proofs.Common.{◌≡◌, ℕ, ◌+◌, ◌*◌, ◌<◌, ◌≤◌, zero, suc, Bool, true, false, List, [], ◌∷◌, ◌++◌, length, map, drop, get_or, flat_map, Some, None, refl, sym, ◌∙◌, ap, inl, inr, subst, append-nil, append_assoc, zero-add, arith}
 use Rattle.std.specs.Prelude.{Option, Result, Ok, if◌then◌else◌}
 use Rattle.std.specs.Option.{option_and_then}
@@ -8,13 +8,13 @@ use Rattle.std.proofs.lemmas.List.{length-drop, length-take, get_or-drop}
 use Rattle.std.proofs.lemmas.List.Elements.{All-get_or}
 use Rattle.std.proofs.lemmas.List.FromFn.{get_or-range_with_len, length-range_with_len}
 use Rattle.xw_words.specs.Dictionary.{Dictionary, Entry, IsDictionary, row, no_entry}
-use Rattle.xw_cells.specs.declared.cell.Cell.{Cell}
-use Rattle.xw_cells.specs.declared.cell.Direction.{Direction}
-use Rattle.xw_cells.specs.declared.cell.Square.{Square}
-use Rattle.xw_cells.specs.declared.cell.Square.TheVariants as squares
-use Rattle.xw_cells.specs.Grid.{Grid, IsGrid, IsSquare, cell_at, cells, entry, letter_in, is_block, is_barred}
+use Rattle.xw_grid.specs.declared.cell.Cell.{Cell}
+use Rattle.xw_grid.specs.declared.cell.Direction.{Direction}
+use Rattle.xw_grid.specs.declared.cell.Square.{Square}
+use Rattle.xw_grid.specs.declared.cell.Square.TheVariants as squares
+use Rattle.xw_grid.specs.Grid.{Grid, IsGrid, IsSquare, cell_at, cells, entry, letter_in, is_block, is_barred}
 use Rattle.xw_grid.specs.Clue.{ClueMap, clue_at, is_circled}
-use Rattle.xw_cells.proofs.GridLemmas.{cell_at-inside, inside_small, length-cells}
+use Rattle.xw_grid.proofs.GridLemmas.{cell_at-inside, inside_small, length-cells}
 use Rattle.xw_commands.specs.declared.command.Command.{Command}
 use Rattle.xw_commands.specs.declared.command.Command.TheVariants as commands
 use Rattle.xw_commands.specs.declared.command.Field.{Field}
@@ -36,7 +36,7 @@ use Rattle.xw_session.proofs.LightTexts.{cell_in_order}
 use Rattle.xw_session_laws.proofs.CellsAgain.{square_is}
 use Rattle.xw_session_laws.proofs.CommandsRead.{IsRecorded, IsKnownWord, IsSmallField, line_without_lf, read_again}
 
--- ---- commands as records have them
+-- ---- the commands of records
 
 abbrev AreRecorded : List Command → Type 0
 AreRecorded [] = Unit {0}
@@ -191,7 +191,7 @@ replayed_as_read state (command ∷ commands) are =
     ∙ next_the_same (state_left (reply_to state command)) (λ next. replayed_lines next (map line_without_lf commands)) (λ next. replayed next commands) (λ next. replayed_as_read next commands are.1)
 
 module _ (words : Dictionary) (made : State) (is : BeganWith words made) where
-  -- each line of a record is read as its command
+  -- each line of a record parses as its command
   pub lines_read : map command_of (lines_of (record_lines made)) ≡ map read_as (record_commands made)
   lines_read =
       let are = record_recorded words made is in

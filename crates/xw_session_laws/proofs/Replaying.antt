@@ -1,4 +1,4 @@
--- Commands of a record, done one after another.
+-- Commands of a record, executed one after another.
 use Rattle.std.proofs.Common.{◌≡◌, ℕ, ◌+◌, ◌*◌, ◌%◌, ◌-◌, ◌<◌, ◌≤◌, zero, suc, Bool, true, false, not, ◌&&◌, ◌||◌, eqb, List, [], ◌∷◌, ◌++◌, length, map, take, drop, Some, None, refl, sym, ◌∙◌, ap, append-nil, le-leb, arith}
 use Rattle.std.specs.Prelude.{Option, Ok, Err, nat_eq, nat_le, if◌then◌else◌}
 use Rattle.std.specs.BTreeMap.{insert_entry}
@@ -13,17 +13,17 @@ use Rattle.std.proofs.lemmas.List.{take-append-drop, take_all, length-take, leng
 use Rattle.std.proofs.lemmas.List.Folds.{list_any-append}
 use Rattle.std.proofs.lemmas.Nat.{mod_below}
 use Rattle.std.proofs.lemmas.Bool.{eq-eqb}
-use Rattle.xw_cells.specs.declared.cell.Cell.{Cell}
-use Rattle.xw_cells.specs.declared.cell.Direction.{Direction}
-use Rattle.xw_cells.specs.declared.cell.Direction.TheVariants.{Across, Down}
-use Rattle.xw_cells.specs.declared.cell.Symmetry.{Symmetry}
-use Rattle.xw_cells.specs.declared.cell.Symmetry.TheVariants as kinds
-use Rattle.xw_cells.specs.declared.fault.GridFault.TheVariants.{Size, NotSquare}
-use Rattle.xw_cells.specs.Grid.{Grid, IsGrid, cell_cmp}
-use Rattle.xw_cells.specs.Edit.{blank}
+use Rattle.xw_grid.specs.declared.cell.Cell.{Cell}
+use Rattle.xw_grid.specs.declared.cell.Direction.{Direction}
+use Rattle.xw_grid.specs.declared.cell.Direction.TheVariants.{Across, Down}
+use Rattle.xw_grid.specs.declared.cell.Symmetry.{Symmetry}
+use Rattle.xw_grid.specs.declared.cell.Symmetry.TheVariants as kinds
+use Rattle.xw_grid.specs.declared.fault.GridFault.TheVariants.{Size, NotSquare}
+use Rattle.xw_grid.specs.Grid.{Grid, IsGrid, cell_cmp}
+use Rattle.xw_grid.specs.Edit.{blank}
 use Rattle.xw_grid.specs.Clue.{Texts, ClueMap, no_clues, clue_at, with_clue}
 use Rattle.xw_grid.proofs.ClueLemmas.{same_at}
-use Rattle.xw_cells.proofs.GridLemmas.{same_cell_itself}
+use Rattle.xw_grid.proofs.GridLemmas.{same_cell_itself}
 use Rattle.xw_grid.proofs.KeptLemmas.{clues_are_kept}
 use Rattle.xw_feas.specs.State.{with_grid, by_fault}
 use Rattle.xw_commands.specs.declared.command.Command.{Command}
@@ -31,8 +31,8 @@ use Rattle.xw_commands.specs.declared.command.Command.TheVariants as commands
 use Rattle.xw_session.specs.declared.record.Section.TheVariants as sections
 use Rattle.xw_commands.specs.declared.command.Command.TheVariants.{Put}
 use Rattle.xw_commands.specs.declared.command.Field.{Field}
-use Rattle.xw_commands.specs.declared.command.Putting.{Putting}
-use Rattle.xw_commands.specs.declared.command.Putting.TheVariants.{Instead, Behind}
+use Rattle.xw_commands.specs.declared.command.TextMode.{TextMode}
+use Rattle.xw_commands.specs.declared.command.TextMode.TheVariants.{Instead, Behind}
 use Rattle.xw_commands.specs.declared.command.TextField.TheVariants.{Title, Author, Copyright, Notes}
 use Rattle.xw_session.specs.declared.session.putting.Place.{Place}
 use Rattle.xw_session.specs.declared.session.putting.Place.TheVariants as places
@@ -43,7 +43,7 @@ use Rattle.xw_session.specs.Reply.{put, reply_to, resized, moved, has_nul}
 use Rattle.xw_session.specs.Record.{piece_at, further_pieces, more_command, text_commands, section_commands}
 use Rattle.xw_session_laws.specs.Replay.{state_left, replayed}
 use Rattle.xw_session.proofs.Escapes.{reads_back}
-use Rattle.xw_session.proofs.Putting.{last_of_three}
+use Rattle.xw_session.proofs.TextMode.{last_of_three}
 
 -- ---- one after another
 
@@ -53,7 +53,7 @@ one_and_others : (left : Option State) (front rest : List Command)
 one_and_others None front rest others = refl
 one_and_others (Some next) front rest others = others next
 
--- commands after others
+-- commands after other commands
 pub replayed_both : (state : State) (front rest : List Command) → replayed state (front ++ rest) ≡ option_and_then (λ mid. replayed mid rest) (replayed state front)
 replayed_both state [] rest = refl
 replayed_both state (command ∷ front) rest = one_and_others (state_left (reply_to state command)) front rest (λ next. replayed_both next front rest)
@@ -74,19 +74,19 @@ nul_parts text n none =
 plain_piece : (text : List ℕ) (before : ℕ) → has_nul text ≡ false → has_nul (piece_at text before) ≡ false
 plain_piece text before none = (nul_parts (drop (2000 * before) text) 2000 (nul_parts text (2000 * before) none).1).0
 
-put_again : (state : State) (putting : Putting) (field : Field) (piece : List ℕ) → has_place state.position.grid (place_of field) ≡ true → has_nul piece ≡ false
+put_again : (state : State) (putting : TextMode) (field : Field) (piece : List ℕ) → has_place state.position.grid (place_of field) ≡ true → has_nul piece ≡ false
     → state_left (reply_to state (Put putting field (escaped_text piece))) ≡ Some (with_piece state putting (place_of field) piece)
 put_again state putting field piece placed plain =
     ap (λ found. state_left (put state putting field found)) (reads_back piece)
     ∙ ap state_left (last_of_three (has_place state.position.grid (place_of field)) (has_nul piece) _ _ _ placed plain)
 
--- the first bytes of a text, and one piece more
+-- the first bytes of a text, with one more piece
 one_piece_more : (text : List ℕ) (k : ℕ) → take (2000 * (k + 1)) text ++ piece_at text (k + 1) ≡ take (2000 * (k + 1 + 1)) text
 one_piece_more text k =
     let more : 2000 * (k + 1) + 2000 ≡ 2000 * (k + 1 + 1) = omega arith in
     sym (take-add (2000 * (k + 1)) 2000 text) ∙ ap (λ n. take n text) more
 
--- a text in a field that grows by what is put behind it
+-- a text in a field that grows by appended pieces
 module _ (state : State) (field : Field) (text : List ℕ) (plain : has_nul text ≡ false)
     (placed : (front : List ℕ) → has_place (with_text_at state (place_of field) front).position.grid (place_of field) ≡ true)
     (behind : (front piece : List ℕ) → 0 < length front → with_piece (with_text_at state (place_of field) front) Behind (place_of field) piece ≡ with_text_at state (place_of field) (front ++ piece)) where
@@ -114,9 +114,9 @@ module _ (state : State) (field : Field) (text : List ℕ) (plain : has_nul text
       let enough : length text ≤ 2000 * (0 + 1 + count) = omega (arith, parts, small, some) in
       further_again 0 count some ∙ ap (λ xs. Some (with_text_at state (place_of field) xs)) (take_all (2000 * (0 + 1 + count)) text enough)
 
--- ---- a text that is put behind itself
+-- ---- appending to a field
 
--- the entry of a key that was put last stays
+-- the entry of a key that was set last stays
 inserted_twice : (texts : Texts) (cell : Cell) (first last : List ℕ) → cell_cmp cell cell ≡ Equal → insert_entry cell_cmp (insert_entry cell_cmp texts cell first) cell last ≡ insert_entry cell_cmp texts cell last
 inserted_twice [] cell first last same = ap (λ o. match_ordering o ((cell, last) ∷ (cell, first) ∷ []) ((cell, last) ∷ []) ((cell, first) ∷ (cell, last) ∷ [])) same
 inserted_twice (e ∷ texts) cell first last same =

@@ -1,4 +1,4 @@
--- What a session has, it keeps.
+-- The properties of a session hold after every line.
 use Rattle.std.proofs.Common.{◌≡◌, ℕ, ◌<◌, Bool, true, false, not, ◌&&◌, ◌||◌, List, [], ◌∷◌, ◌++◌, length, map, flat_map, get_or, Some, None, refl, sym, ◌∙◌, ap, subst, arith}
 use Rattle.std.specs.Prelude.{Option, Result, Ok, Err, nat_eq, nat_le, nat_lt, position as bad_at, if◌then◌else◌, slice_get, slice_index_or}
 use Rattle.std.specs.Option.{option_and_then}
@@ -7,16 +7,16 @@ use Rattle.std.proofs.lemmas.Option.{slice_get_within, get_or_from_slice_get}
 use Rattle.xw_letters.specs.Letter.{folded, letter_of}
 use Rattle.xw_words.specs.Word.{is_bad_letter}
 use Rattle.xw_words.specs.Dictionary.{Dictionary, matching_answer, add_answer, strike_answer}
-use Rattle.xw_bits.specs.declared.fault.WordFault.{WordFault}
-use Rattle.xw_bits.specs.declared.fault.WordFault.TheVariants as faults
-use Rattle.xw_cells.specs.declared.cell.Cell.{Cell}
-use Rattle.xw_cells.specs.declared.cell.Direction.{Direction}
-use Rattle.xw_cells.specs.declared.cell.Direction.TheVariants.{Across, Down}
-use Rattle.xw_cells.specs.declared.fault.GridFault.{GridFault}
-use Rattle.xw_cells.specs.declared.fault.GridFault.TheVariants as grids
+use Rattle.xw_words.specs.declared.fault.WordFault.{WordFault}
+use Rattle.xw_words.specs.declared.fault.WordFault.TheVariants as faults
+use Rattle.xw_grid.specs.declared.cell.Cell.{Cell}
+use Rattle.xw_grid.specs.declared.cell.Direction.{Direction}
+use Rattle.xw_grid.specs.declared.cell.Direction.TheVariants.{Across, Down}
+use Rattle.xw_grid.specs.declared.fault.GridFault.{GridFault}
+use Rattle.xw_grid.specs.declared.fault.GridFault.TheVariants as grids
 use Rattle.xw_grid.specs.declared.lights.Light.{Light}
-use Rattle.xw_cells.specs.Grid.{Grid, IsGrid, is_inside, is_edge, is_barred, is_open, is_block, index_of}
-use Rattle.xw_cells.specs.Edit.{blank, new_grid, with_entry, is_occupied, with_orbit, with_edges}
+use Rattle.xw_grid.specs.Grid.{Grid, IsGrid, is_inside, is_edge, is_barred, is_open, is_block, index_of}
+use Rattle.xw_grid.specs.Edit.{blank, new_grid, with_entry, is_occupied, with_orbit, with_edges}
 use Rattle.xw_grid.specs.Clue.{ClueMap, no_clues, with_clue, with_circle, is_circled}
 use Rattle.xw_grid.specs.Light.{lights_of, no_light, place_named, cells_of}
 use Rattle.xw_grid.proofs.OrderLemmas.{lights_are_made, made_inside}
@@ -34,9 +34,9 @@ use Rattle.xw_grid.specs.Puzzle.{TextsShown}
 use Rattle.xw_commands.specs.declared.command.Command.{Command}
 use Rattle.xw_commands.specs.declared.command.Command.TheVariants as commands
 use Rattle.xw_commands.specs.declared.command.Field.{Field}
-use Rattle.xw_commands.specs.declared.command.Putting.{Putting}
-use Rattle.xw_commands.specs.declared.command.Putting.TheVariants.{Instead, Behind}
-use Rattle.xw_commands.specs.declared.command.Spot.{Spot}
+use Rattle.xw_commands.specs.declared.command.TextMode.{TextMode}
+use Rattle.xw_commands.specs.declared.command.TextMode.TheVariants.{Instead, Behind}
+use Rattle.xw_commands.specs.declared.command.CellArg.{CellArg}
 use Rattle.xw_commands.specs.declared.command.TextField.{TextField}
 use Rattle.xw_commands.specs.declared.command.TextField.TheVariants.{Title, Author, Copyright, Notes}
 use Rattle.xw_commands.specs.declared.command.SyntaxFault.{SyntaxFault}
@@ -61,18 +61,18 @@ use Rattle.xw_session_laws.proofs.KeptWords.{AllComeFirst, added_kept, struck_ke
 
 -- ---- a position after an edit
 
--- a grid of the same size, with bars on edges
+-- a grid of the same size, with bars on inner edges only
 pub record GridKept (grid next : Grid) : Type 0 where
   pub wide : next.width ≡ grid.width
   pub high : next.height ≡ grid.height
   pub bars : BarsAreOnEdges next
 
--- and a dictionary that began with the same words
+-- such a grid, and a dictionary that started with the same words
 pub record PositionKept (begun : Dictionary) (position next : Position) : Type 0 where
   pub grid : GridKept position.grid next.grid
   pub first : AllComeFirst begun next.words
 
--- the size and the bars
+-- the same size and the same bars
 abbrev IsFramedAs : Grid → Grid → Type 0
 IsFramedAs grid next = (next.width ≡ grid.width) × (next.height ≡ grid.height) × (next.right ≡ grid.right) × (next.below ≡ grid.below)
 
@@ -102,7 +102,7 @@ list_framed (written ∷ list) grid next e = by_tests (is_inside grid written.0)
   by_tests false b rest h = cc
 
 module _ (begun : Dictionary) (position next : Position) (is : IsGrid position.grid) (only : BarsAreOnEdges position.grid) (first : AllComeFirst begun position.words) where
-  -- where an edit makes another grid
+  -- an edit of the grid
   to_grid : (grid : Grid) → GridKept position.grid grid → with_edited position (Ok grid) ≡ Ok next → PositionKept begun position next
   to_grid grid kept e =
       let same : record position { grid = grid } ≡ next = cc in
@@ -203,7 +203,7 @@ module _ (words : Dictionary) (state : State) (is : BeganWith words state) where
   wide : 0 < state.position.grid.width
   wide = omega (arith, is.grid.wide)
 
-  -- ---- states that differ in one thing
+  -- ---- states that differ in one part
 
   with_texts : (texts : TextsShown) → ((name : TextField) → has_nul (text_of_field texts name) ≡ false) → BeganWith words (record state { texts = texts })
   with_texts texts are = record { grid = is.grid; bars = is.bars; known = is.known; dictionary = is.dictionary; first = is.first; begun = is.begun; texts = are; clues = is.clues; circles = is.circles }
@@ -244,7 +244,7 @@ module _ (words : Dictionary) (state : State) (is : BeganWith words state) where
     circles = tt;
   }
 
-  -- ---- texts put into their places
+  -- ---- texts put into fields
 
   placed_text : (place : Place) (text : List ℕ) → has_place state.position.grid place ≡ true → has_nul text ≡ false → BeganWith words (with_text_at state place text)
   placed_text (places.Text field) text placed plain = with_texts (with_text_in state.texts field text) (λ name. text_kept state.texts field name text plain is.texts)
@@ -255,7 +255,7 @@ module _ (words : Dictionary) (state : State) (is : BeganWith words state) where
   plain_there (places.Clue cell Across) = plain_at state.position.grid state.clues.across 0 cell (is.clues Across)
   plain_there (places.Clue cell Down) = plain_at state.position.grid state.clues.down 0 cell (is.clues Down)
 
-  piece_kept : (putting : Putting) (place : Place) (text : List ℕ) → has_place state.position.grid place ≡ true → has_nul text ≡ false → BeganWith words (with_piece state putting place text)
+  piece_kept : (putting : TextMode) (place : Place) (text : List ℕ) → has_place state.position.grid place ≡ true → has_nul text ≡ false → BeganWith words (with_piece state putting place text)
   piece_kept Instead place text placed plain = placed_text place text placed plain
   piece_kept Behind place [] placed plain = is
   piece_kept Behind place (byte ∷ bytes) placed plain =
@@ -293,7 +293,7 @@ module _ (words : Dictionary) (state : State) (is : BeganWith words state) where
     by_edit : (action : Action) → moved state (after state.position action) ≡ Ok reply → Kept
     by_edit action e = when_moved (after state.position action) (λ next done. edit_kept words state.position next is.grid is.bars is.first action done) e
 
-    by_letter : (at : Spot) (letter : Option ℕ) → with_letter state at letter ≡ Ok reply → Kept
+    by_letter : (at : CellArg) (letter : Option ℕ) → with_letter state at letter ≡ Ok reply → Kept
     by_letter at None e = not_refused (refusals.Word (faults.BadLetter 1)) e
     by_letter at (Some letter) e = by_edit (letter_set (cell_of at) letter) e
 
@@ -347,7 +347,7 @@ module _ (words : Dictionary) (state : State) (is : BeganWith words state) where
         (λ good. with_position (filled_in state.position entries) (record { grid = framed state.position.grid _ (refl, refl, refl, refl) is.bars; first = is.first }) good) e
     by_fill false false limit filled none entries e = when_shown none e
 
-    by_put : (putting : Putting) (field : Field) (spelling : Option (List ℕ)) → put state putting field spelling ≡ Ok reply → Kept
+    by_put : (putting : TextMode) (field : Field) (spelling : Option (List ℕ)) → put state putting field spelling ≡ Ok reply → Kept
     by_put putting field None e = not_refused refusals.Escape e
     by_put putting field (Some text) e =
         let place = place_of field in
@@ -399,7 +399,7 @@ module _ (words : Dictionary) (state : State) (is : BeganWith words state) where
     answer_kept (Ok (Some command)) outcome answer said = after_reply command said.0 said.1 said.4
     answer_kept (Err fault) outcome answer said = subst (BeganWith words) (sym said.2) is
 
--- ---- a session at its beginning
+-- ---- a session at its start
 
 no_text : (name : TextField) → has_nul (text_of_field (record { title = []; author = []; copyright = []; notes = [] }) name) ≡ false
 no_text Title = refl

@@ -1,4 +1,4 @@
--- A session that is opened on a puzzle.
+-- A session opened on a puzzle.
 use Rattle.std.proofs.Common.{◌≡◌, ℕ, zero, suc, true, false, List, [], ◌∷◌, map, filter, get_or, replicate, refl, sym, ap, subst, inl, inr, arith}
 use Rattle.std.specs.List.{AllByRecursion}
 use Rattle.std.proofs.lemmas.Bool.{cases_lt}
@@ -7,12 +7,12 @@ use Rattle.std.proofs.lemmas.List.Elements.{recursion_from_All}
 use Rattle.std.proofs.lemmas.List.FromFn.{get_or-map-range_with_len, length-map-range_with_len}
 use Rattle.xw_words.specs.Dictionary.{Dictionary, Entry}
 use Rattle.xw_words.specs.WordList.{known, has_length, entries_among, listed}
-use Rattle.xw_cells.specs.declared.cell.Direction.{Direction}
-use Rattle.xw_cells.specs.declared.cell.Direction.TheVariants.{Across, Down}
-use Rattle.xw_cells.specs.declared.cell.Square.{Square}
+use Rattle.xw_grid.specs.declared.cell.Direction.{Direction}
+use Rattle.xw_grid.specs.declared.cell.Direction.TheVariants.{Across, Down}
+use Rattle.xw_grid.specs.declared.cell.Square.{Square}
 use Rattle.xw_grid.specs.declared.lights.Light.{Light}
-use Rattle.xw_cells.specs.Grid.{Grid, is_inside}
-use Rattle.xw_cells.specs.Edit.{grid_of}
+use Rattle.xw_grid.specs.Grid.{Grid, is_inside}
+use Rattle.xw_grid.specs.Edit.{grid_of}
 use Rattle.xw_grid.specs.Clue.{no_clues}
 use Rattle.xw_grid.specs.Light.{lights_of}
 use Rattle.xw_grid.proofs.OrderLemmas.{IsMade, lights_are_made, made_inside}
@@ -24,7 +24,7 @@ use Rattle.xw_session.specs.Reply.{has_nul}
 use Rattle.xw_session_laws.specs.Replay.{BarsAreOnEdges, AreFrom, AreTextsFrom, clues_of, ComeFirst, NoneIsStruck, BeganWith, opened_on}
 use Rattle.xw_session_laws.proofs.KeptEdges.{blank_edges}
 
--- what a session has of a puzzle
+-- the properties that a session takes from a puzzle
 pub record IsKept (puzzle : PuzzleShown) : Type 0 where
   pub bars : BarsAreOnEdges puzzle.grid
   pub texts : (name : TextField) → has_nul (text_of_field puzzle.texts name) ≡ false
@@ -44,7 +44,7 @@ session_on words puzzle kept formed first = record {
   circles = kept.circles;
 }
 
--- a grid that is made of its squares has no bar
+-- a grid built from squares has no bars
 pub made_edges : (width height : ℕ) (squares : List Square) → BarsAreOnEdges (grid_of width height squares)
 made_edges width height squares = blank_edges width height
 
@@ -52,7 +52,7 @@ pub no_clues_kept : (grid : Grid) (direction : Direction) → AreTextsFrom grid 
 no_clues_kept grid Across = tt
 no_clues_kept grid Down = tt
 
--- where the lights begin is inside
+-- all lights start inside the grid
 abbrev pub BeginInside : Grid → List Light → Type 0
 BeginInside grid lights = AllByRecursion (λ light. is_inside grid light.start ≡ true) lights
 

@@ -1,4 +1,4 @@
--- A spelled text stands in a line as it is: it has no line feed, and no space or tab at an end.
+-- A text with escapes is one line: it has no LF, and no space or tab at either end.
 use Rattle.std.proofs.Common.{◌≡◌, ◌≢◌, ℕ, ◌+◌, ◌-◌, ◌<◌, Bool, true, false, ◌&&◌, ◌||◌, eqb, List, [], ◌∷◌, ◌++◌, length, take, drop, get_or, flat_map, Some, None, refl, sym, ◌∙◌, ap, subst, append_assoc, append-nil, arith, zero-add}
 use Rattle.std.specs.Prelude.{Option, reverse, position, unwrap_or, slice_index, if◌then◌else◌}
 use Rattle.std.specs.List.{range_with_len}
@@ -6,12 +6,12 @@ use Rattle.std.proofs.lemmas.Bool.{eqb-false, eq-eqb}
 use Rattle.std.proofs.lemmas.List.{take_all, take_more, reverse-append}
 use Rattle.std.proofs.lemmas.List.FromFn.{get_or-range_with_len, length-range_with_len}
 use Rattle.std.proofs.lemmas.Grind.{flat_map-append}
-use Rattle.xw_letters.proofs.Position.{position_is_some}
+use Rattle.xw_text.proofs.Position.{position_is_some}
 use Rattle.xw_lines.specs.Cut.{HasNoLf}
 use Rattle.xw_commands.specs.Line.{is_ink, first_place, trimmed_start, trimmed_end, trimmed}
 use Rattle.xw_session.specs.Escape.{letter_for, escaped, is_end, spelled_at, escaped_text}
 
--- ---- no line feed
+-- ---- no LF
 
 no_lf_joined : (front rest : List ℕ) → HasNoLf front → HasNoLf rest → HasNoLf (front ++ rest)
 no_lf_joined [] rest a b = b
@@ -37,9 +37,9 @@ no_lf_each text (place ∷ places) = no_lf_joined (spelled_at text place) (flat_
 pub no_lf_spelled : (text : List ℕ) → HasNoLf (escaped_text text)
 no_lf_spelled text = no_lf_each text (range_with_len 0 (length text))
 
--- ---- no space or tab at an end
+-- ---- no space or tab at either end
 
--- an escape's letter is ink, and so is a byte at an end that has no escape
+-- the letter of an escape is not blank, and neither is a byte at an end without an escape
 abbrev pub IsInked : ℕ → Option ℕ → Type 0
 IsInked byte None = is_ink byte ≡ true
 IsInked byte (Some letter) = is_ink letter ≡ true

@@ -1,14 +1,14 @@
--- What is read of a text file is what a session has.
+-- The puzzle of a text file meets the premises of the laws.
 use Rattle.std.proofs.Common.{◌≡◌, ℕ, ◌<◌, true, false, List, [], ◌∷◌, Some, None, refl, sym, subst, arith}
 use Rattle.std.specs.Prelude.{Option, Ok, nat_eq, position}
 use Rattle.std.specs.List.{AllByRecursion}
 use Rattle.std.proofs.lemmas.Bool.{cond_both}
 use Rattle.std.proofs.lemmas.Bool.Decides.{nat_tests}
-use Rattle.xw_cells.specs.declared.cell.Cell.{Cell}
-use Rattle.xw_cells.specs.declared.cell.Direction.{Direction}
-use Rattle.xw_cells.specs.declared.cell.Direction.TheVariants.{Across, Down}
+use Rattle.xw_grid.specs.declared.cell.Cell.{Cell}
+use Rattle.xw_grid.specs.declared.cell.Direction.{Direction}
+use Rattle.xw_grid.specs.declared.cell.Direction.TheVariants.{Across, Down}
 use Rattle.xw_grid.specs.declared.lights.Light.{Light}
-use Rattle.xw_cells.specs.Grid.{Grid, IsGrid, is_inside}
+use Rattle.xw_grid.specs.Grid.{Grid, IsGrid, is_inside}
 use Rattle.xw_grid.specs.Clue.{ClueMap, no_clues, with_clue}
 use Rattle.xw_grid.specs.Light.{lights_of, same_direction}
 use Rattle.xw_files.specs.declared.fault.ReadFault.TheVariants as faults
@@ -59,7 +59,7 @@ after_one line lines rest is plain = (subst ArePlainTexts is plain).1
 after_tag : (tag : Tag) (lines rest : Lines) → tag_at tag lines ≡ Ok rest → ArePlainTexts lines → ArePlainTexts rest
 after_tag tag lines rest e plain = let taken = tag_takes tag lines rest e in after_one taken.0 lines rest taken.1 plain
 
--- the three texts above the grid
+-- title, author and copyright have no NUL
 record AreAbove (texts : TextsShown) : Type 0 where
   title : IsPlainText texts.title
   author : IsPlainText texts.author
@@ -139,7 +139,7 @@ module _ (grid : Grid) (is : IsGrid grid) where
       let half : AreCluesKept across.0.0 = subst AreCluesKept (sym one.meaning) (start_clues_kept Across (starts grid Across) one.texts no_clues (inside Across) first.0 (no_clues_kept grid)) in
       (subst AreCluesKept (sym other.meaning) (start_clues_kept Down (starts grid Down) other.texts across.0.0 (inside Down) second.0 half), second.1)
 
--- ---- the whole
+-- ---- the whole puzzle
 
 each_plain : (texts : TextsShown) (notes : List ℕ) → AreAbove texts → IsPlainText notes → (name : TextField) → has_nul (text_of_field (record texts { notes = notes }) name) ≡ false
 each_plain texts notes above plain Title = no_nul texts.title above.title

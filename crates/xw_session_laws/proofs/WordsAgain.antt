@@ -1,4 +1,4 @@
--- Words of a record, added and struck.
+-- The word commands of a record.
 use Rattle.std.proofs.Common.{◌≡◌, ◌≢◌, ℕ, ◌+◌, ◌<◌, ◌≤◌, zero, suc, Bool, true, false, ◌&&◌, le-leb, List, [], ◌∷◌, ◌++◌, length, map, take, drop, get_or, set, flat_map, Some, None, refl, sym, ◌∙◌, ap, inl, inr, zero-add, get_or-set_same, arith}
 use Rattle.std.specs.Prelude.{Option, Result, Ok, Err, All, nat_le, position, if◌then◌else◌}
 use Rattle.std.specs.Str.{bytes_eq}
@@ -9,14 +9,14 @@ use Rattle.std.proofs.lemmas.Bool.Decides.{nat_tests}
 use Rattle.std.proofs.lemmas.List.{take_more, take_all, length-take-le, length-take, length-drop, get_or-take, length-map, set-set, set-get_or, map-append, get_or-map, get_or-drop, same_lists}
 use Rattle.std.proofs.lemmas.List.FromFn.{get_or-range_with_len, length-range_with_len, get_or-map-range_with_len}
 use Rattle.std.proofs.lemmas.Slice.Eq.{bytes_eq-Decides}
-use Rattle.xw_bits.specs.declared.fault.WordFault.{WordFault}
-use Rattle.xw_bits.specs.declared.fault.WordFault.TheVariants.{Length, Full, Unknown}
+use Rattle.xw_words.specs.declared.fault.WordFault.{WordFault}
+use Rattle.xw_words.specs.declared.fault.WordFault.TheVariants.{Length, Full, Unknown}
 use Rattle.xw_words.specs.declared.bank.Added.{Added}
 use Rattle.xw_words.specs.declared.bank.Added.TheVariants.{New}
 use Rattle.xw_letters.specs.Letter.{IsLetter, folded}
 use Rattle.xw_words.specs.Word.{is_bad_letter, word_of, judged}
 use Rattle.xw_words.specs.Dictionary.{Dictionary, Entry, AreWords, IsDictionary, row, no_entry, entry_at, place_in, most_words, marked, added_at, add_to, add_answer, after_add, struck_at, strike_from, strike_answer, after_strike, answer_on}
-use Rattle.xw_letters.proofs.Position.{position_is_some, position_is_none}
+use Rattle.xw_text.proofs.Position.{position_is_some, position_is_none}
 use Rattle.xw_feas.specs.State.{answered, with_words as with_dictionary}
 use Rattle.xw_commands.specs.declared.command.Command.{Command}
 use Rattle.xw_commands.specs.declared.command.Command.TheVariants.{Add, Strike}
@@ -27,7 +27,7 @@ use Rattle.xw_session_laws.specs.Replay.{state_left, replayed, with_words, unstr
 use Rattle.xw_session_laws.proofs.Replaying.{replayed_both, next_done}
 use Rattle.xw_session_laws.proofs.CellsAgain.{mixed, mixed_more, mixed_next, mixed_same, mixed_all, length-mixed}
 
--- ---- one item after another
+-- ---- one element after another
 
 items_from : {X : Type 0} (made : X → List Command) (d : X) (xs : List X) (after : ℕ → State)
     → ((i : ℕ) → i < length xs → replayed (after i) (made (get_or xs i d)) ≡ Some (after (suc i)))
@@ -39,7 +39,7 @@ items_from made d (x ∷ xs) after step =
     ∙ ap (option_and_then (λ mid. replayed mid rest)) (step 0 (omega arith))
     ∙ items_from made d xs (λ i. after (suc i)) (λ i within. step (suc i) (omega (arith, within)))
 
--- what is done for each item in turn leads through the states of so many first items
+-- if the commands of each element lead from one state to the next, all of them lead from the first to the last
 pub each_item_again : {X : Type 0} (made : X → List Command) (d : X) (xs : List X) (after : ℕ → State)
     → ((i : ℕ) → i < length xs → replayed (after i) (made (get_or xs i d)) ≡ Some (after (i + 1)))
     → replayed (after 0) (flat_map made xs) ≡ Some (after (length xs))
@@ -50,7 +50,7 @@ one_each : {X : Type 0} (made : X → Command) (xs : List X) → map made xs ≡
 one_each made [] = refl
 one_each made (x ∷ xs) = ap (λ commands. made x ∷ commands) (one_each made xs)
 
--- ---- a known word is itself as a line has it
+-- ---- the bytes of a known word are its letters
 
 good_letter : (letter : ℕ) → IsLetter letter → (is_bad_letter letter ≡ false) × (folded letter ≡ letter)
 good_letter letter is = (grind (arith, nat_tests, is.0, is.1), grind (arith, nat_tests, is.0, is.1))
@@ -76,7 +76,7 @@ word_itself word letters several short =
 abbrev IsItself : List ℕ → Type 0
 IsItself word = (word_of word ≡ Ok word) × (map folded word ≡ word)
 
--- ---- a word added, and a word struck
+-- ---- adding a word, and striking a word
 
 module _ (state : State) (word : List ℕ) (entries : List Entry) (fine : IsItself word) (at : row state.position.words (length word) ≡ entries) where
   abbrev words : Dictionary
@@ -108,7 +108,7 @@ module _ (state : State) (word : List ℕ) (entries : List Entry) (fine : IsItse
 unlike : (a b : List ℕ) → a ≢ b → bytes_eq a b ≡ false
 unlike a b other = elim (cases_Bool (bytes_eq a b)) [ inl same ↦ absurd (other ((bytes_eq-Decides a b).0 same)) | inr is ↦ is ]
 
--- the words of some first entries as they are, and of the others before any is struck
+-- the first entries as they are, and the others not struck
 word_mixed : (entries : List Entry) (j k : ℕ) (d : Entry) → (get_or (mixed entries (map unstruck entries) j) k d).word ≡ (get_or entries k d).word
 word_mixed [] zero k d = refl
 word_mixed [] (suc j) k d = refl
@@ -244,7 +244,7 @@ module _ (state : State) (count : ℕ) (entries : List Entry) (are : AreWords co
 
 -- ---- the whole dictionary
 
--- the entries of the beginning are no more than those now
+-- there are no more entries at the start than now
 pub no_more : (begun entries : List Entry) → ComeFirst begun entries → length begun ≤ length entries
 no_more begun entries first =
     let size : length begun ≡ length (take (length begun) entries) = ap length first ∙ length-map (take (length begun) entries) unstruck in

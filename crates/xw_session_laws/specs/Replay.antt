@@ -1,14 +1,14 @@
--- Commands done one after another, where no memory is wanting.
+-- Executing commands one after another when no allocation fails, and the laws of records.
 use Rattle.std.specs.Prelude.{◌≡◌, ℕ, ◌+◌, ◌<◌, ◌≤◌, true, false, List, [], ◌∷◌, ◌++◌, map, take, length, slice_index_or, Option, Some, None, Result, Ok, Err}
 use Rattle.std.specs.Option.{option_and_then}
 use Rattle.xw_words.specs.Dictionary.{Dictionary, Entry, IsDictionary, row}
-use Rattle.xw_cells.specs.declared.cell.Square.{Square}
-use Rattle.xw_cells.specs.declared.cell.Square.TheVariants.{Block, Open}
-use Rattle.xw_cells.specs.declared.cell.Cell.{Cell}
-use Rattle.xw_cells.specs.declared.cell.Direction.{Direction}
-use Rattle.xw_cells.specs.declared.cell.Direction.TheVariants.{Across, Down}
-use Rattle.xw_cells.specs.declared.cell.Side.{Side}
-use Rattle.xw_cells.specs.Grid.{Grid, IsGrid, is_inside, is_edge, bars, index_of}
+use Rattle.xw_grid.specs.declared.cell.Square.{Square}
+use Rattle.xw_grid.specs.declared.cell.Square.TheVariants.{Block, Open}
+use Rattle.xw_grid.specs.declared.cell.Cell.{Cell}
+use Rattle.xw_grid.specs.declared.cell.Direction.{Direction}
+use Rattle.xw_grid.specs.declared.cell.Direction.TheVariants.{Across, Down}
+use Rattle.xw_grid.specs.declared.cell.Side.{Side}
+use Rattle.xw_grid.specs.Grid.{Grid, IsGrid, is_inside, is_edge, bars, index_of}
 use Rattle.xw_grid.specs.Clue.{Texts, ClueMap, no_clues}
 use Rattle.xw_feas.specs.State.{State as Position}
 use Rattle.xw_feas.specs.WellFormed.{IsWellFormed}
@@ -30,17 +30,17 @@ use Rattle.xw_lines.specs.Spoken.{Spoken}
 use Rattle.xw_session.specs.State.{State}
 use Rattle.xw_session.specs.Text.{refused}
 
--- the state that a reply leaves; none where the command is refused
+-- the state after a reply, or None if the command is refused
 abbrev pub state_left : Result Reply Refusal → Option State
 state_left (Ok reply) = Some reply.state
 state_left (Err refusal) = None
 
--- the state that commands leave of which none is refused
+-- the state after all these commands, or None if one is refused
 abbrev pub replayed : State → List Command → Option State
 replayed state [] = Some state
 replayed state (command ∷ commands) = option_and_then (λ next. replayed next commands) (state_left (reply_to state command))
 
--- the same of lines
+-- the same for lines
 abbrev pub left_by_line : State → Result (Option Command) SyntaxFault → Option State
 left_by_line state (Ok None) = Some state
 left_by_line state (Ok (Some command)) = state_left (reply_to state command)
@@ -50,39 +50,40 @@ abbrev pub replayed_lines : State → List (List ℕ) → Option State
 replayed_lines state [] = Some state
 replayed_lines state (line ∷ lines) = option_and_then (λ next. replayed_lines next lines) (left_by_line state (command_of line))
 
--- a square as it is before its letter is entered
+-- the square without its letter
 abbrev pub bared : Square → Square
 bared Block = Block
 bared (Open entered) = Open None
 
--- the state with a grid in place of the one it has
+-- the state with its grid replaced
 abbrev pub with_grid : State → Grid → State
 with_grid state grid = record state { position = record state.position { grid = grid } }
 
--- the state with a dictionary in place of the one it has
+-- the state with its dictionary replaced
 abbrev pub with_words : State → Dictionary → State
 with_words state words = record state { position = record state.position { words = words } }
 
--- ---- what a session has, whatever it was told
+-- ---- the invariant of a session
 
--- a known word, not struck
+-- the entry of the same word, not struck
 abbrev pub unstruck : Entry → Entry
 unstruck entry = record entry { active = true }
 
--- the first ones of the known words are those of the beginning, of which none was struck
+-- the known words begin with those from the start of the session, none of which was struck at the start
 abbrev pub ComeFirst : List Entry → List Entry → Type 0
 ComeFirst begun entries = begun ≡ map unstruck (take (length begun) entries)
 
--- no bar stands at a cell of the grid where no cell is beyond
+-- no bar lies on the border of the grid
 abbrev pub BarsAreOnEdges : Grid → Type 0
 BarsAreOnEdges grid = (side : Side) (cell : Cell) → is_inside grid cell ≡ true → is_edge grid cell side ≡ false → slice_index_or (bars grid side) (index_of grid cell) false ≡ false
 
--- cells of a grid in reading order, from a place on
+-- the cells are in the grid and in strict reading order, starting at this index or later
 abbrev pub AreFrom : Grid → ℕ → List Cell → Type 0
 AreFrom grid place [] = Unit {0}
 AreFrom grid place (cell ∷ cells) = (is_inside grid cell ≡ true) × (place ≤ index_of grid cell) × AreFrom grid (index_of grid cell + 1) cells
 
--- texts for cells of a grid in reading order, from a place on; none is empty, and none has a NUL
+-- the texts belong to cells of the grid in strict reading order, starting at this index or later; each is not empty and
+-- has no NUL
 abbrev pub AreTextsFrom : Grid → ℕ → Texts → Type 0
 AreTextsFrom grid place [] = Unit {0}
 AreTextsFrom grid place (entry ∷ texts) =
@@ -93,7 +94,7 @@ abbrev pub clues_of : ClueMap → Direction → Texts
 clues_of clues Across = clues.across
 clues_of clues Down = clues.down
 
--- the state of a session that began with these words
+-- the invariant of a session that started with these words
 pub record BeganWith (words : Dictionary) (state : State) : Type 0 where
   pub grid : IsGrid state.position.grid
   pub bars : BarsAreOnEdges state.position.grid
@@ -105,11 +106,11 @@ pub record BeganWith (words : Dictionary) (state : State) : Type 0 where
   pub clues : (direction : Direction) → AreTextsFrom state.position.grid 0 (clues_of state.clues direction)
   pub circles : AreFrom state.position.grid 0 state.circles
 
--- no word of a dictionary is struck
+-- no word of the dictionary is struck
 abbrev pub NoneIsStruck : Dictionary → Type 0
 NoneIsStruck words = (count : ℕ) → ComeFirst (row words count) (row words count)
 
--- a session that is begun with a dictionary of which no word is struck, without texts, clues and circles
+-- a session started on a dictionary without struck words, with no texts, clues and circles, meets the invariant
 abbrev pub SessionsBegin : Type 0
 SessionsBegin =
     (position : Position) → IsWellFormed position → BarsAreOnEdges position.grid → NoneIsStruck position.words
@@ -122,7 +123,7 @@ SessionsBegin =
       begun = known_counts position.words;
     })
 
--- the state of a session that is opened with a dictionary and with the grid, the texts, the clues and the circles of a puzzle
+-- the state of a session opened with a dictionary and a puzzle
 abbrev pub opened_on : Dictionary → PuzzleShown → State
 opened_on words puzzle = record {
   position = record { grid = puzzle.grid; words = words };
@@ -133,54 +134,54 @@ opened_on words puzzle = record {
   begun = known_counts words;
 }
 
--- a session that is opened with a dictionary of which no word is struck and with the puzzle that bytes spell
+-- a session opened on the puzzle of some bytes, with a dictionary without struck words, meets the invariant
 abbrev pub SessionsOpen : (List ℕ → Result PuzzleShown ReadFault) → Type 0
 SessionsOpen spelled =
     (words : Dictionary) (bytes : List ℕ) (puzzle : PuzzleShown) → spelled bytes ≡ Ok puzzle → IsWellFormed (opened_on words puzzle).position → NoneIsStruck words
     → BeganWith words (opened_on words puzzle)
 
--- What a session has it keeps, whatever it answers to a line. That its grid and its dictionary are well formed each engine promises.
+-- Every line keeps the invariant. The contract of the engine gives the well-formedness of the new state.
 abbrev pub SessionsStay : Type 0
 SessionsStay =
     (words : Dictionary) (state next : State) (line : List ℕ) (outcome : Step) (answer : List ℕ) → BeganWith words state → Answers state line outcome answer next
     → IsWellFormed next.position → BeganWith words next
 
--- ---- the law of a record
+-- ---- the laws of records
 
--- the commands of a record, in a session with the words that the first one began with, leave the dictionary, the grid with
--- its symmetry, the texts, the clues, the circles and the watch as they were; none is refused
+-- The commands of a record, executed in a session with the words at the start of the recorded one, are all accepted and
+-- rebuild its state, except for the word counts at the start.
 abbrev pub CommandsMakeSessionsAgain : Type 0
 CommandsMakeSessionsAgain =
     (words : Dictionary) (made state : State) → BeganWith words made → state.position.words ≡ words
     → replayed state (record_commands made) ≡ Some (record made { begun = state.begun })
 
--- each line of a record is read as its command
+-- each line of a record parses as its command
 abbrev pub LinesAreReadAgain : Type 0
 LinesAreReadAgain =
     (words : Dictionary) (made : State) → BeganWith words made
     → map command_of (lines_of (record_lines made)) ≡ map (λ command. Ok (Some command)) (record_commands made)
 
--- and so the lines do the same
+-- the lines of a record rebuild the state too
 abbrev pub LinesMakeSessionsAgain : Type 0
 LinesMakeSessionsAgain =
     (words : Dictionary) (made state : State) → BeganWith words made → state.position.words ≡ words
     → replayed_lines state (lines_of (record_lines made)) ≡ Some (record made { begun = state.begun })
 
--- ---- the same as a session answers them
+-- ---- the same laws for the answers of a session
 
--- a line is answered by the want of memory that its command may meet
+-- the answer is the failed allocation that the line's command may meet
 abbrev pub WantsMemory : State → Result (Option Command) SyntaxFault → List ℕ → Type 0
 WantsMemory state (Ok None) answer = ⊥
 WantsMemory state (Ok (Some command)) answer = (refusal : Refusal) × (want_of state command ≡ Some refusal) × (answer ≡ refused refusal)
 WantsMemory state (Err fault) answer = ⊥
 
--- a session that begins with the same words and refuses no line of a record is left as the first one was
+-- a session that starts with the same words and accepts every line of a record ends in the recorded state
 abbrev pub AnsweredLinesMakeSessionsAgain : Type 0
 AnsweredLinesMakeSessionsAgain =
     (words : Dictionary) (made state last : State) (out : List ℕ) → BeganWith words made → state.position.words ≡ words
     → Spoken Answers state (lines_of (record_lines made)) out 0 last → last ≡ record made { begun = state.begun }
 
--- and the first line that it refuses, if there is one, is refused for want of memory
+-- the first line of a record that a session refuses, if any, is refused for a failed allocation
 abbrev pub RecordsAreRefusedForMemoryOnly : Type 0
 RecordsAreRefusedForMemoryOnly =
     (words : Dictionary) (made state mid last : State) (front rest : List (List ℕ)) (line out answer : List ℕ) → BeganWith words made → state.position.words ≡ words

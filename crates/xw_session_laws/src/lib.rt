@@ -1,17 +1,18 @@
-//! What the definitions of records and of spelled texts mean: a session's record, answered line by line, makes the session again.
+//! Laws of sessions: replaying a session's record rebuilds the session. The functions do nothing at run time; each
+//! gives callers a proved fact.
 #![tactic(auto)]
 
 ghost use Rattle.std.specs.Prelude.{◌≡◌, ℕ, ◌++◌, ◌*◌, List, [], map, replicate, filter, None, Some, true, false};
 ghost use Rattle.std.specs.Option.{option_and_then};
 ghost use Rattle.xw_words.specs.Dictionary.{IsDictionary, row};
 ghost use Rattle.xw_words.specs.WordList.{listed_in};
-ghost use Rattle.xw_cells.specs.declared.cell.Direction.{Direction};
-ghost use Rattle.xw_cells.specs.declared.cell.Direction.TheVariants.{Across, Down};
-ghost use Rattle.xw_cells.specs.declared.cell.Side.TheVariants.{Right, Below};
-ghost use Rattle.xw_cells.specs.declared.cell.Square.TheVariants.{Open};
-ghost use Rattle.xw_cells.specs.declared.cell.Symmetry.TheVariants as kinds;
-ghost use Rattle.xw_cells.specs.Grid.{IsGrid, cells};
-ghost use Rattle.xw_cells.specs.Edit.{blank};
+ghost use Rattle.xw_grid.specs.declared.cell.Direction.{Direction};
+ghost use Rattle.xw_grid.specs.declared.cell.Direction.TheVariants.{Across, Down};
+ghost use Rattle.xw_grid.specs.declared.cell.Side.TheVariants.{Right, Below};
+ghost use Rattle.xw_grid.specs.declared.cell.Square.TheVariants.{Open};
+ghost use Rattle.xw_grid.specs.declared.cell.Symmetry.TheVariants as kinds;
+ghost use Rattle.xw_grid.specs.Grid.{IsGrid, cells};
+ghost use Rattle.xw_grid.specs.Edit.{blank};
 ghost use Rattle.xw_grid.specs.Clue.{no_clues, is_circled};
 ghost use Rattle.xw_files.specs.Puz.Board.{puzzle_at};
 ghost use Rattle.xw_files.specs.Text.Shape.{all_of};
@@ -28,7 +29,7 @@ ghost use Rattle.xw_session.specs.Record.{known_counts, text_commands, section_c
 ghost use Rattle.xw_session_laws.specs.Replay.{NoneIsStruck, SessionsBegin, SessionsOpen, SessionsStay, CommandsMakeSessionsAgain, LinesAreReadAgain, LinesMakeSessionsAgain, AnsweredLinesMakeSessionsAgain, RecordsAreRefusedForMemoryOnly, replayed, bared, with_grid, with_words, clues_of, ComeFirst, BarsAreOnEdges, AreFrom, AreTextsFrom};
 ghost use Rattle.xw_lines.specs.Cut.{ended_lines, last_piece, with_lfs, AllHaveNoLf, HasNoLf};
 
-/// A text is its ended lines, each with its LF, and then its last piece, and it is nothing else of that form.
+/// A text splits into lines in exactly one way: its complete lines, each with its LF, and the rest without an LF.
 pub fn lines_are_cut_at_each_lf()
     ensures whole { (text : List ℕ) → text ≡ with_lfs (ended_lines text) (last_piece text) }
     ensures lines { (text : List ℕ) → AllHaveNoLf (ended_lines text) }
@@ -39,21 +40,21 @@ pub fn lines_are_cut_at_each_lf()
         → last_piece (with_lfs lines rest) ≡ rest }
 {}
 
-/// A text as answers spell it is read back as the same text, and stands in a line as it is.
+/// A text written with escapes is read back unchanged. Its spelling has no LF, and no space or tab at either end.
 pub fn what_is_spelled_reads_back()
     ensures back { (text : List ℕ) → text_spelled (escaped_text text) ≡ Some text }
     ensures line { (text : List ℕ) → HasNoLf (escaped_text text) }
     ensures ends { (text : List ℕ) → trimmed (escaped_text text) ≡ escaped_text text }
 {}
 
-/// Commands do what the first of them do, and then what the others do on the state that those leave.
+/// Executing two lists of commands in a row equals executing the second on the state that the first leaves.
 pub fn commands_follow_one_another()
     ensures { (state : State) (front rest : List Command)
         → replayed state (front ++ rest) ≡ option_and_then (λ mid. replayed mid rest) (replayed state front) }
 {}
 
-/// What a record has for the words, in a session that knows those of the beginning, none of them struck, leaves the dictionary: the
-/// words in their order, each active or struck as it was.
+/// The word commands of a record rebuild the dictionary, with the words in the same order and each active or struck as
+/// before. The session must start with the same words, none of them struck.
 pub fn words_are_made_again()
     ensures { (state made : State) → IsDictionary state.position.words → IsDictionary made.position.words
         → made.begun ≡ known_counts state.position.words
@@ -61,14 +62,14 @@ pub fn words_are_made_again()
         → replayed state (section_commands made sections.Words) ≡ Some (with_words state made.position.words) }
 {}
 
-/// The commands that a record has for a text, however long it is, put it into its place.
+/// The text commands of a record put a text of any length into its field.
 pub fn texts_are_made_again()
     ensures { (state : State) (field : Field) (text : List ℕ) → has_place state.position.grid (place_of field) ≡ true → has_nul text ≡ false
         → replayed state (text_commands field text) ≡ Some (with_text_at state (place_of field) text) }
 {}
 
-/// What a record has for the size leaves a blank grid of the same, without clues and circles, for the symmetry that one, and for the
-/// watch that it is on or off.
+/// The `size` command of a record gives a blank grid of this size without clues and circles, `sym` restores the
+/// symmetry, and `watch` turns the watch on or off.
 pub fn size_symmetry_and_watch_are_made_again()
     ensures size { (state made : State) → IsGrid made.position.grid
         → replayed state (section_commands made sections.Size) ≡ Some (record state {
@@ -85,20 +86,21 @@ pub fn size_symmetry_and_watch_are_made_again()
         → replayed state (section_commands made sections.Watch) ≡ Some (record state { is_watched = made.is_watched }) }
 {}
 
-/// What a record has for the circles, in a blank grid without any, circles the cells of the grid that were circled, hidden or not.
+/// The circle commands of a record, executed on a blank grid, restore the circles of all cells of the grid, also those
+/// on blocks.
 pub fn circles_are_made_again()
     ensures { (state made : State) → IsGrid made.position.grid
         → replayed (record (with_grid state (blank made.position.grid.width made.position.grid.height)) { circles = [] }) (section_commands made (sections.Cells parts.Circles))
         ≡ Some (record (with_grid state (blank made.position.grid.width made.position.grid.height)) { circles = filter (is_circled made.circles) (cells made.position.grid) }) }
 {}
 
-/// Circles that are kept in reading order, all in the grid, are those that were circled.
+/// Circles stored in reading order, all inside the grid, equal the list of circled cells of the grid.
 pub fn circles_are_kept_in_order()
     ensures { (state : State) → AreFrom state.position.grid 0 state.circles
         → filter (is_circled state.circles) (cells state.position.grid) ≡ state.circles }
 {}
 
-/// What a record has for the clues, across and then down, in its grid without clues, puts all of them, hidden or not.
+/// The clue commands of a record restore all clues, also those without a light.
 pub fn clues_are_made_again()
     ensures { (state made : State) → IsGrid made.position.grid
         → ((direction : Direction) → AreTextsFrom made.position.grid 0 (clues_of made.clues direction))
@@ -107,8 +109,8 @@ pub fn clues_are_made_again()
         ≡ Some (record (with_grid state made.position.grid) { clues = made.clues }) }
 {}
 
-/// What a record has for the bars, in a blank grid, makes those to the right of cells, and then those below. It takes that no bar
-/// stands where no cell is beyond.
+/// The bar commands of a record, executed on a blank grid, restore the bars: first those right of cells, then those
+/// below. The grid must have no bar on its border.
 pub fn bars_are_made_again()
     ensures right { (state made : State) → IsGrid made.position.grid → BarsAreOnEdges made.position.grid
         → replayed (with_grid state (blank made.position.grid.width made.position.grid.height)) (section_commands made (sections.Cells (parts.Bars Right)))
@@ -118,7 +120,7 @@ pub fn bars_are_made_again()
         ≡ Some (with_grid state (record (blank made.position.grid.width made.position.grid.height) { right = made.position.grid.right; below = made.position.grid.below })) }
 {}
 
-/// What a record has for the blocks, in an empty grid under no symmetry, makes these blocks and no other.
+/// The block commands of a record, executed on an empty grid without symmetry, restore exactly the blocks.
 pub fn blocks_are_made_again()
     ensures { (state made : State) → IsGrid made.position.grid
         → replayed (with_grid state (record made.position.grid { squares = replicate (made.position.grid.width * made.position.grid.height) (Open None); symmetry = kinds.None }))
@@ -126,39 +128,40 @@ pub fn blocks_are_made_again()
         ≡ Some (with_grid state (record made.position.grid { squares = map bared made.position.grid.squares; symmetry = kinds.None })) }
 {}
 
-/// What a record has for the letters, where blocks stand and no letter, makes the grid as it was.
+/// The letter commands of a record, executed on a grid that has the blocks but no letters, restore the grid.
 pub fn letters_are_made_again()
     ensures { (state made : State) → IsGrid made.position.grid
         → replayed (with_grid state (record made.position.grid { squares = map bared made.position.grid.squares })) (section_commands made (sections.Cells parts.Letters))
         ≡ Some (with_grid state made.position.grid) }
 {}
 
-/// All commands of a record, one after another, make the session again.
+/// The commands of a record, executed in order, rebuild the session.
 pub fn commands_make_sessions_again()
     ensures { CommandsMakeSessionsAgain }
 {}
 
-/// Each line of a record is read as its command, and all lines, one after another, make the session again.
+/// Each line of a record parses as its command, so the lines rebuild the session too.
 pub fn lines_make_sessions_again()
     ensures read { LinesAreReadAgain }
     ensures made { LinesMakeSessionsAgain }
 {}
 
-/// A session over any engine that begins with the same words and refuses no line of a record is then the same; and the first line that
-/// it refuses, if there is one, is refused for want of memory.
+/// A session over any engine that starts with the same words and accepts every line of a record has the same state
+/// afterwards. The first line that it refuses, if any, is refused with `Memory`.
 pub fn records_make_sessions_again()
     ensures made { AnsweredLinesMakeSessionsAgain }
     ensures memory { RecordsAreRefusedForMemoryOnly }
 {}
 
-/// A session that is begun with an engine alone has what these laws take of it, and it keeps that whatever lines it answers.
+/// A session started with an engine alone meets the premises of these laws, if no word is struck and no bar lies on the
+/// border of the grid. Every line keeps the premises.
 pub fn sessions_keep_what_they_have()
     ensures begun { SessionsBegin }
     ensures kept { SessionsStay }
 {}
 
-/// A session that is opened with the puzzle of a `.puz` file, or with that of a text file, has what these laws take of it. It takes a
-/// dictionary of which no word is struck, as a new one is, or one that a word list makes.
+/// A session opened with the puzzle of a `.puz` or text file meets the premises of these laws, if no word of its
+/// dictionary is struck. A new dictionary and one loaded from a word list have no struck words.
 pub fn sessions_open_with_files()
     ensures empty { NoneIsStruck (replicate 256 []) }
     ensures listed { (bytes : List ℕ) → NoneIsStruck (listed_in bytes) }

@@ -1,4 +1,4 @@
--- Lemmas on an index that is kept in blocks.
+-- Lemmas about an index that is kept in blocks.
 use Rattle.std.proofs.Common.{◌≡◌, ℕ, zero, suc, ◌+◌, ◌-◌, ◌*◌, ◌<◌, ◌≤◌, true, false, List, [], ◌∷◌, ◌++◌, length, get_or, set, take, drop, refl, ap, sym, ◌∙◌, inl, inr, arith, add-one, length-append, append_assoc, length-take, length-drop, length-set, subst}
 use Rattle.std.specs.Prelude.{insert, All}
 use Rattle.std.specs.List.{concat}
@@ -30,7 +30,7 @@ start_past [] (suc block) le = refl
 start_past (b ∷ bs) zero le = absurd (omega arith)
 start_past (b ∷ bs) (suc block) le = omega (arith, length-append b (concat (take block bs)), length-append b (concat bs), start_past bs block (omega arith))
 
--- what stands in a block
+-- the entries of a block
 pub get_placed : (blocks : List (List ℕ)) (block i : ℕ) → i < length (block_at blocks block) → get_or (concat blocks) (start blocks block + i) 0 ≡ get_or (block_at blocks block) i 0
 get_placed [] block i lt = absurd (omega arith)
 get_placed (b ∷ bs) zero i lt = ap (λ n. get_or (b ++ concat bs) n 0) (let e : 0 + i ≡ i = omega arith in e) ∙ get_or_append_left b (concat bs) 0 i lt
@@ -46,9 +46,9 @@ start_last blocks some =
     let e : suc (length blocks - 1) ≡ length blocks = omega arith in
     sym (start_next blocks (length blocks - 1) (omega arith)) ∙ start_past blocks (suc (length blocks - 1)) (omega arith)
 
--- ---- halving
+-- ---- binary search
 
--- a block of a sorted index is sorted
+-- each block of a sorted index is sorted
 pub part_of : (count : ℕ) (letters : List ℕ) (blocks : List (List ℕ)) (block : ℕ) → block < length blocks → IsPart count letters (concat blocks) → IsPart count letters (block_at blocks block)
 part_of count letters blocks block lt part =
     let next = start_next blocks block lt in
@@ -119,7 +119,7 @@ module _ (words : ℕ → List ℕ) (blocks : List (List ℕ)) (word : List ℕ)
             let e : i ≡ start blocks block + (i - start blocks block) = omega arith in
             ap (λ k. get_or (concat blocks) k 0) e ∙ get_placed blocks block (i - start blocks block) (omega arith)
 
--- ---- one place more
+-- ---- one more entry
 
 pub placed_in : (blocks : List (List ℕ)) (block at place : ℕ) → block < length blocks → at ≤ length (block_at blocks block) → concat (set blocks block (insert (block_at blocks block) at place)) ≡ insert (concat blocks) (start blocks block + at) place
 placed_in [] block at place lt le = absurd (omega arith)
@@ -142,7 +142,7 @@ pub filled_after : (blocks : List (List ℕ)) (block at place : ℕ) → at ≤ 
 filled_after blocks block at place le filled =
     All-set IsFilled blocks block (insert (block_at blocks block) at place) (let long = length-insert (block_at blocks block) at place le in let some : 0 < length (insert (block_at blocks block) at place) = omega arith in some) filled
 
--- ---- a block that is split
+-- ---- splitting a block
 
 abbrev pub cut : List (List ℕ) → ℕ → ℕ → List (List ℕ)
 cut blocks block n = insert (set blocks block (take n (block_at blocks block))) (suc block) (drop n (block_at blocks block))

@@ -1,4 +1,4 @@
--- Lemmas on the room of a dictionary.
+-- Lemmas about the room of a dictionary.
 use Rattle.std.proofs.Common.{◌≡◌, ◌≢◌, ℕ, ◌<◌, true, false, eqb, List, length, refl, ap, ◌∙◌, arith, map, get_or, set}
 use Rattle.std.specs.Prelude.{Result, Ok, Err, OnOk, OnErr}
 use Rattle.std.proofs.lemmas.Bool.Decides.{nat_tests}
@@ -8,19 +8,19 @@ use Rattle.xw_words.specs.Bank.{KeepsRoom, KeepsOtherRoom, bank_of}
 use Rattle.xw_words.specs.Row.{Row}
 use Rattle.xw_words.proofs.DictionaryLemmas.{room_set}
 
--- room that was there is there still where another row changed
+-- the room of other lengths stays when one row changes
 pub KeepsOtherRoom-set : (rows : List Row) (count : ℕ) (new : Row) → KeepsOtherRoom count (bank_of rows) (bank_of (set rows count new))
 KeepsOtherRoom-set rows count new = λ other apart there.
     ap (λ rooms. get_or rooms other false) (map-set (λ (r : Row). r.room) rows count new)
     ∙ get_or-set_other (map (λ (r : Row). r.room) rows) count other new.room false apart
     ∙ there
 
--- where the row that changed keeps its room
+-- all room stays if the changed row keeps its room
 pub KeepsRoom-same : (rows : List Row) (count : ℕ) (old new : Row) → old ≡ get_or rows count old → new.room ≡ old.room → KeepsRoom (bank_of rows) (bank_of (set rows count new))
 KeepsRoom-same rows count old new was same = λ other there.
     ap (λ rooms. get_or rooms other false) (map-set_same (λ (r : Row). r.room) rows count new old (same ∙ ap (λ r. r.room) was)) ∙ there
 
--- where the row that changed has room now
+-- all room stays if the changed row now has room
 pub KeepsRoom-made : (rows : List Row) (count : ℕ) (new : Row) → count < length rows → new.room ≡ true → KeepsRoom (bank_of rows) (bank_of (set rows count new))
 KeepsRoom-made rows count new within made = λ other there.
     elim (eqb other count) as (λ b. eqb other count ≡ b → get_or (map (λ (r : Row). r.room) (set rows count new)) other false ≡ true) [
@@ -32,12 +32,12 @@ KeepsRoom-made rows count new within made = λ other there.
           KeepsOtherRoom-set rows count new other apart' there
     ] refl
 
--- the same of a call that may be refused
+-- the same for a call that may fail
 pub KeepsRoom-at_err : (rows : List Row) (count : ℕ) (old new : Row) (T F : Type 0) (answer : Result T F) → old ≡ get_or rows count old → OnErr answer (new.room ≡ old.room) → OnErr answer (KeepsRoom (bank_of rows) (bank_of (set rows count new)))
 KeepsRoom-at_err rows count old new T F (Ok value) was same = tt
 KeepsRoom-at_err rows count old new T F (Err fault) was same = KeepsRoom-same rows count old new was same
 
--- and of one that makes room where it is not refused
+-- the same for a call that reserves room unless it fails
 pub KeepsRoom-reserved : (rows : List Row) (count : ℕ) (old new : Row) (T F : Type 0) (answer : Result T F) → count < length rows → old ≡ get_or rows count old → OnOk answer (new.room ≡ true) → OnErr answer (new.room ≡ old.room) → KeepsRoom (bank_of rows) (bank_of (set rows count new))
 KeepsRoom-reserved rows count old new T F (Ok value) within was made same = KeepsRoom-made rows count new within made
 KeepsRoom-reserved rows count old new T F (Err fault) within was made same = KeepsRoom-same rows count old new was same

@@ -10,7 +10,7 @@ use Rattle.xw_letters.specs.LetterSet.{has}
 use Rattle.xw_words.specs.Columns.{is_among, letter_is}
 use Rattle.xw_letters.proofs.LetterSetLemmas.{capital_is_letter}
 
--- whether there is a letter, before a place of the alphabet, and a set has it
+-- whether there is a letter among the first ones of the alphabet, and the set has it
 abbrev pub is_among_first : ℕ → ℕ → Option ℕ → Bool
 is_among_first letters place None = false
 is_among_first letters place (Some letter) = has letters letter && ltb letter (65 + place)
@@ -90,7 +90,7 @@ pub has_bit-or : (a b k : ℕ) → has_bit (bit_or a b) k ≡ (has_bit a k || ha
 unfolding has_bit
 has_bit-or a b k = ap (λ x. eqb x 1) (bit_at_or a b k) ∙ most_is_one (bit_at a k) (bit_at b k) (bit_at-lt a k) (bit_at-lt b k)
 
--- ---- the places of a block
+-- ---- the indices of a block
 
 pub in_block : (P : ℕ → Type 0) (at : ℕ) → ((chunk k : ℕ) → chunk < 8 → k < 64 → P (64 * (at + chunk) + k)) → (i : ℕ) → 64 * at ≤ i → i < 64 * at + 512 → P i
 in_block P at each i low high =
@@ -102,11 +102,11 @@ in_chunk P at each i low high =
     let is : 64 * at + (i - 64 * at) ≡ i = omega (arith, low) in
     subst P is (each (i - 64 * at) (omega (arith, high, low)))
 
--- what lacks a bit lacks it after sifting
+-- a clear bit stays clear
 pub none_stays : (new old other : Bool) → new ≡ old → old ≡ false → new ≡ (old && other)
 none_stays new old other same none = same ∙ none ∙ sym (ap (λ b. b && other) none)
 
--- what is said of places up to one, and of those from it on
+-- a property of the indices below a middle, and of those from it on
 pub in_parts : (P : ℕ → Type 0) (middle end : ℕ) → ((i : ℕ) → i < middle → P i) → ((i : ℕ) → middle ≤ i → i < end → P i) → (i : ℕ) → i < end → P i
 in_parts P middle end first second i lt = elim (cases_lt i middle) [
   | inl early ↦ first i early

@@ -1,15 +1,16 @@
--- How the words of one length are kept.
+-- How a `Row` represents the words of one length.
 use Rattle.std.specs.Prelude.{◌≡◌, ℕ, ◌+◌, ◌*◌, ◌/◌, ◌%◌, ◌<◌, ◌≤◌, length, nat_lt, ◌&&◌, vec_capacity}
 use Rattle.xw_words.specs.Row.{Row, entries_of}
 use Rattle.xw_words.specs.Index.{word_in, IsIndex}
 use Rattle.xw_words.specs.Columns.{column_at, IsColumn}
 use Rattle.xw_words.specs.declared.row.Row.TheInside.{Inside}
 
+-- the words that the representation stands for; it has room if `reserved` and the index have room
 abbrev pub row_of : Inside → Row
 row_of r = record { count = r.count; entries = entries_of r.count r.letters.items r.active.bits; room = nat_lt (length r.active.bits) r.reserved && r.index.room }
 
--- beside the words their index, and for each position and letter a column; all but the index, which
--- makes its own, have the room that was reserved
+-- the invariant of a row: letters, flags, index and columns describe the same words; all but the
+-- index, which reserves its own room, have room for `reserved` words
 pub record IsKeptRow (r : Inside) : Type 0 where
   pub short : r.count ≤ 255
   pub letters : length r.letters.items ≡ length r.active.bits * r.count

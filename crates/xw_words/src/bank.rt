@@ -1,4 +1,4 @@
-//! The dictionary.
+//! The dictionary: all known words, grouped by length.
 ghost use Rattle.std.specs.Prelude.{◌≡◌, ◌≢◌, ℕ, ◌+◌, ◌*◌, ◌<◌, ◌≤◌, Bool, true, false, [], map, replicate, length, Ok, Err, None, All, IsOk, IfErr, IfOk, IfSome, IfNone, OnOk, OnErr, IsOkUnless, position, vec_len};
 ghost use Rattle.xw_letters.specs.Letter.{folded, IsLetter};
 ghost use Rattle.xw_words.specs.Dictionary.{row as words_of, entry_at, place_of, add_answer, after_add, strike_answer, after_strike, IsNew, IsDictionary, matching_answer, reserve_answer, most_words};
@@ -7,26 +7,28 @@ ghost use Rattle.xw_words.specs.Word.{is_bad_letter};
 ghost use Rattle.xw_bits.specs.Bits.{has_bit};
 ghost use Rattle.xw_words.specs.Columns.{has_letter, has_one_of, is_active as word_is_active, IsColumn, AreColumns};
 
+use crate::fault::WordFault;
 use crate::matching::Matching;
 use crate::row::{MOST_WORDS, Row};
 use crate::word::{judge_length, judge_pattern, judge_word};
 use std::alloc::{AllocError, Global};
 use std::marker::Model;
 use xw_bits::bit_row::BitRow;
-use xw_bits::fault::WordFault;
 use xw_letters::letter::{Letter, are_letters};
 
-/// What adding a word did, with its place among the words of its length.
+/// What an addition did. The field is the word's index among the known words of its length.
 #[derive(Clone, Copy, Debug, PartialEq, Eq)]
 pub enum Added {
+    /// The word was not known before.
     New(usize),
+    /// The word was known but struck, and is active again.
     Returned(usize),
 }
 
-/// How many lengths there are, 0 to 255.
+/// The number of rows: one for each length from 0 to 255.
 pub(crate) const LENGTHS: usize = 256;
 
-/// Makes a row of no words for each length.
+/// Pushes an empty row for each length.
 fn make_rows(alloc: Global, rows: &mut Vec<Row>) -> Result<(), AllocError>
     requires { vec_len rows.old ≡ 0 }
     ensures empty { OnOk result (map (λ row. row.entries) rows.new.items ≡ replicate 256 []) }
@@ -38,7 +40,9 @@ fn make_rows(alloc: Global, rows: &mut Vec<Row>) -> Result<(), AllocError>
     Ok(())
 }
 
-/// The known words of each length, in the order of their first adding, each active or struck.
+/// The dictionary. For each length it keeps the known words in the order they were first added,
+/// each active or struck. A word is addressed by its length and its index among the known words of
+/// that length; the index never changes.
 #[derive(Drop)]
 pub struct Bank {
     alloc: Global,
@@ -56,7 +60,7 @@ impl Model for Bank {
 }
 
 impl Bank {
-    /// A dictionary of no words.
+    /// An empty dictionary. Returns `Memory` if the allocation fails.
     pub fn new(alloc: Global) -> Result<Bank, WordFault>
         ensures empty { IfOk result (λ bank. bank.words ≡ replicate 256 []) }
         ensures memory { IsOkUnless result WordFault.Memory }
@@ -66,7 +70,7 @@ impl Bank {
         Ok(Bank { alloc, rows })
     }
 
-    /// How many words of a length are known, struck ones included.
+    /// The number of known words of length `count`, including struck ones.
     pub fn known(&self, count: usize) -> usize
         ensures words { result ≡ length (words_of self.now.words count) }
         ensures dictionary { IsDictionary self.now.words }
@@ -77,6 +81,7 @@ impl Bank {
         }
     }
 
+    /// Whether word `place` of length `count` is active; false if there is no such word.
     pub fn is_active(&self, count: usize, place: usize) -> bool
         ensures { result ≡ (entry_at (words_of self.now.words count) place).active }
     {
@@ -86,6 +91,7 @@ impl Bank {
         }
     }
 
+    /// The letters of word `place` of length `count`.
     pub fn word(&self, count: usize, place: usize) -> &[Letter]
         requires { place < length (words_of self.now.words count) }
         ensures word { result.now ≡ (entry_at (words_of self.now.words count) place).word }
@@ -94,15 +100,15 @@ impl Bank {
         self.rows[count].word(place)
     }
 
-    /// The place of a word among those of its length, struck ones included.
+    /// The index of a word among the known words of its length, including struck ones.
     pub fn find(&self, word: &[Letter]) -> Option<usize>
         ensures { result ≡ place_of self.now.words word.now }
     {
         self.rows.get(word.len())?.find(word)
     }
 
-    /// The column of a letter at a position of the words of a length, where there is one. Only where
-    /// there are no words has a position of theirs none.
+    /// The column of a letter at a position, for the words of length `count`. Returns `None` only
+    /// if `position` is out of range or no word of this length is known.
     pub(crate) fn column_of(&self, count: usize, position: usize, letter: Letter) -> Option<&BitRow>
         ensures some { IfSome result (λ column. IsColumn (words_of self.now.words count) position letter column.now.bits) }
         ensures none { IfNone result ((place : ℕ) → has_letter (words_of self.now.words count) position letter place ≡ false) }
@@ -114,7 +120,8 @@ impl Bank {
         }
     }
 
-    /// The columns of all letters at a position of the words of a length, where there are some.
+    /// The 26 columns at a position, for the words of length `count`. If it returns `None`, no
+    /// known word has a letter there.
     pub(crate) fn columns_of(&self, count: usize, position: usize) -> Option<&[BitRow]>
         ensures some { IfSome result (λ columns. AreColumns (words_of self.now.words count) position columns.now) }
         ensures none { IfNone result ((place letters : ℕ) → has_one_of (words_of self.now.words count) position letters place ≡ false) }
@@ -125,7 +132,8 @@ impl Bank {
         }
     }
 
-    /// Which of 64 known words of a length have the letter at the position, the first of them lowest.
+    /// A bit for each of the 64 words from `64 * chunk` on: whether it has `letter` at `position`.
+    /// The first word is the lowest bit.
     pub(crate) fn column(&self, count: usize, position: usize, letter: Letter, chunk: usize) -> u64
         ensures { (k : ℕ) → k < 64 → has_bit result k ≡ has_letter (words_of self.now.words count) position letter (64 * chunk + k) }
     {
@@ -135,7 +143,8 @@ impl Bank {
         }
     }
 
-    /// Which of 64 known words of a length are active, the first of them lowest.
+    /// A bit for each of the 64 words from `64 * chunk` on: whether it is active. The first word is
+    /// the lowest bit.
     pub(crate) fn active(&self, count: usize, chunk: usize) -> u64
         ensures { (k : ℕ) → k < 64 → has_bit result k ≡ word_is_active (words_of self.now.words count) (64 * chunk + k) }
     {
@@ -145,7 +154,7 @@ impl Bank {
         }
     }
 
-    /// What adding a word would answer where no memory is wanting.
+    /// What `add` would return if no allocation failed.
     pub fn judge_add(&self, bytes: &[u8]) -> Result<Added, WordFault>
         ensures { result ≡ add_answer self.now.words bytes.now }
     {
@@ -153,7 +162,12 @@ impl Bank {
         self.rows[bytes.len()].judge_add(bytes)
     }
 
-    /// Adds a word: a new one goes last, a struck one is active again.
+    /// Adds a word: appends a new one, or makes a struck one active again.
+    ///
+    /// Returns `BadLetter` for the first byte that is not a letter, then `Length` for a length
+    /// outside 2 to 255, then `Known` if the word is active, `Full` if `MOST_WORDS` words of this
+    /// length are known, and `Memory` if an allocation fails. The words stay as they were on an
+    /// error.
     pub fn add(&mut self, bytes: &[u8]) -> Result<Added, WordFault>
         ensures answer { result ≢ Err WordFault.Memory → result ≡ add_answer self.old.words bytes.now }
         ensures memory { result ≡ Err WordFault.Memory → IsNew (add_answer self.old.words bytes.now) }
@@ -168,7 +182,8 @@ impl Bank {
         row.add(self.alloc, bytes)
     }
 
-    /// Strikes a word, which stays known.
+    /// Strikes a word and returns its index. The word stays known. Returns `BadLetter` or `Length`
+    /// as `add` does, and `Unknown` if the word is not active.
     pub fn strike(&mut self, bytes: &[u8]) -> Result<usize, WordFault>
         ensures answer { result ≡ strike_answer self.old.words bytes.now }
         ensures ok { IfOk result (λ place. self.new.words ≡ after_strike self.old.words (map folded bytes.now) place) }
@@ -180,7 +195,9 @@ impl Bank {
         row.strike(bytes)
     }
 
-    /// Lends the active words that fit a pattern, a letter or a dot for each place, in order.
+    /// Iterates over the active words that match a pattern, in index order. A pattern has a letter
+    /// or a dot for each position. Returns `BadLetter` for the first byte that is neither, and then
+    /// `Length` for a length outside 2 to 255.
     pub fn matching<'a>(&'a self, pattern: &'a [u8]) -> Result<Matching<'a>, WordFault>
         ensures words { IfOk result (λ words. matching_answer self.now.words pattern.now ≡ Ok words) }
         ensures refused { IfErr result (λ fault. matching_answer self.now.words pattern.now ≡ Err fault) }
@@ -189,7 +206,9 @@ impl Bank {
         Ok(Matching::new(&self.rows[pattern.len()], pattern))
     }
 
-    /// Makes room for one more word of a length.
+    /// Reserves room for one more word of length `count`. Returns `Length` for a length outside 2
+    /// to 255, `Full` if `MOST_WORDS` words of this length are known, and `Memory` if an allocation
+    /// fails.
     pub fn reserve(&mut self, count: usize) -> Result<(), WordFault>
         ensures words { self.new.words ≡ self.old.words }
         ensures room { OnOk result (has_room self.new count ≡ true) }
@@ -200,7 +219,7 @@ impl Bank {
         self.make_room(count, 0)
     }
 
-    /// Makes room for one more word of a length; where it has to grow, for as many in all as are expected.
+    /// Like `reserve`, but if the row has to grow, it grows to at least `expected` words in total.
     pub(crate) fn make_room(&mut self, count: usize, expected: usize) -> Result<(), WordFault>
         ensures words { self.new.words ≡ self.old.words }
         ensures room { OnOk result (has_room self.new count ≡ true) }
@@ -216,7 +235,7 @@ impl Bank {
         row.reserve(self.alloc, expected)
     }
 
-    /// Adds a word that is not known, in the room that was made for it, and answers its place.
+    /// Adds a word that is not known, in reserved room, and returns its index.
     pub fn add_reserved(&mut self, word: &[Letter]) -> usize
         requires room { has_room self.old (length word.now) ≡ true }
         requires unknown { place_of self.old.words word.now ≡ None }

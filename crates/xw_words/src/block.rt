@@ -1,13 +1,13 @@
-//! A piece of an index: places of words, in the room for a fixed number of them.
+//! A block of an index: a list of word indices with a fixed capacity.
 ghost use Rattle.std.specs.Prelude.{◌≡◌, ℕ, ◌<◌, ◌≤◌, [], length, take, drop, insert, IfOk};
 
 use std::alloc::{AllocError, Global};
 use std::marker::Model;
 
-/// How many places a block has room for.
+/// The capacity of a block.
 pub(crate) const MOST_PLACES: usize = 512;
 
-/// Places of words. It takes memory only when it is made.
+/// A list of word indices. It allocates its whole capacity when it is created.
 #[derive(Drop)]
 pub struct Block {
     places: Vec<u32>,
@@ -25,6 +25,7 @@ impl Model for Block {
 }
 
 impl Block {
+    /// An empty block.
     pub fn new(alloc: Global) -> Result<Block, AllocError>
         ensures { IfOk result (λ block. block ≡ []) }
     {
@@ -32,6 +33,7 @@ impl Block {
         Ok(Block { places })
     }
 
+    /// The word indices, in order.
     pub fn places(&self) -> &[u32]
         ensures value { result.now ≡ self.now }
         ensures few { length result.now ≤ 512 }
@@ -39,7 +41,7 @@ impl Block {
         &self.places
     }
 
-    /// Puts a place before the one at `at`, or last.
+    /// Inserts a word index at position `at`.
     pub fn insert(&mut self, at: usize, place: u32)
         requires at { at ≤ length self.old }
         requires room { length self.old < 512 }
@@ -48,7 +50,7 @@ impl Block {
         let _ = self.places.insert(at, place);
     }
 
-    /// Moves the places from `at` on into an empty block.
+    /// Moves the word indices from `at` on into `rest`, an empty block.
     pub fn split(&mut self, at: usize, rest: &mut Block)
         requires at { at ≤ length self.old }
         requires empty { rest.old ≡ [] }

@@ -1,17 +1,17 @@
-//! The columns of the words of one length: a row of bits for each position and letter.
-ghost use Rattle.std.specs.Prelude.{◌≡◌, ℕ, ◌+◌, ◌*◌, ◌/◌, ◌%◌, ◌<◌, ◌≤◌, ◌==◌, true, false, [], length, slice_index_or, slice_set, vec_len, OnOk, IfErr, if◌then◌else◌};
+//! The columns of the words of one length. There is one row of bits for each position and letter;
+//! bit `i` says whether word `i` has that letter at that position.
+ghost use Rattle.std.specs.Prelude.{◌≡◌, ℕ, ◌+◌, ◌*◌, ◌/◌, ◌%◌, ◌<◌, ◌≤◌, ◌==◌, true, false, [], length, slice_index_or, slice_set, vec_len, OnOk, if◌then◌else◌};
 ghost use Rattle.xw_words.specs.Columns.{column_at, bit_in};
 ghost use Rattle.xw_words.specs.Dictionary.{most_words};
 
 use std::alloc::{AllocError, Global};
 use xw_bits::bit_row::{BitRow, MAX_BITS};
-use xw_bits::fault::WordFault;
 use xw_letters::letter::Letter;
 
-/// How many letters there are, and so columns for each position.
+/// The number of letters, and so of columns for each position.
 pub(crate) const LETTERS: usize = 26;
 
-/// Makes columns of no words, until there are so many.
+/// Pushes empty columns until there are `many`.
 fn make_columns(alloc: Global, columns: &mut Vec<BitRow>, many: usize) -> Result<(), AllocError>
     requires { vec_len columns.old ≤ many }
     ensures kept { (i : ℕ) → i < vec_len columns.old → column_at columns.new.items i ≡ column_at columns.old.items i }
@@ -26,13 +26,12 @@ fn make_columns(alloc: Global, columns: &mut Vec<BitRow>, many: usize) -> Result
     Ok(())
 }
 
-/// Makes room for so many words in all.
-fn reserve_columns(columns: &mut [BitRow], words: usize) -> Result<(), WordFault>
+/// Reserves room for `words` words in total in each column.
+fn reserve_columns(columns: &mut [BitRow], words: usize) -> Result<(), AllocError>
     requires { words ≤ MAX_BITS }
     ensures bits { (i : ℕ) → (column_at columns.new i).bits ≡ (column_at columns.old i).bits }
     ensures more { (i : ℕ) → (column_at columns.old i).room ≤ (column_at columns.new i).room }
     ensures ok { OnOk result ((i : ℕ) → i < length columns.new → words ≤ (column_at columns.new i).room) }
-    ensures refused { IfErr result (λ fault. fault ≡ WordFault.Memory) }
 {
     for i in 0..columns.len() {
         let column = &mut columns[i];
@@ -41,13 +40,13 @@ fn reserve_columns(columns: &mut [BitRow], words: usize) -> Result<(), WordFault
     Ok(())
 }
 
-/// Makes columns of no words, until there are so many, and room for so many words in each.
+/// Pushes empty columns until there are `many`, and reserves room for `words` words in each.
 pub(crate) fn grow_columns(
     alloc: Global,
     columns: &mut Vec<BitRow>,
     many: usize,
     words: usize,
-) -> Result<(), WordFault>
+) -> Result<(), AllocError>
     requires many { vec_len columns.old ≤ many }
     requires words { words ≤ MAX_BITS }
     ensures bits { (i : ℕ) → (column_at columns.new.items i).bits ≡ (column_at columns.old.items i).bits }
@@ -56,13 +55,12 @@ pub(crate) fn grow_columns(
     ensures few { vec_len columns.new ≤ many }
     ensures all { OnOk result (vec_len columns.new ≡ many) }
     ensures room { OnOk result ((i : ℕ) → i < vec_len columns.new → words ≤ (column_at columns.new.items i).room) }
-    ensures refused { IfErr result (λ fault. fault ≡ WordFault.Memory) }
 {
     make_columns(alloc, columns, many)?;
     reserve_columns(columns, words)
 }
 
-/// Lengthens each column by 64 words that do not have its letter.
+/// Appends 64 clear bits to each column.
 fn lengthen(columns: &mut [BitRow])
     requires whole { (i : ℕ) → i < length columns.old → length (column_at columns.old i).bits % 64 ≡ 0 }
     requires room { (i : ℕ) → i < length columns.old → length (column_at columns.old i).bits < (column_at columns.old i).room }
@@ -77,7 +75,7 @@ fn lengthen(columns: &mut [BitRow])
     }
 }
 
-/// Sets the bits of a word in the columns of its letters.
+/// Sets bit `place` in the columns of the word's letters.
 fn put_word(columns: &mut [BitRow], word: &[Letter], place: usize)
     requires many { length columns.old ≡ 26 * length word.now }
     requires short { length word.now ≤ 255 }
@@ -92,7 +90,7 @@ fn put_word(columns: &mut [BitRow], word: &[Letter], place: usize)
     }
 }
 
-/// Adds a word at the end, which is at this place.
+/// Appends a word, whose index is `place`.
 pub(crate) fn push_word(columns: &mut [BitRow], word: &[Letter], place: usize)
     requires many { length columns.old ≡ 26 * length word.now }
     requires short { length word.now ≤ 255 }

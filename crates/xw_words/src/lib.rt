@@ -1,10 +1,11 @@
-//! The dictionary, word lists, and dictionary reads that are counted.
+//! The dictionary, the loading of word lists, and counted reads of the dictionary.
 #![tactic(auto)]
 
 pub mod bank;
 mod block;
 mod columns;
 pub mod counted;
+pub mod fault;
 mod index;
 pub mod matching;
 mod row;
@@ -15,7 +16,9 @@ pub mod word_list;
 
 pub use bank::{Added, Bank};
 pub use counted::Counted;
+pub use fault::WordFault;
 pub use matching::Matching;
+pub use rows::Rows;
 pub use word_list::Loaded;
-pub use xw_bits::{BitRow, Ones, WordFault};
+pub use xw_bits::{BitRow, Ones};
 pub use xw_letters::{Letter, LetterSet, Letters};

@@ -8,22 +8,23 @@ ghost use Rattle.xw_words.specs.Word.{is_bad_letter, is_bad_in_pattern};
 
 use crate::bank::Added;
 use crate::columns::{LETTERS, grow_columns, push_word};
+use crate::fault::WordFault;
 use crate::index::Index;
 use crate::word::{LONGEST, spell};
-use std::alloc::Global;
+use std::alloc::{AllocError, Global};
 use std::marker::Model;
 use xw_bits::bit_row::BitRow;
-use xw_bits::fault::WordFault;
 use xw_letters::letter::Letter;
 
-/// How many words of one length can be known.
+/// The largest number of known words of one length.
 pub const MOST_WORDS: usize = 1048576;
 
-/// By how many words the room grows at least.
+/// The least number of words by which a row grows.
 const LEAST_GROWTH: usize = 64;
 
-/// For how many words to make room where so many are known: for those that are expected, or an
-/// eighth more, so that little of it is idle and each word is moved a few times only.
+/// The capacity to grow to when `known` words are known: an eighth more, but at least
+/// `LEAST_GROWTH` more, or `expected` if that is greater; at most `MOST_WORDS`. So little room stays
+/// unused, and each word moves only a few times.
 fn grown(known: usize, expected: usize) -> usize
     requires { known < most_words }
     ensures more { known < result }
@@ -33,13 +34,13 @@ fn grown(known: usize, expected: usize) -> usize
     more.max(expected).min(MOST_WORDS)
 }
 
-/// Makes room for so many words of a length in all.
+/// Reserves room for `words` words in total.
 fn reserve_words(
     active: &mut BitRow,
     letters: &mut Vec<Letter>,
     count: usize,
     words: usize,
-) -> Result<(), WordFault>
+) -> Result<(), AllocError>
     requires more { length active.old.bits ≤ words }
     requires few { words ≤ most_words }
     requires short { count ≤ 255 }
@@ -50,7 +51,6 @@ fn reserve_words(
     ensures capacity { vec_capacity letters.old ≤ vec_capacity letters.new }
     ensures room { OnOk result (words ≤ active.new.room) }
     ensures letters_room { OnOk result (words * count ≤ vec_capacity letters.new) }
-    ensures refused { IfErr result (λ fault. fault ≡ WordFault.Memory) }
 {
     let more = words - active.len();
     active.reserve(words)?;
@@ -58,7 +58,7 @@ fn reserve_words(
     Ok(())
 }
 
-/// Adds a word's letters at the end, in the room that is there.
+/// Appends a word's letters within the capacity.
 fn append(letters: &mut Vec<Letter>, word: &[Letter])
     requires { vec_len letters.old + length word.now ≤ vec_capacity letters.old }
     ensures items { letters.new.items ≡ letters.old.items ++ word.now }
@@ -67,7 +67,7 @@ fn append(letters: &mut Vec<Letter>, word: &[Letter])
     let _ = letters.extend_from_slice(word);
 }
 
-/// The known words of one length, in the order of their first adding.
+/// The known words of one length, in the order they were first added.
 #[derive(Drop)]
 pub struct Row {
     count: usize,
@@ -92,6 +92,7 @@ impl Model for Row {
 
 #[tactic(auto, using(crate::proofs::RowLemmas::row_steps))]
 impl Row {
+    /// An empty row for the words of length `count`.
     pub fn new(alloc: Global, count: usize) -> Row
         requires { count ≤ 255 }
         ensures count { result.count ≡ count }
@@ -108,6 +109,7 @@ impl Row {
         }
     }
 
+    /// The number of known words, including struck ones.
     pub fn len(&self) -> usize
         ensures value { result ≡ length self.now.entries }
         ensures few { result ≤ most_words }
@@ -115,13 +117,14 @@ impl Row {
         self.active.len()
     }
 
-    /// Whether the word at a place is active; not where there is none.
+    /// Whether word `place` is active; false if there is no such word.
     pub fn is_active(&self, place: usize) -> bool
         ensures { result ≡ (entry_at self.now.entries place).active }
     {
         place < self.active.len() && self.active.has(place)
     }
 
+    /// The letters of word `place`.
     pub fn word(&self, place: usize) -> &[Letter]
         requires { place < length self.now.entries }
         ensures { result.now ≡ (entry_at self.now.entries place).word }
@@ -129,6 +132,7 @@ impl Row {
         &self.letters[place * self.count..(place + 1) * self.count]
     }
 
+    /// Makes word `place` active or struck.
     pub fn mark(&mut self, place: usize, active: bool)
         requires { place < length self.old.entries }
         ensures entries { self.new.entries ≡ marked self.old.entries place active }
@@ -138,6 +142,7 @@ impl Row {
         self.active.put(place, active);
     }
 
+    /// The index of a word, active or struck.
     pub fn find(&self, word: &[Letter]) -> Option<usize>
         ensures { result ≡ place_in self.now.entries word.now }
     {
@@ -147,7 +152,8 @@ impl Row {
         self.index.find(&self.letters, word)
     }
 
-    /// Which of 64 words are active, the first of them lowest.
+    /// A bit for each of the 64 words of a chunk: whether it is active. The first word is the
+    /// lowest bit.
     pub fn active_chunk(&self, chunk: usize) -> u64
         ensures { (k : ℕ) → k < 64 → has_bit result k ≡ is_active self.now.entries (64 * chunk + k) }
     {
@@ -157,8 +163,8 @@ impl Row {
         self.active.chunk(chunk)
     }
 
-    /// The column of a letter at a position, where there is one. Only where there are no words has a
-    /// position of theirs none.
+    /// The column of a letter at a position. Returns `None` only if `position` is out of range or
+    /// no word is known.
     pub fn column_of(&self, position: usize, letter: Letter) -> Option<&BitRow>
         ensures some { IfSome result (λ column. IsColumn self.now.entries position letter column.now.bits) }
         ensures none { IfNone result ((place : ℕ) → has_letter self.now.entries position letter place ≡ false) }
@@ -171,7 +177,7 @@ impl Row {
             .get(position * LETTERS + (letter.byte() - b'A') as usize)
     }
 
-    /// The columns of all letters at a position, where there are some.
+    /// The 26 columns at a position. If it returns `None`, no known word has a letter there.
     pub fn columns_of(&self, position: usize) -> Option<&[BitRow]>
         ensures some { IfSome result (λ columns. AreColumns self.now.entries position columns.now) }
         ensures none { IfNone result ((place letters : ℕ) → has_one_of self.now.entries position letters place ≡ false) }
@@ -185,7 +191,8 @@ impl Row {
         Some(&self.columns[LETTERS * position..LETTERS * (position + 1)])
     }
 
-    /// Which of 64 words have the letter at the position, the first of them lowest.
+    /// A bit for each of the 64 words of a chunk: whether it has `letter` at `position`. The first
+    /// word is the lowest bit.
     pub fn column_chunk(&self, position: usize, letter: Letter, chunk: usize) -> u64
         ensures { (k : ℕ) → k < 64 → has_bit result k ≡ has_letter self.now.entries position letter (64 * chunk + k) }
     {
@@ -199,7 +206,8 @@ impl Row {
         column.chunk(chunk)
     }
 
-    /// Which of 64 words have at a position what a pattern wants there.
+    /// A bit for each of the 64 words of a chunk: whether its letter at `position` matches
+    /// `wanted`, a letter or a dot.
     fn stand_in_chunk(&self, wanted: u8, position: usize, chunk: usize) -> u64
         requires { is_bad_in_pattern wanted ≡ false }
         ensures { (k : ℕ) → k < 64 → has_bit result k ≡ ((folded wanted == 46) || has_letter self.now.entries position (folded wanted) (64 * chunk + k)) }
@@ -210,7 +218,8 @@ impl Row {
         self.column_chunk(position, Letter::capital(wanted), chunk)
     }
 
-    /// Which of 64 words are active and fit a pattern, the first of them lowest.
+    /// A bit for each of the 64 words of a chunk: whether it is active and matches the pattern. The
+    /// first word is the lowest bit.
     pub fn fits_chunk(&self, pattern: &[u8], chunk: usize) -> u64
         requires length { length pattern.now ≡ self.now.count }
         requires good { position is_bad_in_pattern pattern.now ≡ None }
@@ -227,7 +236,7 @@ impl Row {
         fits
     }
 
-    /// Adds the word that bytes spell: a new one goes last, a struck one is active again.
+    /// Adds the word that the bytes spell: appends a new one, or makes a struck one active again.
     pub fn add(&mut self, alloc: Global, bytes: &[u8]) -> Result<Added, WordFault>
         requires letters { position is_bad_letter bytes.now ≡ None }
         requires length { length bytes.now ≡ self.old.count }
@@ -250,6 +259,7 @@ impl Row {
         }
     }
 
+    /// Makes a struck word active again; refuses an active one.
     fn add_again(&mut self, place: usize) -> Result<Added, WordFault>
         requires { place < length self.old.entries }
         ensures count { self.new.count ≡ self.old.count }
@@ -265,6 +275,7 @@ impl Row {
         Ok(Added::Returned(place))
     }
 
+    /// Appends a word that is not known.
     fn add_new(&mut self, alloc: Global, word: &[Letter]) -> Result<Added, WordFault>
         requires length { length word.now ≡ self.old.count }
         requires long { 2 ≤ self.old.count }
@@ -286,7 +297,7 @@ impl Row {
         Ok(Added::New(place))
     }
 
-    /// What adding the word that bytes spell would answer where no memory is wanting.
+    /// What `add` would return if no allocation failed.
     pub fn judge_add(&self, bytes: &[u8]) -> Result<Added, WordFault>
         requires letters { position is_bad_letter bytes.now ≡ None }
         requires length { length bytes.now ≡ self.now.count }
@@ -303,7 +314,7 @@ impl Row {
         }
     }
 
-    /// Strikes the word that bytes spell.
+    /// Strikes the word that the bytes spell and returns its index.
     pub fn strike(&mut self, bytes: &[u8]) -> Result<usize, WordFault>
         requires letters { position is_bad_letter bytes.now ≡ None }
         requires length { length bytes.now ≡ self.old.count }
@@ -325,7 +336,8 @@ impl Row {
         }
     }
 
-    /// Makes room for one more word; where it has to grow, for as many in all as are expected.
+    /// Reserves room for one more word. If the row has to grow, it grows to at least `expected`
+    /// words in total.
     pub fn reserve(&mut self, alloc: Global, expected: usize) -> Result<(), WordFault>
         requires few { length self.old.entries < most_words }
         requires long { 2 ≤ self.old.count }
@@ -347,7 +359,7 @@ impl Row {
         Ok(())
     }
 
-    /// Adds a word that is not known at the end, in the room that was made for it.
+    /// Appends a word that is not known, in reserved room.
     pub fn add_reserved(&mut self, word: &[Letter])
         requires length { length word.now ≡ self.old.count }
         requires room { self.old.room ≡ true }

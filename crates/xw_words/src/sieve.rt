@@ -1,4 +1,4 @@
-//! The words of a row that have one of several letters at a position, a block of chunks after another.
+//! Filters a row of words by a set of letters at a position, eight chunks at a time.
 ghost use Rattle.std.specs.Prelude.{◌≡◌, ℕ, ◌+◌, ◌*◌, ◌/◌, ◌<◌, ◌≤◌, Bool, true, false, List, ◌&&◌, length, bit_or, slice_index, slice_index_or};
 ghost use Rattle.xw_bits.specs.Bits.{has_bit};
 ghost use Rattle.xw_words.specs.Columns.{column_at, AreColumns, has_one_of, stays};
@@ -9,17 +9,17 @@ use std::simd::prelude::*;
 use xw_bits::bit_row::BitRow;
 use xw_letters::letter_set::LetterSet;
 
-/// How many chunks are read at once.
+/// The number of chunks in a block.
 const BLOCK: usize = 8;
 
-/// The bits that one of two blocks has.
+/// The bitwise OR of two blocks.
 fn either_block(block: u64x8, other: u64x8) -> u64x8
     ensures { (k : ℕ) → k < 8 → slice_index result k ≡ bit_or (slice_index block k) (slice_index other k) }
 {
     block | other
 }
 
-/// Which words of a block have one of the letters.
+/// A bit for each word of the block at chunk `at`: whether it has one of the letters.
 fn block_with(columns: &[BitRow], letters: LetterSet, at: usize) -> u64x8
     requires many { length columns.now ≡ 26 }
     requires within { (k : ℕ) → k < 26 → 64 * at + 448 < length (column_at columns.now k).bits }
@@ -34,7 +34,7 @@ fn block_with(columns: &[BitRow], letters: LetterSet, at: usize) -> u64x8
     found
 }
 
-/// Which words of a chunk have one of the letters.
+/// A bit for each word of a chunk: whether it has one of the letters.
 fn chunk_with(columns: &[BitRow], letters: LetterSet, at: usize) -> u64
     requires many { length columns.now ≡ 26 }
     requires within { (k : ℕ) → k < 26 → 64 * at < length (column_at columns.now k).bits }
@@ -49,8 +49,8 @@ fn chunk_with(columns: &[BitRow], letters: LetterSet, at: usize) -> u64
     found
 }
 
-/// Leaves of the words of a block those that have one of the letters, or those that have none. Where the
-/// block has no word, no column is read.
+/// In one block, keeps the words that have one of the letters, or those that have none if `keep` is
+/// false. It reads no column if the block is clear.
 fn sift_block(row: &mut BitRow, columns: &[BitRow], letters: LetterSet, keep: bool, at: usize)
     requires many { length columns.now ≡ 26 }
     requires within { (k : ℕ) → k < 26 → 64 * at + 448 < length (column_at columns.now k).bits }
@@ -72,7 +72,7 @@ fn sift_block(row: &mut BitRow, columns: &[BitRow], letters: LetterSet, keep: bo
     }
 }
 
-/// The same for a chunk.
+/// Like `sift_block`, but for one chunk.
 fn sift_chunk(row: &mut BitRow, columns: &[BitRow], letters: LetterSet, keep: bool, at: usize)
     requires many { length columns.now ≡ 26 }
     requires within { (k : ℕ) → k < 26 → 64 * at < length (column_at columns.now k).bits }
@@ -95,7 +95,7 @@ fn sift_chunk(row: &mut BitRow, columns: &[BitRow], letters: LetterSet, keep: bo
     }
 }
 
-/// The same for the whole blocks of a row.
+/// Filters all whole blocks of the row.
 fn sift_blocks(row: &mut BitRow, columns: &[BitRow], letters: LetterSet, keep: bool)
     requires many { length columns.now ≡ 26 }
     requires long { (k : ℕ) → k < 26 → length (column_at columns.now k).bits ≡ 64 * chunks_in (length row.old.bits) }
@@ -109,7 +109,7 @@ fn sift_blocks(row: &mut BitRow, columns: &[BitRow], letters: LetterSet, keep: b
     }
 }
 
-/// The same for the chunks behind them.
+/// Filters the chunks after the last whole block.
 fn sift_rest(row: &mut BitRow, columns: &[BitRow], letters: LetterSet, keep: bool)
     requires many { length columns.now ≡ 26 }
     requires long { (k : ℕ) → k < 26 → length (column_at columns.now k).bits ≡ 64 * chunks_in (length row.old.bits) }
@@ -123,7 +123,8 @@ fn sift_rest(row: &mut BitRow, columns: &[BitRow], letters: LetterSet, keep: boo
     }
 }
 
-/// Leaves of a row of words those that have one of the letters, or those that have none.
+/// Keeps the words of a row that have one of the letters, or those that have none if `keep` is
+/// false.
 pub(crate) fn sift(row: &mut BitRow, columns: &[BitRow], letters: LetterSet, keep: bool)
     requires many { length columns.now ≡ 26 }
     requires long { (k : ℕ) → k < 26 → length (column_at columns.now k).bits ≡ 64 * chunks_in (length row.old.bits) }

@@ -1,30 +1,32 @@
-//! Words and patterns as they are handed in.
+//! Checks words and patterns that come as bytes.
 ghost use Rattle.std.specs.Prelude.{map, take, None, ◌≡◌, ℕ, length, position, IfSome, ◌<◌, ◌≤◌};
 ghost use Rattle.xw_letters.specs.Letter.{is_letter as is_letter_byte, folded};
 ghost use Rattle.xw_words.specs.Word.{judged, is_bad_letter, is_bad_in_pattern};
 
-use xw_bits::fault::WordFault;
+use crate::fault::WordFault;
 use xw_letters::letter::Letter;
 
-/// The shortest word.
+/// The least length of a word.
 const SHORTEST: usize = 2;
 
-/// The longest word.
+/// The greatest length of a word.
 pub const LONGEST: usize = 255;
 
+/// Whether a byte is an ASCII letter of either case.
 pub(crate) fn is_letter(byte: u8) -> bool
     ensures { result ≡ is_letter_byte byte }
 {
     matches!(byte, b'A'..=b'Z' | b'a'..=b'z')
 }
 
-/// The place of the first byte that is no letter.
+/// The index of the first byte that is not a letter.
 pub fn bad_letter(bytes: &[u8]) -> Option<usize>
     ensures { result ≡ position is_bad_letter bytes.now }
 {
     bytes.iter().position(|byte| !is_letter(*byte))
 }
 
+/// The index of the first byte that is neither a letter nor a dot.
 fn bad_in_pattern(bytes: &[u8]) -> Option<usize>
     ensures { result ≡ position is_bad_in_pattern bytes.now }
 {
@@ -33,6 +35,7 @@ fn bad_in_pattern(bytes: &[u8]) -> Option<usize>
         .position(|byte| !(is_letter(*byte) || *byte == b'.'))
 }
 
+/// Returns `BadLetter` if there is a bad byte, and otherwise checks the length.
 fn judge(bad: Option<usize>, count: usize) -> Result<(), WordFault>
     requires { IfSome bad (λ place. place < count) }
     ensures { result ≡ judged bad count tt }
@@ -43,7 +46,7 @@ fn judge(bad: Option<usize>, count: usize) -> Result<(), WordFault>
     }
 }
 
-/// Whether a word may have so many letters.
+/// Returns `Length` if no word has this length.
 pub(crate) fn judge_length(count: usize) -> Result<(), WordFault>
     ensures { result ≡ judged None count tt }
 {
@@ -54,21 +57,21 @@ pub(crate) fn judge_length(count: usize) -> Result<(), WordFault>
     }
 }
 
-/// Whether bytes are letters, as many as a word has.
+/// Checks that the bytes are letters, and as many as a word can have.
 pub(crate) fn judge_word(bytes: &[u8]) -> Result<(), WordFault>
     ensures { result ≡ judged (position is_bad_letter bytes.now) (length bytes.now) tt }
 {
     judge(bad_letter(bytes), bytes.len())
 }
 
-/// Whether bytes are letters and dots, as many as a word has.
+/// Checks that the bytes are letters and dots, and as many as a word can have.
 pub(crate) fn judge_pattern(bytes: &[u8]) -> Result<(), WordFault>
     ensures { result ≡ judged (position is_bad_in_pattern bytes.now) (length bytes.now) tt }
 {
     judge(bad_in_pattern(bytes), bytes.len())
 }
 
-/// Writes the letters that bytes stand for.
+/// Writes the letters for the bytes to the start of `letters`.
 pub fn spell(letters: &mut [Letter], bytes: &[u8])
     requires letters { position is_bad_letter bytes.now ≡ None }
     requires room { length bytes.now ≤ length letters.old }

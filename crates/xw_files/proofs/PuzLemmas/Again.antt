@@ -1,13 +1,13 @@
--- A puzzle that is written stands in the relation with its bytes, and with what may follow them.
+-- The bytes written for a puzzle are a `.puz` file of it, also with allowed bytes appended.
 use Rattle.std.proofs.Common.{◌≡◌, ◌≢◌, ℕ, suc, ◌+◌, ◌*◌, ◌<◌, ◌^◌, Bool, true, false, cond, List, [], ◌∷◌, ◌++◌, map, length, replicate, nat_eq, refl, sym, ap, ◌∙◌, subst, arith, append_assoc, Ok, Err}
 use Rattle.std.specs.Prelude.{Result, Option, Some, None, All, IfOk}
 use Rattle.std.specs.List.{list_any}
 use Rattle.std.specs.declared.vec.Vec.{Vec}
 use Rattle.std.proofs.lemmas.List.{length-map}
 use Rattle.std.proofs.lemmas.Nat.{mul-le}
-use Rattle.xw_cells.specs.declared.cell.Cell.{Cell}
-use Rattle.xw_cells.specs.declared.cell.Square.{Square}
-use Rattle.xw_cells.specs.Grid.{IsGrid, IsSquare, cells}
+use Rattle.xw_grid.specs.declared.cell.Cell.{Cell}
+use Rattle.xw_grid.specs.declared.cell.Square.{Square}
+use Rattle.xw_grid.specs.Grid.{IsGrid, IsSquare, cells}
 use Rattle.xw_grid.specs.Light.{lights_of}
 use Rattle.xw_grid.proofs.CountLemmas.{lights_are_few}
 use Rattle.xw_files.specs.declared.fault.TextName.{TextName}
@@ -39,7 +39,7 @@ no_nul : (text : List ℕ) → has_nul text ≡ false → HasNoNul text
 no_nul [] h = tt
 no_nul (b ∷ text) h = let both = or-false (nat_eq b 0) (has_nul text) h in (not-zero b both.0, no_nul text both.1)
 
--- a test that must not hold for there to be nothing
+-- if the result is None, the test failed
 passed_over : {A : Type 0} (b : Bool) (o : Option A) (x : A) → cond b (Some x) o ≡ None → (b ≡ false) × (o ≡ None)
 passed_over true o x e = cc
 passed_over false o x e = (refl, e)
@@ -60,7 +60,7 @@ all_filled : (puzzle : PuzzleShown) (o : Option Cell) → filled_fault puzzle o 
 all_filled puzzle (Some cell) e = cc
 all_filled puzzle None e = no_field (text_with_nul puzzle) e
 
--- ---- sums, squares and the tail
+-- ---- checksums, squares and the tail
 
 sum-small : (start : ℕ) (bytes : List ℕ) → start < 2 ^ 16 → sum_from start bytes < 2 ^ 16
 sum-small start [] h = h
@@ -89,7 +89,7 @@ spelled-tail head solution state title author copyright notes rest tail clues =
 
 -- ---- sections
 
--- the sections of the circles and of what follows them
+-- the sections of the circles and of the appended bytes
 record Marked (puzzle : PuzzleShown) (rest : List ℕ) : Type 0 where
   sections : List Section
   tail : List ℕ
@@ -119,7 +119,7 @@ marked-sections puzzle tail false is small none lacks =
     let empty = none-filtered (is_circled_open puzzle.grid puzzle.circles) (cells puzzle.grid) none in
     without-section puzzle tail empty (lacks empty)
 
--- ---- the whole
+-- ---- the whole file
 
 pub written_again : (puzzle : PuzzleShown) (tail : List ℕ) → IsGrid puzzle.grid → write_fault puzzle ≡ None → AreBytes tail → (circled_cells puzzle ≡ [] → HasNoGext tail) → IsPuz (spelled_puzzle puzzle ++ tail) puzzle
 written_again puzzle tail is right small none =
@@ -172,13 +172,13 @@ written_again puzzle tail is right small none =
       circles = marked.marked;
     }
 
--- the same of what a writer gives
+-- the same for the result of a writer
 pub gives-again : {Z : Type 0} (result : Result (Vec ℕ Z) WriteFault) (puzzle : PuzzleShown) → IsGrid puzzle.grid → write_fault puzzle ≡ None → IfOk result (λ bytes. bytes.items ≡ spelled_puzzle puzzle)
     → IfOk result (λ bytes. (tail : List ℕ) → AreBytes tail → (circled_cells puzzle ≡ [] → HasNoGext tail) → IsPuz (bytes.items ++ tail) puzzle)
 gives-again (Ok bytes) puzzle is right e = λ tail small none. subst (λ xs. IsPuz (xs ++ tail) puzzle) (sym e) (written_again puzzle tail is right small none)
 gives-again (Err fault) puzzle is right e = tt
 
--- a puzzle whose bytes are given has no fault
+-- a puzzle that is written has no fault
 unfaulted : (puzzle : PuzzleShown) (fault : Option WriteFault) (bytes : List ℕ) → written_by puzzle fault ≡ Ok bytes → (fault ≡ None) × (spelled_puzzle puzzle ≡ bytes)
 unfaulted puzzle (Some fault) bytes e = cc
 unfaulted puzzle None bytes e = (refl, cc)

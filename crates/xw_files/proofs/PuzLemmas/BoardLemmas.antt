@@ -1,11 +1,11 @@
--- The squares of the solution.
+-- The squares of the solution board.
 use Rattle.std.proofs.Common.{◌≡◌, ℕ, zero, suc, ◌+◌, Bool, true, false, cond, List, [], ◌∷◌, length, nat_eq, refl, sym, ap, ◌∙◌, subst, arith, Ok}
 use Rattle.std.specs.Prelude.{Option, Some, None, option_map, All}
 use Rattle.std.proofs.lemmas.Bool.Decides.{nat_tests}
 use Rattle.xw_letters.specs.Letter.{IsLetter, is_letter, folded, letter_of}
-use Rattle.xw_cells.specs.Grid.{IsSquare}
-use Rattle.xw_cells.specs.declared.cell.Square.TheVariants.{Block, Open}
-use Rattle.xw_cells.specs.declared.cell.Square.{Square}
+use Rattle.xw_grid.specs.Grid.{IsSquare}
+use Rattle.xw_grid.specs.declared.cell.Square.TheVariants.{Block, Open}
+use Rattle.xw_grid.specs.declared.cell.Square.{Square}
 use Rattle.xw_files.specs.Puz.Board.{square_of, square_or_fault, squares_at}
 use Rattle.xw_files.proofs.StepLemmas.{bind_ok, ok_is}
 
@@ -13,7 +13,7 @@ pub square-found : (width place : ℕ) (read : Option Square) (square : Square) 
 square-found width place (Some x) square e = ap (λ s. Some s) (ok_is x square e)
 square-found width place None square e = cc
 
--- a square for each byte
+-- there is one square for each byte
 pub squares_at-length : (width place : ℕ) (bytes : List ℕ) (squares : List Square) → squares_at width place bytes ≡ Ok squares → length squares ≡ length bytes
 squares_at-length width place [] squares e = ap length (sym (ok_is [] squares e))
 squares_at-length width place (byte ∷ bytes) squares e =
@@ -44,7 +44,7 @@ all-more : (square : Square) (squares : List Square) → IsSquare square → All
 all-more square squares first rest zero d h = first
 all-more square squares first rest (suc k) d h = rest k d (omega arith)
 
--- each square that is read is one of a grid
+-- every square that is read is a valid square
 pub squares_at-letters : (width place : ℕ) (bytes : List ℕ) (squares : List Square) → squares_at width place bytes ≡ Ok squares → All IsSquare squares
 squares_at-letters width place [] squares e = subst (All IsSquare) (ok_is [] squares e) (λ k d h. absurd (omega arith))
 squares_at-letters width place (byte ∷ bytes) squares e =

@@ -1,18 +1,18 @@
--- The circles that a section marks, and the marks that circles are written as.
+-- The circles that a section marks, and the marks that are written for circles.
 use Rattle.std.proofs.Common.{◌≡◌, ℕ, zero, suc, ◌+◌, ◌*◌, ◌<◌, Bool, true, false, cond, ◌&&◌, ◌||◌, List, [], ◌∷◌, map, get_or, nat_eq, refl, sym, ap, ◌∙◌, arith}
 use Rattle.std.specs.Prelude.{filter}
 use Rattle.std.specs.List.{list_any, range_with_len}
 use Rattle.std.proofs.lemmas.Bool.{false_from_ne_true}
-use Rattle.xw_cells.specs.declared.cell.Cell.{Cell}
-use Rattle.xw_cells.specs.Grid.{Grid, cells, cell_at, index_of, is_open, same_cell}
+use Rattle.xw_grid.specs.declared.cell.Cell.{Cell}
+use Rattle.xw_grid.specs.Grid.{Grid, cells, cell_at, index_of, is_open, same_cell}
 use Rattle.xw_grid.specs.Clue.{is_circled, with_circle}
-use Rattle.xw_cells.proofs.GridLemmas.{index_of-cell_at, cells_same, same_cell_itself, get_or-map-cells}
+use Rattle.xw_grid.proofs.GridLemmas.{index_of-cell_at, cells_same, same_cell_itself, get_or-map-cells}
 use Rattle.xw_grid.proofs.KeptLemmas.{circles_are_kept}
 use Rattle.xw_files.specs.Part.{is_circled_open}
 use Rattle.xw_files.specs.Puz.Sections.{is_marked, marked_cells, with_mark, with_marks}
 use Rattle.xw_files.specs.Puz.Writing.{mark_of, marks_of, gext_bytes, circles_section}
 
--- ---- cells that pass two tests that agree
+-- ---- filtering cells by two equal tests
 
 filter-range : (p q : Cell → Bool) (f : ℕ → Cell) (from count : ℕ) → ((k : ℕ) → k < from + count → p (f k) ≡ q (f k)) → filter p (map f (range_with_len from count)) ≡ filter q (map f (range_with_len from count))
 filter-range p q f from zero same = refl
@@ -31,7 +31,7 @@ none-filtered p (x ∷ xs) none =
       | false ↦ λ is rest. none-filtered p xs rest
     ] refl none
 
--- ---- marks read
+-- ---- reading marks
 
 places-same : (grid : Grid) (i k : ℕ) → same_cell (cell_at grid i) (cell_at grid k) ≡ true → i ≡ k
 places-same grid i k e = sym (index_of-cell_at grid i) ∙ ap (index_of grid) (cells_same (cell_at grid i) (cell_at grid k) e) ∙ index_of-cell_at grid k
@@ -39,7 +39,7 @@ places-same grid i k e = sym (index_of-cell_at grid i) ∙ ap (index_of grid) (c
 places-apart : (grid : Grid) (i k : ℕ) → (i ≡ k → ⊥) → same_cell (cell_at grid i) (cell_at grid k) ≡ false
 places-apart grid i k other = false_from_ne_true (same_cell (cell_at grid i) (cell_at grid k)) (λ e. other (places-same grid i k e))
 
--- a mark for another cell changes nothing
+-- the mark of another cell changes nothing
 mark-elsewhere : (circles : List Cell) (cell other : Cell) (b : Bool) → same_cell cell other ≡ false → is_circled (cond b (with_circle circles cell true) circles) other ≡ is_circled circles other
 mark-elsewhere circles cell other true away = circles_are_kept circles cell other true ∙ rw away refl
 mark-elsewhere circles cell other false away = refl
@@ -71,7 +71,7 @@ open-and-marked true true = refl
 open-and-marked true false = refl
 open-and-marked false m = refl
 
--- circles that were read are those that the bytes mark
+-- the circles that are read are those that the bytes mark
 pub marked-read : (grid : Grid) (marks : List ℕ) → filter (is_circled_open grid (with_marks grid [] 0 marks)) (cells grid) ≡ marked_cells grid marks
 marked-read grid marks =
     filter-cells (is_circled_open grid (with_marks grid [] 0 marks)) (λ cell. is_open grid cell && is_marked (get_or marks (index_of grid cell) 0)) grid (λ k h.
@@ -79,7 +79,7 @@ marked-read grid marks =
     ∙ open-and-marked (is_open grid (cell_at grid k)) (is_marked (get_or marks k 0))
     ∙ ap (λ n. is_open grid (cell_at grid k) && is_marked (get_or marks n 0)) (sym (index_of-cell_at grid k)))
 
--- ---- marks written
+-- ---- writing marks
 
 marked-mark : (b : Bool) → is_marked (cond b 128 0) ≡ b
 marked-mark true = refl
@@ -89,7 +89,7 @@ open-twice : (o c : Bool) → (o && (o && c)) ≡ (o && c)
 open-twice true c = refl
 open-twice false c = refl
 
--- the marks of circles mark them
+-- the marks written for circles mark exactly these
 pub marked-written : (grid : Grid) (circles : List Cell) → filter (is_circled_open grid circles) (cells grid) ≡ marked_cells grid (marks_of grid circles)
 marked-written grid circles =
     filter-cells (is_circled_open grid circles) (λ cell. is_open grid cell && is_marked (get_or (marks_of grid circles) (index_of grid cell) 0)) grid (λ k h.

@@ -1,4 +1,4 @@
--- The clues of lights, one each.
+-- The clues of lights, one for each.
 use Rattle.std.proofs.Common.{Bor, map, get_or, length, ap, ◌∙◌, ◌≡◌, ℕ, zero, suc, ◌+◌, ◌<◌, List, [], ◌∷◌, drop, refl, arith}
 use Rattle.std.proofs.lemmas.List.{at_drop_more}
 use Rattle.std.specs.Prelude.{Some, None, slice_get}
@@ -21,13 +21,13 @@ pub with_clues-none : (clues : ClueMap) (texts : List (List ℕ)) → with_clues
 with_clues-none clues [] = refl
 with_clues-none clues (text ∷ texts) = refl
 
--- the clue of the next light is set
+-- setting the clue of the next light
 pub clues-step : (clues : ClueMap) (lights : List Light) (texts : List (Bor (List ℕ))) (i : ℕ) (light : Light) (d : Bor (List ℕ)) → slice_get lights i ≡ Some light → i < length texts
     → with_clues clues (drop i lights) (map (λ text. text.now) (drop i texts)) ≡ with_clues (with_clue clues light.start light.name.direction (get_or texts i d).now) (drop (i + 1) lights) (map (λ text. text.now) (drop (i + 1) texts))
 clues-step clues lights texts i light d got within =
     at_drop_more (λ rest. with_clues clues (drop i lights) (map (λ text. text.now) rest)) texts i d within
     ∙ ap (λ rest. with_clues clues rest (map (λ text. text.now) (get_or texts i d ∷ drop (i + 1) texts))) (let e = drop-got lights i light got in let plus : suc i ≡ i + 1 = omega arith in rw plus at e)
 
--- there are no more lights
+-- no light is left
 pub clues-end : (clues : ClueMap) (lights : List Light) (texts : List (List ℕ)) (i : ℕ) → slice_get lights i ≡ None → with_clues clues (drop i lights) texts ≡ clues
 clues-end clues lights texts i none = ap (λ rest. with_clues clues rest texts) (drop-none lights i none) ∙ with_clues-none clues texts

@@ -1,4 +1,4 @@
--- Bytes are cut into whole sections in one way.
+-- Bytes split into whole sections in exactly one way.
 use Rattle.std.proofs.Common.{◌≡◌, ℕ, zero, suc, ◌+◌, ◌-◌, ◌<◌, ◌≤◌, ◌^◌, true, false, cond, List, [], ◌∷◌, ◌++◌, length, get_or, refl, sym, ap, ◌∙◌, subst, arith, length-append, append_assoc}
 use Rattle.std.specs.Prelude.{Option, Some, None, flat_map, All}
 use Rattle.std.proofs.lemmas.List.{get_or-append_right}
@@ -6,14 +6,14 @@ use Rattle.xw_files.specs.Puz.Sections.{Section, AreBytes, section_bytes, FitsSe
 use Rattle.xw_files.specs.Puz.Laws.{BytesAreCut, CutsAreOne}
 use Rattle.xw_files.proofs.PuzLemmas.SectionLemmas.{gext-none, gext-found, gext-more, section-again, section_at-takes}
 
-pair_is : {A : Type 0} (x y : A) → let l : Option A = Some x in let r : Option A = Some y in l ≡ r → x ≡ y
+pub pair_is : {A : Type 0} (x y : A) → let l : Option A = Some x in let r : Option A = Some y in l ≡ r → x ≡ y
 pair_is x y e = cc
 
 all-more : (section : Section) (sections : List Section) → FitsSection section → All FitsSection sections → All FitsSection (section ∷ sections)
 all-more section sections first rest zero d h = first
 all-more section sections first rest (suc k) d h = rest k d (omega arith)
 
--- a first section is read, and the others are cut from what is left
+-- the first section is read, and the others are cut from what remains
 pub first-read : (bytes tail : List ℕ) (section : Section) (sections : List Section) → AreSections bytes (section ∷ sections) tail → section_at bytes ≡ Some (section, flat_map section_bytes sections ++ tail)
 first-read bytes tail section sections are =
     ap section_at (are.cut ∙ append_assoc (section_bytes section) (flat_map section_bytes sections) tail) ∙ section-again section (flat_map section_bytes sections ++ tail) (are.fit 0 section (omega arith))
@@ -36,7 +36,7 @@ one-cut bytes (section ∷ sections) (other ∷ others) tail end are also =
     let rest = one-cut (flat_map section_bytes others ++ end) sections others tail end (subst (λ xs. AreSections xs sections tail) left (others-cut bytes tail section sections are)) (others-cut bytes end other others also) in
     (rw (same, rest.0) refl, rest.1)
 
--- ---- found by reading
+-- ---- sections found by reading
 
 pub bytes-after : (front rest : List ℕ) → AreBytes (front ++ rest) → AreBytes rest
 bytes-after front rest small place =
@@ -76,7 +76,7 @@ gext-cut (suc count) bytes tail (section ∷ sections) small few are =
 pub gext-is : (bytes tail : List ℕ) (sections : List Section) → AreBytes bytes → AreSections bytes sections tail → gext_in bytes ≡ first_gext sections
 gext-is bytes tail sections small are = gext-cut (length bytes) bytes tail sections small (omega arith) are
 
--- ---- all bytes can be cut
+-- ---- any bytes can be split
 
 pub record Cut (bytes : List ℕ) : Type 0 where
   pub sections : List Section

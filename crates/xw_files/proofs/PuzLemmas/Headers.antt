@@ -15,7 +15,7 @@ not-zero x h = search rules
 long : (bytes : List ℕ) → 52 ≤ length bytes → nat_lt (length bytes) 52 ≡ false
 long bytes h = search rules
 
--- so many items of a list, each by its place
+-- `count` elements of a list from an index on, one by one
 abbrev pub items_from : ℕ → ℕ → List ℕ → List ℕ
 items_from at zero xs = []
 items_from at (suc count) xs = get_or xs at 0 ∷ items_from (suc at) count xs
@@ -28,7 +28,7 @@ items_from-drop xs at (suc count) h =
     let head : drop at xs ≡ get_or xs at 0 ∷ drop (suc at) xs = drop-cons xs at 0 (omega arith) in
     rw (head, more, plus) refl
 
--- the first items of a list by their places, and the others
+-- a list is its first elements, one by one, and the rest
 pub first_items : (xs : List ℕ) (count : ℕ) → count ≤ length xs → xs ≡ items_from 0 count xs ++ drop count xs
 first_items xs count h =
     let parts = items_from-drop xs 0 count (omega arith) in

@@ -1,21 +1,21 @@
--- Clues that were set for the lights of a grid are the clues of these lights.
+-- Clues set for the lights of a grid are the clues of these lights.
 use Rattle.std.proofs.Common.{◌≡◌, ℕ, suc, ◌<◌, Bool, true, false, cond, ◌&&◌, List, [], ◌∷◌, map, length, get_or, refl, sym, ap, ◌∙◌, arith, inl, inr}
 use Rattle.std.proofs.lemmas.Bool.{false_from_ne_true}
-use Rattle.xw_cells.specs.declared.cell.Direction.{Direction}
-use Rattle.xw_cells.specs.declared.cell.Direction.TheVariants.{Across, Down}
+use Rattle.xw_grid.specs.declared.cell.Direction.{Direction}
+use Rattle.xw_grid.specs.declared.cell.Direction.TheVariants.{Across, Down}
 use Rattle.xw_grid.specs.declared.lights.Light.{Light}
-use Rattle.xw_cells.specs.Grid.{Grid, same_cell}
+use Rattle.xw_grid.specs.Grid.{Grid, same_cell}
 use Rattle.xw_grid.specs.Light.{lights_of, number_at, same_direction}
 use Rattle.xw_grid.specs.LightLaws.{IsBefore}
 use Rattle.xw_grid.specs.Clue.{ClueMap, with_clue}
-use Rattle.xw_cells.proofs.GridLemmas.{and-true, same_cell_itself, cells_same}
+use Rattle.xw_grid.proofs.GridLemmas.{and-true, same_cell_itself, cells_same}
 use Rattle.xw_grid.proofs.KeptLemmas.{clues_are_kept}
 use Rattle.xw_grid.proofs.LightLemmas.{lights_are_lights}
 use Rattle.xw_grid.proofs.OrderLemmas.{lights_are_ordered}
 use Rattle.xw_grid.specs.Puzzle.{clue_of}
 use Rattle.xw_files.specs.Puz.Board.{with_clues}
 
--- whether two lights begin at one cell and go one way
+-- two lights have the same start and direction
 abbrev same_place : Light → Light → Bool
 same_place a b = same_direction a.name.direction b.name.direction && same_cell a.start b.start
 
@@ -51,7 +51,7 @@ lights-distinct grid i j d before within =
 clue-kept : (clues : ClueMap) (light other : Light) (text : List ℕ) → clue_of (with_clue clues light.start light.name.direction text) other ≡ cond (same_place light other) text (clue_of clues other)
 clue-kept clues light other text = clues_are_kept clues light.start other.start light.name.direction other.name.direction text
 
--- clues set for other lights leave that of a light
+-- setting clues of other lights keeps the clue of a light
 clue-left : (clues : ClueMap) (light : Light) (lights : List Light) (texts : List (List ℕ)) → ((k : ℕ) (d : Light) → k < length lights → same_place (get_or lights k d) light ≡ false) → clue_of (with_clues clues lights texts) light ≡ clue_of clues light
 clue-left clues light [] [] other = refl
 clue-left clues light [] (text ∷ texts) other = refl
@@ -71,6 +71,6 @@ clues-back clues (light ∷ lights) (text ∷ texts) distinct long =
     let there = clues-back now lights texts (λ i j d before within. distinct (suc i) (suc j) d (omega arith) (omega arith)) (omega (arith, long)) in
     rw (here, there) refl
 
--- a clue for each light of a grid
+-- one clue for each light of a grid
 pub light-clues-back : (grid : Grid) (clues : ClueMap) (texts : List (List ℕ)) → length texts ≡ length (lights_of grid) → map (clue_of (with_clues clues (lights_of grid) texts)) (lights_of grid) ≡ texts
 light-clues-back grid clues texts long = clues-back clues (lights_of grid) texts (lights-distinct grid) long

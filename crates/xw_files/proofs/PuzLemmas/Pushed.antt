@@ -1,4 +1,4 @@
--- Parts that were written one after another.
+-- Parts written one after another.
 use Rattle.std.proofs.Common.{◌≡◌, ℕ, List, [], ◌∷◌, ◌++◌, refl, ap, ◌∙◌, append_assoc}
 use Rattle.xw_files.specs.Puz.Spelling.{with_nuls, ended}
 

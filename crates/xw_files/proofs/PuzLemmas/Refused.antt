@@ -1,10 +1,10 @@
--- The first clue with a NUL, light after light.
+-- The first clue with a NUL, found light by light.
 use Rattle.std.proofs.Common.{◌≡◌, ℕ, ◌+◌, ◌*◌, ◌<◌, ◌≤◌, List, ◌++◌, map, drop, sym, ap, ◌∙◌, append_assoc, Ok, Err}
 use Rattle.std.specs.Prelude.{Result, Option, Some, None, flat_map, IfErr}
-use Rattle.xw_cells.specs.declared.cell.Cell.{Cell}
-use Rattle.xw_cells.specs.declared.cell.Direction.TheVariants.{Across, Down}
+use Rattle.xw_grid.specs.declared.cell.Cell.{Cell}
+use Rattle.xw_grid.specs.declared.cell.Direction.TheVariants.{Across, Down}
 use Rattle.xw_grid.specs.declared.lights.Light.{Light}
-use Rattle.xw_cells.specs.Grid.{Grid, cells, cell_at}
+use Rattle.xw_grid.specs.Grid.{Grid, cells, cell_at}
 use Rattle.xw_grid.specs.Light.{light_from, lights_at}
 use Rattle.xw_grid.specs.Clue.{ClueMap}
 use Rattle.xw_files.specs.declared.fault.TextName.{TextName}
@@ -12,11 +12,11 @@ use Rattle.xw_grid.specs.Puzzle.{clue_of}
 use Rattle.xw_files.specs.Puz.Writing.{clue_with_nul}
 use Rattle.xw_files.proofs.CellLemmas.{cells-step, cells-end}
 
--- the first with a NUL among the clues of lights
+-- the first clue with a NUL among the clues of these lights
 abbrev nul_in : ClueMap → ℕ → List Light → Option TextName
 nul_in clues place lights = clue_with_nul place (map (clue_of clues) lights)
 
--- past the light across, the one down is next
+-- after the across light of a cell comes its down light
 pub across-passed : (grid : Grid) (clues : ClueMap) (cell : Cell) (place next : ℕ) → ((lights : List Light) → nul_in clues place (light_from grid cell Across ++ lights) ≡ nul_in clues next lights)
     → (lights : List Light) → nul_in clues place (lights_at grid cell ++ lights) ≡ nul_in clues next (light_from grid cell Down ++ lights)
 across-passed grid clues cell place next step lights =
@@ -33,7 +33,7 @@ pub down-stopped : (grid : Grid) (clues : ClueMap) (cell : Cell) (place next : �
 down-stopped grid clues cell place next (Ok after) step stop = tt
 down-stopped grid clues cell place next (Err text) step stop = λ lights. across-passed grid clues cell place next step lights ∙ stop lights
 
--- ---- cell after cell
+-- ---- cell by cell
 
 pub cell-passed : (grid : Grid) (clues : ClueMap) (place next i : ℕ) (cell : Cell) → i < grid.width * grid.height → cell ≡ cell_at grid i → ((lights : List Light) → nul_in clues place (lights_at grid cell ++ lights) ≡ nul_in clues next lights)
     → nul_in clues place (flat_map (lights_at grid) (drop i (cells grid))) ≡ nul_in clues next (flat_map (lights_at grid) (drop (i + 1) (cells grid)))

@@ -1,12 +1,12 @@
--- Reading gives a puzzle exactly where the relation holds.
+-- Reading gives a puzzle if and only if the bytes are a file of it.
 use Rattle.std.proofs.Common.{◌≡◌, ◌≢◌, ℕ, ◌*◌, Bool, true, false, ◌&&◌, List, [], ◌∷◌, ◌++◌, map, length, nat_eq, refl, sym, ap, ◌∙◌, subst, arith, Ok, Err}
 use Rattle.std.specs.Prelude.{Result, Option, Some, None, filter, IfOk, IsOkUnless}
 use Rattle.std.proofs.lemmas.List.{length-map}
-use Rattle.xw_cells.specs.declared.cell.Cell.{Cell}
-use Rattle.xw_cells.specs.declared.cell.Square.{Square}
-use Rattle.xw_cells.specs.declared.cell.Symmetry.TheVariants as kinds
-use Rattle.xw_cells.specs.Grid.{Grid, cells, is_open}
-use Rattle.xw_cells.specs.Edit.{grid_of}
+use Rattle.xw_grid.specs.declared.cell.Cell.{Cell}
+use Rattle.xw_grid.specs.declared.cell.Square.{Square}
+use Rattle.xw_grid.specs.declared.cell.Symmetry.TheVariants as kinds
+use Rattle.xw_grid.specs.Grid.{Grid, cells, is_open}
+use Rattle.xw_grid.specs.Edit.{grid_of}
 use Rattle.xw_grid.specs.Light.{lights_of}
 use Rattle.xw_grid.specs.Clue.{ClueMap, no_clues}
 use Rattle.xw_files.specs.declared.fault.ReadFault.{ReadFault}
@@ -34,9 +34,9 @@ use Rattle.xw_files.proofs.PuzLemmas.CircleLemmas.{marked-read}
 use Rattle.xw_files.proofs.PuzLemmas.LightClues.{light-clues-back}
 use Rattle.xw_files.proofs.PlainLights.{no_bar_made, plain_lights}
 
--- ---- what is read stands in the relation
+-- ---- the bytes are a file of what is read
 
-nothing_wrong : (o : Option SumName) (x : Unit {0}) → no_wrong o ≡ Ok x → o ≡ None
+pub nothing_wrong : (o : Option SumName) (x : Unit {0}) → no_wrong o ≡ Ok x → o ≡ None
 nothing_wrong None x e = refl
 nothing_wrong (Some sum) x e = cc
 
@@ -47,8 +47,8 @@ after-texts : (texts : List (List ℕ)) (rest : List ℕ) → AreBytes (with_nul
 after-texts [] rest small = small
 after-texts (text ∷ texts) rest small = after-texts texts rest (after-text text (with_nuls texts rest) small)
 
--- what follows the notes of a file are bytes
-rest-bytes : (fields : Fields) (reserved : List ℕ) → AreBytes (file_bytes fields reserved) → AreBytes fields.rest
+-- what follows the notes of a file is a list of bytes
+pub rest-bytes : (fields : Fields) (reserved : List ℕ) → AreBytes (file_bytes fields reserved) → AreBytes fields.rest
 rest-bytes fields reserved small =
     let texts = bytes-after fields.state _ (bytes-after fields.solution _ (bytes-after (header_bytes fields.header reserved) _ small)) in
     let clues = after-text fields.copyright _ (after-text fields.author _ (after-text fields.title _ texts)) in
@@ -110,7 +110,7 @@ found bytes puzzle small e =
       circles = marked is (first_gext cut.sections) (ap (circles_by grid.0) (sym (gext-is fields.rest cut.tail cut.sections rest cut.are)) ∙ circles.1);
     })
 
--- ---- what stands in the relation is read
+-- ---- a file of a puzzle is read
 
 circles-read : (puzzle : PuzzleShown) (grid : Grid) (gext : Option Section) → puzzle.grid.width ≡ grid.width → puzzle.grid.height ≡ grid.height → AreMarked puzzle gext → (circles : List Cell) × (circles_by grid gext ≡ Ok circles)
 circles-read puzzle grid None w h are = ([], refl)
@@ -144,7 +144,7 @@ readable bytes puzzle small is =
 
 -- ---- one file part
 
-some-same : (xs ys : List Square) → map (λ square. Some square) xs ≡ map (λ square. Some square) ys → xs ≡ ys
+pub some-same : (xs ys : List Square) → map (λ square. Some square) xs ≡ map (λ square. Some square) ys → xs ≡ ys
 some-same [] [] e = refl
 some-same [] (y ∷ ys) e = absurd (let n : 0 ≡ length (map (λ s. Some s) (y ∷ ys)) = ap length e in omega arith)
 some-same (x ∷ xs) [] e = absurd (let n : length (map (λ s. Some s) (x ∷ xs)) ≡ 0 = ap length e in omega arith)
@@ -176,9 +176,9 @@ one_part bytes puzzle other is also =
     let circled = circled-same puzzle other (first_gext also.sections) width height squares circles also.circles in
     λ i. record { width = width i; height = height i; squares = squares i; texts = texts i; clues = clues i; circled = circled i }
 
--- ---- the same of what a reader gives
+-- ---- the same for the result of a reader
 
-memory-alone : (fault : ReadFault) → (fault ≢ faults.Memory → ⊥) → fault ≡ faults.Memory
+pub memory-alone : (fault : ReadFault) → (fault ≢ faults.Memory → ⊥) → fault ≡ faults.Memory
 memory-alone (faults.Short piece) h = absurd (h (λ e. cc))
 memory-alone faults.Magic h = absurd (h (λ e. cc))
 memory-alone faults.Version h = absurd (h (λ e. cc))
@@ -199,7 +199,7 @@ memory-alone (faults.NulByte offset) h = absurd (h (λ e. cc))
 memory-alone faults.GextSize h = absurd (h (λ e. cc))
 memory-alone faults.GextSum h = absurd (h (λ e. cc))
 
--- what is read has no symmetry
+-- the puzzle that is read has no symmetry
 unturned : (bytes : List ℕ) (puzzle : PuzzleShown) → puzzle_at bytes ≡ Ok puzzle → puzzle.grid.symmetry ≡ kinds.None
 unturned bytes puzzle e =
     let read = bind_ok (fields_at bytes) puzzle_of puzzle e in

@@ -29,11 +29,11 @@ drop-eight a b c d e f g h xs n = sym (drop-drop n 8 (a ∷ b ∷ c ∷ d ∷ e 
 get-eight : (a b c d e f g h : ℕ) (xs : List ℕ) (n : ℕ) → get_or (a ∷ b ∷ c ∷ d ∷ e ∷ f ∷ g ∷ h ∷ xs) (8 + n) 0 ≡ get_or xs n 0
 get-eight a b c d e f g h xs n = sym (get_or-drop 8 (a ∷ b ∷ c ∷ d ∷ e ∷ f ∷ g ∷ h ∷ xs) n 0)
 
--- what follows the eight bytes before a section's data
+-- what follows the first eight bytes of a section
 after_eight : (body more : List ℕ) → (body ++ 0 ∷ []) ++ more ≡ body ++ 0 ∷ more
 after_eight body more = append_assoc body (0 ∷ []) more
 
--- a section whose name is these four bytes
+-- a section with these four bytes as its name
 abbrev named : ℕ → ℕ → ℕ → ℕ → ℕ → List ℕ → Section
 named a b c d sum body = record { name = a ∷ b ∷ c ∷ d ∷ []; sum = sum; body = body }
 
@@ -71,7 +71,7 @@ section-again section more fits =
     let Again : List ℕ → Type 0 = λ name. (let s : Section = record { name = name; sum = section.sum; body = section.body } in section_at (section_bytes s ++ more) ≡ Some (s, more)) in
     subst Again (sym (all_items section.name 4 fits.name)) (named-again _ _ _ _ section.sum section.body more fits.size fits.sum)
 
--- ---- what is read was written so
+-- ---- what was read is written the same
 
 skipped : {A : Type 0} (b : Bool) (o : Option A) (x : A) → cond b None o ≡ Some x → (b ≡ false) × (o ≡ Some x)
 skipped true o x e = cc
@@ -84,7 +84,7 @@ allowed false o x e = cc
 some_is : {A : Type 0} (x y : A) → let l : Option A = Some x in let r : Option A = Some y in l ≡ r → x ≡ y
 some_is x y e = cc
 
--- the section of so many bytes of data
+-- the section with `size` bytes of data at the front
 abbrev of_size : ℕ → List ℕ → Section
 of_size size bytes = record { name = take 4 bytes; sum = number_at 6 bytes; body = part_at 8 size bytes }
 
@@ -113,7 +113,7 @@ two_again low high l h =
 abbrev Spelled : ℕ → List ℕ → Type 0
 Spelled size bytes = FitsSection (of_size size bytes) × (bytes ≡ section_bytes (of_size size bytes) ++ drop (9 + size) bytes)
 
--- where the eight bytes before the data are there to see
+-- the same for bytes whose first eight are given one by one
 shown : (from rest : List ℕ) (size : ℕ) → AreBytes from → let bytes : List ℕ = items_from 0 8 from ++ rest in size ≡ number_at 4 bytes → size + 1 ≤ length rest → get_or bytes (8 + size) 0 ≡ 0 → Spelled size bytes
 shown from rest size small is long nul =
     let at : ℕ → ℕ = λ k. get_or from k 0 in

@@ -1,9 +1,9 @@
--- The squares of a board, read one byte after another.
+-- Reading the squares of a board byte by byte.
 use Rattle.std.proofs.Common.{◌≡◌, ℕ, suc, ◌+◌, ◌<◌, ◌≤◌, List, [], ◌∷◌, ◌++◌, length, get_or, drop, drop-cons, refl, ap, arith, Ok, Err}
 use Rattle.std.specs.Prelude.{Some, None}
 use Rattle.std.proofs.lemmas.List.{append-nil, drop_all}
-use Rattle.xw_cells.specs.Grid.{cell_in}
-use Rattle.xw_cells.specs.declared.cell.Square.{Square}
+use Rattle.xw_grid.specs.Grid.{cell_in}
+use Rattle.xw_grid.specs.declared.cell.Square.{Square}
 use Rattle.xw_files.specs.declared.fault.ReadFault.TheVariants as faults
 use Rattle.xw_files.specs.Puz.Board.{square_of, squares_at}
 use Rattle.xw_files.proofs.PuzLemmas.Fronts.{after, after-more}

@@ -1,4 +1,4 @@
--- Sums of parts, one after another.
+-- Checksums of consecutive parts.
 use Rattle.std.proofs.Common.{◌≡◌, ℕ, List, [], ◌∷◌, ◌++◌}
 use Rattle.std.proofs.lemmas.Grind.{fold-append}
 use Rattle.xw_files.specs.Puz.Sums.{summed, sum_from, counted}

@@ -1,11 +1,11 @@
--- Sums and squares, there and back.
+-- Checksums and squares are right if and only if reading accepts them.
 use Rattle.std.proofs.Common.{◌≡◌, ℕ, suc, ◌+◌, ◌<◌, ◌≤◌, Bool, true, false, cond, List, [], ◌∷◌, map, take, drop, length, nat_eq, refl, ap, arith, Ok}
 use Rattle.std.specs.Prelude.{Option, Some, None, nat_le}
 use Rattle.std.proofs.lemmas.Bool.Decides.{nat_tests}
 use Rattle.std.proofs.lemmas.List.{length-take-le, length-drop}
-use Rattle.xw_cells.specs.declared.cell.Square.{Square}
-use Rattle.xw_cells.specs.declared.cell.Square.TheVariants.{Block, Open}
-use Rattle.xw_cells.specs.Grid.{IsSquare}
+use Rattle.xw_grid.specs.declared.cell.Square.{Square}
+use Rattle.xw_grid.specs.declared.cell.Square.TheVariants.{Block, Open}
+use Rattle.xw_grid.specs.Grid.{IsSquare}
 use Rattle.xw_files.specs.declared.puz.header.Header.{Header}
 use Rattle.xw_files.specs.declared.puz.sums.Sums.{Sums}
 use Rattle.xw_files.specs.Puz.Sums.{masked_of, wrong_masked, wrong_sum, HasSums}
@@ -17,17 +17,17 @@ use Rattle.xw_files.proofs.PuzLemmas.BoardLemmas.{square-found}
 pub same : (n : ℕ) → nat_eq n n ≡ true
 same n = grind (arith, nat_tests)
 
--- ---- sums
+-- ---- checksums
 
 wrong_masked-same : (k : ℕ) (bytes : List ℕ) → wrong_masked k bytes bytes ≡ None
 wrong_masked-same k [] = refl
 wrong_masked-same k (byte ∷ bytes) = rw (same byte) (wrong_masked-same (k + 1) bytes)
 
--- no sum is wrong where a header has them all, and only there
+-- a header that has all checksums has no wrong one, and conversely
 pub right_sums : (header : Header) (sums : Sums) → HasSums header sums → wrong_sum header sums ≡ None
 right_sums header sums has = rw (has.cib, has.file, has.masked, same sums.cib, same sums.file) (wrong_masked-same 1 (masked_of sums))
 
--- a test that must pass for nothing to be wrong
+-- if the result is None, the test passed
 pub none_from : {A : Type 0} (b : Bool) (o : Option A) (x : A) → cond b o (Some x) ≡ None → (b ≡ true) × (o ≡ None)
 none_from true o x e = (refl, e)
 none_from false o x e = cc
@@ -72,7 +72,7 @@ square-again Block h = refl
 square-again (Open None) h = refl
 square-again (Open (Some letter)) h = rw (other_than 46 letter (omega (arith, h.0)), other_than 45 letter (omega (arith, h.0)), at_most 65 letter h.0, at_most letter 90 h.1, not_at_most 97 letter (omega (arith, h.1))) refl
 
--- squares that are read are what the bytes stand for, each of them
+-- the squares that are read are those of the bytes
 pub squares_found : (width place : ℕ) (bytes : List ℕ) (squares : List Square) → squares_at width place bytes ≡ Ok squares → map square_of bytes ≡ map (λ square. Some square) squares
 squares_found width place [] squares e = ap (map (λ square. Some square)) (ok_is [] squares e)
 squares_found width place (byte ∷ bytes) squares e =
@@ -82,7 +82,7 @@ squares_found width place (byte ∷ bytes) squares e =
     let there = squares_found width (place + 1) bytes more.0 more.1 in
     rw (here, there) (ap (map (λ square. Some square)) (ok_is (first.0 ∷ more.0) squares more.2))
 
--- squares are read where the bytes stand for them
+-- if every byte is a square, the squares are read
 pub squares-from : (width place : ℕ) (bytes : List ℕ) (squares : List Square) → map square_of bytes ≡ map (λ square. Some square) squares → squares_at width place bytes ≡ Ok squares
 squares-from width place [] [] e = refl
 squares-from width place [] (square ∷ squares) e = absurd (let n : 0 ≡ suc (length (map (λ s. Some s) squares)) = ap length e in omega arith)

@@ -1,4 +1,4 @@
--- What is read is spelled so.
+-- What is read from bytes spells these bytes.
 use Rattle.std.proofs.Common.{◌≡◌, ℕ, zero, suc, ◌-◌, length-drop, length-take-le, ◌+◌, ◌*◌, ◌/◌, ◌%◌, ◌<◌, ◌≤◌, ◌^◌, List, [], ◌∷◌, ◌++◌, length, nat_eq, nat_lt, Bool, true, false, ◌&&◌, get_or, take, drop, refl, sym, ap, ◌∙◌, arith, Ok, subst}
 use Rattle.std.specs.Cmp.Lexicographic.{pointwise}
 use Rattle.std.proofs.lemmas.List.{take-append-drop}
@@ -18,7 +18,7 @@ and-true true true h = (refl, refl)
 and-true true false h = cc
 and-true false b h = cc
 
-same_bytes : (xs ys : List ℕ) → pointwise nat_eq xs ys ≡ true → xs ≡ ys
+pub same_bytes : (xs ys : List ℕ) → pointwise nat_eq xs ys ≡ true → xs ≡ ys
 same_bytes [] [] h = refl
 same_bytes [] (y ∷ ys) h = cc
 same_bytes (x ∷ xs) [] h = cc
@@ -27,19 +27,19 @@ same_bytes (x ∷ xs) (y ∷ ys) h =
     let head : x ≡ y = grind (arith, nat_tests, both.0) in
     rw (head, same_bytes xs ys both.1) refl
 
--- two bytes that were read as a number are spelled again
+-- a number read from two bytes is written as the same bytes
 two_again : (low high : ℕ) → low < 256 → high < 256 → little_bytes 2 (low + 256 * (high + 0)) ≡ low ∷ high ∷ []
 two_again low high l h =
     let first : (low + 256 * (high + 0)) % 256 ≡ low = omega arith in
     let second : (low + 256 * (high + 0)) / 256 % 256 ≡ high = omega arith in
     rw (first, second) refl
 
--- parts of a list are replaced by the same ones
+-- replacing parts of a list by equal ones
 parts_same : (a a' b b' c c' d e e' f g h h' i i' j j' rest : List ℕ) → a' ≡ a → b ≡ b' → c' ≡ c → e ≡ e' → h' ≡ h → i' ≡ i → j' ≡ j
     → a ++ b ++ c ++ d ++ e ++ f ++ g ++ h ++ i ++ j ++ rest ≡ a' ++ b' ++ c' ++ d ++ e' ++ f ++ g ++ h' ++ i' ++ j' ++ rest
 parts_same a a' b b' c c' d e e' f g h h' i i' j j' rest pa pb pc pe ph pi pj = rw (pa, pb, pc, pe, ph, pi, pj) refl
 
--- what the tests of a header leave, where its first bytes are there to see
+-- what the tests of width and height say, for given first bytes
 sized : (bytes : List ℕ) (header : Header) → sized_header_at bytes ≡ Ok header → let is : Header = record { file_sum = number_at 0 bytes; cib_sum = number_at 14 bytes; masked = part_at 16 8 bytes; width = get_or bytes 44 0; height = get_or bytes 45 0; clue_count = number_at 46 bytes; bitmask = number_at 48 bytes } in
     (0 < get_or bytes 44 0) × (0 < get_or bytes 45 0) × (is ≡ header)
 unfolding sized_header_at
@@ -48,7 +48,7 @@ sized bytes header e =
     let high = avoided (nat_eq (get_or bytes 45 0) 0) _ _ header wide.1 in
     (grind (arith, nat_tests, wide.0), grind (arith, nat_tests, high.0), ok_is _ header high.1)
 
--- the tests of a header
+-- what the tests of a header say
 pub record Tested (bytes : List ℕ) (header : Header) : Type 0 where
   pub long : 52 ≤ length bytes
   pub magic : part_at 2 12 bytes ≡ magic
@@ -83,7 +83,7 @@ header_in bytes = record { file_sum = number_at 0 bytes; cib_sum = number_at 14 
 number-small : (low high : ℕ) → low < 256 → high < 256 → low + 256 * (high + 0) < 2 ^ 16
 number-small low high l h = omega arith
 
--- the same, the first 52 bytes shown one by one
+-- the bytes are those of their header and what follows
 abbrev Spelled : List ℕ → Type 0
 Spelled bytes = FitsHeader (header_in bytes) × (bytes ≡ header_bytes (header_in bytes) (part_at 28 16 bytes) ++ drop 52 bytes)
 
@@ -110,7 +110,7 @@ spelled-shown from rest small m v t width height =
           rest (pair 0) m (pair 14) v (pair 46) (pair 48) tag,
     )
 
--- a header that was read is spelled so
+-- a header that is read is spelled by the bytes
 pub header_at-takes : (bytes : List ℕ) (header : Header) → AreBytes bytes → header_at bytes ≡ Ok header → FitsHeader header × (bytes ≡ header_bytes header (part_at 28 16 bytes) ++ drop 52 bytes)
 header_at-takes bytes header small e =
     let t = tested bytes header e in
@@ -119,7 +119,7 @@ header_at-takes bytes header small e =
     let spelled = subst Needs (sym shown) (spelled-shown bytes (drop 52 bytes) small) t.magic t.version t.tag t.width t.height in
     (subst FitsHeader t.is spelled.0, subst (λ h. bytes ≡ header_bytes h (part_at 28 16 bytes) ++ drop 52 bytes) t.is spelled.1)
 
--- clues that were read are spelled so
+-- clues that are read are spelled by the bytes
 pub clues_at-takes : (k count : ℕ) (bytes : List ℕ) (clues : List (List ℕ)) (rest : List ℕ) → clues_at k count bytes ≡ Ok (clues, rest) → AllHaveNoNul clues × (length clues ≡ count) × (bytes ≡ with_nuls clues rest)
 clues_at-takes k zero bytes clues rest e =
     let is = ok_is ([], bytes) (clues, rest) e in
@@ -133,20 +133,20 @@ clues_at-takes k (suc count) bytes clues rest e =
     subst (λ (p : List (List ℕ) × List ℕ). AllHaveNoNul p.0 × (length p.0 ≡ suc count) × (bytes ≡ with_nuls p.0 p.1)) is
     ((first.0, more.0), ap (λ n. suc n) more.1, first.1 ∙ ap (λ tail. clue.0.0 ++ 0 ∷ tail) more.2)
 
--- what texts that were read say
-record Texts (head : Header) (first second bytes : List ℕ) (fields : Fields) : Type 0 where
-  header : fields.header ≡ head
-  solution : fields.solution ≡ first
-  state : fields.state ≡ second
-  title : HasNoNul fields.title
-  author : HasNoNul fields.author
-  copyright : HasNoNul fields.copyright
-  clues : AllHaveNoNul fields.clues
-  clue_count : length fields.clues ≡ head.clue_count
-  notes : HasNoNul fields.notes
-  spelled : bytes ≡ fields.title ++ 0 ∷ (fields.author ++ 0 ∷ (fields.copyright ++ 0 ∷ with_nuls fields.clues (fields.notes ++ 0 ∷ fields.rest)))
+-- what texts that are read say
+pub record Texts (head : Header) (first second bytes : List ℕ) (fields : Fields) : Type 0 where
+  pub header : fields.header ≡ head
+  pub solution : fields.solution ≡ first
+  pub state : fields.state ≡ second
+  pub title : HasNoNul fields.title
+  pub author : HasNoNul fields.author
+  pub copyright : HasNoNul fields.copyright
+  pub clues : AllHaveNoNul fields.clues
+  pub clue_count : length fields.clues ≡ head.clue_count
+  pub notes : HasNoNul fields.notes
+  pub spelled : bytes ≡ fields.title ++ 0 ∷ (fields.author ++ 0 ∷ (fields.copyright ++ 0 ∷ with_nuls fields.clues (fields.notes ++ 0 ∷ fields.rest)))
 
-texts_at-takes : (header : Header) (solution state bytes : List ℕ) (fields : Fields) → texts_at header solution state bytes ≡ Ok fields → Texts header solution state bytes fields
+pub texts_at-takes : (header : Header) (solution state bytes : List ℕ) (fields : Fields) → texts_at header solution state bytes ≡ Ok fields → Texts header solution state bytes fields
 texts_at-takes header solution state bytes fields e =
     let title = bind_ok (text_at Title bytes) _ fields e in
     let author = bind_ok (text_at Author title.0.1) _ fields title.2 in
@@ -177,7 +177,7 @@ texts_at-takes header solution state bytes fields e =
           ∙ ap (λ tail. title.0.0 ++ 0 ∷ (author.0.0 ++ 0 ∷ (copyright.0.0 ++ 0 ∷ with_nuls clues.0.0 tail))) n.1;
     })
 
--- fields that were read are spelled so
+-- fields that are read are spelled by the bytes
 pub record Takes (bytes : List ℕ) (fields : Fields) : Type 0 where
   pub fits : FitsFile fields
   pub spelled : bytes ≡ file_bytes fields (part_at 28 16 bytes)

@@ -1,4 +1,4 @@
--- Texts that a NUL ends.
+-- NUL-terminated texts.
 use Rattle.std.proofs.Common.{◌≡◌, ◌≢◌, ℕ, zero, suc, ◌+◌, ◌-◌, ◌<◌, List, [], ◌∷◌, ◌++◌, length, take, drop, get_or, nat_eq, Bool, true, false, cond, refl, ap, arith, add-one, rules, Ok, Err}
 use Rattle.std.specs.Prelude.{Result}
 use Rattle.std.proofs.lemmas.Grind.{common_steps}
@@ -22,7 +22,7 @@ text_at-found which (b ∷ bytes) (suc end) h z before =
     let rest = text_at-found which bytes end (omega arith) z (λ k l. before (suc k) (omega arith)) in
     rw (full, rest, add-one, add-one) refl
 
--- with no NUL there is no text
+-- without a NUL there is no text
 pub text_at-none : (which : TextName) (bytes : List ℕ) → ((k : ℕ) → k < length bytes → get_or bytes k 0 ≡ 0 → ⊥) → text_at which bytes ≡ Err (NoNul which)
 text_at-none which [] before = refl
 text_at-none which (b ∷ bytes) before =
@@ -30,7 +30,7 @@ text_at-none which (b ∷ bytes) before =
     let rest = text_at-none which bytes (λ k l. before (suc k) (omega arith)) in
     rw (full, rest) refl
 
--- the rest from at on, as `&bytes[at..]` spells it
+-- the rest from an index on, as `&bytes[at..]` gives it
 pub range_from-drop : (bytes : List ℕ) (at : ℕ) → take (length bytes - at) (drop at bytes) ≡ drop at bytes
 range_from-drop bytes at = grind (arith, common_steps)
 
@@ -43,7 +43,7 @@ text_at-again which (b ∷ text) rest h =
 ok_pair : (p q : List ℕ × List ℕ) → let R : Type 0 = Result (List ℕ × List ℕ) ReadFault in let l : R = Ok p in let r : R = Ok q in l ≡ r → p ≡ q
 ok_pair p q e = cc
 
--- one byte in front of a text
+-- one more byte in front of a text
 step-found : (which : TextName) (is_nul : Bool) (b : ℕ) (bytes text rest : List ℕ) (read : Result (List ℕ × List ℕ) ReadFault)
     → nat_eq b 0 ≡ is_nul
     → ((t r : List ℕ) → read ≡ Ok (t, r) → HasNoNul t × (bytes ≡ t ++ 0 ∷ r))

@@ -28,7 +28,7 @@ pub unsealed-same : (puzzle : PuzzleShown) (header : Header) (solution state tit
     → fields_with header solution state title author copyright clues notes rest ≡ unsealed_fields puzzle
 unsealed-same puzzle header solution state title author copyright notes rest clues h s st t a c k n r = rw (h, s, st, t, a, c, k, n, r) refl
 
--- the bytes of the fields of a puzzle, once their sums are in the header
+-- the bytes of a puzzle's fields, with their checksums in the header
 pub spelled-is : (puzzle : PuzzleShown) (header kept : Header) (solution state title author copyright notes rest bytes : List ℕ) (clues : List (List ℕ))
     → fields_with header solution state title author copyright clues notes rest ≡ unsealed_fields puzzle
     → kept ≡ (sealed (fields_with header solution state title author copyright clues notes rest)).header

@@ -3,9 +3,9 @@ use Rattle.std.proofs.Common.{◌≡◌, ℕ, ◌+◌, true, false, List, [], �
 use Rattle.std.specs.Prelude.{position}
 use Rattle.std.specs.List.{flat_map, AllByRecursion}
 use Rattle.std.proofs.lemmas.Bool.{cond-true, cond-false, eq-eqb}
-use Rattle.xw_letters.proofs.Position.{position_is_none}
-use Rattle.xw_cells.specs.declared.cell.Cell.{Cell}
-use Rattle.xw_cells.specs.declared.cell.Direction.{Direction}
+use Rattle.xw_text.proofs.Position.{position_is_none}
+use Rattle.xw_grid.specs.declared.cell.Cell.{Cell}
+use Rattle.xw_grid.specs.declared.cell.Direction.{Direction}
 use Rattle.xw_grid.specs.Clue.{ClueMap, with_clue}
 use Rattle.xw_files.specs.declared.fault.Tag.{Tag}
 use Rattle.xw_files.specs.declared.fault.ReadFault.{ReadFault}
@@ -27,7 +27,7 @@ tag_again tag line rest is = cond-true _ _ _ is
 pub plain_again : (line : List ℕ) (rest : Lines) → IsPlain line → plain_at (line ∷ rest) ≡ (Some line, rest)
 plain_again line rest plain = cond-false _ _ _ plain
 
--- no plain line comes next
+-- the next line is a tag line, or no line is left
 abbrev pub Stops : Lines → Type 0
 Stops rest = plain_at rest ≡ (None, rest)
 

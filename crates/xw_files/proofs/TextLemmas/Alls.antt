@@ -1,4 +1,4 @@
--- What holds of each element of a list.
+-- Properties of every element of a list.
 use Rattle.std.proofs.Common.{◌≡◌, ℕ, zero, suc, ◌<◌, Bool, true, List, [], ◌∷◌, ◌++◌, length, get_or, refl, arith}
 use Rattle.std.specs.List.{AllByRecursion, list_all}
 use Rattle.std.proofs.lemmas.Bool.{and_parts}
@@ -17,7 +17,7 @@ module _ {X : Type 0} (P : X → Type 0) where
   all_append [] ys all more = more
   all_append (x ∷ xs) ys all more = (all.0, all_append xs ys all.1 more)
 
--- a test of each element, and that each passes it
+-- a test passes for the list if and only if every element passes it
 pub all_pass : {X : Type 0} (p : X → Bool) (xs : List X) → list_all p xs ≡ true → AllByRecursion (λ x. p x ≡ true) xs
 all_pass p [] all = tt
 all_pass p (x ∷ xs) all = let parts = and_parts (p x) (list_all p xs) all in (parts.0, all_pass p xs parts.1)

@@ -1,11 +1,11 @@
--- How clue lines go on, for the loop that reads them.
+-- Steps of the loop that reads clues.
 use Rattle.std.proofs.Common.{◌≡◌, ℕ, ◌+◌, ◌*◌, ◌<◌, ◌≤◌, true, false, List, [], ◌∷◌, length, drop, Option, Some, None, Result, Ok, Err, refl, sym, ap, ◌∙◌, inl, inr, arith}
 use Rattle.std.specs.Prelude.{filter}
 use Rattle.std.specs.List.{prefix_len}
 use Rattle.std.proofs.lemmas.Bool.{cases_Bool, cases_eq, eq-eqb, ne_eqb}
-use Rattle.xw_cells.specs.declared.cell.Cell.{Cell}
-use Rattle.xw_cells.specs.declared.cell.Direction.{Direction}
-use Rattle.xw_cells.specs.Grid.{Grid, cells, cell_at}
+use Rattle.xw_grid.specs.declared.cell.Cell.{Cell}
+use Rattle.xw_grid.specs.declared.cell.Direction.{Direction}
+use Rattle.xw_grid.specs.Grid.{Grid, cells, cell_at}
 use Rattle.xw_grid.specs.Light.{begins}
 use Rattle.xw_grid.specs.Clue.{ClueMap, with_clue}
 use Rattle.xw_files.specs.declared.fault.ReadFault.{ReadFault}
@@ -16,9 +16,9 @@ use Rattle.xw_files.proofs.StepLemmas.{ok_is}
 use Rattle.xw_files.proofs.TextLemmas.Plains.{line_due, no_plain}
 use Rattle.xw_files.proofs.CellLemmas.{cells_drop, cells_past}
 
--- ---- one light more
+-- ---- one more light
 
--- no plain line stands next
+-- no line before the next tag is left
 none_plain : (lines : Lines) → (plain_at lines).0 ≡ None → prefix_len is_plain lines ≡ 0
 none_plain [] none = refl
 none_plain (line ∷ lines) none =
@@ -53,7 +53,7 @@ clues_over_is fault direction clues line rest plain = rw (plain, ne_eqb (1 + pre
 
 -- ---- cell by cell
 
--- where lights begin from a place on
+-- the starts of lights from a cell index on
 abbrev pub starts_after : Grid → Direction → ℕ → List Cell
 starts_after grid direction k = filter (begins grid direction) (drop k (cells grid))
 
@@ -66,7 +66,7 @@ no_start grid direction size k cell is lt at begin = rw (cells_drop grid size k 
 pub no_more_starts : (grid : Grid) (direction : Direction) (size k : ℕ) → size ≡ grid.width * grid.height → size ≤ k → starts_after grid direction k ≡ []
 no_more_starts grid direction size k is le = rw (cells_past grid size k is le) refl
 
--- a light whose line was read
+-- the line of a light was read
 pub clue_taken : (fault : ReadFault) (direction : Direction) (start : Cell) (starts : List Cell) (clues new : ClueMap) (lines rest : Lines) → clue_at_start fault direction start clues lines ≡ Ok (new, rest) → clues_at fault direction (start ∷ starts) clues lines ≡ clues_at fault direction starts new rest
 unfolding clue_at_start
 clue_taken fault direction start starts clues new lines rest e =
@@ -84,7 +84,7 @@ clue_taken fault direction start starts clues new lines rest e =
     not_taken : clue_in fault direction start clues None (plain_at lines).1 ≡ Ok (new, rest) → ⊥
     not_taken e = cc
 
--- a light whose line is missing
+-- the line of a light is missing
 pub clue_not_taken : (fault other : ReadFault) (direction : Direction) (start : Cell) (starts : List Cell) (clues : ClueMap) (lines : Lines) → clue_at_start fault direction start clues lines ≡ Err other → clues_at fault direction (start ∷ starts) clues lines ≡ Err other
 unfolding clue_at_start
 clue_not_taken fault other direction start starts clues lines e =

@@ -1,4 +1,4 @@
--- What was written line by line is cut into those lines.
+-- Text that was written line by line is split into these lines.
 use Rattle.std.proofs.Common.{◌≡◌, ℕ, suc, ◌+◌, ◌-◌, true, false, eqb, ltb, List, [], ◌∷◌, ◌++◌, length, map, get_or, take, drop, refl, sym, ap, subst, ◌∙◌, inl, inr, append_assoc, length-append, arith}
 use Rattle.std.specs.Prelude.{filter, slice_get}
 use Rattle.std.specs.List.{flat_map, AllByRecursion, list_any, list_all}
@@ -17,7 +17,7 @@ use Rattle.xw_files.specs.Text.Written.{is_line_end, is_blank_at, is_spelled, is
 use Rattle.xw_files.proofs.TextLemmas.Lines.{trim_front-none, trim_back-none}
 use Rattle.xw_files.proofs.TextLemmas.Alls.{all_at}
 
--- no byte that ends a line, and no NUL
+-- the text has no byte that ends a line, and no NUL
 abbrev pub NoEnds : List ℕ → Type 0
 NoEnds text = AllByRecursion (λ byte. is_line_end byte ≡ false) text
 
@@ -61,7 +61,7 @@ unended raw none =
 pub cut_line : (raw rest : List ℕ) → NoEnds raw → cut (raw ++ 10 ∷ rest) ≡ raw ∷ cut rest
 cut_line raw rest none = ap (map without_terminator) (first_line raw rest none) ∙ ap (λ (t : List ℕ). t ∷ cut rest) (unended raw none)
 
--- ---- bytes that show as lines, whatever follows
+-- ---- bytes that split into given lines, whatever follows
 
 pub record Shows (bytes : List ℕ) (lines : Lines) : Type 0 where
   pub shows : (rest : List ℕ) → shown (cut (bytes ++ rest)) ≡ lines ++ shown (cut rest)
@@ -133,7 +133,7 @@ trimmed_is : (text : List ℕ) → IsSpelled text → trimmed (9 ∷ text) ≡ t
 trimmed_is [] is = refl
 trimmed_is (byte ∷ text) is = ap trim_back (trim_front-none (byte ∷ text) is.front) ∙ trim_back-none (byte ∷ text) (omega arith) is.back
 
--- an empty text shows as no line
+-- a text as lines: none if it is empty
 abbrev pub shown_text : List ℕ → Lines
 shown_text [] = []
 shown_text (byte ∷ text) = (byte ∷ text) ∷ []
@@ -150,7 +150,7 @@ unfolding is_clue
 clue_parts [] is = absurd (false≢true (and_parts false (is_spelled []) is).0)
 clue_parts (byte ∷ text) is = (spelled_text (byte ∷ text) (and_parts _ _ is).1, refl)
 
--- lines of clues show as they are
+-- the lines of clues split into these clues
 pub clues_show : (texts : Lines) → list_all is_clue texts ≡ true → Shows (flat_map line texts) texts
 clues_show [] all = record { shows = λ rest. refl; clean = tt }
 clues_show (text ∷ texts) all =

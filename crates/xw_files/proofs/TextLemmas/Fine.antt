@@ -3,9 +3,9 @@ use Rattle.std.proofs.Common.{◌≡◌, ℕ, zero, suc, ◌-◌, ◌*◌, ◌<�
 use Rattle.std.specs.List.{flat_map, All, AllByRecursion}
 use Rattle.std.proofs.lemmas.Bool.{ne_eqb, le-leb, lt-leb}
 use Rattle.std.proofs.lemmas.List.{length-take, length-map, nil_from_length}
-use Rattle.xw_cells.specs.declared.cell.Square.{Square}
-use Rattle.xw_cells.specs.Grid.{IsSquare}
-use Rattle.xw_cells.specs.declared.cell.Square.TheVariants.{Block, Open}
+use Rattle.xw_grid.specs.declared.cell.Square.{Square}
+use Rattle.xw_grid.specs.Grid.{IsSquare}
+use Rattle.xw_grid.specs.declared.cell.Square.TheVariants.{Block, Open}
 use Rattle.xw_files.specs.Text.Lines.{is_blank}
 use Rattle.xw_files.specs.Text.Tag.{is_tag_line}
 use Rattle.xw_files.specs.Text.Shape.{Lines, is_bad_square, square_of}
@@ -15,7 +15,7 @@ use Rattle.xw_files.specs.Text.Relation.{IsRow}
 use Rattle.xw_files.proofs.TextLemmas.Cuts.{NoEnds, IsSpelled, Shows, shows_then, line_shows, shown_text}
 use Rattle.xw_files.proofs.TextLemmas.Alls.{all_from}
 
--- a byte that can stand anywhere in a line
+-- the byte may occur anywhere in a line
 abbrev pub IsFine : ℕ → Type 0
 IsFine byte = (is_line_end byte ≡ false) × ((is_blank byte ≡ false) × (eqb byte 60 ≡ false))
 
@@ -37,7 +37,7 @@ fine_text text all = record { ends = fine_ends text all; front = fine_blank text
 
 -- ---- squares
 
--- the squares of a grid hold letters A to Z
+-- the letters of the squares are A to Z
 abbrev pub AreLetters : List Square → Type 0
 AreLetters squares = AllByRecursion IsSquare squares
 
@@ -86,7 +86,7 @@ row_shown : (row : List Square) → 0 < length row → shown_text (map square_by
 row_shown [] some = absurd (omega arith)
 row_shown (square ∷ row) some = refl
 
--- rows of letters are lines, and stand for the squares
+-- the rows of squares are lines, and are read as these squares
 pub record AreRows (width count : ℕ) (squares : List Square) : Type 0 where
   pub shown : Shows (flat_map line (row_texts width count squares)) (row_texts width count squares)
   pub rows : AllByRecursion (IsRow width) (row_texts width count squares)

@@ -1,13 +1,13 @@
--- What is read stands in the relation.
+-- The bytes are a text file of the puzzle that is read.
 use Rattle.std.proofs.Common.{◌≡◌, ℕ, Bool, true, false, List, [], ◌∷◌, ◌++◌, length, Option, Some, None, Result, Ok, Err, map, refl, sym, ap, subst, ◌∙◌}
 use Rattle.std.specs.Prelude.{position, filter, IfOk}
 use Rattle.std.specs.List.{flat_map, AllByRecursion}
 use Rattle.std.proofs.Math.Bool.{and-false}
-use Rattle.xw_letters.proofs.Position.{position-None}
-use Rattle.xw_cells.specs.declared.cell.Cell.{Cell}
-use Rattle.xw_cells.specs.declared.cell.Square.{Square}
-use Rattle.xw_cells.specs.declared.cell.Direction.TheVariants.{Across, Down}
-use Rattle.xw_cells.specs.Grid.{Grid, cells, is_open}
+use Rattle.xw_text.proofs.Position.{position-None}
+use Rattle.xw_grid.specs.declared.cell.Cell.{Cell}
+use Rattle.xw_grid.specs.declared.cell.Square.{Square}
+use Rattle.xw_grid.specs.declared.cell.Direction.TheVariants.{Across, Down}
+use Rattle.xw_grid.specs.Grid.{Grid, cells, is_open}
 use Rattle.xw_grid.specs.Clue.{ClueMap, no_clues}
 use Rattle.xw_files.specs.declared.fault.Tag.TheVariants as tags
 use Rattle.xw_files.specs.declared.fault.ReadFault.{ReadFault}
@@ -18,7 +18,7 @@ use Rattle.xw_files.specs.Text.Tag.{header, names}
 use Rattle.xw_grid.specs.Puzzle.{PuzzleShown, TextsShown, puzzle_view}
 use Rattle.xw_files.specs.Part.{is_circled_open, circled_cells}
 use Rattle.xw_files.specs.Text.Starts.{starts}
-use Rattle.xw_cells.specs.Edit.{grid_of}
+use Rattle.xw_grid.specs.Edit.{grid_of}
 use Rattle.xw_files.specs.Steps.{GivesOrLacksMemory}
 use Rattle.xw_files.specs.Text.Shape.{Lines, header_at, tag_at, text_at, texts_at, size_at, sides_of, rows_at, square_of, grid_at, with_clues, clues_at, both_clues_at, notes_at, shape, shaped, is_nul, all_of}
 use Rattle.xw_files.specs.Finished.{has_bar}
@@ -31,7 +31,7 @@ use Rattle.xw_files.proofs.PlainLights.{no_bar_made}
 use Rattle.xw_files.proofs.TextLemmas.Takes.{header_takes, tag_takes, text_takes, size_takes, rows_take, clues_take, notes_takes}
 use Rattle.xw_files.proofs.TextLemmas.Alls.{all_from}
 
--- the texts above the grid were taken
+-- title, author and copyright were read
 pub record TakesTexts (lines rest : Lines) (texts : TextsShown) : Type 0 where
   pub title : Lines
   pub author : Lines
@@ -66,7 +66,7 @@ texts_take lines rest texts e =
       is_copyright = subst (λ (t : TextsShown). AreText tags.Copyright t.copyright third.0) texts_are third.2;
     }
 
--- the size and the rows were taken
+-- the size and the rows were read
 pub record TakesGrid (lines rest : Lines) (width height : ℕ) (squares : List Square) : Type 0 where
   pub size_tag : List ℕ
   pub size_line : List ℕ
@@ -113,7 +113,7 @@ grid_take lines rest grid e =
       },
     )
 
--- the clues of both directions were taken
+-- the clues of both directions were read
 pub record TakesBoth (grid : Grid) (lines rest : Lines) (clues : ClueMap) : Type 0 where
   pub across_tag : List ℕ
   pub across : Lines
@@ -153,7 +153,7 @@ both_take grid lines rest clues e =
       meaning = fourth.meaning ∙ ap (λ (c : ClueMap). with_clues Down (starts grid Down) fourth.texts c) second.meaning;
     }
 
--- the parts, one after another, are a text file's lines
+-- these parts, one after another, are the lines of a text file
 made_of : (lines after below last : Lines) (first : List ℕ) (texts : TextsShown) (grid : Grid) (clues : ClueMap) (notes : List ℕ) (width height : ℕ) (squares : List Square)
     → lines ≡ first ∷ after → names first header ≡ true → TakesTexts after below texts → grid_of width height squares ≡ grid → (middle : Lines) → TakesGrid below middle width height squares → TakesBoth grid middle last clues → AreNotes notes last
     → Spells lines (record { grid = grid; texts = record texts { notes = notes }; clues = clues; circles = [] })

@@ -1,11 +1,11 @@
--- The laws of reading.
+-- The laws of reading text files.
 use Rattle.std.proofs.Common.{◌≡◌, ℕ, false, List, [], ◌∷◌, ◌++◌, cond, length, None, Result, Ok, Err, map, refl, sym, ap, ◌∙◌}
 use Rattle.std.specs.Prelude.{position}
 use Rattle.std.proofs.lemmas.List.{length-map}
-use Rattle.xw_letters.proofs.Position.{position_is_none}
-use Rattle.xw_cells.specs.declared.cell.Direction.TheVariants.{Across, Down}
-use Rattle.xw_cells.specs.declared.cell.Cell.{Cell}
-use Rattle.xw_cells.specs.declared.cell.Direction.{Direction}
+use Rattle.xw_text.proofs.Position.{position_is_none}
+use Rattle.xw_grid.specs.declared.cell.Direction.TheVariants.{Across, Down}
+use Rattle.xw_grid.specs.declared.cell.Cell.{Cell}
+use Rattle.xw_grid.specs.declared.cell.Direction.{Direction}
 use Rattle.xw_grid.specs.declared.lights.Light.{Light}
 use Rattle.xw_grid.specs.Light.{lights_of, same_direction}
 use Rattle.xw_grid.specs.Clue.{ClueMap, clue_at}
@@ -31,14 +31,14 @@ all_again bytes puzzle is =
     let none : position is_nul bytes ≡ None = position_is_none is_nul bytes 0 (λ k lt. all_at (λ byte. is_nul byte ≡ false) bytes is.no_nul k 0 lt) in
     rw none (shape_again (text_lines bytes) puzzle (λ direction. ap (starts_in direction) (plain_lights puzzle.grid is.no_bar)) is.lines)
 
--- the clues of either direction
+-- the clues of one direction
 abbrev clues_towards : ClueMap → List Light → Direction → List (List ℕ)
 clues_towards clues lights direction = map (λ start. clue_at clues start direction) (starts_in direction lights)
 
 heads_and_tails : {X : Type 0} (x y : X) (xs ys : List X) → x ∷ xs ≡ y ∷ ys → (x ≡ y) × (xs ≡ ys)
 heads_and_tails x y xs ys e = (cc, cc)
 
--- the clues of the first light are alike, and those of the others
+-- equal clues in both directions: equal for the first light, and for the others
 split : (one other : ClueMap) (light : Light) (lights : List Light) → ((direction : Direction) → clues_towards one (light ∷ lights) direction ≡ clues_towards other (light ∷ lights) direction)
     → (clue_of one light ≡ clue_of other light) × ((direction : Direction) → clues_towards one lights direction ≡ clues_towards other lights direction)
 split one other light lights same =
@@ -48,14 +48,14 @@ split one other light lights same =
       | Down ↦ λ same. let parts = heads_and_tails _ _ _ _ (same Down) in (parts.0, λ d. elim d as (λ d. clues_towards one lights d ≡ clues_towards other lights d) [ Across ↦ same Across | Down ↦ parts.1 ])
     ] same
 
--- the clues of some lights are alike where those of either direction are
+-- if the clues are equal in each direction, they are equal for every light
 same_clues : (one other : ClueMap) (lights : List Light) → ((direction : Direction) → clues_towards one lights direction ≡ clues_towards other lights direction) → map (clue_of one) lights ≡ map (clue_of other) lights
 same_clues one other [] same = refl
 same_clues one other (light ∷ lights) same =
     let parts = split one other light lights same in
     rw (parts.0, same_clues one other lights parts.1) refl
 
--- what is read back has the same clues
+-- the puzzle that is read back has the same clues
 clues_again : (puzzle : PuzzleShown) → has_bar puzzle.grid ≡ false → light_clues (read_back puzzle) ≡ light_clues puzzle
 clues_again puzzle none =
     let across = clue_texts Across puzzle.clues puzzle.grid in
@@ -72,7 +72,7 @@ clues_again puzzle none =
     ])
     ∙ ap (map (clue_of puzzle.clues)) (sym same)
 
--- what is read back has the same file part
+-- the puzzle that is read back has the same file part
 pub part_again : (bytes : List ℕ) (puzzle : PuzzleShown) → IsText bytes puzzle → part_of (read_back puzzle) ≡ part_of puzzle
 part_again bytes puzzle is =
     ap (λ (clues : List (List ℕ)). record (part_of (read_back puzzle)) { clues = clues }) (clues_again puzzle is.no_bar)

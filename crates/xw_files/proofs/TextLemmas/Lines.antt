@@ -1,4 +1,4 @@
--- Trimming a byte at a time, and the lines that are shown.
+-- Trimming byte by byte, and the lines without the blank ones.
 use Rattle.std.proofs.Common.{◌≡◌, ℕ, zero, suc, ◌+◌, ◌-◌, ◌<◌, true, false, List, [], ◌∷◌, ◌++◌, length, get_or, take, drop, refl, ap, arith}
 use Rattle.std.proofs.lemmas.Bool.{cond-true, cond-false}
 use Rattle.std.specs.List.{flat_map, join_with_byte}
@@ -33,7 +33,7 @@ back-none (byte ∷ next ∷ rest) (suc last) end other = ap (before byte) (back
 pub trim_back-none : (line : List ℕ) → 0 < length line → is_blank (get_or line (length line - 1) 0) ≡ false → trim_back line ≡ line
 trim_back-none line some other = back-none line (length line - 1) (omega arith) other
 
--- lines joined by line feeds: the first one, and a line feed before each other
+-- lines joined by LF: the first line, and then an LF before each other line
 pub joined_is : (line : List ℕ) (lines : List (List ℕ)) → line ++ flat_map (λ other. 10 ∷ other) lines ≡ join_with_byte 10 (line ∷ lines)
 joined_is line [] = append-nil line
 joined_is line (next ∷ lines) = ap (λ (rest : List ℕ). line ++ (10 ∷ rest)) (joined_is next lines)

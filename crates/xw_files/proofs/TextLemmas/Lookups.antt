@@ -1,17 +1,17 @@
--- The clues that were set for distinct starts are found at them.
+-- After clues are set at distinct starts, each start has its clue.
 use Rattle.std.proofs.Common.{◌≡◌, ℕ, zero, suc, ◌+◌, ◌*◌, ◌<◌, Bool, true, false, ◌&&◌, cond, List, [], ◌∷◌, ◌++◌, length, map, refl, sym, ap, subst, ◌∙◌, inl, inr, arith}
 use Rattle.std.specs.Prelude.{filter}
 use Rattle.std.specs.List.{flat_map, AllByRecursion, range_with_len}
 use Rattle.std.proofs.lemmas.Bool.{cases_Bool, cond-false, and_right, false≢true, false_from_ne_true}
 use Rattle.std.proofs.lemmas.List.Concat.{flat_map-append}
-use Rattle.xw_cells.specs.declared.cell.Cell.{Cell}
-use Rattle.xw_cells.specs.declared.cell.Direction.{Direction}
-use Rattle.xw_cells.specs.declared.cell.Direction.TheVariants.{Across, Down}
-use Rattle.xw_cells.specs.Grid.{Grid, cells, cell_at, index_of, same_cell}
+use Rattle.xw_grid.specs.declared.cell.Cell.{Cell}
+use Rattle.xw_grid.specs.declared.cell.Direction.{Direction}
+use Rattle.xw_grid.specs.declared.cell.Direction.TheVariants.{Across, Down}
+use Rattle.xw_grid.specs.Grid.{Grid, cells, cell_at, index_of, same_cell}
 use Rattle.xw_grid.specs.Light.{begins, light_starting, lights_at, same_direction}
 use Rattle.xw_grid.specs.Clue.{ClueMap, clue_at, with_clue}
 use Rattle.xw_grid.proofs.KeptLemmas.{clues_are_kept}
-use Rattle.xw_cells.proofs.GridLemmas.{cells_same, same_cell_itself, index_of-cell_at}
+use Rattle.xw_grid.proofs.GridLemmas.{cells_same, same_cell_itself, index_of-cell_at}
 use Rattle.xw_files.specs.Text.Starts.{start_in, starts_in, starts}
 use Rattle.xw_files.specs.Text.Shape.{Lines, with_clues}
 
@@ -46,7 +46,7 @@ clues_kept direction towards (start ∷ starts) (text ∷ texts) clues other apa
     clues_kept direction towards starts texts (with_clue clues start direction text) other apart.1
     ∙ clue_kept clues start other direction towards text (and_right (same_direction direction towards) (same_cell start other) (apart_from other start apart.0))
 
--- setting clues of one direction leaves those of the other
+-- setting clues of one direction keeps those of the other
 pub clues_of_other : (direction towards : Direction) (starts : List Cell) (texts : Lines) (clues : ClueMap) (other : Cell) → same_direction direction towards ≡ false → clue_at (with_clues direction starts texts clues) other towards ≡ clue_at clues other towards
 clues_of_other direction towards [] texts clues other apart = refl
 clues_of_other direction towards (start ∷ starts) [] clues other apart = refl

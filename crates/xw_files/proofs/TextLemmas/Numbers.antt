@@ -1,4 +1,4 @@
--- Numbers of decimal digits.
+-- Decimal numbers.
 use Rattle.std.proofs.Common.{◌≡◌, ℕ, zero, suc, ◌+◌, ◌-◌, ◌*◌, ◌^◌, ◌<◌, ◌≤◌, Bool, true, List, [], ◌∷◌, length, get_or, take, pow-suc, add-one, arith}
 use Rattle.std.specs.List.{list_all}
 use Rattle.std.specs.Char.{is_ascii_digit, digit_value}
@@ -8,7 +8,7 @@ use Rattle.std.proofs.lemmas.Str.{digit_value_digit}
 use Rattle.std.proofs.lemmas.Int.Digits.{digits_value_more}
 use Rattle.xw_files.specs.Text.Shape.{is_numeral}
 
--- a decimal digit is worth its distance from 0
+-- the value of a decimal digit
 pub digit_worth : (digit : ℕ) → is_ascii_digit digit ≡ true → (48 ≤ digit) × (digit ≤ 57) × (digit_value digit + 48 ≡ digit)
 digit_worth digit is =
     let both = and_parts _ _ is in

@@ -1,20 +1,20 @@
--- The place of a light whose clue cannot be spelled, cell by cell.
+-- The index of the light whose clue cannot be written, found cell by cell.
 use Rattle.std.proofs.Common.{◌≡◌, ℕ, ◌+◌, ◌*◌, ◌<◌, ◌≤◌, Bool, true, false, not, ◌&&◌, cond, List, [], ◌∷◌, ◌++◌, length, drop, Option, Some, None, refl, sym, ap, ◌∙◌, inl, inr, arith}
 use Rattle.std.specs.Prelude.{position, option_map}
 use Rattle.std.specs.List.{flat_map, position_or_len}
 use Rattle.std.proofs.lemmas.Bool.{cases_lt, lt-ltb, le-ltb, and_parts}
 use Rattle.std.proofs.Math.Bool.{and-false}
-use Rattle.xw_cells.specs.declared.cell.Cell.{Cell}
-use Rattle.xw_cells.specs.declared.cell.Direction.{Direction}
-use Rattle.xw_cells.specs.declared.cell.Direction.TheVariants.{Across, Down}
+use Rattle.xw_grid.specs.declared.cell.Cell.{Cell}
+use Rattle.xw_grid.specs.declared.cell.Direction.{Direction}
+use Rattle.xw_grid.specs.declared.cell.Direction.TheVariants.{Across, Down}
 use Rattle.xw_grid.specs.declared.lights.Light.{Light}
-use Rattle.xw_cells.specs.Grid.{Grid, cells, cell_at}
+use Rattle.xw_grid.specs.Grid.{Grid, cells, cell_at}
 use Rattle.xw_grid.specs.Light.{begins, light_starting, lights_at, lights_of}
 use Rattle.xw_grid.specs.Clue.{ClueMap, clue_at}
 use Rattle.xw_files.specs.Text.Written.{is_clue, is_bad_clue, bad_clue, place_at}
 use Rattle.xw_files.proofs.CellLemmas.{cells_drop, cells_past}
 
--- a place so many further on
+-- the index moved up by n
 abbrev pub shifted : ℕ → Option ℕ → Option ℕ
 shifted n place = option_map (λ k. n + k) place
 
@@ -26,7 +26,7 @@ shifted_by_none : (place : Option ℕ) → shifted 0 place ≡ place
 shifted_by_none None = refl
 shifted_by_none (Some k) = ap (λ (n : ℕ). Some n) (let e : 0 + k ≡ k = omega arith in e)
 
--- the first passes, or a later one does
+-- the first element passes, or a later one does
 position_here : {X : Type 0} (p : X → Bool) (x : X) (xs : List X) → p x ≡ true → position p (x ∷ xs) ≡ Some 0
 position_here p x xs here = rw (here, lt-ltb 0 (length (x ∷ xs)) (omega arith)) refl
 
@@ -38,7 +38,7 @@ position_past p x xs away =
       | inr le ↦ rw (away, le-ltb (1 + n) (length (x ∷ xs)) (omega arith), le-ltb n (length xs) le) refl
     ]
 
--- a test of two lights that may each be there
+-- the first light that passes, at a cell that may have an across and a down light
 abbrev Tested : (Light → Bool) → Light → Light → Bool → Bool → List Light → Option ℕ → Type 0
 Tested p across down has_across has_down rest place = position p ((cond has_across (across ∷ []) [] ++ cond has_down (down ∷ []) []) ++ rest) ≡ place
 
@@ -58,7 +58,7 @@ none_bad p across down false false rest one two = sym (shifted_by_none (position
 
 -- ---- the lights that begin at a cell
 
--- whether the light that begins at a cell has a clue that cannot be spelled
+-- a light of this direction begins at the cell, and its clue cannot be written
 abbrev pub is_bad_at : Grid → ClueMap → Direction → Cell → Bool
 is_bad_at grid clues direction cell = begins grid direction cell && not (is_clue (clue_at clues cell direction))
 
@@ -77,7 +77,7 @@ none_here grid clues Down cell rest fine = none_bad (is_bad_clue Down clues) (li
 
 -- ---- the loop
 
--- so many lights begin before a cell, and what is left gives the place of the whole
+-- `before` lights begin before cell k, and the index found from there on gives the index among all lights
 pub record PlaceLeft (grid : Grid) (clues : ClueMap) (direction : Direction) (k before : ℕ) : Type 0 where
   pub few : before ≤ 2 * k
   pub place : shifted before (position (is_bad_clue direction clues) (flat_map (lights_at grid) (drop k (cells grid)))) ≡ bad_clue direction clues (lights_of grid)

@@ -1,11 +1,11 @@
--- The next line, where it is no tag line.
+-- Taking the next line if it is not a tag line.
 use Rattle.std.proofs.Common.{◌≡◌, ℕ, ◌⊎◌, List, [], ◌∷◌, Option, Some, None, refl, ap, subst, inl, inr}
 use Rattle.std.proofs.lemmas.Bool.{cases_Bool}
 use Rattle.xw_files.specs.Text.Tag.{is_tag_line}
 use Rattle.xw_files.specs.Text.Shape.{Lines, plain_at}
 use Rattle.xw_files.specs.Text.Relation.{IsPlain}
 
--- the next line was plain, or none was
+-- the next line is not a tag line, and was taken
 pub record TakesPlain (lines : Lines) (line : List ℕ) (rest : Lines) : Type 0 where
   pub parts : lines ≡ line ∷ rest
   pub plain : IsPlain line
@@ -35,12 +35,12 @@ no_plain (first ∷ lines) e =
     some_none : {A : Type 0} {x : A} → Some x ≡ None → ⊥
     some_none e = cc
 
--- which of the two an option is
+-- an option is Some or None
 pub cases_option : {A : Type 0} (o : Option A) → ((x : A) × (o ≡ Some x)) ⊎ (o ≡ None)
 cases_option None = inr refl
 cases_option (Some x) = inl (x, refl)
 
--- a line that a step wants, or its fault
+-- a line that a step requires is there or missing
 pub line_due : (lines : Lines) → ((line : List ℕ) × ((plain_at lines).0 ≡ Some line) × TakesPlain lines line (plain_at lines).1) ⊎ ((plain_at lines).0 ≡ None)
 line_due lines =
     elim (cases_option (plain_at lines).0) [

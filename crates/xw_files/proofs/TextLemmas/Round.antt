@@ -1,4 +1,4 @@
--- A puzzle that is spelled is read again.
+-- A puzzle that is spelled by lines is read from them.
 use Rattle.std.proofs.Common.{◌≡◌, ℕ, true, List, [], ◌∷◌, ◌++◌, length, Some, Result, Ok, Err, map, refl, sym, ap, ◌∙◌, arith}
 use Rattle.std.proofs.lemmas.Bool.Decides.{nat_tests}
 use Rattle.std.specs.List.{flat_map, AllByRecursion}
@@ -7,10 +7,10 @@ use Rattle.std.specs.Prelude.{codes}
 use Rattle.std.proofs.lemmas.Bool.{and_parts, eqb-true, eq-eqb, cond-true}
 use Rattle.std.proofs.lemmas.List.{length-map}
 use Rattle.xw_files.specs.declared.fault.Tag.{Tag}
-use Rattle.xw_cells.specs.declared.cell.Square.{Square}
-use Rattle.xw_cells.specs.declared.cell.Direction.{Direction}
-use Rattle.xw_cells.specs.declared.cell.Direction.TheVariants.{Across, Down}
-use Rattle.xw_cells.specs.Grid.{Grid}
+use Rattle.xw_grid.specs.declared.cell.Square.{Square}
+use Rattle.xw_grid.specs.declared.cell.Direction.{Direction}
+use Rattle.xw_grid.specs.declared.cell.Direction.TheVariants.{Across, Down}
+use Rattle.xw_grid.specs.Grid.{Grid}
 use Rattle.xw_grid.specs.Clue.{ClueMap, no_clues, clue_at}
 use Rattle.xw_files.specs.declared.fault.Tag.TheVariants as tags
 use Rattle.xw_files.specs.declared.fault.ReadFault.TheVariants as faults
@@ -18,7 +18,7 @@ use Rattle.xw_files.specs.declared.fault.ReadFault.{ReadFault}
 use Rattle.xw_files.specs.Text.Tag.{names, is_tag_line}
 use Rattle.xw_grid.specs.Puzzle.{PuzzleShown, TextsShown}
 use Rattle.xw_files.specs.Text.Starts.{starts}
-use Rattle.xw_cells.specs.Edit.{grid_of}
+use Rattle.xw_grid.specs.Edit.{grid_of}
 use Rattle.xw_files.specs.Steps.{◌>>=◌}
 use Rattle.xw_files.specs.Text.Shape.{Lines, tag_at, text_at, texts_at, sides_of, square_of, grid_at, with_clues, both_clues_at, shape}
 use Rattle.xw_files.specs.Text.Written.{clue_texts}
@@ -84,7 +84,7 @@ unfolding grid_at
 grid_again size_tag size_line grid_tag rows rest width height is_size plain is is_grid are_rows count =
     rw (tag_again tags.Size size_tag (size_line ∷ grid_tag ∷ (rows ++ rest)) is_size, size_again size_line (grid_tag ∷ (rows ++ rest)) width height plain is, tag_again tags.Grid grid_tag (rows ++ rest) is_grid, ← count, rows_again width 1 rows rest are_rows) refl
 
--- the clues that lines give, in the order in which they are set
+-- the clues of these lines, in the order in which they are set
 abbrev pub clues_read : Grid → Lines → Lines → ClueMap
 clues_read grid across down = with_clues Down (starts grid Down) down (with_clues Across (starts grid Across) across no_clues)
 
@@ -97,7 +97,7 @@ both_clues_again grid across_tag down_tag across down rest is_across is_down man
     rw (tag_again tags.Across across_tag (across ++ (down_tag ∷ (down ++ rest))) is_across, first, tag_again tags.Down down_tag (down ++ rest) is_down)
     (clues_again faults.DownCount Down (starts grid Down) down rest (with_clues Across (starts grid Across) across no_clues) many_down plain_down stops)
 
--- what was read has those clues
+-- these clues are found at their starts
 pub clues_read_across : (grid : Grid) (across down : Lines) → length across ≡ length (starts grid Across) → clue_texts Across (clues_read grid across down) grid ≡ across
 clues_read_across grid across down many =
     same_map (λ start. clue_at (clues_read grid across down) start Across) (λ start. clue_at (with_clues Across (starts grid Across) across no_clues) start Across)
@@ -107,7 +107,7 @@ clues_read_across grid across down many =
 pub clues_read_down : (grid : Grid) (across down : Lines) → length down ≡ length (starts grid Down) → clue_texts Down (clues_read grid across down) grid ≡ down
 clues_read_down grid across down many = clues_found Down (starts grid Down) down (with_clues Across (starts grid Across) across no_clues) (starts_distinct grid Down) many
 
--- a puzzle as reading gives it back
+-- the puzzle as reading returns it
 abbrev pub read_back : PuzzleShown → PuzzleShown
 read_back puzzle = record {
   grid = plain_of puzzle.grid;

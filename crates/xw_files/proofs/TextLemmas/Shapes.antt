@@ -1,9 +1,9 @@
--- How the parts of the shape go on, for the loops that read them.
+-- Steps of the loops that read rows.
 use Rattle.std.proofs.Common.{◌≡◌, ℕ, zero, suc, ◌+◌, ◌-◌, ◌*◌, ◌<◌, ◌≤◌, Bool, true, false, cond, eqb, List, [], ◌++◌, length, Option, Some, None, Result, Ok, Err, refl, sym, ap, ◌∙◌, append_assoc, length-append, arith}
 use Rattle.std.specs.Prelude.{position}
 use Rattle.std.proofs.lemmas.Bool.{eqb-true}
 use Rattle.std.proofs.lemmas.List.{length-map, append-nil}
-use Rattle.xw_cells.specs.declared.cell.Square.{Square}
+use Rattle.xw_grid.specs.declared.cell.Square.{Square}
 use Rattle.xw_files.specs.declared.fault.ReadFault.{ReadFault}
 use Rattle.xw_files.specs.declared.fault.ReadFault.TheVariants as faults
 use Rattle.xw_files.specs.Steps.{◌>>=◌}
@@ -60,7 +60,7 @@ rows_done width count above front lines whole le so_far =
     let one : with_front front (rows_at width (above + 1) (count - above) lines) ≡ Ok (front, lines) = rw left (ap (λ (squares : List Square). Ok (squares, lines)) (append-nil front)) in
     sym so_far ∙ one
 
--- a choice that went one way
+-- a test that must pass
 pub chosen : {A : Type 0} (b : Bool) (d : ReadFault) (r : Result A ReadFault) (y : A) → cond b r (Err d) ≡ Ok y → (b ≡ true) × (r ≡ Ok y)
 chosen true d r y e = (refl, e)
 chosen false d r y e = absurd cc

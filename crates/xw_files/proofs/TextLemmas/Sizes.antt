@@ -1,4 +1,4 @@
--- The line of the size.
+-- The size line.
 use Rattle.std.proofs.Common.{◌≡◌, ℕ, zero, suc, ◌+◌, ◌<◌, ◌≤◌, true, false, ◌&&◌, cond, eqb, List, [], ◌∷◌, ◌++◌, length, Option, Some, None, get_or, take, drop, refl, sym, ap, subst, ◌∙◌, inl, inr, take-append-drop, drop-cons, append_assoc, length-append, ◌-◌, arith}
 use Rattle.std.specs.Prelude.{position, decimal}
 use Rattle.std.specs.List.{AllByRecursion, list_all}
@@ -11,7 +11,7 @@ use Rattle.std.proofs.lemmas.List.Quantifiers.{position-Some}
 use Rattle.std.proofs.lemmas.Option.{cond_some}
 use Rattle.std.proofs.lemmas.Fmt.{decimal_is_IsNumeral, length-decimal-le}
 use Rattle.std.proofs.lemmas.Str.Parse.{digit_from_value}
-use Rattle.xw_letters.proofs.Position.{position_is_some}
+use Rattle.xw_text.proofs.Position.{position_is_some}
 use Rattle.xw_files.specs.Text.Lines.{is_blank, trimmed, trim_front, trim_back, before}
 use Rattle.xw_files.specs.Text.Shape.{is_numeral, is_side, side_of, is_times, both, sides_around, sides_of}
 use Rattle.xw_files.specs.Text.Relation.{AreDigitsOf, IsSizeLine}
@@ -20,9 +20,9 @@ use Rattle.xw_files.proofs.TextLemmas.Plains.{cases_option}
 use Rattle.xw_files.proofs.TextLemmas.Fine.{IsFine, fine_blank}
 use Rattle.xw_files.proofs.TextLemmas.Alls.{all_at, all_append, all_pass, pass_all}
 
--- ---- one side
+-- ---- one number
 
--- what the test of a side says
+-- what the test of one number says
 side_digits : (digits : List ℕ) (side : ℕ) → side_of digits ≡ Some side → AreDigitsOf side digits
 side_digits digits side e =
     let value = digits_value 10 digits in
@@ -45,7 +45,7 @@ digits_side digits side are =
     let answer : ℕ → Option ℕ = λ value. cond (is_numeral digits && is_side value) (Some value) None in
     ap answer are.value ∙ rw (counted, sided) refl
 
--- ---- both sides
+-- ---- both numbers
 
 some_is : {A : Type 0} (x y : A) → Some x ≡ Some y → x ≡ y
 some_is x y e = cc
@@ -79,7 +79,7 @@ sides_line line width height e =
       | inr none ↦ absurd (no_sides line (width, height) (rw none at e))
     ]
 
--- ---- an x stands in no digit and in no blank
+-- ---- no digit and no blank is an x
 
 not_times : (byte : ℕ) → is_ascii_digit byte ≡ true → is_times byte ≡ false
 not_times byte is = grind (arith, nat_tests)
@@ -123,7 +123,7 @@ middle_is : (a : List ℕ) (x : ℕ) (b : List ℕ) → get_or (a ++ x ∷ b) (l
 middle_is [] x b = refl
 middle_is (y ∷ a) x b = middle_is a x b
 
--- the first x is the one between the sides
+-- the first x is the one between the numbers
 sides_parted : (left right : List ℕ) (times width height : ℕ) → is_times times ≡ true → AreDigitsOf width (trimmed left) → AreDigitsOf height (trimmed right) → sides_of (left ++ times ∷ right) ≡ Some (width, height)
 unfolding sides_of
 sides_parted left right times width height is wide high =
@@ -141,7 +141,7 @@ sides_parted left right times width height is wide high =
 pub line_sides : (line : List ℕ) (width height : ℕ) → IsSizeLine width height line → sides_of line ≡ Some (width, height)
 line_sides line width height is = ap sides_of is.parts ∙ sides_parted is.left is.right is.times width height is.is_times is.width_there is.height_there
 
--- ---- the size as it is written
+-- ---- the size line as it is written
 
 pub record IsDigits (digits : List ℕ) : Type 0 where
   pub fine : AllByRecursion IsFine digits

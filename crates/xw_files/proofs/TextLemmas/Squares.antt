@@ -1,4 +1,4 @@
--- What the bytes of a row stand for.
+-- The squares of the bytes of a row.
 use Rattle.std.proofs.Common.{◌≡◌, ◌≢◌, ℕ, ◌+◌, ◌<◌, ◌≤◌, true, false, not, ◌||◌, eqb, cond, List, [], ◌∷◌, ◌++◌, length, Some, None, Ok, Err, map, get_or, take, refl, sym, ap, subst, ◌∙◌, append_assoc, below_more, arith}
 use Rattle.std.specs.Prelude.{position}
 use Rattle.std.proofs.lemmas.Bool.{ne_eqb}
@@ -6,14 +6,14 @@ use Rattle.std.proofs.lemmas.Bool.Decides.{nat_tests}
 use Rattle.std.proofs.lemmas.List.{take_more, take_all, map_push}
 use Rattle.std.proofs.lemmas.Option.{cond_some}
 use Rattle.xw_letters.specs.Letter.{IsLetter, is_letter, folded, letter_of}
-use Rattle.xw_letters.proofs.Position.{position_is_some, position_is_none}
-use Rattle.xw_cells.specs.declared.cell.Square.{Square}
-use Rattle.xw_cells.specs.declared.cell.Square.TheVariants.{Block, Open}
-use Rattle.xw_cells.specs.Grid.{IsSquare}
+use Rattle.xw_text.proofs.Position.{position_is_some, position_is_none}
+use Rattle.xw_grid.specs.declared.cell.Square.{Square}
+use Rattle.xw_grid.specs.declared.cell.Square.TheVariants.{Block, Open}
+use Rattle.xw_grid.specs.Grid.{IsSquare}
 use Rattle.xw_files.specs.declared.fault.ReadFault.TheVariants as faults
 use Rattle.xw_files.specs.Text.Shape.{is_bad_square, square_of, row_squares, squares_after}
 
--- a byte stands for a square
+-- the byte is this square
 pub record Stands (byte : ℕ) (square : Square) : Type 0 where
   pub good : is_bad_square byte ≡ false
   pub meaning : square_of byte ≡ square
@@ -54,7 +54,7 @@ square_good byte good =
       ]
     ] good
 
--- so many bytes were good, and these are their squares after the front
+-- the first `place` bytes are valid, and their squares are appended to `front`
 pub record SquaresTo (line : List ℕ) (place : ℕ) (front squares : List Square) : Type 0 where
   pub so_far : squares ≡ front ++ map square_of (take place line)
   pub good : (k : ℕ) → k < place → is_bad_square (get_or line k 0) ≡ false

@@ -1,13 +1,13 @@
--- What is read is spelled.
+-- What is read from lines is spelled by them.
 use Rattle.std.proofs.Common.{◌≡◌, ℕ, zero, suc, ◌+◌, true, false, eqb, List, [], ◌∷◌, ◌++◌, length, Option, Some, None, Result, Ok, Err, map, refl, sym, ap, subst, ◌∙◌, inl, inr}
 use Rattle.std.specs.Prelude.{position}
 use Rattle.std.specs.List.{flat_map, All, AllByRecursion}
 use Rattle.std.proofs.lemmas.Bool.{eqb-true}
-use Rattle.xw_letters.proofs.Position.{position-None}
-use Rattle.xw_cells.specs.declared.cell.Cell.{Cell}
-use Rattle.xw_cells.specs.declared.cell.Square.{Square}
-use Rattle.xw_cells.specs.declared.cell.Direction.{Direction}
-use Rattle.xw_cells.specs.Grid.{IsSquare}
+use Rattle.xw_text.proofs.Position.{position-None}
+use Rattle.xw_grid.specs.declared.cell.Cell.{Cell}
+use Rattle.xw_grid.specs.declared.cell.Square.{Square}
+use Rattle.xw_grid.specs.declared.cell.Direction.{Direction}
+use Rattle.xw_grid.specs.Grid.{IsSquare}
 use Rattle.xw_grid.specs.Clue.{ClueMap, with_clue}
 use Rattle.xw_files.specs.declared.fault.Tag.{Tag}
 use Rattle.xw_files.specs.declared.fault.Tag.TheVariants as tags
@@ -96,7 +96,7 @@ row_is width row line after rest squares plain e =
 no_row : (width row : ℕ) (after : Lines) (r : List Square × Lines) → cells_at width row None after ≡ Ok r → ⊥
 no_row width row after r e = cc
 
-row_takes : (width row : ℕ) (lines rest : Lines) (squares : List Square) → row_at width row lines ≡ Ok (squares, rest) → (line : List ℕ) × (lines ≡ line ∷ rest) × IsRow width line × (map square_of line ≡ squares)
+pub row_takes : (width row : ℕ) (lines rest : Lines) (squares : List Square) → row_at width row lines ≡ Ok (squares, rest) → (line : List ℕ) × (lines ≡ line ∷ rest) × IsRow width line × (map square_of line ≡ squares)
 unfolding row_at
 row_takes width row lines rest squares e =
     elim (line_due lines) [
@@ -106,7 +106,7 @@ row_takes width row lines rest squares e =
       | inr none ↦ absurd (no_row width row (plain_at lines).1 (squares, rest) (rw none at e))
     ]
 
--- so many rows were taken
+-- `count` rows were read
 pub record TakesRows (width count : ℕ) (lines rest : Lines) (squares : List Square) : Type 0 where
   pub rows : Lines
   pub parts : lines ≡ rows ++ rest
@@ -141,13 +141,13 @@ row_squares_are : (width : ℕ) (rows : Lines) → AllByRecursion (IsRow width) 
 row_squares_are width [] are = tt
 row_squares_are width (row ∷ rows) are = all_append IsSquare (map square_of row) (flat_map (map square_of) rows) (line_squares row are.0.good) (row_squares_are width rows are.1)
 
--- the rows hold letters A to Z
+-- the letters of the rows are A to Z
 pub rows_letters : (width row count : ℕ) (lines rest : Lines) (squares : List Square) → rows_at width row count lines ≡ Ok (squares, rest) → All IsSquare squares
 rows_letters width row count lines rest squares e =
     let taken = rows_take width row count lines rest squares e in
     all_at IsSquare squares (subst (AllByRecursion IsSquare) (sym taken.meaning) (row_squares_are width taken.rows taken.are))
 
--- a clue was taken for each start
+-- a clue was read for each start
 pub record TakesClues (direction : Direction) (starts : List Cell) (clues new : ClueMap) (lines rest : Lines) : Type 0 where
   pub texts : Lines
   pub parts : lines ≡ texts ++ rest

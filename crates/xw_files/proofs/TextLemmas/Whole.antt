@@ -8,9 +8,9 @@ use Rattle.std.proofs.lemmas.Bool.{ne_eqb}
 use Rattle.std.proofs.lemmas.List.{append-nil}
 use Rattle.bstr.specs.Text.{without_terminator}
 use Rattle.bstr.proofs.lemmas.LineLemmas.{lines-nil}
-use Rattle.xw_cells.specs.declared.cell.Direction.{Direction}
-use Rattle.xw_cells.specs.declared.cell.Direction.TheVariants.{Across, Down}
-use Rattle.xw_cells.specs.Grid.{Grid, IsGrid}
+use Rattle.xw_grid.specs.declared.cell.Direction.{Direction}
+use Rattle.xw_grid.specs.declared.cell.Direction.TheVariants.{Across, Down}
+use Rattle.xw_grid.specs.Grid.{Grid, IsGrid}
 use Rattle.xw_grid.specs.Clue.{ClueMap}
 use Rattle.xw_files.specs.declared.fault.Tag.{Tag}
 use Rattle.xw_files.specs.declared.fault.Tag.TheVariants as tags
@@ -26,7 +26,7 @@ use Rattle.xw_files.proofs.TextLemmas.Cuts.{IsSpelled, Shows, shows_then, header
 use Rattle.xw_files.proofs.TextLemmas.Fine.{are_letters, rows_are, fine_text}
 use Rattle.xw_files.proofs.TextLemmas.Sizes.{size_is}
 
--- what makes a puzzle one that can be written
+-- what a puzzle needs to be written
 pub record CanBeWritten (puzzle : PuzzleShown) : Type 0 where
   pub grid : IsGrid puzzle.grid
   pub no_bar : has_bar puzzle.grid ≡ false
@@ -38,7 +38,7 @@ pub record CanBeWritten (puzzle : PuzzleShown) : Type 0 where
   pub notes : are_notes puzzle.texts.notes ≡ true
   pub no_circle : circled_cells puzzle ≡ []
 
--- a text under its tag
+-- a text and its tag
 field_shows : (which : Tag) (text : List ℕ) → is_spelled text ≡ true → Shows (tag which ++ line text) (name_of which ∷ shown_text text)
 field_shows which text is = shows_then (tag which) (line text) (name_of which ∷ []) (shown_text text) (tag_shows which) (line_shows text (spelled_text text is))
 

@@ -1,4 +1,4 @@
--- How the parts of a text go on, for the loops that write them.
+-- Steps of the loops that write a text.
 use Rattle.std.proofs.Common.{◌≡◌, ℕ, suc, ◌+◌, ◌-◌, ◌*◌, ◌<◌, ◌≤◌, true, false, List, [], ◌∷◌, ◌++◌, length, Some, None, map, take, drop, refl, sym, ap, ◌∙◌, append_assoc, length-drop, ltb, arith}
 use Rattle.std.specs.Prelude.{position, OnOk, Result, Ok, Err}
 use Rattle.std.specs.List.{flat_map, position_or_len}
@@ -6,19 +6,19 @@ use Rattle.std.proofs.lemmas.List.{append-nil, take_all}
 use Rattle.std.proofs.lemmas.List.Splits.{slice_split_first, slice_split_none}
 use Rattle.std.proofs.lemmas.Bool.{ltb-true}
 use Rattle.std.proofs.lemmas.Option.{cond_some}
-use Rattle.xw_letters.proofs.Position.{position-None}
-use Rattle.xw_cells.specs.declared.cell.Cell.{Cell}
-use Rattle.xw_cells.specs.declared.cell.Direction.{Direction}
-use Rattle.xw_cells.specs.Grid.{Grid, cell_at}
+use Rattle.xw_text.proofs.Position.{position-None}
+use Rattle.xw_grid.specs.declared.cell.Cell.{Cell}
+use Rattle.xw_grid.specs.declared.cell.Direction.{Direction}
+use Rattle.xw_grid.specs.Grid.{Grid, cell_at}
 use Rattle.xw_grid.specs.Light.{begins}
 use Rattle.xw_grid.specs.Clue.{ClueMap, clue_at}
 use Rattle.xw_files.proofs.TextLemmas.Clues.{starts_after, start_here, no_start, no_more_starts}
-use Rattle.xw_cells.specs.declared.cell.Square.{Square}
+use Rattle.xw_grid.specs.declared.cell.Square.{Square}
 use Rattle.xw_files.specs.Finished.{square_byte}
-use Rattle.xw_letters.specs.Lines.{is_line_feed}
+use Rattle.xw_text.specs.Lines.{is_line_feed}
 use Rattle.xw_files.specs.Text.Written.{line, row_texts, pieces}
 
--- the clues of some starts as lines
+-- the clues at these starts, as lines
 abbrev pub clues_after : ClueMap → Direction → List Cell → List ℕ
 clues_after clues direction starts = flat_map line (map (λ start. clue_at clues start direction) starts)
 

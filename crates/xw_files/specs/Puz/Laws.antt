@@ -1,26 +1,37 @@
--- What is true of the relation between `.puz` files and puzzles.
-use Rattle.std.specs.Prelude.{◌≡◌, ℕ, List, [], ◌++◌, Ok}
-use Rattle.xw_cells.specs.Grid.{IsGrid}
+-- Laws of the relation between `.puz` files and puzzles.
+use Rattle.std.specs.Prelude.{◌≡◌, ℕ, List, [], ◌++◌, Ok, Err}
+use Rattle.xw_grid.specs.Grid.{IsGrid}
 use Rattle.xw_grid.specs.Puzzle.{PuzzleShown}
+use Rattle.xw_files.specs.declared.fault.ReadFault.{ReadFault}
 use Rattle.xw_files.specs.Part.{circled_cells, part_of}
 use Rattle.xw_files.specs.Puz.Sections.{Section, AreBytes, AreSections, HasNoGext}
 use Rattle.xw_files.specs.Puz.Board.{puzzle_at}
 use Rattle.xw_files.specs.Puz.Relation.{IsPuz}
+use Rattle.xw_files.specs.Puz.Faults.{IsFirstFault}
 use Rattle.xw_files.specs.Puz.Writing.{written}
 
--- a file belongs to puzzles of one file part alone
+-- all puzzles of one file have the same file part
 abbrev pub FilesHaveOnePart : Type 0
 FilesHaveOnePart = (bytes : List ℕ) (puzzle other : PuzzleShown) → IsPuz bytes puzzle → IsPuz bytes other → part_of puzzle ≡ part_of other
 
--- bytes can be cut into whole sections and a tail
+-- any bytes split into whole sections and a tail
 abbrev pub BytesAreCut : Type 0
 BytesAreCut = (bytes : List ℕ) → AreBytes bytes → (sections : List Section) × (tail : List ℕ) × AreSections bytes sections tail
 
--- and in one way alone
+-- and they do so in only one way
 abbrev pub CutsAreOne : Type 0
 CutsAreOne = (bytes : List ℕ) (sections others : List Section) (tail end : List ℕ) → AreSections bytes sections tail → AreSections bytes others end → (sections ≡ others) × (tail ≡ end)
 
--- What was written is read again, with a circle whatever follows, and with none whatever has no section of circles.
+-- What is written is read again as the same file part, with any bytes appended. If no open cell is circled, the
+-- appended bytes must have no GEXT section.
 abbrev pub WrittenIsRead : Type 0
 WrittenIsRead = (puzzle : PuzzleShown) (bytes tail : List ℕ) → IsGrid puzzle.grid → written puzzle ≡ Ok bytes → AreBytes (bytes ++ tail) → (circled_cells puzzle ≡ [] → HasNoGext tail) →
     (read : PuzzleShown) × (puzzle_at (bytes ++ tail) ≡ Ok read) × (part_of read ≡ part_of puzzle)
+
+-- reading stops at the first fault that holds
+abbrev pub FirstFaultIsFound : Type 0
+FirstFaultIsFound = (bytes : List ℕ) (fault : ReadFault) → AreBytes bytes → puzzle_at bytes ≡ Err fault → IsFirstFault bytes fault
+
+-- and only one fault is the first
+abbrev pub FirstFaultIsOne : Type 0
+FirstFaultIsOne = (bytes : List ℕ) (fault other : ReadFault) → IsFirstFault bytes fault → IsFirstFault bytes other → fault ≡ other

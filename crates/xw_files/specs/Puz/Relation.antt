@@ -1,4 +1,4 @@
--- When a `.puz` file and a puzzle belong together.
+-- When bytes are a `.puz` file of a puzzle.
 use Rattle.std.specs.Prelude.{◌≡◌, ℕ, ◌*◌, false, List, [], map, length, Option, Some, None}
 use Rattle.xw_grid.specs.Puzzle.{TextsShown, PuzzleShown}
 use Rattle.xw_files.specs.Part.{light_clues, circled_cells}
@@ -9,7 +9,7 @@ use Rattle.xw_files.specs.Puz.Sums.{sum_from, sums_of, HasSums}
 use Rattle.xw_files.specs.Puz.Sections.{Section, AreSections, first_gext, marked_cells}
 use Rattle.xw_files.specs.Puz.Board.{square_of}
 
--- the open cells that are circled are those that the first section named GEXT marks
+-- the open circled cells are exactly those that the first GEXT section marks
 abbrev pub AreMarked : PuzzleShown → Option Section → Type 0
 AreMarked puzzle None = circled_cells puzzle ≡ []
 AreMarked puzzle (Some section) =
@@ -18,8 +18,8 @@ AreMarked puzzle (Some section) =
 abbrev pub texts_of : Fields → TextsShown
 texts_of fields = record { title = fields.title; author = fields.author; copyright = fields.copyright; notes = fields.notes }
 
--- The bytes can be cut into a header, some bytes of it reserved, two boards, texts with a NUL each, sections
--- that stand whole and a tail; no fault holds of them; and the puzzle has no bar and is what these parts spell.
+-- The bytes split into a header with 16 reserved bytes, two boards, NUL-terminated texts, whole sections and a tail.
+-- The fields fit, the checksums are right, and the puzzle has no bar and is what these parts describe.
 pub record IsPuz (bytes : List ℕ) (puzzle : PuzzleShown) : Type 0 where
   pub fields : Fields
   pub reserved : List ℕ

@@ -1,9 +1,9 @@
--- The sections after the notes, and the circles that the one named GEXT decides about.
+-- The extra sections after the notes, and the circles in the GEXT section.
 use Rattle.std.specs.Prelude.{◌≡◌, ◌<◌, ◌^◌, ◌++◌, flat_map, filter, find, All, ℕ, zero, suc, ◌+◌, ◌*◌, true, Bool, ◌&&◌, ◌==◌, nat_eq, nat_le, nat_lt, List, [], ◌∷◌, length, take, drop, slice_index, Option, Some, None, Result, Ok, Err, if◌then◌else◌, codes}
 use Rattle.std.specs.Cmp.Lexicographic.{pointwise}
 use Rattle.byteorder.specs.Endian.{little_bytes}
-use Rattle.xw_cells.specs.declared.cell.Cell.{Cell}
-use Rattle.xw_cells.specs.Grid.{Grid, cells, cell_at, index_of, is_open}
+use Rattle.xw_grid.specs.declared.cell.Cell.{Cell}
+use Rattle.xw_grid.specs.Grid.{Grid, cells, cell_at, index_of, is_open}
 use Rattle.xw_grid.specs.Clue.{with_circle}
 use Rattle.xw_files.specs.declared.fault.ReadFault.{ReadFault}
 use Rattle.xw_files.specs.declared.fault.ReadFault.TheVariants.{GextSize, GextSum}
@@ -15,53 +15,53 @@ pub record Section : Type 0 where
   pub sum : ℕ
   pub body : List ℕ
 
--- its bytes: the name, the length, the sum, the data and a NUL
+-- the bytes of a section: name, length, checksum, data and a NUL
 abbrev pub section_bytes : Section → List ℕ
 section_bytes section = section.name ++ (little_bytes 2 (length section.body) ++ (little_bytes 2 section.sum ++ (section.body ++ 0 ∷ [])))
 
--- what has such bytes
+-- the values fit the section's byte format
 pub record FitsSection (section : Section) : Type 0 where
   pub name : length section.name ≡ 4
   pub size : length section.body < 2 ^ 16
   pub sum : section.sum < 2 ^ 16
 
--- Whole sections, one after another, and a tail that no whole section begins.
+-- The bytes are whole sections, one after another, and then a tail that does not begin with a whole section.
 pub record AreSections (bytes : List ℕ) (sections : List Section) (tail : List ℕ) : Type 0 where
   pub fit : All FitsSection sections
   pub cut : bytes ≡ flat_map section_bytes sections ++ tail
   pub end : (section : Section) (more : List ℕ) → FitsSection section → tail ≡ section_bytes section ++ more → ⊥
 
--- whether a section is named GEXT, and the first that is
+-- the section is named GEXT; and the first such section of a list
 abbrev pub is_gext : Section → Bool
 is_gext section = pointwise nat_eq section.name (codes "GEXT")
 
 abbrev pub first_gext : List Section → Option Section
 first_gext sections = find is_gext sections
 
--- bytes in which no whole section, of those that stand one after another, is named GEXT
+-- of the whole sections at the front of the bytes, none is named GEXT
 pub record HasNoGext (bytes : List ℕ) : Type 0 where
   pub sections : List Section
   pub tail : List ℕ
   pub are : AreSections bytes sections tail
   pub none : first_gext sections ≡ None
 
--- ---- found in bytes
+-- ---- sections at the front of bytes
 
 abbrev pub AreBytes : List ℕ → Type 0
 AreBytes bytes = (place : ℕ) → slice_index bytes place < 2 ^ 8
 
--- the section of so many bytes that stands at the front, and what follows it
+-- a section with `size` bytes of data at the front, and the bytes after it
 unfoldable pub section_in : ℕ → List ℕ → Section × List ℕ
 section_in size bytes = (record { name = take 4 bytes; sum = number_at 6 bytes; body = part_at 8 size bytes }, drop (9 + size) bytes)
 
--- the same, where it is whole
+-- the same, if the bytes have it whole and end it with a NUL
 unfoldable pub section_sized : ℕ → List ℕ → Option (Section × List ℕ)
 section_sized size bytes =
     if nat_lt (length bytes) (9 + size) then None
     else if slice_index bytes (8 + size) == 0 then Some (section_in size bytes)
     else None
 
--- the section that stands whole at the front, and what follows it
+-- the whole section at the front, and the bytes after it
 unfoldable pub section_at : List ℕ → Option (Section × List ℕ)
 section_at bytes = if nat_lt (length bytes) 9 then None else section_sized (number_at 4 bytes) bytes
 
@@ -69,12 +69,12 @@ abbrev pub gext_or_later : (List ℕ → Option Section) → Option (Section × 
 gext_or_later later None = None
 gext_or_later later (Some found) = if is_gext found.0 then Some found.0 else later found.1
 
--- the first section of this name among so many that stand whole one after another
+-- the first GEXT section among at most `count` whole sections at the front
 abbrev pub gext_among : ℕ → List ℕ → Option Section
 gext_among zero bytes = None
 gext_among (suc count) bytes = gext_or_later (gext_among count) (section_at bytes)
 
--- no more sections stand in bytes than there are bytes
+-- the number of bytes bounds the number of sections in them
 abbrev pub gext_in : List ℕ → Option Section
 gext_in bytes = gext_among (length bytes) bytes
 
@@ -83,15 +83,15 @@ gext_in bytes = gext_among (length bytes) bytes
 abbrev pub is_marked : ℕ → Bool
 is_marked byte = nat_le 128 byte
 
--- the open cells that bytes in reading order mark
+-- the open cells that the bytes, in reading order, mark as circled
 abbrev pub marked_cells : Grid → List ℕ → List Cell
 marked_cells grid marks = filter (λ cell. is_open grid cell && is_marked (slice_index marks (index_of grid cell))) (cells grid)
 
--- circles after that of a byte for a cell has been set
+-- the circles after one cell and its byte: an open cell is circled if the byte marks it
 abbrev pub with_mark : Grid → List Cell → Cell → ℕ → List Cell
 with_mark grid circles cell byte = if is_marked byte && is_open grid cell then with_circle circles cell true else circles
 
--- circles after those of bytes, the first of them for the cell at a place
+-- the circles after all these bytes, the first of them for the cell at index `place`
 abbrev pub with_marks : Grid → List Cell → ℕ → List ℕ → List Cell
 with_marks grid circles place [] = circles
 with_marks grid circles place (byte ∷ bytes) = with_marks grid (with_mark grid circles (cell_at grid place) byte) (place + 1) bytes

@@ -1,4 +1,4 @@
--- What the code has, as lists.
+-- The fields and sections of the code, seen as lists.
 use Rattle.std.specs.Prelude.{map}
 use Rattle.xw_files.specs.Puz.Reading as read
 use Rattle.xw_files.specs.Puz.Sections as sections

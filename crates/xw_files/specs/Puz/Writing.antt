@@ -1,10 +1,10 @@
--- What is written of a puzzle, or why it is not written.
+-- The bytes written for a puzzle, or why it is not written.
 use Rattle.std.specs.Prelude.{ℕ, ◌+◌, Bool, ◌==◌, List, [], ◌∷◌, map, length, replicate, Option, Some, None, Result, Ok, Err, if◌then◌else◌, codes}
 use Rattle.std.specs.List.{list_any}
-use Rattle.xw_cells.specs.declared.cell.Cell.{Cell}
-use Rattle.xw_cells.specs.declared.cell.Square.{Square}
-use Rattle.xw_cells.specs.declared.cell.Square.TheVariants.{Block, Open}
-use Rattle.xw_cells.specs.Grid.{Grid, cells}
+use Rattle.xw_grid.specs.declared.cell.Cell.{Cell}
+use Rattle.xw_grid.specs.declared.cell.Square.{Square}
+use Rattle.xw_grid.specs.declared.cell.Square.TheVariants.{Block, Open}
+use Rattle.xw_grid.specs.Grid.{Grid, cells}
 use Rattle.xw_grid.specs.Light.{lights_of}
 use Rattle.xw_files.specs.declared.fault.WriteFault.{WriteFault}
 use Rattle.xw_files.specs.declared.fault.WriteFault.TheVariants.{Barred, NotFilled, Field}
@@ -34,20 +34,20 @@ mark_of grid circles cell = if is_circled_open grid circles cell then 128 else 0
 abbrev pub marks_of : Grid → List Cell → List ℕ
 marks_of grid circles = map (mark_of grid circles) (cells grid)
 
--- the section named GEXT of such bytes
+-- a GEXT section with this data and its checksum
 abbrev pub gext_of : List ℕ → Section
 gext_of marks = record { name = codes "GEXT"; sum = sum_from 0 marks; body = marks }
 
 abbrev pub gext_bytes : List ℕ → List ℕ
 gext_bytes marks = section_bytes (gext_of marks)
 
--- the section of the circled open cells, where there are any
+-- the bytes of the GEXT section, or none if no open cell is circled
 abbrev pub circles_section : Grid → List Cell → List ℕ
 circles_section grid circles = if list_any (is_circled_open grid circles) (cells grid) then gext_bytes (marks_of grid circles) else []
 
 -- ---- the fields
 
--- a header that says nothing of sums
+-- a header with all checksums zero
 abbrev pub unsealed : ℕ → ℕ → ℕ → Header
 unsealed width height count = record {
   file_sum = 0;
@@ -72,7 +72,7 @@ unsealed_fields puzzle = record {
   rest = circles_section puzzle.grid puzzle.circles;
 }
 
--- the fields with their own sums in the header
+-- the fields with these checksums in the header
 abbrev pub sealed_by : Fields → Sums → Fields
 sealed_by fields sums = record fields { header = record fields.header { file_sum = sums.file; cib_sum = sums.cib; masked = masked_of sums } }
 
@@ -91,7 +91,7 @@ spelled_puzzle puzzle = file_bytes (fields_of puzzle) (replicate 16 0)
 abbrev pub has_nul : List ℕ → Bool
 has_nul text = list_any (λ byte. byte == 0) text
 
--- the first clue with a NUL, the first of them the k-th
+-- the first clue with a NUL, counting from k
 abbrev pub clue_with_nul : ℕ → List (List ℕ) → Option TextName
 clue_with_nul k [] = None
 clue_with_nul k (clue ∷ clues) = if has_nul clue then Some (Clue k) else clue_with_nul (k + 1) clues
@@ -100,7 +100,7 @@ abbrev pub or_notes : List ℕ → Option TextName → Option TextName
 or_notes notes (Some text) = Some text
 or_notes notes None = if has_nul notes then Some Notes else None
 
--- the first text with a NUL
+-- the first text with a NUL, in file order
 abbrev pub text_with_nul : PuzzleShown → Option TextName
 text_with_nul puzzle =
     if has_nul puzzle.texts.title then Some Title
@@ -116,7 +116,7 @@ abbrev pub filled_fault : PuzzleShown → Option Cell → Option WriteFault
 filled_fault puzzle (Some cell) = Some (NotFilled cell)
 filled_fault puzzle None = field_fault (text_with_nul puzzle)
 
--- the first reason for which a puzzle is not written
+-- the first reason why a puzzle is not written
 abbrev pub write_fault : PuzzleShown → Option WriteFault
 write_fault puzzle =
     if has_bar puzzle.grid then Some Barred

@@ -1,8 +1,8 @@
--- The line at which a text file leaves its shape by a fault.
+-- The line of a text file at which a read fault is reported.
 use Rattle.std.specs.Prelude.{ℕ, ◌+◌, ◌-◌, ◌==◌, ◌||◌, List, [], ◌∷◌, length, take, count_by, Option, Some, None, Result, Ok, if◌then◌else◌}
-use Rattle.xw_cells.specs.declared.cell.Direction.TheVariants.{Across, Down}
-use Rattle.xw_cells.specs.Grid.{Grid}
-use Rattle.xw_letters.specs.Lines.{is_line_feed}
+use Rattle.xw_grid.specs.declared.cell.Direction.TheVariants.{Across, Down}
+use Rattle.xw_grid.specs.Grid.{Grid}
+use Rattle.xw_text.specs.Lines.{is_line_feed}
 use Rattle.xw_files.specs.declared.fault.Tag.TheVariants as tags
 use Rattle.xw_files.specs.declared.fault.ReadFault.{ReadFault}
 use Rattle.xw_files.specs.declared.fault.ReadFault.TheVariants as faults
@@ -14,12 +14,12 @@ use Rattle.xw_files.specs.Text.Tag.{header, name_of, names, is_tag_line}
 use Rattle.xw_files.specs.Text.Starts.{starts}
 use Rattle.xw_files.specs.Text.Shape.{header_at, texts_at, grid_at}
 
--- the lines after the first of a name
+-- the lines after the first line with this name
 abbrev pub after : List ℕ → List (List ℕ) → List (List ℕ)
 after name [] = []
 after name (line ∷ lines) = if names line name then lines else after name lines
 
--- the lines from the first on that is neither blank nor one of so many that are no tag lines
+-- the lines that remain after blank lines and up to `due` other lines; a tag line always remains
 abbrev pub left_after : ℕ → List (List ℕ) → List (List ℕ)
 left_after due [] = []
 left_after due (line ∷ lines) =
@@ -27,7 +27,7 @@ left_after due (line ∷ lines) =
     else if (due == 0) || is_tag_line line then line ∷ lines
     else left_after (due - 1) lines
 
--- the tag line under which a fault is
+-- the tag line that precedes the place of a fault
 abbrev pub tag_above : ReadFault → Option (List ℕ)
 tag_above (faults.Tag tags.Title) = Some header
 tag_above (faults.Tag tags.Author) = Some (name_of tags.Title)
@@ -43,7 +43,7 @@ tag_above faults.DownCount = Some (name_of tags.Down)
 tag_above (faults.Tag tags.Notepad) = Some (name_of tags.Down)
 tag_above fault = None
 
--- the grid of a text file, whatever comes after it
+-- the grid of a text file, whatever follows it
 unfoldable pub grid_of_text : List ℕ → Result Grid ReadFault
 grid_of_text bytes = do
   a ← header_at (text_lines bytes)
@@ -51,7 +51,7 @@ grid_of_text bytes = do
   grid ← grid_at texts.1
   Ok grid.0
 
--- how many lines are due between that tag line and a fault: a text, a size, rows or clues
+-- the number of lines that the format has between that tag line and a fault: a text, a size, rows or clues
 abbrev pub lines_due : List ℕ → ReadFault → Result ℕ ReadFault
 lines_due bytes (faults.Tag tags.Author) = Ok 1
 lines_due bytes (faults.Tag tags.Copyright) = Ok 1
@@ -65,20 +65,20 @@ lines_due bytes faults.DownCount = grid_of_text bytes >>= λ grid. Ok (length (s
 lines_due bytes (faults.Tag tags.Notepad) = grid_of_text bytes >>= λ grid. Ok (length (starts grid Down))
 lines_due bytes fault = Ok 0
 
--- the lines under a tag line, or all of them
+-- the lines under a tag line, or all lines if there is none
 abbrev pub under : Option (List ℕ) → List (List ℕ) → List (List ℕ)
 under None lines = lines
 under (Some name) lines = after name lines
 
--- where the last so many of the lines of a file begin
+-- the line number at which the last `left` of `count` lines begin
 abbrev pub place_before : ℕ → ℕ → TextPlace
 place_before count left = if left == 0 then End else Line (count - left + 1)
 
--- the place after so many lines under a tag line, or after so many at the start
+-- the place after the first `due` lines under a tag line, or from the start of the file
 abbrev pub place_under : Option (List ℕ) → ℕ → List (List ℕ) → TextPlace
 place_under tag due lines = place_before (length lines) (length (left_after due (under tag lines)))
 
--- where a file leaves its shape by a fault under a tag line, or at the start
+-- the place of a fault under a tag line, or at the start of the file
 abbrev pub shape_place : List ℕ → ReadFault → Result (Option TextPlace) ReadFault
 shape_place bytes fault = lines_due bytes fault >>= λ due. Ok (Some (place_under (tag_above fault) due (file_lines bytes)))
 
@@ -86,7 +86,7 @@ abbrev tag_place : List ℕ → ReadFault → Option (List ℕ) → Result (Opti
 tag_place bytes fault None = Ok None
 tag_place bytes fault (Some tag) = shape_place bytes fault
 
--- where a text file leaves its shape by a fault that a line has
+-- the place of a fault, if it has one
 abbrev pub text_place : List ℕ → ReadFault → Result (Option TextPlace) ReadFault
 text_place bytes (faults.NulByte offset) = Ok (Some (Line (count_by is_line_feed (take offset bytes) + 1)))
 text_place bytes faults.Header = shape_place bytes faults.Header

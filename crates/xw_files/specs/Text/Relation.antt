@@ -1,10 +1,10 @@
--- Which lines spell a puzzle, stated apart from reading.
+-- Which lines are a text file of a puzzle, stated independently of the reader.
 use Rattle.std.specs.Prelude.{◌≡◌, ℕ, true, false, List, [], ◌∷◌, ◌++◌, length, map, flat_map, ◌≤◌}
 use Rattle.std.specs.Char.{is_ascii_digit}
 use Rattle.std.specs.Str.Parse.{digits_value}
 use Rattle.std.specs.List.{AllByRecursion, join_with_byte}
-use Rattle.xw_cells.specs.declared.cell.Direction.TheVariants as directions
-use Rattle.xw_cells.specs.declared.cell.Symmetry.TheVariants as kinds
+use Rattle.xw_grid.specs.declared.cell.Direction.TheVariants as directions
+use Rattle.xw_grid.specs.declared.cell.Symmetry.TheVariants as kinds
 use Rattle.xw_files.specs.declared.fault.Tag.{Tag}
 use Rattle.xw_files.specs.declared.fault.Tag.TheVariants as tags
 use Rattle.xw_files.specs.Text.Lines.{trimmed, text_lines}
@@ -18,25 +18,25 @@ use Rattle.xw_files.specs.Text.Written.{clue_texts}
 abbrev pub IsTag : Tag → List ℕ → Type 0
 IsTag tag line = names line (name_of tag) ≡ true
 
--- a line that is no tag line
+-- the line is not a tag line
 abbrev pub IsPlain : List ℕ → Type 0
 IsPlain line = is_tag_line line ≡ false
 
--- a tag, and the text in one line, or no line for an empty text
+-- the lines are a tag and one line with the text, or the tag alone if the text is empty
 abbrev pub AreText : Tag → List ℕ → Lines → Type 0
 AreText tag text [] = ⊥
 AreText tag text (first ∷ []) = IsTag tag first × (text ≡ [])
 AreText tag text (first ∷ second ∷ []) = IsTag tag first × IsPlain second × (text ≡ second)
 AreText tag text (first ∷ second ∷ third ∷ rest) = ⊥
 
--- 1 to 3 digits that write a side of 1 to 255 cells
+-- the digits, 1 to 3 of them, are the decimal value `side`, which is 1 to 255
 pub record AreDigitsOf (side : ℕ) (digits : List ℕ) : Type 0 where
   pub several : (1 ≤ length digits) × (length digits ≤ 3)
   pub each : AllByRecursion (λ byte. is_ascii_digit byte ≡ true) digits
   pub value : digits_value 10 digits ≡ side
   pub range : (1 ≤ side) × (side ≤ 255)
 
--- an x between the digits of a width and those of a height, with spaces and tabs beside it
+-- the line is the digits of the width, an `x`, and the digits of the height, with blanks allowed beside the `x`
 pub record IsSizeLine (width height : ℕ) (line : List ℕ) : Type 0 where
   pub left : List ℕ
   pub times : ℕ
@@ -46,18 +46,18 @@ pub record IsSizeLine (width height : ℕ) (line : List ℕ) : Type 0 where
   pub width_there : AreDigitsOf width (trimmed left)
   pub height_there : AreDigitsOf height (trimmed right)
 
--- a row of so many bytes, each of which stands for a square
+-- the line has `width` bytes, and each of them is a square
 pub record IsRow (width : ℕ) (line : List ℕ) : Type 0 where
   pub plain : IsPlain line
   pub wide : length line ≡ width
   pub good : AllByRecursion (λ byte. is_bad_square byte ≡ false) line
 
--- no line for empty notes, or a tag and the lines between their line feeds
+-- the lines are the notepad tag and the lines of the notes, or no lines if the notes are empty
 abbrev pub AreNotes : List ℕ → Lines → Type 0
 AreNotes notes [] = notes ≡ []
 AreNotes notes (first ∷ rest) = IsTag tags.Notepad first × (notes ≡ join_with_byte 10 rest)
 
--- the lines spell the file part of a puzzle
+-- the lines describe the file part of the puzzle
 pub record Spells (lines : Lines) (puzzle : PuzzleShown) : Type 0 where
   pub first : List ℕ
   pub title : Lines
@@ -96,10 +96,10 @@ pub record IsText (bytes : List ℕ) (puzzle : PuzzleShown) : Type 0 where
   pub no_bar : has_bar puzzle.grid ≡ false
   pub no_circle : circled_cells puzzle ≡ []
 
--- nothing in a puzzle that a text file cannot hold: no symmetry and no circle
+-- the puzzle has no symmetry and no circles, which a text file cannot hold
 abbrev pub IsBare : PuzzleShown → Type 0
 IsBare puzzle = (puzzle.grid.symmetry ≡ kinds.None) × (puzzle.circles ≡ [])
 
--- a text file has one file part
+-- all puzzles of one text file have the same file part
 abbrev pub HasOnePart : Type 0
 HasOnePart = (bytes : List ℕ) (one other : PuzzleShown) → IsText bytes one → IsText bytes other → part_of one ≡ part_of other

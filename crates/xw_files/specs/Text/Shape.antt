@@ -1,15 +1,15 @@
--- The shape of a text file: what its lines say, or the first place at which they leave the shape.
+-- Reading a text file as functions on lines: each returns what it reads and the lines after it, or the first fault.
 use Rattle.std.specs.Prelude.{ℕ, zero, suc, ◌+◌, ◌≤◌, Bool, not, ◌&&◌, ◌||◌, ◌==◌, nat_le, List, [], ◌∷◌, ◌++◌, length, take, drop, map, Option, Some, None, Result, Ok, Err, if◌then◌else◌, position}
 use Rattle.std.specs.List.{list_all, join_with_byte, prefix_len}
 use Rattle.std.specs.Char.{is_ascii_digit}
 use Rattle.std.specs.Str.Parse.{digits_value}
 use Rattle.xw_letters.specs.Letter.{is_letter, folded}
-use Rattle.xw_cells.specs.declared.cell.Cell.{Cell}
-use Rattle.xw_cells.specs.declared.cell.Square.{Square}
-use Rattle.xw_cells.specs.declared.cell.Square.TheVariants.{Block, Open}
-use Rattle.xw_cells.specs.declared.cell.Direction.{Direction}
-use Rattle.xw_cells.specs.declared.cell.Direction.TheVariants as directions
-use Rattle.xw_cells.specs.Grid.{Grid}
+use Rattle.xw_grid.specs.declared.cell.Cell.{Cell}
+use Rattle.xw_grid.specs.declared.cell.Square.{Square}
+use Rattle.xw_grid.specs.declared.cell.Square.TheVariants.{Block, Open}
+use Rattle.xw_grid.specs.declared.cell.Direction.{Direction}
+use Rattle.xw_grid.specs.declared.cell.Direction.TheVariants as directions
+use Rattle.xw_grid.specs.Grid.{Grid}
 use Rattle.xw_grid.specs.Clue.{ClueMap, no_clues, with_clue}
 use Rattle.xw_files.specs.declared.fault.Tag.{Tag}
 use Rattle.xw_files.specs.declared.fault.Tag.TheVariants as tags
@@ -20,7 +20,7 @@ use Rattle.xw_files.specs.Text.Tag.{header, name_of, names, is_tag_line}
 use Rattle.xw_grid.specs.Puzzle.{TextsShown, PuzzleShown}
 use Rattle.xw_files.specs.Steps.{◌>>=◌}
 use Rattle.xw_files.specs.Text.Starts.{starts}
-use Rattle.xw_cells.specs.Edit.{grid_of}
+use Rattle.xw_grid.specs.Edit.{grid_of}
 
 abbrev pub Lines : Type 0
 Lines = List (List ℕ)
@@ -35,7 +35,7 @@ unfoldable pub tag_at : Tag → Lines → Result Lines ReadFault
 tag_at tag [] = Err (faults.Tag tag)
 tag_at tag (line ∷ rest) = if names line (name_of tag) then Ok rest else Err (faults.Tag tag)
 
--- the next line, if it is no tag line
+-- the next line if it is not a tag line, and the lines after it
 abbrev pub plain_at : Lines → Option (List ℕ) × Lines
 plain_at [] = (None, [])
 plain_at (line ∷ rest) = if is_tag_line line then (None, line ∷ rest) else (Some line, rest)
@@ -44,7 +44,7 @@ abbrev text_of : Option (List ℕ) → List ℕ
 text_of None = []
 text_of (Some line) = line
 
--- one line or none
+-- the next line as a text, which is empty if no line is left or the next one is a tag line
 unfoldable pub text_at : Lines → Result (List ℕ × Lines) ReadFault
 text_at lines = Ok (text_of (plain_at lines).0, (plain_at lines).1)
 
@@ -67,7 +67,7 @@ is_numeral digits = (nat_le 1 (length digits) && nat_le (length digits) 3) && li
 abbrev pub is_side : ℕ → Bool
 is_side number = nat_le 1 number && nat_le number 255
 
--- the number of 1 to 255 that 1 to 3 digits write
+-- the value of 1 to 3 digits, if it is 1 to 255
 abbrev pub side_of : List ℕ → Option ℕ
 side_of digits = if is_numeral digits && is_side (digits_value 10 digits) then Some (digits_value 10 digits) else None
 
@@ -86,7 +86,7 @@ abbrev pub sides_around : List ℕ → Option ℕ → Option (ℕ × ℕ)
 sides_around line None = None
 sides_around line (Some times) = both (side_of (trimmed (take times line))) (side_of (trimmed (drop (times + 1) line)))
 
--- the two sides around an x, with blanks beside it
+-- the two numbers around the first `x`, with blanks allowed beside it
 unfoldable pub sides_of : List ℕ → Option (ℕ × ℕ)
 sides_of line = sides_around line (position is_times line)
 
@@ -106,7 +106,7 @@ size_at lines = sides_at (plain_at lines).0 (plain_at lines).1
 abbrev pub is_bad_square : ℕ → Bool
 is_bad_square byte = not ((is_letter byte || (byte == 46)) || (byte == 45))
 
--- a dot for a block, a dash for an empty cell, a letter of either case
+-- `.` is a block, `-` an empty cell, a letter of either case its upper-case letter
 abbrev pub square_of : ℕ → Square
 square_of byte = if byte == 46 then Block else if byte == 45 then Open None else Open (Some (folded byte))
 
@@ -114,11 +114,11 @@ abbrev pub squares_in : ℕ → Option ℕ → List ℕ → Result (List Square)
 squares_in row None line = Ok (map square_of line)
 squares_in row (Some place) line = Err (faults.BadCell (record { row = row; col = place + 1 }))
 
--- the squares that a line stands for, or the first byte that stands for nothing
+-- the squares of a line, or BadCell for the first byte that is not a square
 abbrev pub row_squares : ℕ → List ℕ → Result (List Square) ReadFault
 row_squares row line = squares_in row (position is_bad_square line) line
 
--- the same after squares that were there
+-- the squares read, appended to those before them
 abbrev pub squares_after : List Square → Result (List Square) ReadFault → Result (List Square) ReadFault
 squares_after front read = read >>= λ own. Ok (front ++ own)
 
@@ -129,11 +129,11 @@ cells_at width row (Some line) rest = if length line == width then (row_squares 
 unfoldable pub row_at : ℕ → ℕ → Lines → Result (List Square × Lines) ReadFault
 row_at width row lines = cells_at width row (plain_at lines).0 (plain_at lines).1
 
--- what is read after a front of its own
+-- the list read, appended to the one before it
 abbrev pub with_front : {A : Type 0} → List A → Result (List A × Lines) ReadFault → Result (List A × Lines) ReadFault
 with_front front read = read >>= λ x. Ok (front ++ x.0, x.1)
 
--- so many rows, the first one of this number
+-- `count` rows, the first of them row `row`
 unfoldable pub rows_at : ℕ → ℕ → ℕ → Lines → Result (List Square × Lines) ReadFault
 rows_at width row zero lines = Ok ([], lines)
 rows_at width row (suc count) lines = do
@@ -154,13 +154,13 @@ grid_at lines = do
 abbrev pub is_plain : List ℕ → Bool
 is_plain line = not (is_tag_line line)
 
--- the clues with a text for each of some cells
+-- the clues after the clue at each start is set to the text at the same index
 abbrev pub with_clues : Direction → List Cell → Lines → ClueMap → ClueMap
 with_clues direction [] texts clues = clues
 with_clues direction (start ∷ starts) [] clues = clues
 with_clues direction (start ∷ starts) (text ∷ texts) clues = with_clues direction starts texts (with_clue clues start direction text)
 
--- a line for each of the lights that begin at these cells, and no further one before the next tag line or the end
+-- one line for each of these starts; the fault if the next tag line or the end comes earlier or later
 unfoldable pub clues_at : ReadFault → Direction → List Cell → ClueMap → Lines → Result (ClueMap × Lines) ReadFault
 clues_at fault direction starts clues lines =
     if prefix_len is_plain lines == length starts then Ok (with_clues direction starts (take (length starts) lines) clues, drop (length starts) lines) else Err fault
@@ -169,7 +169,7 @@ abbrev pub clue_in : ReadFault → Direction → Cell → ClueMap → Option (Li
 clue_in fault direction start clues None rest = Err fault
 clue_in fault direction start clues (Some line) rest = Ok (with_clue clues start direction line, rest)
 
--- the line of one light
+-- the next line as the clue of the light at this start
 unfoldable pub clue_at_start : ReadFault → Direction → Cell → ClueMap → Lines → Result (ClueMap × Lines) ReadFault
 clue_at_start fault direction start clues lines = clue_in fault direction start clues (plain_at lines).0 (plain_at lines).1
 
@@ -186,7 +186,7 @@ unfoldable pub notes_at : Lines → Result (List ℕ) ReadFault
 notes_at [] = Ok []
 notes_at (line ∷ rest) = if names line (name_of tags.Notepad) then Ok (join_with_byte 10 rest) else Err (faults.Tag tags.Notepad)
 
--- ---- all of it
+-- ---- the whole file
 
 unfoldable pub shape : Lines → Result PuzzleShown ReadFault
 shape lines = do

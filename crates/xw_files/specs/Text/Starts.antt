@@ -1,16 +1,16 @@
--- Where the lights of a direction begin.
+-- The cells at which the lights of a direction begin.
 use Rattle.std.specs.Prelude.{List, [], ◌∷◌, flat_map, if◌then◌else◌}
-use Rattle.xw_cells.specs.declared.cell.Cell.{Cell}
-use Rattle.xw_cells.specs.declared.cell.Direction.{Direction}
+use Rattle.xw_grid.specs.declared.cell.Cell.{Cell}
+use Rattle.xw_grid.specs.declared.cell.Direction.{Direction}
 use Rattle.xw_grid.specs.declared.lights.Light.{Light}
-use Rattle.xw_cells.specs.Grid.{Grid}
+use Rattle.xw_grid.specs.Grid.{Grid}
 use Rattle.xw_grid.specs.Light.{lights_of, same_direction}
 
--- where a light begins, if it has the direction
+-- the start of a light, if it has this direction
 abbrev pub start_in : Direction → Light → List Cell
 start_in direction light = if same_direction light.name.direction direction then light.start ∷ [] else []
 
--- where the lights of a direction begin, in light order
+-- the starts of the lights of this direction, in light order
 abbrev pub starts_in : Direction → List Light → List Cell
 starts_in direction lights = flat_map (start_in direction) lights
 

@@ -1,14 +1,14 @@
--- The one text of a puzzle, or why it has none.
+-- The text written for a puzzle, or why it is not written.
 use Rattle.std.specs.Prelude.{◌≡◌, ◌≢◌, ℕ, zero, suc, ◌+◌, ◌-◌, Bool, false, not, ◌&&◌, ◌||◌, ◌==◌, List, [], ◌∷◌, ◌++◌, length, map, take, drop, Option, Some, None, Result, Ok, Err, if◌then◌else◌, position, slice_get, flat_map, find, decimal}
 use Rattle.std.specs.List.{list_all, list_any, slice_split}
-use Rattle.xw_letters.specs.Lines.{is_line_feed}
-use Rattle.xw_cells.specs.declared.cell.Cell.{Cell}
-use Rattle.xw_cells.specs.declared.cell.Square.{Square}
-use Rattle.xw_cells.specs.declared.cell.Direction.{Direction}
-use Rattle.xw_cells.specs.declared.cell.Direction.TheVariants as directions
-use Rattle.xw_cells.specs.declared.cell.Direction.TheVariants.{Across, Down}
+use Rattle.xw_text.specs.Lines.{is_line_feed}
+use Rattle.xw_grid.specs.declared.cell.Cell.{Cell}
+use Rattle.xw_grid.specs.declared.cell.Square.{Square}
+use Rattle.xw_grid.specs.declared.cell.Direction.{Direction}
+use Rattle.xw_grid.specs.declared.cell.Direction.TheVariants as directions
+use Rattle.xw_grid.specs.declared.cell.Direction.TheVariants.{Across, Down}
 use Rattle.xw_grid.specs.declared.lights.Light.{Light}
-use Rattle.xw_cells.specs.Grid.{Grid, cells}
+use Rattle.xw_grid.specs.Grid.{Grid, cells}
 use Rattle.xw_grid.specs.Light.{begins, lights_of, same_direction}
 use Rattle.xw_grid.specs.Clue.{ClueMap, clue_at}
 use Rattle.xw_files.specs.declared.fault.Tag.{Tag}
@@ -24,7 +24,7 @@ use Rattle.xw_files.specs.Part.{is_circled_open}
 use Rattle.xw_files.specs.Finished.{has_bar, empty_cell, square_byte}
 use Rattle.xw_files.specs.Text.Starts.{starts}
 
--- ---- what can be spelled
+-- ---- which texts can be written
 
 abbrev pub is_line_end : ℕ → Bool
 is_line_end byte = ((byte == 0) || (byte == 10)) || (byte == 13)
@@ -33,7 +33,7 @@ abbrev pub is_blank_at : Option ℕ → Bool
 is_blank_at None = false
 is_blank_at (Some byte) = is_blank byte
 
--- whether a text can stand in a line of its own
+-- the text can be written on one line
 unfoldable pub is_spelled : List ℕ → Bool
 is_spelled text = not (list_any is_line_end text) && not (is_blank_at (slice_get text 0)) && not (is_blank_at (slice_get text (length text - 1))) && not (is_tag_line text)
 
@@ -51,11 +51,11 @@ are_notes notes = (length notes == 0) || list_all is_clue (pieces notes)
 abbrev pub is_bad_clue : Direction → ClueMap → Light → Bool
 is_bad_clue direction clues light = same_direction light.name.direction direction && not (is_clue (clue_at clues light.start direction))
 
--- the place of the first light of a direction whose clue cannot be spelled
+-- the index of the first light of a direction whose clue cannot be written
 abbrev pub bad_clue : Direction → ClueMap → List Light → Option ℕ
 bad_clue direction clues lights = position (is_bad_clue direction clues) lights
 
--- how many lights begin at a cell before the one of a direction
+-- how many lights begin at a cell before the one of this direction
 abbrev pub place_at : Grid → Direction → Cell → ℕ
 place_at grid Across cell = 0
 place_at grid Down cell = if begins grid Across cell then 1 else 0
@@ -64,7 +64,7 @@ abbrev pub named_clue : Option ℕ → Option TextName → Option TextName
 named_clue (Some place) other = Some (fields.Clue (place + 1))
 named_clue None other = other
 
--- the first text that cannot be spelled
+-- the first text that cannot be written
 unfoldable pub bad_field : PuzzleShown → Option TextName
 bad_field puzzle =
     if not (is_spelled puzzle.texts.title) then Some fields.Title
@@ -75,7 +75,7 @@ bad_field puzzle =
 
 -- ---- the text
 
--- a line of text, and one that is a tag
+-- a line that is indented by a tab, and a tag line
 abbrev pub line : List ℕ → List ℕ
 line text = 9 ∷ text ++ 10 ∷ []
 
@@ -85,7 +85,7 @@ tag_line name = name ++ 10 ∷ []
 abbrev pub tag : Tag → List ℕ
 tag which = tag_line (name_of which)
 
--- so many rows of squares as text
+-- the squares of each row as text
 unfoldable pub row_texts : ℕ → ℕ → List Square → List (List ℕ)
 row_texts width zero squares = []
 row_texts width (suc count) squares = map square_byte (take width squares) ∷ row_texts width count (drop width squares)
@@ -116,7 +116,7 @@ notes_text (byte ∷ notes) = tag tags.Notepad ++ flat_map line (pieces (byte �
 unfoldable pub texted : PuzzleShown → List ℕ
 texted puzzle = tag_line header ++ texts_text puzzle.texts ++ grid_text puzzle.grid ++ clues_text puzzle.clues puzzle.grid ++ notes_text puzzle.texts.notes
 
--- ---- faults in their order, and then the text
+-- ---- the faults in order, and otherwise the text
 
 abbrev pub unless_circled : Option Cell → List ℕ → Result (List ℕ) WriteFault
 unless_circled (Some cell) text = Err (faults.Circled cell)
@@ -136,7 +136,7 @@ written puzzle =
     else unless_empty (empty_cell puzzle.grid)
     (unless_field (bad_field puzzle) (unless_circled (find (is_circled_open puzzle.grid puzzle.circles) (cells puzzle.grid)) (texted puzzle)))
 
--- What a function returned is what writing gives, unless memory ran out.
+-- The code's result, seen through view, equals the specified result, unless it is Memory.
 abbrev pub Writes : {X : Type 0} → (X → List ℕ) → Result X WriteFault → Result (List ℕ) WriteFault → Type 0
 Writes view (Ok x) answer = answer ≡ Ok (view x)
 Writes view (Err e) answer = e ≢ faults.Memory → answer ≡ Err e

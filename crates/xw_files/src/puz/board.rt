@@ -1,17 +1,17 @@
-//! The solution board.
+//! Reads the solution board.
 ghost use Rattle.std.specs.Prelude.{◌≡◌, ◌≤◌, ◌<◌, ◌*◌, length};
-ghost use Rattle.xw_cells.specs.Grid.{cell_in};
+ghost use Rattle.xw_grid.specs.Grid.{cell_in};
 ghost use Rattle.xw_files.specs.Puz.Board.{square_of, squares_at, board_grid, grid_of_puz};
 ghost use Rattle.xw_files.specs.Steps.{GivesOrLacksMemory};
 
 use crate::fault::{Piece, ReadFault};
 use crate::puz::header::{self, HEADER_LENGTH, Header};
 use std::alloc::Global;
-use xw_cells::cell::{Cell, Square};
-use xw_cells::grid::Grid;
+use xw_grid::cell::{Cell, Square};
+use xw_grid::grid::Grid;
 use xw_letters::letter::Letter;
 
-/// The square that a byte stands for.
+/// Returns the square of a byte, or `None` if the byte is not a square.
 fn square_of(byte: u8) -> Option<Square>
     ensures { result ≡ square_of byte }
 {
@@ -22,7 +22,7 @@ fn square_of(byte: u8) -> Option<Square>
     }
 }
 
-/// The cell at a place in reading order.
+/// Returns the cell at an index in reading order.
 fn cell_in(width: u8, index: usize) -> Cell
     requires wide { 1 ≤ width }
     requires few { index < 65025 }
@@ -35,7 +35,7 @@ fn cell_in(width: u8, index: usize) -> Cell
     }
 }
 
-/// The squares that bytes stand for.
+/// Returns the squares of a board. Returns `BadCell` for the first byte that is not a square.
 fn squares_of(alloc: Global, width: u8, bytes: &[u8]) -> Result<Vec<Square>, ReadFault>
     requires wide { 1 ≤ width }
     requires few { length bytes.now ≤ 65025 }
@@ -51,21 +51,21 @@ fn squares_of(alloc: Global, width: u8, bytes: &[u8]) -> Result<Vec<Square>, Rea
     Ok(squares)
 }
 
-/// The grid that the solution board makes.
+/// Returns the grid of a solution board.
 pub fn grid_of(alloc: Global, header: &Header, solution: &[u8]) -> Result<Grid, ReadFault>
     requires wide { 1 ≤ header.now.width }
     requires high { 1 ≤ header.now.height }
     requires solution { length solution.now ≡ header.now.width * header.now.height }
     ensures { GivesOrLacksMemory (λ grid. grid) result (board_grid header.now solution.now) }
 {
-    // No board has more cells than `cell_count` says, so that each has a row and a column.
+    // `cell_count` does nothing more here; its contract bounds the number of cells for `squares_of`.
     let _ = header.cell_count();
     let squares = squares_of(alloc, header.width, solution)?;
     let (width, height) = (u32::from(header.width), u32::from(header.height));
     Ok(Grid::of_squares(alloc, width, height, squares)?)
 }
 
-/// The grid of a file, whatever comes after its boards.
+/// Returns the grid of a file, read from its header and solution board alone. Returns the first fault of these.
 pub fn grid_of_puz(alloc: Global, bytes: &[u8]) -> Result<Grid, ReadFault>
     ensures { GivesOrLacksMemory (λ grid. grid) result (grid_of_puz bytes.now) }
 {

@@ -1,4 +1,4 @@
-//! The section that circles are written as.
+//! Writes the GEXT section, which holds the circles.
 ghost use Rattle.std.specs.Prelude.{◌≡◌, ◌==◌, ◌<◌, ◌^◌, length, IfOk};
 ghost use Rattle.std.specs.List.{list_any};
 ghost use Rattle.xw_files.specs.Puz.Writing.{mark_of, marks_of, gext_bytes, circles_section};
@@ -8,11 +8,11 @@ use crate::puz::sections::CIRCLED;
 use crate::puz::spell::{push_number, push_text};
 use crate::puz::sums::sum_from;
 use std::alloc::{AllocError, Global};
-use xw_cells::cell::Cell;
-use xw_cells::grid::Grid;
+use xw_grid::cell::Cell;
 use xw_grid::circles::Circles;
+use xw_grid::grid::Grid;
 
-/// The section of the circled open cells, where there are any.
+/// Returns the GEXT section, or no bytes if no open cell is circled.
 pub fn circles_section(alloc: Global, grid: &Grid, circles: &Circles) -> Result<Vec<u8>, AllocError>
     ensures { IfOk result (λ bytes. bytes.items ≡ circles_section grid.now circles.now) }
 {
@@ -30,7 +30,7 @@ fn has_mark(marks: &[u8]) -> bool
     marks.iter().any(|mark| *mark == CIRCLED)
 }
 
-/// A byte for each cell, with a bit set where an open one is circled.
+/// Returns one byte for each cell, with the circle bit set if the cell is open and circled.
 fn marks_of(alloc: Global, grid: &Grid, circles: &Circles) -> Result<Vec<u8>, AllocError>
     ensures marks { IfOk result (λ marks. marks.items ≡ marks_of grid.now circles.now) }
     ensures few { IfOk result (λ marks. length marks.items < 2 ^ 16) }
@@ -52,7 +52,7 @@ fn mark_of(grid: &Grid, circles: &Circles, cell: Cell) -> u8
     }
 }
 
-/// A section named GEXT.
+/// Returns the bytes of a GEXT section with this data.
 fn gext_of(alloc: Global, marks: &[u8]) -> Result<Vec<u8>, AllocError>
     requires { length marks.now < 2 ^ 16 }
     ensures { IfOk result (λ bytes. bytes.items ≡ gext_bytes marks.now) }

@@ -1,4 +1,4 @@
-//! The fields of a whole file.
+//! Cuts a `.puz` file into its fields.
 ghost use Rattle.std.specs.Prelude.{◌≡◌, ◌*◌, ◌≤◌, length, map};
 ghost use Rattle.xw_files.specs.Puz.Reading.{cell_count, clues_at, texts_at, boards_at, fields_at};
 ghost use Rattle.xw_files.specs.Steps.{GivesOrLacksMemory};
@@ -9,7 +9,7 @@ use crate::puz::header::{HEADER_LENGTH, Header};
 use crate::puz::{header, text};
 use std::alloc::Global;
 
-/// What a file says, field by field, and the bytes after the notes.
+/// The fields of a file. `rest` is everything after the notes.
 #[derive(Drop)]
 pub struct Fields<'a> {
     pub header: Header,
@@ -23,7 +23,7 @@ pub struct Fields<'a> {
     pub rest: &'a [u8],
 }
 
-/// The clues at the front, and the bytes after them.
+/// Splits `count` clues from the front of the bytes. Returns `NoNul` for the first clue without a NUL.
 fn clues_of<'a>(
     alloc: Global,
     count: u16,
@@ -41,7 +41,7 @@ fn clues_of<'a>(
     Ok((clues, rest))
 }
 
-/// The texts after the boards.
+/// Splits the texts that follow the boards into fields.
 fn texts_of<'a>(
     alloc: Global,
     header: Header,
@@ -69,7 +69,7 @@ fn texts_of<'a>(
     })
 }
 
-/// The fields of a file.
+/// Cuts a file into its fields. Returns the first fault of the header, of the length of the boards, or of the texts.
 pub fn fields_of(alloc: Global, bytes: &[u8]) -> Result<Fields<'_>, ReadFault>
     ensures { GivesOrLacksMemory view result (fields_at bytes.entry.now) }
 {
@@ -82,7 +82,7 @@ pub fn fields_of(alloc: Global, bytes: &[u8]) -> Result<Fields<'_>, ReadFault>
     boards_of(alloc, header, cells, rest)
 }
 
-/// The two boards of so many cells, and the texts.
+/// Splits the two boards, and then the texts, from the bytes after the header.
 fn boards_of(
     alloc: Global,
     header: Header,

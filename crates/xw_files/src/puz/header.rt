@@ -1,4 +1,4 @@
-//! The header of a file.
+//! The header of a `.puz` file.
 ghost use Rattle.std.specs.Prelude.{◌≡◌, ◌≤◌, ◌/◌, ◌%◌, length};
 ghost use Rattle.xw_files.specs.Puz.Reading.{cell_count, has_magic, header_at, sized_header_at};
 ghost use Rattle.xw_files.specs.Puz.Spelling.{cib_bytes};
@@ -6,10 +6,10 @@ ghost use Rattle.xw_files.specs.Puz.Spelling.{cib_bytes};
 use crate::fault::{Piece, ReadFault};
 use byteorder::{ByteOrder, LittleEndian};
 
-/// The length of the header.
+/// The length of the header in bytes.
 pub const HEADER_LENGTH: usize = 52;
 
-/// What the header says.
+/// The values of the header.
 #[derive(Clone, Copy, Debug, PartialEq, Eq)]
 pub struct Header {
     pub file_sum: u16,
@@ -22,7 +22,7 @@ pub struct Header {
 }
 
 impl Header {
-    /// How many cells there are.
+    /// Returns the number of cells.
     pub fn cell_count(&self) -> usize
         ensures count { result ≡ cell_count self.now }
         ensures small { result ≤ 65025 }
@@ -31,14 +31,14 @@ impl Header {
     }
 }
 
-/// Whether the magic stands where a file has it.
+/// Returns whether the bytes have the magic at its offset.
 pub fn has_magic(bytes: &[u8]) -> bool
     ensures { result ≡ has_magic bytes.now }
 {
     bytes.len() >= 0x0E && &bytes[0x02..0x0E] == b"ACROSS&DOWN\0".as_slice()
 }
 
-/// The header at the front of a file.
+/// Reads the header. Returns the first fault in the order `Short`, `Magic`, `Version`, `Scrambled`, `Size`.
 #[tactic(auto, unfolding(crate::specs::Puz::Reading::header_at))]
 pub fn header_of(bytes: &[u8]) -> Result<Header, ReadFault>
     ensures { result ≡ header_at bytes.now }
@@ -58,7 +58,7 @@ pub fn header_of(bytes: &[u8]) -> Result<Header, ReadFault>
     sized_header_of(bytes)
 }
 
-/// The header of a file of this magic and version that is not scrambled.
+/// Reads the values of a header whose magic, version and scrambled tag are already checked.
 #[tactic(auto, unfolding(crate::specs::Puz::Reading::sized_header_at))]
 fn sized_header_of(bytes: &[u8]) -> Result<Header, ReadFault>
     requires { 52 ≤ length bytes.now }
@@ -82,7 +82,7 @@ fn sized_header_of(bytes: &[u8]) -> Result<Header, ReadFault>
     })
 }
 
-/// The bytes that the CIB sum goes over.
+/// Returns the bytes covered by the CIB checksum.
 pub fn cib_bytes(header: &Header) -> [u8; 8]
     ensures { result ≡ cib_bytes header.now }
 {

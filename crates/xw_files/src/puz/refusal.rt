@@ -1,20 +1,20 @@
-//! Why a puzzle is not written; none of it takes memory.
+//! Decides whether a puzzle can be written as `.puz`, without allocating.
 ghost use Rattle.std.specs.Prelude.{◌≡◌, ◌+◌, ◌≤◌, ◌++◌, List, map, Some, IfOk, IfErr};
 ghost use Rattle.xw_grid.specs.declared.lights.Light.{Light};
-ghost use Rattle.xw_cells.specs.Grid.{IsGrid};
+ghost use Rattle.xw_grid.specs.Grid.{IsGrid};
 ghost use Rattle.xw_grid.specs.Light.{light_from, lights_at, lights_of};
 ghost use Rattle.xw_grid.specs.Puzzle.{puzzle_view, clue_of};
 ghost use Rattle.xw_files.specs.Puz.Writing.{has_nul, clue_with_nul, text_with_nul, write_fault};
 
 use crate::fault::{TextName, WriteFault};
 use crate::finished::{empty_cell, has_bar};
-use xw_cells::cell::{Cell, Direction};
-use xw_cells::grid::Grid;
+use xw_grid::cell::{Cell, Direction};
 use xw_grid::clues::Clues;
+use xw_grid::grid::Grid;
 use xw_grid::lights;
 use xw_grid::puzzle::Puzzle;
 
-/// The first reason for which a puzzle is not written.
+/// Returns the first fault that applies, in the order `Barred`, `NotFilled`, `Field`.
 pub fn fault_of(puzzle: &Puzzle) -> Option<WriteFault>
     ensures fault { result ≡ write_fault (puzzle_view puzzle.now) }
     ensures grid { IsGrid puzzle.now.grid }
@@ -30,7 +30,7 @@ pub fn fault_of(puzzle: &Puzzle) -> Option<WriteFault>
     Some(WriteFault::Field(text_with_nul(puzzle)?))
 }
 
-/// The first text with a NUL, in the order of the file.
+/// Returns the first text with a NUL, in file order.
 fn text_with_nul(puzzle: &Puzzle) -> Option<TextName>
     ensures { result ≡ text_with_nul (puzzle_view puzzle.now) }
 {
@@ -56,7 +56,7 @@ fn has_nul(text: &[u8]) -> bool
     text.iter().any(|byte| *byte == 0)
 }
 
-/// The first clue with a NUL, in light order.
+/// Returns the first clue with a NUL, in light order.
 fn clue_with_nul(grid: &Grid, clues: &Clues) -> Option<TextName>
     ensures { result ≡ clue_with_nul 1 (map (clue_of clues.now) (lights_of grid.now)) }
 {
@@ -70,7 +70,7 @@ fn clue_with_nul(grid: &Grid, clues: &Clues) -> Option<TextName>
     None
 }
 
-/// The place after the lights that begin at a cell, unless the clue of one has a NUL.
+/// Returns the position after the lights that begin at a cell, or the first of their clues with a NUL.
 fn pass_cell(grid: &Grid, clues: &Clues, cell: Cell, place: usize) -> Result<usize, TextName>
     requires { place ≤ 131072 }
     ensures passed { IfOk result (λ next. (lights : List Light) → clue_with_nul place (map (clue_of clues.now) (lights_at grid.now cell ++ lights)) ≡ clue_with_nul next (map (clue_of clues.now) lights)) }
@@ -81,7 +81,7 @@ fn pass_cell(grid: &Grid, clues: &Clues, cell: Cell, place: usize) -> Result<usi
     pass_light(grid, clues, Direction::Down, cell, place)
 }
 
-/// The place after the light that begins at a cell in a direction, if one does, unless its clue has a NUL.
+/// Returns the position after the light of a direction that begins at a cell, if any, or its clue if that has a NUL.
 fn pass_light(
     grid: &Grid,
     clues: &Clues,

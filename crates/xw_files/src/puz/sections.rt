@@ -1,4 +1,4 @@
-//! Sections after the notes, and the circles of the one named GEXT.
+//! Reads the extra sections after the notes, and the circles in the GEXT section.
 ghost use Rattle.std.specs.Prelude.{◌≡◌, ◌≤◌, ◌<◌, ◌+◌, ◌*◌, ◌^◌, length, [], option_map, IfOk, OnOk, IsOkUnless};
 ghost use Rattle.xw_files.specs.Puz.Sections.{section_at, section_sized, section_in, is_gext, gext_in, with_mark, with_marks, circles_by};
 ghost use Rattle.xw_files.specs.declared.fault.ReadFault.TheVariants as faults;
@@ -9,20 +9,21 @@ use crate::fault::ReadFault;
 use crate::puz::sums::sum_from;
 use byteorder::{ByteOrder, LittleEndian};
 use std::alloc::Global;
-use xw_cells::cell::Cell;
-use xw_cells::grid::Grid;
+use xw_grid::cell::Cell;
 use xw_grid::circles::Circles;
+use xw_grid::grid::Grid;
 
-/// How many bytes of a section stand before its data.
+/// The number of bytes of a section before its data.
 const SECTION_HEADER: usize = 8;
 
-/// How many bytes a section has besides its data.
+/// The number of bytes of a section without its data.
 const SECTION_LEAST: usize = SECTION_HEADER + 1;
 
-/// The bit of a section's byte that says that a cell is circled; no other bit is higher.
+/// The bit of a GEXT byte that marks a circled cell. It is the highest bit, so a byte has it exactly if it is at least
+/// this value.
 pub const CIRCLED: u8 = 0x80;
 
-/// A section with the sum that it gives of its data.
+/// A section, with the checksum that it states for its data.
 #[derive(Clone, Copy)]
 pub struct Section<'a> {
     pub name: &'a [u8],
@@ -30,9 +31,9 @@ pub struct Section<'a> {
     pub body: &'a [u8],
 }
 
-/// The section that stands whole at the front, and the bytes after it.
+/// Splits the first whole section from the bytes. Returns `None` if there is no whole section at the front.
 #[tactic(auto, unfolding(crate::specs::Puz::Sections::section_at))]
-fn section_of(bytes: &[u8]) -> Option<(Section<'_>, &[u8])>
+pub fn section_of(bytes: &[u8]) -> Option<(Section<'_>, &[u8])>
     ensures { option_map (λ found. (section_view found.0, found.1.now)) result ≡ section_at bytes.now }
 {
     if bytes.len() < SECTION_LEAST {
@@ -41,7 +42,7 @@ fn section_of(bytes: &[u8]) -> Option<(Section<'_>, &[u8])>
     section_sized(usize::from(LittleEndian::read_u16(&bytes[4..])), bytes)
 }
 
-/// The section of so many bytes at the front, if it stands there whole.
+/// Splits a section with `size` bytes of data from the bytes, if it is whole.
 #[tactic(auto, unfolding(crate::specs::Puz::Sections::section_sized))]
 fn section_sized(size: usize, bytes: &[u8]) -> Option<(Section<'_>, &[u8])>
     requires { size < 2 ^ 16 }
@@ -56,7 +57,7 @@ fn section_sized(size: usize, bytes: &[u8]) -> Option<(Section<'_>, &[u8])>
     Some(section_in(size, bytes))
 }
 
-/// The section of so many bytes at the front.
+/// Splits a section with `size` bytes of data from bytes that have it whole.
 #[tactic(auto, unfolding(crate::specs::Puz::Sections::section_in))]
 fn section_in(size: usize, bytes: &[u8]) -> (Section<'_>, &[u8])
     requires { 9 + size ≤ length bytes.now }
@@ -70,7 +71,7 @@ fn section_in(size: usize, bytes: &[u8]) -> (Section<'_>, &[u8])
     (Section { name, sum, body }, rest)
 }
 
-/// The first section named GEXT. Each section takes bytes, so there are no more of them than bytes.
+/// Returns the first section named GEXT. The loop runs at most once per byte, because every section has bytes.
 fn gext_of(bytes: &[u8]) -> Option<Section<'_>>
     ensures { option_map section_view result ≡ gext_in bytes.entry.now }
 {
@@ -91,7 +92,8 @@ fn is_gext(section: &Section<'_>) -> bool
     section.name == b"GEXT".as_slice()
 }
 
-/// The circles that the sections decide about.
+/// Returns the circles of the GEXT section, and no circles if there is none. Returns `GextSize` if its length differs
+/// from the number of cells, and then `GextSum` if its checksum is wrong.
 pub fn circles_of(alloc: Global, grid: &Grid, bytes: &[u8]) -> Result<Circles, ReadFault>
     ensures { GivesOrLacksMemory (λ circles. circles) result (circles_by grid.now (gext_in bytes.now)) }
 {
@@ -107,7 +109,7 @@ pub fn circles_of(alloc: Global, grid: &Grid, bytes: &[u8]) -> Result<Circles, R
     marked(alloc, grid, section.body)
 }
 
-/// The open cells of which bytes say that they are circled.
+/// Returns the open cells whose bytes have the circle bit.
 fn marked(alloc: Global, grid: &Grid, bytes: &[u8]) -> Result<Circles, ReadFault>
     requires { length bytes.now ≡ grid.now.width * grid.now.height }
     ensures ok { IfOk result (λ circles. circles ≡ with_marks grid.now [] 0 bytes.now) }
@@ -120,7 +122,7 @@ fn marked(alloc: Global, grid: &Grid, bytes: &[u8]) -> Result<Circles, ReadFault
     Ok(circles)
 }
 
-/// Circles an open cell where its byte says so.
+/// Circles an open cell if its byte has the circle bit.
 fn mark(circles: &mut Circles, grid: &Grid, cell: Cell, byte: u8) -> Result<(), ReadFault>
     ensures ok { OnOk result (circles.new ≡ with_mark grid.now circles.old cell byte) }
     ensures memory { IsOkUnless result faults.Memory }

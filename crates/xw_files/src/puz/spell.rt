@@ -1,4 +1,4 @@
-//! The bytes of fields.
+//! Writes the fields of a file as bytes.
 ghost use Rattle.std.specs.Prelude.{◌≡◌, ◌++◌, [], map, replicate, OnOk, IfOk};
 ghost use Rattle.byteorder.specs.Endian.{little_bytes};
 ghost use Rattle.xw_files.specs.Puz.Spelling.{file_bytes, texts_bytes, header_bytes, ended, with_nuls};
@@ -9,7 +9,7 @@ use crate::puz::header::{self, Header};
 use byteorder::{ByteOrder, LittleEndian};
 use std::alloc::{AllocError, Global};
 
-/// The bytes of fields.
+/// Returns the bytes of a whole file.
 pub fn spell(alloc: Global, fields: &Fields<'_>) -> Result<Vec<u8>, AllocError>
     ensures { IfOk result (λ bytes. bytes.items ≡ file_bytes (view fields.now) (replicate 16 0)) }
 {
@@ -19,7 +19,7 @@ pub fn spell(alloc: Global, fields: &Fields<'_>) -> Result<Vec<u8>, AllocError>
     Ok(out)
 }
 
-/// Adds a number of 16 bits at the end.
+/// Appends a little-endian 16-bit number.
 pub fn push_number(out: &mut Vec<u8>, number: u16) -> Result<(), AllocError>
     ensures { OnOk result (out.new.items ≡ out.old.items ++ little_bytes 2 number) }
 {
@@ -28,7 +28,7 @@ pub fn push_number(out: &mut Vec<u8>, number: u16) -> Result<(), AllocError>
     out.extend_from_slice(&bytes)
 }
 
-/// Adds the header at the end.
+/// Appends the header.
 fn push_header(out: &mut Vec<u8>, header: &Header) -> Result<(), AllocError>
     ensures { OnOk result (out.new.items ≡ out.old.items ++ header_bytes header.now (replicate 16 0)) }
 {
@@ -42,7 +42,7 @@ fn push_header(out: &mut Vec<u8>, header: &Header) -> Result<(), AllocError>
     Ok(())
 }
 
-/// Adds a text and its NUL at the end.
+/// Appends a text and its NUL.
 pub fn push_text(out: &mut Vec<u8>, text: &[u8]) -> Result<(), AllocError>
     ensures { OnOk result (out.new.items ≡ out.old.items ++ ended text.now) }
 {
@@ -51,7 +51,7 @@ pub fn push_text(out: &mut Vec<u8>, text: &[u8]) -> Result<(), AllocError>
     Ok(())
 }
 
-/// Adds clues at the end, each with its NUL.
+/// Appends the clues, each with its NUL.
 fn push_clues(out: &mut Vec<u8>, clues: &[&[u8]]) -> Result<(), AllocError>
     ensures { OnOk result (out.new.items ≡ out.old.items ++ with_nuls (map (λ clue. clue.now) clues.now) []) }
 {
@@ -61,7 +61,7 @@ fn push_clues(out: &mut Vec<u8>, clues: &[&[u8]]) -> Result<(), AllocError>
     Ok(())
 }
 
-/// Adds the header and the boards at the end.
+/// Appends the header and both boards.
 fn push_boards(out: &mut Vec<u8>, fields: &Fields<'_>) -> Result<(), AllocError>
     ensures { OnOk result (out.new.items ≡ out.old.items ++ header_bytes fields.now.header (replicate 16 0) ++ fields.now.solution.now ++ fields.now.state.now) }
 {
@@ -71,7 +71,7 @@ fn push_boards(out: &mut Vec<u8>, fields: &Fields<'_>) -> Result<(), AllocError>
     Ok(())
 }
 
-/// Adds the texts, and what follows them, at the end.
+/// Appends the texts and everything after them.
 fn push_texts(out: &mut Vec<u8>, fields: &Fields<'_>) -> Result<(), AllocError>
     ensures { OnOk result (out.new.items ≡ out.old.items ++ texts_bytes (view fields.now)) }
 {

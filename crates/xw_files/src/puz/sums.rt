@@ -1,4 +1,4 @@
-//! The sums of a file.
+//! The checksums of a `.puz` file.
 ghost use Rattle.std.specs.Prelude.{◌≡◌, flat_map, map};
 ghost use Rattle.xw_files.specs.Puz.Sums.{summed, sum_from, counted, text_bytes, sums_of, masked_of, wrong_masked, wrong_sum};
 ghost use Rattle.xw_files.specs.Puz.View.{view};
@@ -7,7 +7,7 @@ use crate::fault::SumName;
 use crate::puz::fields::Fields;
 use crate::puz::header::{self, Header, high_byte, low_byte};
 
-/// The sums of the fields of a file.
+/// The checksums of the fields of a file.
 #[derive(Clone, Copy, Debug, PartialEq, Eq)]
 pub struct Sums {
     pub cib: u16,
@@ -18,7 +18,7 @@ pub struct Sums {
 }
 
 impl Sums {
-    /// The sums of these fields.
+    /// Computes the checksums of the fields.
     pub fn of(fields: &Fields<'_>) -> Sums
         ensures { result ≡ sums_of (view fields.now) }
     {
@@ -33,7 +33,7 @@ impl Sums {
         }
     }
 
-    /// The masked bytes that these sums give.
+    /// Returns the masked bytes of these checksums.
     pub fn masked(&self) -> [u8; 8]
         ensures { result ≡ masked_of self.now }
     {
@@ -49,7 +49,7 @@ impl Sums {
         ]
     }
 
-    /// The first sum in a header that is another one.
+    /// Returns the first checksum of a header that differs from these.
     pub fn wrong_in(&self, header: &Header) -> Option<SumName>
         ensures { result ≡ wrong_sum header.now self.now }
     {
@@ -63,7 +63,7 @@ impl Sums {
     }
 }
 
-/// The first masked byte that is another one.
+/// Returns the first masked byte that differs.
 fn wrong_masked(masked: &[u8; 8], computed: &[u8; 8]) -> Option<SumName>
     ensures { result ≡ wrong_masked 1 masked.now computed.now }
 {
@@ -75,7 +75,7 @@ fn wrong_masked(masked: &[u8; 8], computed: &[u8; 8]) -> Option<SumName>
     None
 }
 
-/// The sum after one more byte.
+/// Adds one byte to a checksum.
 fn add_byte(sum: u16, byte: u8) -> u16
     ensures { result ≡ summed sum byte }
 {
@@ -83,14 +83,14 @@ fn add_byte(sum: u16, byte: u8) -> u16
     rotated.wrapping_add(u16::from(byte))
 }
 
-/// The sum of the bytes, from a start value.
+/// Returns the checksum of bytes, from a start value.
 pub fn sum_from(start: u16, bytes: &[u8]) -> u16
     ensures { result ≡ sum_from start bytes.now }
 {
     bytes.iter().fold(start, |sum, byte| add_byte(sum, *byte))
 }
 
-/// The sum of a text with its NUL, which counts only when it is not empty.
+/// Adds a text and its NUL to a checksum. An empty text adds nothing.
 #[tactic(auto, using(crate::proofs::PuzLemmas::SumLemmas::sum_steps))]
 fn sum_text(start: u16, text: &[u8]) -> u16
     ensures { result ≡ sum_from start (counted text.now) }
@@ -102,7 +102,7 @@ fn sum_text(start: u16, text: &[u8]) -> u16
     }
 }
 
-/// The sum of clues, without their NULs.
+/// Adds clues without their NULs to a checksum.
 fn sum_clues(start: u16, clues: &[&[u8]]) -> u16
     ensures { result ≡ sum_from start (flat_map (λ clue. clue) (map (λ clue. clue.now) clues.now)) }
 {
@@ -113,7 +113,7 @@ fn sum_clues(start: u16, clues: &[&[u8]]) -> u16
     sum
 }
 
-/// The sum of the text part, from a start value.
+/// Adds title, author, copyright, clues and notes to a checksum.
 #[tactic(auto, using(crate::proofs::PuzLemmas::SumLemmas::sum_steps))]
 fn sum_texts(start: u16, fields: &Fields<'_>) -> u16
     ensures { result ≡ sum_from start (text_bytes (view fields.now)) }

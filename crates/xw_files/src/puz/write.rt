@@ -1,4 +1,4 @@
-//! Writing a puzzle.
+//! Writes `.puz` files.
 ghost use Rattle.std.specs.Prelude.{◌≡◌, ◌≢◌, ℕ, [], List, map, Ok, Err, IfOk, IfErr, IsOk, IsOkUnless, ◌++◌};
 ghost use Rattle.xw_grid.specs.Puzzle.{puzzle_view, clue_of};
 ghost use Rattle.xw_files.specs.Part.{circled_cells};
@@ -16,18 +16,20 @@ use crate::puz::header::Header;
 use crate::puz::sums::Sums;
 use crate::puz::{circles, refusal, spell};
 use std::alloc::{AllocError, Global};
-use xw_cells::cell::Square;
-use xw_cells::grid::Grid;
+use xw_grid::cell::Square;
 use xw_grid::clues::Clues;
+use xw_grid::grid::Grid;
 use xw_grid::lights::Lights;
 use xw_grid::puzzle::Puzzle;
 
-/// The bytes of a puzzle.
+/// Writes a puzzle as a `.puz` file. Returns the first fault that applies, in the order `Barred`, `NotFilled`, `Field`.
+/// Returns `Memory` if an allocation fails, which is possible only if no other fault applies.
 pub fn write_puz(alloc: Global, puzzle: &Puzzle) -> Result<Vec<u8>, WriteFault>
     ensures ok { IfOk result (λ bytes. written (puzzle_view puzzle.now) ≡ Ok bytes.items) }
     ensures refused { IfErr result (λ fault. fault ≢ faults.Memory → written (puzzle_view puzzle.now) ≡ Err fault) }
     ensures memory { result ≡ Err faults.Memory → IsOk (written (puzzle_view puzzle.now)) }
-    // With a circle, whatever follows leaves it the file of this puzzle; without one, whatever has no section of circles.
+    // With any bytes appended, the result is still a file of this puzzle. If no open cell is circled, the appended
+    // bytes must have no GEXT section.
     ensures again { IfOk result (λ bytes. (tail : List ℕ) → AreBytes tail → (circled_cells (puzzle_view puzzle.now) ≡ [] → HasNoGext tail) → IsPuz (bytes.items ++ tail) (puzzle_view puzzle.now)) }
 {
     match refusal::fault_of(puzzle) {
@@ -36,7 +38,7 @@ pub fn write_puz(alloc: Global, puzzle: &Puzzle) -> Result<Vec<u8>, WriteFault>
     }
 }
 
-/// The bytes of a puzzle that has no fault.
+/// Returns the bytes of a puzzle that has no fault.
 fn bytes_of(alloc: Global, puzzle: &Puzzle) -> Result<Vec<u8>, WriteFault>
     ensures ok { IfOk result (λ bytes. bytes.items ≡ spelled_puzzle (puzzle_view puzzle.now)) }
     ensures memory { IsOkUnless result faults.Memory }
@@ -62,7 +64,7 @@ fn bytes_of(alloc: Global, puzzle: &Puzzle) -> Result<Vec<u8>, WriteFault>
     Ok(spell::spell(alloc, &fields)?)
 }
 
-/// A header that says nothing of sums.
+/// Returns a header with all checksums zero.
 fn unsealed(width: u8, height: u8, clue_count: u16) -> Header
     ensures { result ≡ unsealed width height clue_count }
 {
@@ -77,7 +79,7 @@ fn unsealed(width: u8, height: u8, clue_count: u16) -> Header
     }
 }
 
-/// The header of fields with their own sums in it.
+/// Returns the header of the fields with their checksums set.
 fn sealed_header(fields: &Fields<'_>) -> Header
     ensures { result ≡ (sealed (view fields.now)).header }
 {
@@ -121,7 +123,7 @@ fn state_byte(square: Square) -> u8
     }
 }
 
-/// The clues of lights, an empty one where there is none.
+/// Returns the clue of each light, which is empty for a light without a clue.
 fn clues_of<'a>(
     alloc: Global,
     lights: &Lights,

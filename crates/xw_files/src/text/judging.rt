@@ -1,8 +1,8 @@
-//! Why a puzzle has no text.
+//! Decides whether a puzzle can be written as text, without allocating.
 ghost use Rattle.std.specs.Prelude.{◌≡◌, ◌≢◌, ◌<◌, ◌+◌, ◌^◌, ◌≤◌, not, ◌&&◌, length, OnOk, IfErr, IfSome, Ok, Err, find};
 ghost use Rattle.std.specs.List.{list_any, list_all};
 ghost use Rattle.std.specs.Option.{option_copied};
-ghost use Rattle.xw_cells.specs.Grid.{cells};
+ghost use Rattle.xw_grid.specs.Grid.{cells};
 ghost use Rattle.xw_grid.specs.Light.{begins as begins_light, lights_at, lights_of};
 ghost use Rattle.xw_grid.specs.Clue.{clue_at};
 ghost use Rattle.xw_grid.specs.Puzzle.{puzzle_view};
@@ -13,10 +13,10 @@ use crate::fault::{TextName, WriteFault};
 use crate::finished::{empty_cell, has_bar, is_circled};
 use crate::text::lines::is_blank;
 use crate::text::tag::is_tag_line;
-use xw_cells::cell::{Cell, Direction};
-use xw_cells::grid::Grid;
+use xw_grid::cell::{Cell, Direction};
 use xw_grid::circles::Circles;
 use xw_grid::clues::Clues;
+use xw_grid::grid::Grid;
 use xw_grid::lights::begins;
 use xw_grid::puzzle::Puzzle;
 
@@ -35,7 +35,7 @@ fn is_blank_at(byte: Option<&u8>) -> bool
     }
 }
 
-/// Whether a text can stand in a line of its own.
+/// Returns whether a text can be written on one line.
 #[tactic(auto, unfolding(crate::specs::Text::Written::is_spelled))]
 fn is_spelled(text: &[u8]) -> bool
     ensures { result ≡ is_spelled_text text.now }
@@ -68,7 +68,7 @@ fn are_clues(notes: &[u8]) -> bool
         .all(|piece| is_clue(piece))
 }
 
-/// The first open cell that is circled.
+/// Returns the first open circled cell in reading order.
 fn circled(grid: &Grid, circles: &Circles) -> Option<Cell>
     ensures { result ≡ find (is_circled_open grid.now circles.now) (cells grid.now) }
 {
@@ -81,7 +81,7 @@ fn circled(grid: &Grid, circles: &Circles) -> Option<Cell>
     None
 }
 
-/// How many lights begin at a cell.
+/// Returns how many lights begin at a cell.
 fn light_count(grid: &Grid, cell: Cell) -> usize
     ensures count { result ≡ length (lights_at grid.now cell) }
     ensures few { result ≤ 2 }
@@ -90,14 +90,14 @@ fn light_count(grid: &Grid, cell: Cell) -> usize
         + usize::from(begins(grid, Direction::Down, cell))
 }
 
-/// Whether a light begins at a cell whose clue cannot be spelled.
+/// Returns whether a light of this direction begins at a cell and its clue cannot be written.
 fn has_bad_clue(grid: &Grid, clues: &Clues, direction: Direction, cell: Cell) -> bool
     ensures { result ≡ (begins_light grid.now direction cell && not (is_clue_text (clue_at clues.now cell direction))) }
 {
     begins(grid, direction, cell) && !is_clue(clues.get(cell, direction))
 }
 
-/// How many lights begin at a cell before the one of a direction.
+/// Returns how many lights begin at a cell before the one of this direction.
 fn place_at(grid: &Grid, direction: Direction, cell: Cell) -> usize
     ensures place { result ≡ place_at_cell grid.now direction cell }
     ensures few { result < 2 }
@@ -108,7 +108,7 @@ fn place_at(grid: &Grid, direction: Direction, cell: Cell) -> usize
     }
 }
 
-/// The place in light order of the first light of a direction whose clue cannot be spelled.
+/// Returns the index, in light order, of the first light of a direction whose clue cannot be written.
 fn bad_clue(grid: &Grid, clues: &Clues, direction: Direction) -> Option<usize>
     ensures place { result ≡ bad_clue_of direction clues.now (lights_of grid.now) }
     ensures small { IfSome result (λ place. place + 1 < 2 ^ 64) }
@@ -124,7 +124,7 @@ fn bad_clue(grid: &Grid, clues: &Clues, direction: Direction) -> Option<usize>
     None
 }
 
-/// The first text that cannot be spelled.
+/// Returns the first text that cannot be written.
 #[tactic(auto, unfolding(crate::specs::Text::Written::bad_field))]
 fn bad_field(puzzle: &Puzzle) -> Option<TextName>
     ensures { result ≡ bad_field_of (puzzle_view puzzle.now) }
@@ -151,7 +151,7 @@ fn bad_field(puzzle: &Puzzle) -> Option<TextName>
     None
 }
 
-/// The first reason why a puzzle has no text.
+/// Returns the first fault that applies, in the order `Barred`, `NotFilled`, `Field`, `Circled`.
 #[tactic(auto, unfolding(crate::specs::Text::Written::written))]
 pub(crate) fn judge(puzzle: &Puzzle) -> Result<(), WriteFault>
     ensures ok { OnOk result (written (puzzle_view puzzle.now) ≡ Ok (texted (puzzle_view puzzle.now))) }

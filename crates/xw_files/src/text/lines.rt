@@ -1,4 +1,4 @@
-//! The lines of a text file.
+//! Splits a text file into trimmed lines.
 ghost use Rattle.std.specs.Prelude.{◌≡◌, ℕ, [], ◌∷◌, MatchOption, None};
 ghost use Rattle.std.specs.Option.{option_copied};
 ghost use Rattle.xw_files.specs.Text.Lines.{is_blank as is_blank_byte, trimmed, shown, text_lines, first_of, without_mark as unmarked};
@@ -6,7 +6,7 @@ ghost use Rattle.xw_files.specs.Text.Lines.{is_blank as is_blank_byte, trimmed, 
 use bstr::{ByteSlice, Lines};
 use std::marker::Model;
 
-/// What may stand before the first line.
+/// The UTF-8 byte order mark, which is ignored at the start of a file.
 const MARK: [u8; 3] = [0xEF, 0xBB, 0xBF];
 
 pub(crate) fn is_blank(byte: u8) -> bool
@@ -15,7 +15,7 @@ pub(crate) fn is_blank(byte: u8) -> bool
     matches!(byte, b' ' | b'\t')
 }
 
-/// A line without the spaces and tabs at its ends.
+/// Removes spaces and tabs from both ends of a line.
 pub(crate) fn trim(line: &[u8]) -> &[u8]
     ensures { result.now ≡ trimmed line.now }
 {
@@ -43,7 +43,7 @@ pub(crate) fn without_mark(bytes: &[u8]) -> &[u8]
     }
 }
 
-/// The next line that is not blank, trimmed.
+/// Returns the next line that is not blank, trimmed.
 fn next_shown<'a>(lines: &mut Lines<'a>) -> Option<&'a [u8]>
     ensures { MatchOption result ((shown lines.old ≡ []) × (shown lines.new ≡ [])) (λ line. shown lines.old ≡ line.now ∷ shown lines.new) }
 {
@@ -56,7 +56,7 @@ fn next_shown<'a>(lines: &mut Lines<'a>) -> Option<&'a [u8]>
     None
 }
 
-/// The lines that are left, trimmed, with no blank ones among them.
+/// Iterates over the lines of a file, trimmed and without the blank ones. One line can be peeked at.
 #[derive(Drop)]
 pub(crate) struct TextLines<'a> {
     next: Option<&'a [u8]>,

@@ -1,6 +1,6 @@
-//! Where a text file leaves its shape.
+//! Finds the line of a text file at which a read fault is reported.
 ghost use Rattle.std.specs.Prelude.{◌≡◌, ◌+◌, length, map, take, count_by, option_map, IfOk};
-ghost use Rattle.xw_letters.specs.Lines.{is_line_feed};
+ghost use Rattle.xw_text.specs.Lines.{is_line_feed};
 ghost use Rattle.xw_files.specs.Steps.{GivesOrLacksMemory};
 ghost use Rattle.xw_files.specs.Text.Lines.{file_lines};
 ghost use Rattle.xw_files.specs.Text.Starts.{starts};
@@ -12,18 +12,18 @@ use crate::text::reading::{grid, header, texts};
 use crate::text::tag::{header as header_line, is_tag_line, names};
 use bstr::ByteSlice;
 use std::alloc::{AllocError, Global};
-use xw_cells::cell::Direction;
-use xw_cells::grid::Grid;
+use xw_grid::cell::Direction;
+use xw_grid::grid::Grid;
 use xw_grid::lights::begins;
 
-/// A line of a text file by its number, from 1, blank lines counted too; or the place after them all.
+/// A place in a text file: a line by its number (from 1, counting blank lines), or the end of the file.
 #[derive(Clone, Copy, Debug, PartialEq, Eq)]
 pub enum TextPlace {
     Line(usize),
     End,
 }
 
-/// All lines, trimmed, the blank ones too.
+/// Returns all lines, trimmed, including the blank ones.
 fn file_lines(alloc: Global, bytes: &[u8]) -> Result<Vec<&[u8]>, AllocError>
     ensures { IfOk result (λ lines. map (λ line. line.now) lines.items ≡ file_lines bytes.now) }
 {
@@ -34,7 +34,7 @@ fn file_lines(alloc: Global, bytes: &[u8]) -> Result<Vec<&[u8]>, AllocError>
     Ok(lines)
 }
 
-/// The lines after the first of a name.
+/// Returns the lines after the first line with this name. Returns no lines if there is none.
 fn after<'a, 'b>(lines: &'a [&'b [u8]], name: &[u8]) -> &'a [&'b [u8]]
     ensures { map (λ line. line.now) result.now ≡ after name.now (map (λ line. line.now) lines.now) }
 {
@@ -48,7 +48,7 @@ fn after<'a, 'b>(lines: &'a [&'b [u8]], name: &[u8]) -> &'a [&'b [u8]]
     rest
 }
 
-/// The lines from the first on that is neither blank nor one of those that are due. No tag line is due.
+/// Skips blank lines and the first `due` other lines, but stops at a tag line. Returns the lines that remain.
 fn left_after<'a, 'b>(lines: &'a [&'b [u8]], due: usize) -> &'a [&'b [u8]]
     ensures { map (λ line. line.now) result.now ≡ left_after due (map (λ line. line.now) lines.now) }
 {
@@ -66,7 +66,7 @@ fn left_after<'a, 'b>(lines: &'a [&'b [u8]], due: usize) -> &'a [&'b [u8]]
     rest
 }
 
-/// The tag line under which a fault is.
+/// Returns the tag line that precedes the place of a fault.
 fn tag_above(fault: ReadFault) -> Option<&'static [u8]>
     ensures { option_map (λ name. name.now) result ≡ tag_above fault }
 {
@@ -83,7 +83,7 @@ fn tag_above(fault: ReadFault) -> Option<&'static [u8]>
     }
 }
 
-/// How many lights of a direction a grid has.
+/// Returns the number of lights of a direction.
 fn light_count(grid: &Grid, direction: Direction) -> usize
     ensures { result ≡ length (starts grid.now direction) }
 {
@@ -96,7 +96,7 @@ fn light_count(grid: &Grid, direction: Direction) -> usize
     count
 }
 
-/// The grid of a text file, whatever comes after it.
+/// Returns the grid of a text file. What follows the grid does not matter.
 #[tactic(auto, unfolding(crate::specs::Text::Place::grid_of_text))]
 fn grid_of_text(alloc: Global, bytes: &[u8]) -> Result<Grid, ReadFault>
     ensures { GivesOrLacksMemory (λ grid. grid) result (grid_of_text bytes.now) }
@@ -107,7 +107,7 @@ fn grid_of_text(alloc: Global, bytes: &[u8]) -> Result<Grid, ReadFault>
     grid(alloc, &mut lines)
 }
 
-/// How many lines are due between that tag line and a fault.
+/// Returns how many lines the format has between that tag line and a fault.
 fn lines_due(alloc: Global, bytes: &[u8], fault: ReadFault) -> Result<usize, ReadFault>
     ensures { GivesOrLacksMemory (λ due. due) result (lines_due bytes.now fault) }
 {
@@ -125,7 +125,7 @@ fn lines_due(alloc: Global, bytes: &[u8], fault: ReadFault) -> Result<usize, Rea
     }
 }
 
-/// The place before those of the lines that are left.
+/// Returns the line number at which the last `left` of `count` lines begin.
 fn place_before(count: usize, left: usize) -> TextPlace
     ensures { result ≡ place_before count left }
 {
@@ -136,7 +136,8 @@ fn place_before(count: usize, left: usize) -> TextPlace
     }
 }
 
-/// How many lines are left after those that are due under a tag line, or at the start.
+/// Returns how many lines are left after the first `due` lines under a tag line, or from the start of the file if there
+/// is no tag.
 fn count_left(lines: &[&[u8]], tag: Option<&[u8]>, due: usize) -> usize
     ensures { result ≡ length (left_after due (under (option_map (λ name. name.now) tag.entry) (map (λ line. line.now) lines.now))) }
 {
@@ -146,7 +147,7 @@ fn count_left(lines: &[&[u8]], tag: Option<&[u8]>, due: usize) -> usize
     }
 }
 
-/// The place after so many lines under a tag line, or after so many at the start.
+/// Returns the place after the first `due` lines under a tag line, or from the start of the file if there is no tag.
 fn place_under(
     alloc: Global,
     bytes: &[u8],
@@ -160,7 +161,7 @@ fn place_under(
     Ok(place_before(lines.len(), left))
 }
 
-/// The number of the line of an offset.
+/// Returns the number of the line that contains an offset.
 fn line_at(bytes: &[u8], offset: usize) -> usize
     ensures { result ≡ count_by is_line_feed (take offset bytes.now) + 1 }
 {
@@ -168,7 +169,8 @@ fn line_at(bytes: &[u8], offset: usize) -> usize
     before.iter().filter(|byte| **byte == b'\n').count() + 1
 }
 
-/// Where a text file leaves its shape by a fault that a line has.
+/// Returns the place at which `read_text` reports `fault`. Returns `None` if the fault has no place of its own. Returns
+/// a read fault if the grid is needed and cannot be read, and `Memory` if an allocation fails.
 pub fn text_place(
     alloc: Global,
     bytes: &[u8],

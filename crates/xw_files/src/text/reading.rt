@@ -1,10 +1,12 @@
-//! Reading text files.
-ghost use Rattle.std.specs.Prelude.{◌≡◌, true, ◌<◌, ◌≤◌, length, IfSome, IfOk, position, Ok};
+//! Reads text files.
+ghost use Rattle.std.specs.Prelude.{◌≡◌, ◌≢◌, true, ◌<◌, ◌≤◌, length, IfSome, IfOk, IfErr, position, Ok};
 ghost use Rattle.std.specs.Option.{option_copied};
 ghost use Rattle.std.specs.List.{list_all};
 ghost use Rattle.std.specs.Char.{is_ascii_digit};
 ghost use Rattle.std.specs.Str.Parse.{digits_value};
 ghost use Rattle.std.specs.List.{join_with_byte};
+ghost use Rattle.xw_files.specs.declared.fault.ReadFault.TheVariants.{Memory};
+ghost use Rattle.xw_files.specs.Text.Faults.{IsFirstFault, HasOneFirstFault};
 ghost use Rattle.xw_files.specs.Text.Relation.{IsText, IsBare, HasOnePart};
 ghost use Rattle.xw_grid.specs.Puzzle.{PuzzleShown, puzzle_view, texts_view};
 ghost use Rattle.xw_files.specs.Part.{part_of};
@@ -16,10 +18,10 @@ use crate::fault::{ReadFault, Tag};
 use crate::text::lines::{TextLines, trim};
 use crate::text::tag::{header as header_line, is_tag_line, names};
 use std::alloc::{AllocError, Global};
-use xw_cells::cell::{Cell, Direction, Square};
-use xw_cells::grid::{Grid, LONGEST_SIDE};
+use xw_grid::cell::{Cell, Direction, Square};
 use xw_grid::circles::Circles;
 use xw_grid::clues::Clues;
+use xw_grid::grid::{Grid, LONGEST_SIDE};
 use xw_grid::lights::begins;
 use xw_grid::puzzle::{Puzzle, Texts};
 use xw_letters::letter::Letter;
@@ -44,7 +46,7 @@ fn tag(lines: &mut TextLines<'_>, tag: Tag) -> Result<(), ReadFault>
     }
 }
 
-/// The next line, if it is no tag line.
+/// Takes the next line if it is not a tag line.
 fn plain<'a>(lines: &mut TextLines<'a>) -> Option<&'a [u8]>
     ensures { plain_at lines.old ≡ (option_copied result, lines.new) }
 {
@@ -54,7 +56,7 @@ fn plain<'a>(lines: &mut TextLines<'a>) -> Option<&'a [u8]>
     }
 }
 
-/// A text: one line or none.
+/// Takes the next line as a text. The text is empty if no line is left or the next one is a tag line.
 #[tactic(auto, unfolding(crate::specs::Text::Shape::text_at))]
 fn text(alloc: Global, lines: &mut TextLines<'_>) -> Result<Vec<u8>, ReadFault>
     ensures { GivesOrLacksMemory (λ text. (text.items, lines.new)) result (text_at lines.old) }
@@ -65,7 +67,7 @@ fn text(alloc: Global, lines: &mut TextLines<'_>) -> Result<Vec<u8>, ReadFault>
     }
 }
 
-/// The three texts above the grid; the notes come last in a file.
+/// Reads title, author and copyright. The notes come last in a file and are read elsewhere.
 #[tactic(auto, unfolding(crate::specs::Text::Shape::texts_at))]
 pub(super) fn texts(alloc: Global, lines: &mut TextLines<'_>) -> Result<Texts, ReadFault>
     ensures { GivesOrLacksMemory (λ texts. (texts_view texts, lines.new)) result (texts_at lines.old) }
@@ -96,7 +98,7 @@ fn is_numeral(digits: &[u8]) -> bool
     (1..=3).contains(&digits.len()) && are_digits(digits)
 }
 
-/// The number that 1 to 3 digits write.
+/// Returns the value of 1 to 3 digits.
 fn number(digits: &[u8]) -> u32
     requires { is_numeral_text digits.now ≡ true }
     ensures { result ≡ digits_value 10 digits.now }
@@ -108,7 +110,7 @@ fn number(digits: &[u8]) -> u32
     number
 }
 
-/// A side of the grid, in 1 to 3 digits.
+/// Parses 1 to 3 digits as a width or height of 1 to 255.
 fn side(digits: &[u8]) -> Option<u32>
     ensures number { result ≡ side_of digits.now }
     ensures range { IfSome result (λ side. (1 ≤ side) × (side ≤ 255)) }
@@ -124,7 +126,7 @@ fn side(digits: &[u8]) -> Option<u32>
     }
 }
 
-/// The place of the x between two sides.
+/// Returns the index of the first `x` or `X`.
 fn times(line: &[u8]) -> Option<usize>
     ensures place { result ≡ position is_times line.now }
     ensures within { IfSome result (λ place. place < length line.now) }
@@ -154,7 +156,7 @@ fn size(lines: &mut TextLines<'_>) -> Result<(u32, u32), ReadFault>
     }
 }
 
-/// Adds what the bytes of a line stand for.
+/// Appends the squares of a line. Returns `BadCell` for the first byte that is not a square.
 fn push_squares(squares: &mut Vec<Square>, row: u32, line: &[u8]) -> Result<(), ReadFault>
     requires { length line.now ≤ 255 }
     ensures { GivesOrLacksMemory (λ _. squares.new.items) result (squares_after squares.old.items (row_squares row line.now)) }
@@ -176,7 +178,7 @@ fn push_squares(squares: &mut Vec<Square>, row: u32, line: &[u8]) -> Result<(), 
     Ok(())
 }
 
-/// Adds the squares of a row to those above it.
+/// Reads one row and appends its squares. Returns `GridLine` if the line is missing or has the wrong length.
 #[tactic(auto, unfolding(crate::specs::Text::Shape::row_at))]
 fn row(
     lines: &mut TextLines<'_>,
@@ -222,7 +224,7 @@ pub(super) fn grid(alloc: Global, lines: &mut TextLines<'_>) -> Result<Grid, Rea
     Ok(Grid::of_squares(alloc, width, height, squares)?)
 }
 
-/// Takes the clue of the light that begins at a cell from its line.
+/// Takes the next line as the clue of the light that begins at a cell. Returns `fault` if there is no such line.
 #[tactic(auto, unfolding(crate::specs::Text::Shape::clue_at_start))]
 fn add_clue(
     lines: &mut TextLines<'_>,
@@ -238,7 +240,7 @@ fn add_clue(
     Ok(())
 }
 
-/// Takes a line for each light of a direction, in order, and no further one.
+/// Takes one line for each light of a direction, in order. Returns `fault` if there are too few lines or too many.
 fn add_clues(
     lines: &mut TextLines<'_>,
     clues: &mut Clues,
@@ -284,7 +286,7 @@ fn clues(alloc: Global, lines: &mut TextLines<'_>, grid: &Grid) -> Result<Clues,
     Ok(clues)
 }
 
-/// All lines that are left, with a line feed between each and the next.
+/// Joins all remaining lines with line feeds.
 fn joined(alloc: Global, lines: &mut TextLines<'_>) -> Result<Vec<u8>, AllocError>
     ensures { IfOk result (λ text. text.items ≡ join_with_byte 10 lines.old) }
 {
@@ -344,21 +346,29 @@ fn all(alloc: Global, bytes: &[u8]) -> Result<Puzzle, ReadFault>
     puzzle(alloc, &mut TextLines::new(bytes))
 }
 
-/// The puzzle that a text file spells, or the first place at which it leaves its shape.
+/// Reads the puzzle of a text file. Returns `NulByte` if the file has a NUL, and otherwise the fault of the first line
+/// that breaks the format. Returns `Memory` if an allocation fails, at any point.
 pub fn read_text(alloc: Global, bytes: &[u8]) -> Result<Puzzle, ReadFault>
-    // What is read is a text file of the puzzle.
+    // The bytes are a text file of the puzzle that is returned.
     ensures found { IfOk result (λ read. IsText bytes.now (puzzle_view read)) }
-    // It has no symmetry and no circle.
+    // That puzzle has no symmetry and no circles.
     ensures bare { IfOk result (λ read. IsBare (puzzle_view read)) }
-    // What is a text file of a puzzle is read as one with the same file part, unless memory runs out.
+    // A text file of some puzzle is read as a puzzle with the same file part, unless an allocation fails.
     ensures only { (puzzle : PuzzleShown) → IsText bytes.now puzzle → GivesOrLacksMemory (λ read. part_of (puzzle_view read)) result (Ok (part_of puzzle)) }
-    // Which fault it is.
+    // The fault is the first one that the file has, unless an allocation failed.
+    ensures first { IfErr result (λ fault. fault ≢ Memory → IsFirstFault bytes.now fault) }
+    // The exact result, including which fault is returned.
     ensures exact { GivesOrLacksMemory puzzle_view result (all_of bytes.now) }
 {
     all(alloc, bytes)
 }
 
-/// Bytes are a text file of one file part.
+/// A law: a text file has at most one first fault.
+pub fn text_has_one_first_fault()
+    ensures { HasOneFirstFault }
+{}
+
+/// A law: all puzzles of one text file have the same file part.
 pub fn text_has_one_part()
     ensures { HasOnePart }
 {}

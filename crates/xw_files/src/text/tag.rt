@@ -1,4 +1,4 @@
-//! Tag lines.
+//! The tag lines of the text format.
 ghost use Rattle.std.specs.Prelude.{◌≡◌, codes};
 ghost use Rattle.xw_files.specs.Text.Tag.{name_of, is_tag_line as is_tag, names as is_named};
 
@@ -8,7 +8,7 @@ use crate::fault::Tag;
 const HEADER: &[u8] = b"<ACROSS PUZZLE>";
 
 impl Tag {
-    /// How the tag is written.
+    /// Returns the spelling of the tag.
     pub(crate) fn name(self) -> &'static [u8]
         ensures { result.now ≡ name_of self }
     {
@@ -25,7 +25,7 @@ impl Tag {
     }
 }
 
-/// Whether a line names a tag, in letters of either case.
+/// Returns whether a line is this tag, ignoring ASCII case.
 pub(crate) fn names(line: &[u8], tag: &[u8]) -> bool
     ensures { result ≡ is_named line.now tag.now }
 {

@@ -1,8 +1,8 @@
-//! Writing text files.
+//! Writes text files.
 ghost use Rattle.std.specs.Prelude.{◌≡◌, ◌++◌, ◌<◌, ◌*◌, length, OnOk, IfOk, IfSome, IsOk, Err, position, map, flat_map, decimal};
 ghost use Rattle.xw_grid.specs.Puzzle.{puzzle_view, texts_view};
 ghost use Rattle.xw_files.specs.Finished.{square_byte};
-ghost use Rattle.xw_letters.specs.Lines.{is_line_feed};
+ghost use Rattle.xw_text.specs.Lines.{is_line_feed};
 ghost use Rattle.xw_files.specs.Text.Written.{pieces, line, tag_line, tag, texts_text, size_text, row_texts, grid_text, clue_texts, direction_text, clues_text, notes_text, texted, written, Writes};
 ghost use Rattle.xw_files.specs.Text.Relation.{IsText};
 
@@ -11,9 +11,9 @@ use crate::finished::square_byte;
 use crate::text::judging::judge;
 use crate::text::tag::header;
 use std::alloc::{AllocError, Global};
-use xw_cells::cell::{Direction, Square};
-use xw_cells::grid::Grid;
+use xw_grid::cell::{Direction, Square};
 use xw_grid::clues::Clues;
+use xw_grid::grid::Grid;
 use xw_grid::lights::begins;
 use xw_grid::puzzle::{Puzzle, Texts};
 
@@ -198,13 +198,14 @@ fn text_of(alloc: Global, puzzle: &Puzzle) -> Result<Vec<u8>, AllocError>
     Ok(out)
 }
 
-/// The text of a puzzle, or why it has none.
+/// Writes a puzzle as a text file. Returns the first fault that applies, in the order `Barred`, `NotFilled`, `Field`,
+/// `Circled`. Returns `Memory` if an allocation fails.
 pub fn write_text(alloc: Global, puzzle: &Puzzle) -> Result<Vec<u8>, WriteFault>
-    // What is written is a text file of the puzzle.
+    // The result is a text file of the puzzle.
     ensures again { IfOk result (λ text. IsText text.items (puzzle_view puzzle.now)) }
-    // Which text and which fault it is.
+    // The exact text or fault.
     ensures exact { Writes (λ text. text.items) result (written (puzzle_view puzzle.now)) }
-    // Memory runs out only where no other fault holds.
+    // `Memory` is returned only if no other fault applies.
     ensures memory { result ≡ Err WriteFault.Memory → IsOk (written (puzzle_view puzzle.now)) }
 {
     puzzle.grid.well_formed();

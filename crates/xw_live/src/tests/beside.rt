@@ -1,8 +1,8 @@
-//! A state of the tests' own, with a net that is settled over counted reads.
+//! A second net, updated by the same edits as the engine under test, to check the engine's ticks.
 ghost use Rattle.std.specs.Prelude.{◌≡◌, ℕ, length, true, false, is_some, Option, Contains, Ok};
 ghost use Rattle.xw_words.specs.Dictionary.{Dictionary, add_answer};
-ghost use Rattle.xw_cells.specs.declared.cell.Cell.{Cell as CellOfGrid};
-ghost use Rattle.xw_cells.specs.Grid.{is_inside};
+ghost use Rattle.xw_grid.specs.declared.cell.Cell.{Cell as CellOfGrid};
+ghost use Rattle.xw_grid.specs.Grid.{is_inside};
 ghost use Rattle.xw_grid.specs.Light.{lights_of};
 ghost use Rattle.xw_feas.specs.State.{State, Action, action_of, is_of_letters, grid_after};
 ghost use Rattle.xw_feas.specs.WellFormed.{IsWellFormed};
@@ -17,12 +17,12 @@ use crate::noted::{keep_changed, make_noted, note};
 use crate::settling::make_room;
 use crate::written::Written;
 use std::alloc::Global;
-use xw_cells::cell::Cell;
-use xw_cells::grid::Grid;
 use xw_feas::dictionary::{add_in, known_distinct, return_in, strike_in};
 use xw_feas::edit::{Edit, Refusal};
 use xw_feas::grid_edit::{edit_letters, with_bar, with_block};
 use xw_feas::write::write;
+use xw_grid::cell::Cell;
+use xw_grid::grid::Grid;
 use xw_grid::lights::Lights;
 use xw_letters::letter::Letter;
 use xw_net::change::Change;
@@ -43,7 +43,7 @@ pub struct Beside {
     ghost kept: { IsKept (record { grid = grid; words = bank.words }) net } by { IsKept-prop (record { grid = grid; words = bank.words }) net },
 }
 
-/// Settles a net over counted reads, and answers the ticks.
+/// Updates a net after a change. Returns the ticks it took.
 fn settle(net: &mut Net, change: &Change<'_>, grid: &Grid, lights: &Lights, bank: &Bank) -> u64
     requires lights { lights.now ≡ lights_of grid.now }
     requires inside { (listed : CellOfGrid × Option ℕ) → Contains change.now.cells.now listed → is_inside grid.now listed.0 ≡ true }
@@ -61,7 +61,7 @@ fn settle(net: &mut Net, change: &Change<'_>, grid: &Grid, lights: &Lights, bank
     rows.spent()
 }
 
-/// The same after a word was added or struck.
+/// Like `settle`, after a word was added or struck.
 fn settle_word(
     net: &mut Net,
     grid: &Grid,
@@ -90,7 +90,7 @@ fn settle_word(
 }
 
 impl Beside {
-    /// An empty grid and no words.
+    /// An empty grid and an empty dictionary.
     pub fn open(alloc: Global, width: u32, height: u32) -> Result<Beside, Refusal> {
         let grid = Grid::new(alloc, width, height)?;
         let bank = Bank::new(alloc)?;
@@ -136,7 +136,7 @@ impl Beside {
         Ok(settle(&mut self.net, &change, &self.grid, &self.lights, &self.bank))
     }
 
-    /// Takes the grid that an edit of the shape leaves.
+    /// Replaces the grid by the one that an edit of blocks or bars results in.
     fn take_shape(&mut self, edit: &Edit<'_>, grid: Grid) -> Result<u64, Refusal>
         requires shape { is_of_shape (action_of edit.now) ≡ true }
         requires made { grid_after self.old.grid (action_of edit.now) ≡ Ok grid }
@@ -197,7 +197,7 @@ impl Beside {
         }
     }
 
-    /// Does an edit and settles the net, and answers the ticks of that.
+    /// Applies an edit and updates the net. Returns the ticks that the update took.
     pub fn edit(&mut self, edit: &Edit<'_>) -> Result<u64, Refusal> {
         match *edit {
             Edit::Block(_) => self.edit_shape(edit),

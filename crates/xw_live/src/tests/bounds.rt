@@ -1,13 +1,13 @@
-//! How many ticks an edit takes at the most.
+//! Upper bounds for the ticks of edits.
 use crate::tests::Do::{Add, Choose, Clear, Set};
 use crate::tests::Step::{Idle, Letters, Refused, Spends, Told, Words};
 use crate::tests::{ACROSS_1, ACROSS_3, Case, DOWN_1, DOWN_2, SQUARE, Start, Step, pass_each};
-use xw_cells::cell::Symmetry;
-use xw_cells::fault::GridFault;
 use xw_feas::edit::Refusal;
+use xw_grid::cell::Symmetry;
+use xw_grid::fault::GridFault;
 use xw_words::WordFault;
 
-/// Two blocks part a grid into two squares.
+/// Two blocks split the grid into two squares.
 const SIDE_BY_SIDE: Start = Start {
     width: 5,
     height: 2,

@@ -1,12 +1,12 @@
-//! What edits tell, and what is feasible after them.
-use crate::tests::Do::{Add, Bar, Block, Clear, Set, Strike};
-use crate::tests::Step::{Count, Next, NoLight, Told, Words};
+//! The cells that edits report as changed, and what is feasible after them.
+use crate::tests::Do::{Add, Bar, Block, Clear, Place, Set, Strike};
+use crate::tests::Step::{Count, Letters, Next, NoLight, Refused, Regrid, Told, Unwatched, Words};
 use crate::tests::{
     ACROSS_1, ACROSS_2, ACROSS_3, Case, DOWN_1, DOWN_2, SQUARE, Start, Step, WHOLE_SQUARE,
     pass_each,
 };
-use xw_cells::cell::Side;
-use xw_feas::edit::Found;
+use xw_feas::edit::{Found, Refusal};
+use xw_grid::cell::Side;
 
 const ONE_ENTRY: &[Step] = &[
     Told(Set(1, 2, b'T'), &[(1, 2, b"T")]),
@@ -39,6 +39,36 @@ const RESTORED: &[Step] = &[Told(
     Clear(1, 1),
     &[(1, 1, b"A"), (1, 2, b"ST"), (2, 1, b"ST"), (2, 2, b"O")],
 )];
+
+const PLACED: &[Step] = &[
+    Told(Place(ACROSS_1, b"AT"), &[(1, 2, b"T")]),
+    Words(ACROSS_1, &[b"AT"]),
+    Words(DOWN_2, &[b"TO"]),
+    Told(
+        Place(ACROSS_1, b"xy"),
+        &[(1, 1, b""), (1, 2, b""), (2, 1, b""), (2, 2, b"")],
+    ),
+    Refused(Place(ACROSS_1, b"SOS"), Refusal::PlaceLength),
+    Refused(Place(ACROSS_2, b"SO"), Refusal::NoLight),
+    Told(
+        Place(ACROSS_1, b"AS"),
+        &[(1, 1, b"A"), (1, 2, b"S"), (2, 1, b"ST"), (2, 2, b"O")],
+    ),
+    Words(DOWN_2, &[b"SO"]),
+];
+
+/// Another grid keeps the words, and no entry.
+const REGRIDDED: &[Step] = &[
+    Told(Place(ACROSS_1, b"AT"), &[(1, 2, b"T")]),
+    Regrid(2, 1),
+    Words(ACROSS_1, &[b"AS", b"AT", b"SO", b"TO", b"IN"]),
+    Letters(1, 1, b"AIST"),
+    Letters(1, 2, b"NOST"),
+    NoLight(DOWN_1),
+    Unwatched(Set(1, 1, b'I'), &[(1, 1, b"I"), (1, 2, b"N")]),
+    Words(ACROSS_1, &[b"IN"]),
+    Regrid(2, 2),
+];
 
 const CORNER_BLOCKED: &[Step] = &[
     Told(
@@ -121,6 +151,16 @@ const CASES: &[Case] = &[
         name: "square_reshaped_and_reworded",
         start: SQUARE,
         tables: &[CORNER_BLOCKED, WHOLE_SQUARE, WORD_STRUCK, WHOLE_SQUARE],
+    },
+    Case {
+        name: "words_placed",
+        start: SQUARE,
+        tables: &[PLACED],
+    },
+    Case {
+        name: "square_regridded",
+        start: SQUARE,
+        tables: &[REGRIDDED, WHOLE_SQUARE],
     },
     Case {
         name: "bar_parts_a_row",

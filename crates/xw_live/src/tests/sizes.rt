@@ -1,9 +1,9 @@
-//! How many bit rows an engine has, and how long its other lists are.
+//! The sizes of an engine's arrays.
 use crate::live::Live;
-use xw_cells::grid::Grid;
 use xw_feas::edit::Edit;
+use xw_grid::grid::Grid;
 
-/// How many bit rows there are, and how long each other list is.
+/// The number of bit rows, and the length of each other list.
 #[derive(Clone, Copy)]
 pub struct Sizes {
     rows: usize,
@@ -14,7 +14,7 @@ fn cell_count(grid: &Grid) -> usize {
     (grid.width() as usize).saturating_mul(grid.height() as usize)
 }
 
-/// What there is beside the bank.
+/// The sizes of all arrays other than those of the dictionary.
 pub fn sizes_of(engine: &Live) -> Sizes {
     let Live {
         alloc: _,
@@ -51,7 +51,8 @@ fn is_no_longer(before: Sizes, after: Sizes) -> bool {
     true
 }
 
-/// Whether an edit left few rows, and whether no other list grew by a word.
+/// Whether the number of bit rows after an edit is within its bound. After the addition of a word,
+/// also whether no other list has grown.
 pub fn is_small(engine: &Live, before: Sizes, edit: &Edit<'_>) -> bool {
     let after = sizes_of(engine);
     let most = cell_count(&engine.grid).saturating_mul(2).saturating_add(2);

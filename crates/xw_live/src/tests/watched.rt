@@ -1,14 +1,15 @@
-//! An engine each edit of which is compared with a net of the tests' own that is settled beside it: the ticks of the
-//! engine are those of settling. How much there is after each edit is looked at besides.
+//! Runs an engine and a second net side by side. After each edit it checks that the engine's ticks
+//! are those of updating the second net, and that the engine's arrays are not larger than they may
+//! be.
 use crate::live::Live;
 use crate::tests::beside::Beside;
 use crate::tests::sizes::{is_small, sizes_of};
 use crate::tests::{Cells, tells};
 use std::alloc::Global;
 use std::process::Abort;
-use xw_cells::grid::Grid;
 use xw_feas::edit::{Edit, Refusal};
 use xw_feas::feasible::Feasible;
+use xw_grid::grid::Grid;
 use xw_words::bank::Bank;
 
 /// An engine, and the net beside it.
@@ -18,7 +19,8 @@ pub struct Watched {
     pub beside: Beside,
 }
 
-/// Where an edit stands in a case, for the message of a failure: in a list of so called things.
+/// Where an edit is in a case, for failure messages: the index in a list, and what the list's items
+/// are called.
 #[derive(Clone, Copy)]
 pub struct Place {
     pub name: &'static str,
@@ -26,7 +28,8 @@ pub struct Place {
     pub at: usize,
 }
 
-/// The cells that an edit tells, where a table says them, and the least and the most ticks that it takes.
+/// The cells that an edit has to report, if the table lists them, and the least and the most ticks
+/// it may take.
 #[derive(Clone, Copy)]
 pub struct Wanted {
     pub cells: Option<Cells>,
@@ -40,7 +43,7 @@ pub const ANYTHING: Wanted = Wanted {
     most: u64::MAX,
 };
 
-/// An empty grid and no words.
+/// An empty grid and an empty dictionary.
 pub fn open(alloc: Global, width: u32, height: u32) -> Result<Watched, Refusal> {
     let grid = Grid::new(alloc, width, height)?;
     let engine = Live::open(alloc, grid, Bank::new(alloc)?)?;
@@ -48,7 +51,7 @@ pub fn open(alloc: Global, width: u32, height: u32) -> Result<Watched, Refusal> 
     Ok(Watched { engine, beside })
 }
 
-/// Whether an engine does an edit, and tells these cells.
+/// Whether an engine accepts an edit and reports these cells.
 pub fn does(engine: &mut Live, edit: &Edit<'_>, cells: Option<Cells>) -> bool {
     match engine.edit(edit) {
         Ok(changed) => match cells {
@@ -59,7 +62,8 @@ pub fn does(engine: &mut Live, edit: &Edit<'_>, cells: Option<Cells>) -> bool {
     }
 }
 
-/// Whether the net beside an engine takes as many ticks for an edit as the engine took since a count, within the bounds of a table.
+/// Whether the second net takes as many ticks for an edit as the engine did since `spent`, within
+/// the bounds of the table.
 fn is_recounted(watched: &mut Watched, edit: &Edit<'_>, spent: u64, wanted: Wanted) -> bool {
     match watched.engine.spent().checked_sub(spent) {
         Some(risen) => {
@@ -69,7 +73,7 @@ fn is_recounted(watched: &mut Watched, edit: &Edit<'_>, spent: u64, wanted: Want
     }
 }
 
-/// Has an edit done, and compares what it tells, its ticks, and how much there is after it.
+/// Applies an edit, and checks the cells it reports, its ticks, and the sizes after it.
 pub fn watch(
     rt: &impl Abort,
     watched: &mut Watched,

@@ -1,31 +1,32 @@
-//! Lists of cells that are written, and the same cells one after another in a second engine.
+//! Checks that writing a list of cells gives the same answers as writing the cells one by one in a
+//! second engine.
 use crate::live::Live;
 use crate::tests::watched::{ANYTHING, Place, Wanted, Watched, watch};
 use crate::tests::{Do, SQUARE, Step, at, begin, pass};
 use std::alloc::Global;
 use std::process::Abort;
-use xw_cells::cell::Cell;
-use xw_cells::fault::GridFault;
 use xw_feas::edit::{Edit, Refusal};
 use xw_feas::feasible::Feasible;
+use xw_grid::cell::Cell;
+use xw_grid::fault::GridFault;
 use xw_letters::letter::Letter;
 
-/// Cells by row and column, each with a letter by its byte, or with none.
+/// Cells by row and column, each with the byte of a letter, or empty.
 type List = &'static [(u32, u32, Option<u8>)];
 
-/// What an engine does with a list.
+/// The outcome of writing a list.
 #[derive(Clone, Copy)]
 enum Listed {
     Written(List),
-    /// Each entry is left as it was, and nothing is spent.
+    /// No entry changes, and no ticks are taken.
     Idle(List),
-    /// Nothing is spent.
+    /// No ticks are taken.
     Refused(List, GridFault),
 }
 
-/// Lists for the square after some calls, one after another.
+/// Lists to write into the square, in order, after some calls.
 struct Case {
-    /// By which a failure tells the case.
+    /// Names the case in failure messages.
     name: &'static str,
     calls: &'static [Step],
     lists: &'static [Listed],
@@ -57,7 +58,7 @@ fn write_in_turn(engine: &mut Live, list: &[(Cell, Option<Letter>)]) -> Result<(
     Ok(())
 }
 
-/// Whether a list is so refused, with no tick.
+/// Whether a list is refused in this way and takes no ticks.
 fn refuses(engine: &mut Live, list: &[(Cell, Option<Letter>)], fault: GridFault) -> bool {
     let spent = engine.spent();
     let refusal = engine.edit_counted(&Edit::Write(list)).err();
@@ -70,7 +71,8 @@ const IDLE: Wanted = Wanted {
     most: 0,
 };
 
-/// Gives a list to one engine at once, and writes it in turn in another unless it is refused.
+/// Writes a list at once in one engine. If the list is not to be refused, writes its cells one by
+/// one in the other.
 fn write_twice(
     rt: &(impl Abort + AllocGlobal),
     one: &mut Watched,
@@ -92,7 +94,7 @@ fn write_twice(
     Ok(true)
 }
 
-/// Whether two engines have the same entries and answer the same letters for each cell.
+/// Whether two engines have the same entries and the same feasible letters.
 fn have_same_cells(one: &Live, other: &Live) -> bool {
     for place in 0..one.grid().size() {
         let cell = one.grid().cell_at(place);
@@ -105,7 +107,8 @@ fn have_same_cells(one: &Live, other: &Live) -> bool {
     true
 }
 
-/// Whether two engines answer as many words for each light, and the same first one.
+/// Whether two engines have, for each light, the same number of feasible words and the same first
+/// one.
 fn have_same_words(one: &Live, other: &Live) -> bool {
     for place in 0..one.lights().len() {
         if let Some(light) = one.lights().get(place) {
@@ -130,7 +133,7 @@ fn compare(rt: &impl Abort, one: &Live, other: &Live, name: &str, at: usize) {
     );
 }
 
-/// Gives each list of a case to one engine, and compares it with the other after it.
+/// Writes each list of a case, and compares the engines after each.
 fn pass_lists(rt: &(impl Abort + AllocGlobal), one: &mut Watched, other: &mut Live, case: &Case) {
     let (name, list) = (case.name, "list");
     for (at, listed) in case.lists.iter().enumerate() {
@@ -194,7 +197,7 @@ const CASES: &[Case] = &[
     },
 ];
 
-/// Gives the lists of a case to an engine, beside another one that begins as it did.
+/// Writes the lists of a case in an engine, and in a second one that starts the same way.
 fn pass_beside(
     rt: &(impl Abort + AllocGlobal),
     one: &mut Watched,

@@ -1,4 +1,4 @@
-//! The edits that commands ask for, and how they are answered.
+//! Turns commands into edits of the engine, and answers them.
 ghost use Rattle.std.specs.Prelude.{◌≡◌, IfOk, flat_map, if◌then◌else◌, []};
 ghost use Rattle.xw_feas.specs.Changed.{changes_left};
 ghost use Rattle.xw_feas.specs.Changes.{spelled_out};
@@ -13,23 +13,23 @@ use crate::lists;
 use crate::lookup::light_name;
 use crate::refusal::Refusal;
 use crate::session::{Session, end_answer};
-use xw_cells::{Side, Symmetry};
-use xw_commands::command::{Named, Spot};
+use xw_commands::command::{CellArg, LightArg};
 use xw_feas::changed::Changed;
 use xw_feas::edit::{Edit, Refusal as EditRefusal};
 use xw_feas::feasible::Feasible;
+use xw_grid::{Side, Symmetry};
 use xw_letters::Letter;
 use xw_lines::device::{Sink, WriteFailed};
 use xw_lines::outcome::Step;
 use xw_words::WordFault;
 
-/// With the watch on writes the cells that changed.
+/// Writes the changed cells if the watch is on.
 fn tell_changes<W: Sink>(
     sink: &mut W,
     changed: Changed<'_>,
     is_watched: bool,
 ) -> Result<(), WriteFailed>
-    ensures { Sends W.told W.failures sink.old sink.new result (if is_watched then flat_map change_line (spelled_out (changes_left changed.entry)) else []) }
+    ensures { Sends W.transcript W.failures sink.old sink.new result (if is_watched then flat_map change_line (spelled_out (changes_left changed.entry)) else []) }
 {
     if is_watched {
         lists::write_changes(sink, changed)
@@ -38,13 +38,13 @@ fn tell_changes<W: Sink>(
     }
 }
 
-/// Answers an edit that was done or refused, with the watch on or off.
+/// Answers an edit that was accepted or refused.
 fn end_edit<W: Sink>(
     sink: &mut W,
     edited: Result<Changed<'_>, EditRefusal>,
     is_watched: bool,
 ) -> Result<Step, WriteFailed>
-    ensures sends { (state : State) → Sends W.told W.failures sink.old sink.new result (text_of (edit_reply is_watched edited.entry state)) }
+    ensures sends { (state : State) → Sends W.transcript W.failures sink.old sink.new result (text_of (edit_reply is_watched edited.entry state)) }
     ensures step { (state : State) → IfOk result (λ step. step ≡ step_of (edit_reply is_watched edited.entry state)) }
 {
     match edited {
@@ -60,13 +60,13 @@ impl<E: Feasible> Session<E> {
     ghost use Rattle.xw_commands.specs.declared.command.Command.{Command as AnyCommand};
     ghost use Rattle.xw_commands.specs.declared.command.Command.TheVariants as commands;
 
-    /// Does the edit that a command asks for and answers it, or the refusal that comes before it.
+    /// Applies the edit of a command and answers it, or answers the refusal that came before the edit.
     pub(crate) fn edit<W: Sink>(
         &mut self,
         asked: &Result<Edit<'_>, Refusal>,
         sink: &mut W,
     ) -> Result<Step, WriteFailed>
-        ensures { (command : AnyCommand) → Asks self.old command asked.now → AnswersTo W.told W.failures self.old command result self.new sink.old sink.new }
+        ensures { (command : AnyCommand) → Asks self.old command asked.now → AnswersTo W.transcript W.failures self.old command result self.new sink.old sink.new }
     {
         match asked {
             Ok(edit) => self.answer_edit(edit, sink),
@@ -74,9 +74,9 @@ impl<E: Feasible> Session<E> {
         }
     }
 
-    /// Does an edit and answers it.
+    /// Applies an edit and answers it.
     fn answer_edit<W: Sink>(&mut self, edit: &Edit<'_>, sink: &mut W) -> Result<Step, WriteFailed>
-        ensures { AnswersBy W.told W.failures self.old (moved self.old (after self.old.position (action_of edit.now))) (want_of_action self.old (action_of edit.now)) result self.new sink.old sink.new }
+        ensures { AnswersBy W.transcript W.failures self.old (moved self.old (after self.old.position (action_of edit.now))) (want_of_action self.old (action_of edit.now)) result self.new sink.old sink.new }
     {
         let is_watched = self.is_watched;
         end_edit(sink, self.engine.edit(edit), is_watched)
@@ -100,7 +100,7 @@ impl<E: Feasible> Session<E> {
         Ok(Edit::Strike(word))
     }
 
-    pub(crate) fn set<'a>(&self, spot: Spot, letter: u8) -> Result<Edit<'a>, Refusal>
+    pub(crate) fn set<'a>(&self, spot: CellArg, letter: u8) -> Result<Edit<'a>, Refusal>
         ensures { Asks self.now (commands.Set spot letter) result }
     {
         let Some(letter) = Letter::of(letter) else {
@@ -109,13 +109,13 @@ impl<E: Feasible> Session<E> {
         Ok(Edit::Set(self.cell(spot)?, letter))
     }
 
-    pub(crate) fn clear<'a>(&self, spot: Spot) -> Result<Edit<'a>, Refusal>
+    pub(crate) fn clear<'a>(&self, spot: CellArg) -> Result<Edit<'a>, Refusal>
         ensures { Asks self.now (commands.Clear spot) result }
     {
         Ok(Edit::Clear(self.cell(spot)?))
     }
 
-    pub(crate) fn place<'a>(&self, named: Named, word: &'a [u8]) -> Result<Edit<'a>, Refusal>
+    pub(crate) fn place<'a>(&self, named: LightArg, word: &'a [u8]) -> Result<Edit<'a>, Refusal>
         ensures { Asks self.now (commands.Place named word.now) result }
     {
         self.engine.grid().well_formed();
@@ -125,13 +125,13 @@ impl<E: Feasible> Session<E> {
         }
     }
 
-    pub(crate) fn block<'a>(&self, spot: Spot) -> Result<Edit<'a>, Refusal>
+    pub(crate) fn block<'a>(&self, spot: CellArg) -> Result<Edit<'a>, Refusal>
         ensures { Asks self.now (commands.Block spot) result }
     {
         Ok(Edit::Block(self.cell(spot)?))
     }
 
-    pub(crate) fn bar<'a>(&self, spot: Spot, side: Side) -> Result<Edit<'a>, Refusal>
+    pub(crate) fn bar<'a>(&self, spot: CellArg, side: Side) -> Result<Edit<'a>, Refusal>
         ensures { Asks self.now (commands.Bar spot side) result }
     {
         Ok(Edit::Bar(self.cell(spot)?, side))

@@ -1,4 +1,4 @@
-//! What commands change beside the engine: the grid as a whole, the texts, the clues and the circles.
+//! Commands that change the grid's size, texts, clues, circles or the watch.
 ghost use Rattle.std.specs.Prelude.{◌≡◌, IfOk, IsOk, IsOkUnless, [], true, false};
 ghost use Rattle.xw_session.specs.Reply.{has_nul as has_nul_byte, light_named as light_named_so};
 ghost use Rattle.xw_session.specs.State.{with_text_in};
@@ -8,19 +8,18 @@ use crate::lookup::{light_name, light_named};
 use crate::refusal::Refusal;
 use crate::session::Session;
 use std::alloc::Global;
-use xw_cells::{Grid, GridFault};
-use xw_commands::command::{Named, Spot, TextField};
+use xw_commands::command::{CellArg, LightArg, TextField};
 use xw_feas::feasible::Feasible;
-use xw_grid::{Circles, Clues, Light};
+use xw_grid::{Circles, Clues, Grid, GridFault, Light};
 
-/// Whether a text has a NUL.
+/// Returns whether a text has a NUL.
 pub(crate) fn has_nul(text: &[u8]) -> bool
     ensures { result ≡ has_nul_byte text.now }
 {
     text.iter().any(|byte| *byte == 0)
 }
 
-/// A text as it is kept; an empty one takes no memory.
+/// Copies a text. An empty text needs no allocation. Fails only if an allocation fails.
 fn kept(alloc: Global, text: &[u8]) -> Result<Vec<u8>, GridFault>
     ensures ok { IfOk result (λ kept. kept.items ≡ text.now) }
     ensures memory { IsOkUnless result GridFault.Memory }
@@ -35,7 +34,7 @@ fn kept(alloc: Global, text: &[u8]) -> Result<Vec<u8>, GridFault>
 impl<E: Feasible> Session<E> {
     ghost use Rattle.xw_commands.specs.declared.command.Command.TheVariants as commands;
 
-    /// A new grid of this size, without clues and circles.
+    /// Replaces the grid by an empty one of this size, and removes all clues and circles.
     pub(crate) fn resize(&mut self, width: u64, height: u64) -> Result<(), Refusal>
         ensures { Edits self.old (commands.Size width height) result self.new }
     {
@@ -49,7 +48,7 @@ impl<E: Feasible> Session<E> {
         Ok(())
     }
 
-    fn light(&self, named: Named) -> Option<Light>
+    fn light(&self, named: LightArg) -> Option<Light>
         ensures { result ≡ light_named_so self.now.position.grid named }
     {
         self.engine.grid().well_formed();
@@ -59,7 +58,7 @@ impl<E: Feasible> Session<E> {
         }
     }
 
-    pub(crate) fn set_clue(&mut self, named: Named, text: &[u8]) -> Result<(), Refusal>
+    pub(crate) fn set_clue(&mut self, named: LightArg, text: &[u8]) -> Result<(), Refusal>
         ensures { Edits self.old (commands.Clue named text.now) result self.new }
     {
         let Some(light) = self.light(named) else {
@@ -72,7 +71,7 @@ impl<E: Feasible> Session<E> {
         Ok(())
     }
 
-    pub(crate) fn toggle_circle(&mut self, spot: Spot) -> Result<(), Refusal>
+    pub(crate) fn toggle_circle(&mut self, spot: CellArg) -> Result<(), Refusal>
         ensures { Edits self.old (commands.Circle spot) result self.new }
     {
         let cell = self.cell(spot)?;
@@ -84,7 +83,7 @@ impl<E: Feasible> Session<E> {
         Ok(())
     }
 
-    /// Puts a text in the place of the one of its field.
+    /// Replaces a text of the puzzle.
     pub(crate) fn write(&mut self, field: TextField, text: &[u8]) -> Result<(), Refusal>
         ensures { Edits self.old (commands.Write field text.now) result self.new }
     {

@@ -1,4 +1,4 @@
-//! Texts that are put into their places, each spelled with escapes.
+//! The commands `text` and `more`, which put a text with escapes into a field.
 ghost use Rattle.std.specs.Prelude.{◌≡◌, ℕ, ◌++◌, List, [], true, false, Some, IfOk, IfErr, IsOk, OnOk, OnErr, IsOkUnless};
 ghost use Rattle.xw_session.specs.Escape.{text_spelled};
 ghost use Rattle.xw_session.specs.Put.{place_of, has_place, text_at as text_at_place, with_text_at, with_piece};
@@ -9,18 +9,18 @@ use crate::refusal::Refusal;
 use crate::session::Session;
 use crate::session::changing::has_nul;
 use std::alloc::{AllocError, Global};
-use xw_cells::{Cell, Direction, GridFault};
-use xw_commands::command::{Field, Putting, TextField};
+use xw_commands::command::{Field, TextField, TextMode};
 use xw_feas::feasible::Feasible;
+use xw_grid::{Cell, Direction, GridFault};
 
-/// Where a text is kept.
+/// A text that a field names: a text of the puzzle, or the clue at a cell and direction.
 #[derive(Clone, Copy)]
 pub enum Place {
     Text(TextField),
     Clue(Cell, Direction),
 }
 
-/// What a text with another one behind it is; nothing takes no memory.
+/// Returns the text of a spelling appended to another text. If both are empty, nothing is allocated.
 fn joined(alloc: Global, front: &[u8], spelling: &[u8]) -> Result<Vec<u8>, GridFault>
     ensures ok { IfOk result (λ text. (piece : List ℕ) → text_spelled spelling.now ≡ Some piece → text.items ≡ front.now ++ piece) }
     ensures memory { IsOkUnless result GridFault.Memory }
@@ -57,7 +57,7 @@ impl<E: Feasible> Session<E> {
         }
     }
 
-    /// Keeps a text in its place.
+    /// Stores a text in a place. If an allocation fails, the session is unchanged.
     fn keep(&mut self, place: Place, text: Vec<u8>) -> Result<(), GridFault>
         ensures ok { OnOk result (self.new ≡ with_text_at self.old place text.items) }
         ensures err { OnErr result (self.new ≡ self.old) }
@@ -73,10 +73,11 @@ impl<E: Feasible> Session<E> {
         }
     }
 
-    /// Puts what is spelled into a place, instead of what stands there or behind it.
+    /// Replaces a field by the text of a spelling, or appends it. Returns the first refusal that applies, in the order
+    /// `Escape`, `OutOfGrid`, `NulByte`, `Memory`.
     pub(crate) fn put(
         &mut self,
-        putting: Putting,
+        putting: TextMode,
         field: Field,
         spelling: &[u8],
     ) -> Result<(), Refusal>
@@ -93,20 +94,25 @@ impl<E: Feasible> Session<E> {
         Ok(())
     }
 
-    fn put_text(&mut self, putting: Putting, place: Place, spelling: &[u8]) -> Result<(), GridFault>
+    fn put_text(
+        &mut self,
+        putting: TextMode,
+        place: Place,
+        spelling: &[u8],
+    ) -> Result<(), GridFault>
         ensures ok { OnOk result ((piece : List ℕ) → text_spelled spelling.now ≡ Some piece → self.new ≡ with_piece self.old putting place piece) }
         ensures err { OnErr result (self.new ≡ self.old) }
         ensures memory { IsOkUnless result GridFault.Memory }
         ensures freed { spelling.now ≡ [] → IsOk result }
     {
         match putting {
-            Putting::Instead => self.put_instead(place, spelling),
-            Putting::Behind => self.put_behind(place, spelling),
+            TextMode::Instead => self.put_instead(place, spelling),
+            TextMode::Behind => self.put_behind(place, spelling),
         }
     }
 
     fn put_instead(&mut self, place: Place, spelling: &[u8]) -> Result<(), GridFault>
-        ensures ok { OnOk result ((piece : List ℕ) → text_spelled spelling.now ≡ Some piece → self.new ≡ with_piece self.old Putting.Instead place piece) }
+        ensures ok { OnOk result ((piece : List ℕ) → text_spelled spelling.now ≡ Some piece → self.new ≡ with_piece self.old TextMode.Instead place piece) }
         ensures err { OnErr result (self.new ≡ self.old) }
         ensures memory { IsOkUnless result GridFault.Memory }
         ensures freed { spelling.now ≡ [] → IsOk result }
@@ -116,7 +122,7 @@ impl<E: Feasible> Session<E> {
     }
 
     fn put_behind(&mut self, place: Place, spelling: &[u8]) -> Result<(), GridFault>
-        ensures ok { OnOk result ((piece : List ℕ) → text_spelled spelling.now ≡ Some piece → self.new ≡ with_piece self.old Putting.Behind place piece) }
+        ensures ok { OnOk result ((piece : List ℕ) → text_spelled spelling.now ≡ Some piece → self.new ≡ with_piece self.old TextMode.Behind place piece) }
         ensures err { OnErr result (self.new ≡ self.old) }
         ensures memory { IsOkUnless result GridFault.Memory }
         ensures freed { spelling.now ≡ [] → IsOk result }

@@ -1,7 +1,7 @@
-//! Queries answered: what a session knows, and what its engine and the search say.
+//! Answers queries of the session, the engine and the search.
 ghost use Rattle.std.specs.Prelude.{◌≡◌, ℕ, Err, ◌∷◌, [], length, IfOk, IfErr, IfSome, IfNone, Some, None, codes, decimal, ◌++◌};
 ghost use Rattle.xw_letters.specs.LetterSet.{letters_in};
-ghost use Rattle.xw_cells.specs.Grid.{index_of};
+ghost use Rattle.xw_grid.specs.Grid.{index_of};
 ghost use Rattle.xw_grid.specs.Light.{lights_of, place_named};
 ghost use Rattle.xw_fill.specs.Position.{position_of};
 ghost use Rattle.xw_fill.specs.FeasibleWords.{feasible_words};
@@ -16,26 +16,26 @@ use crate::lookup::{light_name, light_named};
 use crate::refusal::Refusal;
 use crate::session::{Session, end_answer};
 use crate::{lists, show, text};
-use xw_cells::{Direction, LightName};
-use xw_commands::command::{Named, Spot};
+use xw_commands::command::{CellArg, LightArg};
 use xw_feas::edit::Refusal as EditRefusal;
 use xw_feas::feasible::Feasible;
-use xw_feas::words::{WordIter, words};
+use xw_feas::word_iter::{WordIter, words};
 use xw_fill::listing::{duplicates, unlisted};
 use xw_fill::search::{Filling, fill};
 use xw_fill::suggesting::{Suggestion, suggest};
+use xw_grid::{Direction, LightName};
 use xw_letters::{Letter, LetterSet};
 use xw_lines::device::{Sink, WriteFailed};
 use xw_lines::outcome::Step;
 
-/// Writes how many words there are, and then as many of them as are asked for.
+/// Writes the count of words, and then the words, at most `most` of them.
 fn write_counted<E: Feasible, W: Sink>(
     sink: &mut W,
     count: usize,
     words: WordIter<'_, E>,
     most: Option<u64>,
 ) -> Result<(), WriteFailed>
-    ensures { Sends W.told W.failures sink.old sink.new result (counted_lines count (first_words most words.entry)) }
+    ensures { Sends W.transcript W.failures sink.old sink.new result (counted_lines count (first_words most words.entry)) }
 {
     text::write_number(sink, count as u64)?;
     match most {
@@ -44,7 +44,7 @@ fn write_counted<E: Feasible, W: Sink>(
     }
 }
 
-/// The known word at a place among those as long as the light of a name.
+/// Returns the known word at an index among those of the light's length.
 fn word_at<E: Feasible>(engine: &E, name: LightName, place: usize) -> &[Letter]
     ensures { result.now ≡ known_word_at (E.state engine.now) name place }
 {
@@ -60,13 +60,13 @@ fn word_at<E: Feasible>(engine: &E, name: LightName, place: usize) -> &[Letter]
     }
 }
 
-/// Writes what is proposed.
+/// Writes a suggestion.
 fn write_suggestion<E: Feasible, W: Sink>(
     sink: &mut W,
     engine: &E,
     suggestion: Suggestion,
 ) -> Result<(), WriteFailed>
-    ensures { Sends W.told W.failures sink.old sink.new result (suggestion_line (E.state engine.now) suggestion) }
+    ensures { Sends W.transcript W.failures sink.old sink.new result (suggestion_line (E.state engine.now) suggestion) }
 {
     match suggestion {
         Suggestion::Dead(light) => text::write_named(sink, b"dead", light),
@@ -89,17 +89,17 @@ fn filling_name(filling: Filling) -> &'static str
 }
 
 fn write_filling<W: Sink>(sink: &mut W, filling: Filling) -> Result<(), WriteFailed>
-    ensures { Sends W.told W.failures sink.old sink.new result (word_line (name_of_filling filling)) }
+    ensures { Sends W.transcript W.failures sink.old sink.new result (word_line (name_of_filling filling)) }
 {
     text::write_line(sink, &[filling_name(filling).as_bytes()])
 }
 
-/// Answers a search for a fill that was done or refused.
+/// Answers a search for a fill.
 fn end_filling<W: Sink>(
     sink: &mut W,
     filled: Result<Filling, EditRefusal>,
 ) -> Result<Step, WriteFailed>
-    ensures sends { (state : State) → Sends W.told W.failures sink.old sink.new result (text_of (fill_reply filled state)) }
+    ensures sends { (state : State) → Sends W.transcript W.failures sink.old sink.new result (text_of (fill_reply filled state)) }
     ensures step { (state : State) → IfOk result (λ step. step ≡ step_of (fill_reply filled state)) }
 {
     match filled {
@@ -114,13 +114,13 @@ fn end_filling<W: Sink>(
 impl<E: Feasible> Session<E> {
     ghost use Rattle.xw_commands.specs.declared.command.Command.TheVariants as commands;
 
-    /// Answers the words that a pattern fits.
+    /// Answers `match`: the active words that fit a pattern.
     pub(crate) fn answer_match<W: Sink>(
         &self,
         pattern: &[u8],
         sink: &mut W,
     ) -> Result<Step, WriteFailed>
-        ensures { AnswersTo W.told W.failures self.now (commands.Match pattern.now) result self.now sink.old sink.new }
+        ensures { AnswersTo W.transcript W.failures self.now (commands.Match pattern.now) result self.now sink.old sink.new }
     {
         match self.engine.bank().matching(pattern) {
             Ok(words) => {
@@ -131,31 +131,31 @@ impl<E: Feasible> Session<E> {
         }
     }
 
-    /// Answers the grid.
+    /// Answers `show`: the grid.
     pub(crate) fn answer_show<W: Sink>(&self, sink: &mut W) -> Result<Step, WriteFailed>
-        ensures { AnswersTo W.told W.failures self.now commands.Show result self.now sink.old sink.new }
+        ensures { AnswersTo W.transcript W.failures self.now commands.Show result self.now sink.old sink.new }
     {
         show::write_grid(sink, self.engine.grid())?;
         end_answer(sink, Ok(()))
     }
 
-    /// Answers the lights.
+    /// Answers `lights`: all lights.
     pub(crate) fn answer_lights<W: Sink>(&self, sink: &mut W) -> Result<Step, WriteFailed>
-        ensures { AnswersTo W.told W.failures self.now commands.Lights result self.now sink.old sink.new }
+        ensures { AnswersTo W.transcript W.failures self.now commands.Lights result self.now sink.old sink.new }
     {
         lists::write_lights(sink, self.engine.grid(), self.engine.lights())?;
         end_answer(sink, Ok(()))
     }
 
-    /// Answers the open cells that are circled.
+    /// Answers `circles`: the open circled cells.
     pub(crate) fn answer_circles<W: Sink>(&self, sink: &mut W) -> Result<Step, WriteFailed>
-        ensures { AnswersTo W.told W.failures self.now commands.Circles result self.now sink.old sink.new }
+        ensures { AnswersTo W.transcript W.failures self.now commands.Circles result self.now sink.old sink.new }
     {
         lists::write_circles(sink, self.engine.grid(), &self.circles)?;
         end_answer(sink, Ok(()))
     }
 
-    /// The feasible words of a light, and how many they are.
+    /// Returns the feasible words of a light and their count.
     fn counted_by(&self, name: LightName) -> Option<(usize, WordIter<'_, E>)>
         ensures some { IfSome result (λ found. (light : ℕ) × (place_named (lights_of self.now.position.grid) name ≡ Some light)
             × (found.0 ≡ length (feasible_words (position_of self.now.position) light))
@@ -168,8 +168,8 @@ impl<E: Feasible> Session<E> {
         }
     }
 
-    /// The same of the light that a line names.
-    fn counted_words(&self, named: Named) -> Option<(usize, WordIter<'_, E>)>
+    /// Returns the feasible words, and their count, of the light named in a command.
+    fn counted_words(&self, named: LightArg) -> Option<(usize, WordIter<'_, E>)>
         ensures some { IfSome result (λ found. (light : ℕ) × (place_named (lights_of self.now.position.grid) (name_of_light named) ≡ Some light)
             × (found.0 ≡ length (feasible_words (position_of self.now.position) light))
             × (found.1 ≡ feasible_words (position_of self.now.position) light)) }
@@ -182,14 +182,14 @@ impl<E: Feasible> Session<E> {
         }
     }
 
-    /// Answers the feasible words of a light.
+    /// Answers `words`: the feasible words of a light.
     pub(crate) fn answer_words<W: Sink>(
         &self,
-        named: Named,
+        named: LightArg,
         most: Option<u64>,
         sink: &mut W,
     ) -> Result<Step, WriteFailed>
-        ensures { AnswersTo W.told W.failures self.now (commands.Words named most) result self.now sink.old sink.new }
+        ensures { AnswersTo W.transcript W.failures self.now (commands.Words named most) result self.now sink.old sink.new }
     {
         match self.counted_words(named) {
             Some((count, found)) => {
@@ -200,8 +200,8 @@ impl<E: Feasible> Session<E> {
         }
     }
 
-    /// The feasible letters of a cell.
-    fn letters(&self, spot: Spot) -> Result<LetterSet, Refusal>
+    /// Returns the feasible letters of a cell. Returns `OutOfGrid` or `OnBlock` if it has none.
+    fn letters(&self, spot: CellArg) -> Result<LetterSet, Refusal>
         ensures ok { IfOk result (λ set. lettered self.now (cell_of spot) ≡ shown self.now (letters_line (letters_in set))) }
         ensures refused { IfErr result (λ refusal. lettered self.now (cell_of spot) ≡ Err refusal) }
     {
@@ -210,13 +210,13 @@ impl<E: Feasible> Session<E> {
         Ok(letters)
     }
 
-    /// Answers the feasible letters of a cell.
+    /// Answers `letters`: the feasible letters of a cell.
     pub(crate) fn answer_letters<W: Sink>(
         &self,
-        spot: Spot,
+        spot: CellArg,
         sink: &mut W,
     ) -> Result<Step, WriteFailed>
-        ensures { AnswersTo W.told W.failures self.now (commands.Letters spot) result self.now sink.old sink.new }
+        ensures { AnswersTo W.transcript W.failures self.now (commands.Letters spot) result self.now sink.old sink.new }
     {
         match self.letters(spot) {
             Ok(letters) => {
@@ -227,9 +227,9 @@ impl<E: Feasible> Session<E> {
         }
     }
 
-    /// Answers the lights that spell what earlier ones do.
+    /// Answers `dups`: the lights that spell the same as an earlier light.
     pub(crate) fn answer_duplicates<W: Sink>(&self, sink: &mut W) -> Result<Step, WriteFailed>
-        ensures { AnswersTo W.told W.failures self.now commands.Duplicates result self.now sink.old sink.new }
+        ensures { AnswersTo W.transcript W.failures self.now commands.Duplicates result self.now sink.old sink.new }
     {
         match duplicates(self.alloc, &self.engine) {
             Ok(found) => {
@@ -240,9 +240,9 @@ impl<E: Feasible> Session<E> {
         }
     }
 
-    /// Answers the lights that spell what the dictionary lacks.
+    /// Answers `unlisted`: the lights whose words are not active.
     pub(crate) fn answer_unlisted<W: Sink>(&self, sink: &mut W) -> Result<Step, WriteFailed>
-        ensures { AnswersTo W.told W.failures self.now commands.Unlisted result self.now sink.old sink.new }
+        ensures { AnswersTo W.transcript W.failures self.now commands.Unlisted result self.now sink.old sink.new }
     {
         match unlisted(self.alloc, &self.engine) {
             Ok(found) => {
@@ -253,22 +253,22 @@ impl<E: Feasible> Session<E> {
         }
     }
 
-    /// Answers a proposal of a next word.
+    /// Answers `suggest`: the next word to place.
     pub(crate) fn answer_suggestion<W: Sink>(&mut self, sink: &mut W) -> Result<Step, WriteFailed>
-        ensures { AnswersTo W.told W.failures self.old commands.Suggest result self.new sink.old sink.new }
+        ensures { AnswersTo W.transcript W.failures self.old commands.Suggest result self.new sink.old sink.new }
     {
         let suggestion = suggest(&mut self.engine);
         write_suggestion(sink, &self.engine, suggestion)?;
         end_answer(sink, Ok(()))
     }
 
-    /// Fills the grid, if that can be done within so many placements, and answers whether it was.
+    /// Answers `fill`: fills the grid with at most `limit` placements, if possible.
     pub(crate) fn answer_fill<W: Sink>(
         &mut self,
         limit: u64,
         sink: &mut W,
     ) -> Result<Step, WriteFailed>
-        ensures { AnswersTo W.told W.failures self.old (commands.Fill limit) result self.new sink.old sink.new }
+        ensures { AnswersTo W.transcript W.failures self.old (commands.Fill limit) result self.new sink.old sink.new }
     {
         let filled = fill(self.alloc, &mut self.engine, limit);
         end_filling(sink, filled)

@@ -1,4 +1,4 @@
-//! The record of a session: what it has, as commands that make it again.
+//! Writes the record of a session.
 ghost use Rattle.xw_lines.specs.Sends.{Sends};
 ghost use Rattle.xw_session.specs.Record.{command_lines, section_commands, record_lines};
 
@@ -12,7 +12,7 @@ use xw_lines::device::{Sink, WriteFailed};
 impl<E: Feasible> Session<E> {
     /// Writes the commands of a section.
     fn write_section<W: Sink>(&self, section: Section, sink: &mut W) -> Result<(), WriteFailed>
-        ensures { Sends W.told W.failures sink.old sink.new result (command_lines (section_commands self.now section)) }
+        ensures { Sends W.transcript W.failures sink.old sink.new result (command_lines (section_commands self.now section)) }
     {
         let grid = self.engine.grid();
         match section {
@@ -29,9 +29,9 @@ impl<E: Feasible> Session<E> {
         }
     }
 
-    /// Writes lines of commands that make this session again from one that begins with the same words.
+    /// Writes the commands that rebuild this session from one that starts with the same words.
     pub fn write_record<W: Sink>(&self, sink: &mut W) -> Result<(), WriteFailed>
-        ensures { Sends W.told W.failures sink.old sink.new result (record_lines self.now) }
+        ensures { Sends W.transcript W.failures sink.old sink.new result (record_lines self.now) }
     {
         for section in SECTIONS {
             self.write_section(*section, sink)?;

@@ -1,4 +1,4 @@
-//! What is told of a whole puzzle: its cells, its lights, its texts.
+//! Answers the commands that report on the whole puzzle.
 ghost use Rattle.std.specs.Prelude.{◌<◌, length};
 ghost use Rattle.xw_grid.specs.Light.{lights_of};
 ghost use Rattle.xw_lines.specs.Sends.{Sends};
@@ -9,19 +9,19 @@ ghost use Rattle.xw_session.specs.Answer.{AnswersTo};
 
 use crate::session::{Session, end_answer};
 use crate::{fields, stats, text};
-use xw_cells::Cell;
-use xw_commands::command::Telling;
+use xw_commands::command::Report;
 use xw_feas::feasible::Feasible;
+use xw_grid::Cell;
 use xw_lines::device::{Sink, WriteFailed};
 use xw_lines::outcome::Step;
 
-/// Writes a cell with its feasible letters, where it is open.
+/// Writes the feasible letters of a cell. Writes nothing for a block.
 fn write_cell_letters<E: Feasible, W: Sink>(
     sink: &mut W,
     engine: &E,
     cell: Cell,
 ) -> Result<(), WriteFailed>
-    ensures { Sends W.told W.failures sink.old sink.new result (letters_told (E.state engine.now) cell) }
+    ensures { Sends W.transcript W.failures sink.old sink.new result (letters_told (E.state engine.now) cell) }
 {
     if !engine.grid().is_open(cell) {
         return Ok(());
@@ -32,9 +32,9 @@ fn write_cell_letters<E: Feasible, W: Sink>(
     }
 }
 
-/// Writes the open cells with their feasible letters.
+/// Writes each open cell with its feasible letters.
 fn write_cells<E: Feasible, W: Sink>(sink: &mut W, engine: &E) -> Result<(), WriteFailed>
-    ensures { Sends W.told W.failures sink.old sink.new result (cell_lines (E.state engine.now)) }
+    ensures { Sends W.transcript W.failures sink.old sink.new result (cell_lines (E.state engine.now)) }
 {
     let grid = engine.grid();
     for place in 0..grid.size() {
@@ -43,14 +43,14 @@ fn write_cells<E: Feasible, W: Sink>(sink: &mut W, engine: &E) -> Result<(), Wri
     Ok(())
 }
 
-/// Writes the light at a place with the number of its feasible words.
+/// Writes the light at an index with its number of feasible words.
 fn write_count_at<E: Feasible, W: Sink>(
     sink: &mut W,
     engine: &E,
     place: usize,
 ) -> Result<(), WriteFailed>
     requires { place < length (lights_of (E.state engine.now).grid) }
-    ensures { Sends W.told W.failures sink.old sink.new result (count_line (E.state engine.now) place) }
+    ensures { Sends W.transcript W.failures sink.old sink.new result (count_line (E.state engine.now) place) }
 {
     let Some(light) = engine.lights().get(place) else {
         return Ok(());
@@ -61,9 +61,9 @@ fn write_count_at<E: Feasible, W: Sink>(
     }
 }
 
-/// Writes the lights with the numbers of their feasible words.
+/// Writes each light with its number of feasible words.
 fn write_counts<E: Feasible, W: Sink>(sink: &mut W, engine: &E) -> Result<(), WriteFailed>
-    ensures { Sends W.told W.failures sink.old sink.new result (count_lines (E.state engine.now)) }
+    ensures { Sends W.transcript W.failures sink.old sink.new result (count_lines (E.state engine.now)) }
 {
     for place in 0..engine.lights().len() {
         write_count_at(sink, engine, place)?;
@@ -76,36 +76,36 @@ impl<E: Feasible> Session<E> {
 
     /// Writes the texts, and the clues of the lights.
     fn write_texts<W: Sink>(&self, sink: &mut W) -> Result<(), WriteFailed>
-        ensures { Sends W.told W.failures sink.old sink.new result (text_lines self.now) }
+        ensures { Sends W.transcript W.failures sink.old sink.new result (text_lines self.now) }
     {
         fields::write_fields(sink, &self.texts)?;
         let engine = &self.engine;
         fields::write_clues(sink, engine.grid(), engine.lights(), &self.clues)
     }
 
-    /// Writes the counts over the grid.
+    /// Writes the counts of the grid.
     fn write_stats<W: Sink>(&self, sink: &mut W) -> Result<(), WriteFailed>
-        ensures { Sends W.told W.failures sink.old sink.new result (stat_lines self.now.position.grid) }
+        ensures { Sends W.transcript W.failures sink.old sink.new result (stat_lines self.now.position.grid) }
     {
         let engine = &self.engine;
         stats::write_stats(sink, engine.grid(), engine.lights())
     }
 
-    fn write_told<W: Sink>(&self, telling: Telling, sink: &mut W) -> Result<(), WriteFailed>
-        ensures { Sends W.told W.failures sink.old sink.new result (told_lines self.now telling) }
+    fn write_told<W: Sink>(&self, telling: Report, sink: &mut W) -> Result<(), WriteFailed>
+        ensures { Sends W.transcript W.failures sink.old sink.new result (told_lines self.now telling) }
     {
         match telling {
-            Telling::Cells => write_cells(sink, &self.engine),
-            Telling::Counts => write_counts(sink, &self.engine),
-            Telling::Texts => self.write_texts(sink),
-            Telling::Stats => self.write_stats(sink),
-            Telling::Record => self.write_record(sink),
+            Report::Cells => write_cells(sink, &self.engine),
+            Report::Counts => write_counts(sink, &self.engine),
+            Report::Texts => self.write_texts(sink),
+            Report::Stats => self.write_stats(sink),
+            Report::Record => self.write_record(sink),
         }
     }
 
-    /// Answers what is told of the whole puzzle.
-    pub(crate) fn tell<W: Sink>(&self, telling: Telling, sink: &mut W) -> Result<Step, WriteFailed>
-        ensures { AnswersTo W.told W.failures self.now (commands.Tell telling) result self.now sink.old sink.new }
+    /// Answers a command that reports on the whole puzzle.
+    pub(crate) fn tell<W: Sink>(&self, telling: Report, sink: &mut W) -> Result<Step, WriteFailed>
+        ensures { AnswersTo W.transcript W.failures self.now (commands.Tell telling) result self.now sink.old sink.new }
     {
         self.write_told(telling, sink)?;
         end_answer(sink, Ok(()))

@@ -1,6 +1,6 @@
 use Rattle.std.proofs.Common.{◌*◌, false, replicate}
 use Rattle.std.proofs.lemmas.List.{length-replicate}
-use Rattle.xw_cells.specs.declared.cell.Square.TheVariants.{Open}
+use Rattle.xw_grid.specs.declared.cell.Square.TheVariants.{Open}
 use Rattle.std.specs.Prelude.{None}
 use Rattle.xw_session_laws.proofs.BarsAgain.{right_again, below_again}
 use Rattle.xw_session_laws.proofs.bars_are_made_again.Goals as goal

@@ -1,5 +1,5 @@
 use Rattle.std.proofs.Common.{◌≡◌, None, sym, ◌∙◌, ap}
-use Rattle.xw_cells.specs.Edit.{with_entry}
+use Rattle.xw_grid.specs.Edit.{with_entry}
 use Rattle.xw_feas.specs.Shape.{fault_at}
 use Rattle.xw_grid.proofs.ChangeLemmas.{SameShape-entry}
 use Rattle.xw_feas.proofs.ShapeLemmas.{SameShape-then}

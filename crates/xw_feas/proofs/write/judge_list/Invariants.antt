@@ -1,9 +1,9 @@
 use Rattle.std.proofs.Common.{◌≡◌, ℕ, ◌<◌, get_or, None}
 use Rattle.std.specs.Prelude.{Option}
-use Rattle.xw_cells.specs.declared.cell.Cell.{Cell}
+use Rattle.xw_grid.specs.declared.cell.Cell.{Cell}
 use Rattle.xw_feas.specs.Shape.{fault_at}
 use Rattle.xw_feas.proofs.write.judge_list.Given as goal
 
--- the cells so far take an entry
+-- the cells so far can be written
 abbrev pub invariant-loop-place : goal.invariant-loop-place
 invariant-loop-place l = (k : ℕ) (d : Cell × Option ℕ) → k < l.place → fault_at l.grid (get_or l.list k d).0 ≡ None

@@ -1,6 +1,6 @@
 use Rattle.std.proofs.Common.{◌≡◌, drop}
 use Rattle.std.specs.Prelude.{find}
-use Rattle.xw_cells.specs.Grid.{cells}
+use Rattle.xw_grid.specs.Grid.{cells}
 use Rattle.xw_files.specs.Finished.{is_empty_cell, empty_cell}
 use Rattle.xw_files.proofs.finished.empty_cell.Given as goal
 

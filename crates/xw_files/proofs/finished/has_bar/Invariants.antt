@@ -1,6 +1,6 @@
 use Rattle.std.proofs.Common.{◌≡◌, drop}
 use Rattle.std.specs.List.{list_any}
-use Rattle.xw_cells.specs.Grid.{cells}
+use Rattle.xw_grid.specs.Grid.{cells}
 use Rattle.xw_files.specs.Finished.{is_barred_cell, has_bar}
 use Rattle.xw_files.proofs.finished.has_bar.Given as goal
 

@@ -21,7 +21,7 @@ invariant-search g l =
       noted : AreNotedAlong (position_of start) l.tries.items l.since.items 0;
     }
 
--- one step for a position that is left to go through
+-- one extra step for a position whose words are being tried
 abbrev steps : Next → ℕ
 steps Done = 0
 steps Spent = 0

@@ -4,7 +4,7 @@ use Rattle.xw_fill.specs.Suggesting.{can_be_tried}
 use Rattle.xw_fill.specs.Words.{spellings_at}
 use Rattle.xw_fill.proofs.suggesting.find_place.Given as goal
 
--- no word before the place can be tried
+-- no word before this index can be tried
 abbrev pub invariant-loop-place : goal.invariant-loop-place
 invariant-loop-place g l =
     let start = g.E.Feasible.state l.initial.engine in

@@ -9,7 +9,7 @@ use Rattle.xw_fill.proofs.StateLemmas.{DiffersInEntries-itself, DiffersInEntries
 use Rattle.xw_fill.proofs.ScanLemmas.{all_taken_back-last}
 use Rattle.xw_fill.proofs.tries.take_all_back.Goals as goal
 
--- the tries are of the position's lights, and to take them back leaves what was to be left
+-- the tries are of lights of the position, and undoing them leads to the position `left`
 abbrev IsLeft : Position → List Try → Position → Type 0
 IsLeft position tries left = All (λ tried. tried.light < light_count position) tries × (all_taken_back position tries ≡ left)
 

@@ -2,7 +2,7 @@ use Rattle.std.proofs.Common.{◌≡◌, ◌≤◌, length, take}
 use Rattle.xw_fill.proofs.ScanLemmas.{IsTakingBack}
 use Rattle.xw_fill.proofs.tries.take_back.Given as goal
 
--- the list clears those of the first places that were empty
+-- the list clears those of the first cells that were empty before
 abbrev pub invariant-loop-place : goal.invariant-loop-place
 invariant-loop-place g l = record {
   long : length l.list ≡ 255;

@@ -1,8 +1,8 @@
 use Rattle.std.proofs.Common.{◌≡◌, ◌+◌, ◌*◌, ◌<◌, ◌≤◌, ◌++◌, Bool, true, false, cond, sym, ap, ◌∙◌, arith}
-use Rattle.xw_cells.specs.declared.cell.Cell.{Cell}
-use Rattle.xw_cells.specs.Grid.{cell_at}
+use Rattle.xw_grid.specs.declared.cell.Cell.{Cell}
+use Rattle.xw_grid.specs.Grid.{cell_at}
 use Rattle.xw_grid.specs.Light.{begins_some, lights_at}
-use Rattle.xw_cells.proofs.GridLemmas.{count_by-cells, flat_map-cells}
+use Rattle.xw_grid.proofs.GridLemmas.{count_by-cells, flat_map-cells}
 use Rattle.xw_grid.proofs.lights.list.Goals as goal
 
 at_most_one : (b : Bool) → cond b 1 0 ≤ 1

@@ -1,7 +1,7 @@
 use Rattle.std.proofs.Common.{◌≡◌, length, get_or, set, length-set, ap, ◌∙◌, arith}
 use Rattle.std.specs.Prelude.{Some, None}
 use Rattle.std.specs.Option.{unwrap_or}
-use Rattle.xw_cells.specs.Grid.{index_of}
+use Rattle.xw_grid.specs.Grid.{index_of}
 use Rattle.xw_grid.specs.Light.{step}
 use Rattle.xw_grid.proofs.PlaceLemmas.{entered_more}
 use Rattle.xw_grid.proofs.places.enter.Goals as goal

@@ -1,7 +1,7 @@
 use Rattle.std.proofs.Common.{◌≡◌, ℕ, ◌<◌, cond, length, get_or}
 use Rattle.std.specs.Prelude.{Some, None}
 use Rattle.std.specs.Option.{unwrap_or}
-use Rattle.xw_cells.specs.Grid.{cell_at}
+use Rattle.xw_grid.specs.Grid.{cell_at}
 use Rattle.xw_grid.specs.Light.{is_on_line}
 use Rattle.xw_grid.proofs.places.enter.Given as goal
 

@@ -3,7 +3,7 @@ use Rattle.std.specs.Prelude.{Some, None}
 use Rattle.std.specs.Option.{unwrap_or}
 use Rattle.std.specs.Vec.{with_items}
 use Rattle.std.proofs.lemmas.List.{with_items_is}
-use Rattle.xw_cells.specs.Grid.{cell_at}
+use Rattle.xw_grid.specs.Grid.{cell_at}
 use Rattle.xw_grid.specs.Light.{no_light, passes}
 use Rattle.xw_grid.specs.Places.{IsFirstOf}
 use Rattle.xw_grid.proofs.PlaceLemmas.{lights_inside, first_more, first_is}

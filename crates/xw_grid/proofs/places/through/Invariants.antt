@@ -1,11 +1,11 @@
 use Rattle.std.proofs.Common.{◌≡◌, ℕ, ◌*◌, ◌<◌, length, get_or}
 use Rattle.std.specs.Prelude.{None}
-use Rattle.xw_cells.specs.Grid.{cell_at}
+use Rattle.xw_grid.specs.Grid.{cell_at}
 use Rattle.xw_grid.specs.Light.{passes, no_light}
 use Rattle.xw_grid.specs.Places.{IsFirstOf}
 use Rattle.xw_grid.proofs.places.through.Given as goal
 
--- for each cell the first of the lights so far that passes through it
+-- for each cell the first light so far that passes through it
 abbrev pub invariant-loop-place : goal.invariant-loop-place
 invariant-loop-place l = record {
   long : length l.places.items ≡ l.grid.width * l.grid.height;

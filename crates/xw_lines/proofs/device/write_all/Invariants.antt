@@ -4,7 +4,7 @@ use Rattle.xw_lines.proofs.device.write_all.Given as goal
 abbrev pub invariant-loop-written : goal.invariant-loop-written
 invariant-loop-written g l = record {
   within : l.written ≤ length l.bytes;
-  told : g.W.Sink.told l.sink ≡ g.W.Sink.told l.initial.sink ++ take l.written l.bytes;
+  transcript : g.W.Sink.transcript l.sink ≡ g.W.Sink.transcript l.initial.sink ++ take l.written l.bytes;
   quiet : g.W.Sink.failures l.sink ≡ g.W.Sink.failures l.initial.sink;
 }
 

@@ -1,11 +1,11 @@
 use Rattle.std.proofs.Common.{◌≡◌, ◌-◌, List, ℕ, length, length-drop, take, drop, ◌∙◌, ap, sym, arith}
 use Rattle.std.proofs.lemmas.List.{take_all}
 use Rattle.std.specs.Prelude.{position}
-use Rattle.xw_letters.specs.Lines.{is_line_feed}
+use Rattle.xw_text.specs.Lines.{is_line_feed}
 use Rattle.xw_lines.proofs.Cuts.{no_lf, first_lf-ends}
 use Rattle.xw_lines.proofs.run.next_lf.Goals as goal
 
--- all of what stands from a place on
+-- everything from an index on
 rest : (bytes : List ℕ) (from : ℕ) → take (length bytes - from) (drop from bytes) ≡ drop from bytes
 rest bytes from = take_all (length bytes - from) (drop from bytes) (omega (arith, length-drop from bytes))
 

@@ -4,9 +4,9 @@ use Rattle.xw_lines.proofs.run.run_lines.Given as goal
 
 abbrev pub invariant-loop-turn : goal.invariant-loop-turn
 invariant-loop-turn g l = (text : List ℕ) × record {
-  told : g.R.Source.told l.source ≡ g.R.Source.told l.initial.source ++ text;
+  transcript : g.R.Source.transcript l.source ≡ g.R.Source.transcript l.initial.source ++ text;
   turns : l.turn ≤ length text;
-  goes-on : Progress g.S.Speaker.answers l.initial.speaker (g.W.Sink.told l.initial.sink) text l.speaker l.piece l.refused (g.W.Sink.told l.sink);
+  goes-on : Progress g.S.LineHandler.answers l.initial.handler (g.W.Sink.transcript l.initial.sink) text l.handler l.piece l.refused (g.W.Sink.transcript l.sink);
   quiet : g.W.Sink.failures l.sink ≡ g.W.Sink.failures l.initial.sink;
   unfailed : g.R.Source.failures l.source ≡ g.R.Source.failures l.initial.source;
 }

@@ -36,4 +36,4 @@ returns-clause-ok g c = λ start begun text p.
     let rest : take (length bytes - from) (drop from bytes) ≡ drop from bytes = take_all (length bytes - from) (drop from bytes) (omega (arith, length-drop from bytes)) in
     let whole : (text ++ take from bytes) ++ drop from bytes ≡ text ++ bytes = append_assoc text (take from bytes) (drop from bytes) ∙ ap (λ xs. text ++ xs) (take-append-drop from bytes) in
     let holds : (line : List ℕ) → c.loop-end.piece ≡ held line → c.hold.new.self ≡ held (line ++ drop from bytes) = λ line is. c.hold.ensures line is ∙ ap (λ xs. held (line ++ xs)) rest in
-    rw (← whole) (progress-held g.S.Speaker.answers start _ begun (text ++ take from bytes) (drop from bytes) _ _ _ _ c.in_default.ensures.none holds (c.loop-end.invariant.goes-on start begun text p))
+    rw (← whole) (progress-held g.S.LineHandler.answers start _ begun (text ++ take from bytes) (drop from bytes) _ _ _ _ c.in_default.ensures.none holds (c.loop-end.invariant.goes-on start begun text p))

@@ -6,8 +6,8 @@ abbrev pub invariant-loop-end : goal.invariant-loop-end
 invariant-loop-end g l = record {
   within : l.from ≤ length l.bytes;
   goes-on : (start : g.row.S.Denot) (begun text : List ℕ)
-      → Progress g.S.Speaker.answers start begun text l.initial.speaker l.initial.piece l.initial.refused (g.W.Sink.told l.initial.sink)
-      → Progress g.S.Speaker.answers start begun (text ++ take l.from l.bytes) l.speaker l.piece l.refused (g.W.Sink.told l.sink);
+      → Progress g.S.LineHandler.answers start begun text l.initial.handler l.initial.piece l.initial.refused (g.W.Sink.transcript l.initial.sink)
+      → Progress g.S.LineHandler.answers start begun (text ++ take l.from l.bytes) l.handler l.piece l.refused (g.W.Sink.transcript l.sink);
   quiet : g.W.Sink.failures l.sink ≡ g.W.Sink.failures l.initial.sink;
 }
 

@@ -1,7 +1,7 @@
 use Rattle.std.proofs.Common.{◌<◌, ◌*◌, ◌≤◌, ◌++◌, ◌∷◌, [], length, map, take, sym, ap, ◌∙◌, arith}
 use Rattle.std.proofs.lemmas.List.{length-set, take_all, take_more_set, map_push}
-use Rattle.xw_cells.specs.Grid.{cells, cell_at}
-use Rattle.xw_cells.proofs.GridLemmas.{length-cells, take-cells}
+use Rattle.xw_grid.specs.Grid.{cells, cell_at}
+use Rattle.xw_grid.proofs.GridLemmas.{length-cells, take-cells}
 use Rattle.xw_net.specs.Change.{with_entry_of}
 use Rattle.xw_live.proofs.noted.note.Goals as goal
 

@@ -1,5 +1,5 @@
 use Rattle.std.proofs.Common.{◌≡◌, take, map, length}
-use Rattle.xw_cells.specs.Grid.{cells}
+use Rattle.xw_grid.specs.Grid.{cells}
 use Rattle.xw_net.specs.Change.{with_entry_of}
 use Rattle.xw_live.proofs.noted.note.Given as goal
 

@@ -2,7 +2,7 @@ use Rattle.std.proofs.Common.{◌≡◌, ◌<◌, length, get_or, subst, sym, ap
 use Rattle.std.proofs.lemmas.Bool.{cases_eq}
 use Rattle.std.proofs.lemmas.List.{get_or_default}
 use Rattle.xw_feas.specs.Flags.{set_has}
-use Rattle.xw_cells.specs.Grid.{index_of}
+use Rattle.xw_grid.specs.Grid.{index_of}
 use Rattle.xw_net.specs.Spread.{is_marked}
 use Rattle.xw_net.specs.Begin.{IsEdited}
 use Rattle.xw_net.proofs.begin.edit_cells.Goals as goal

@@ -1,7 +1,7 @@
 use Rattle.std.proofs.Common.{◌≡◌, ◌≤◌, ◌<◌, ◌+◌, ℕ, Bool, true, not, All, Option, length, vec_len, vec_capacity, count_by, get_or}
 use Rattle.std.specs.Prelude.{Contains}
-use Rattle.xw_cells.specs.declared.cell.Cell.{Cell}
-use Rattle.xw_cells.specs.Grid.{index_of}
+use Rattle.xw_grid.specs.declared.cell.Cell.{Cell}
+use Rattle.xw_grid.specs.Grid.{index_of}
 use Rattle.xw_feas.specs.Flags.{set_has}
 use Rattle.xw_net.specs.Marks.{IsPlace, cell_at}
 use Rattle.xw_net.specs.Spread.{is_marked, is_waiting, no_places, IsSpread, HasSeeds}

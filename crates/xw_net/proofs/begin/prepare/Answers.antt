@@ -18,7 +18,8 @@ returns-clause-words g c = record {
   ];
 }
 
--- the base rows that are read are those of lights that are queued or long in the end
+-- the base rows that are updated are those of lights that are queued or have the changed word's
+-- length at the end
 module _ (board : Board) (word : Option (ℕ × ℕ)) (old new : ℕ → Bool)
     (more : (light : ℕ) → old light ≡ true → new light ≡ true)
     (within : (light : ℕ) → new light ≡ true → is_read board word old light ≡ true) where

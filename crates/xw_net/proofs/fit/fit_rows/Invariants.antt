@@ -3,7 +3,7 @@ use Rattle.xw_net.specs.Room.{row_at, size_at}
 use Rattle.xw_net.specs.Fit.{fitted}
 use Rattle.xw_net.proofs.fit.fit_rows.Given as goal
 
--- the rows so far have their bits, the others are as they were
+-- the rows so far have their bits, and the others are unchanged
 abbrev pub invariant-loop-light : goal.invariant-loop-light
 invariant-loop-light g l = record {
   done : (k : ℕ) → k < l.light → (row_at l.rows k).bits ≡ fitted (length (g.R.Rows.entries l.words (size_at l.lights k))) (row_at l.initial.rows k).bits;

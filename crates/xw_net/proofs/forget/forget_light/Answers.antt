@@ -9,7 +9,7 @@ use Rattle.xw_net.specs.Forget.{cut}
 use Rattle.xw_net.proofs.SpreadLemmas.{set_has-here, set_has-there}
 use Rattle.xw_net.proofs.forget.forget_light.Goals as goal
 
--- capitals are numbered below 26
+-- a capital has an index below 26
 number_of : (letter : ℕ) → is_capital letter ≡ true → letter - 65 < 26
 number_of letter capital = let is = capital_is_letter letter capital in omega (arith, is)
 

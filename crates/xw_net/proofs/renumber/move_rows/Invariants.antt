@@ -3,7 +3,7 @@ use Rattle.xw_net.specs.Room.{counts_of, size_at, row_at}
 use Rattle.xw_net.specs.Renumber.{same_before, bits_from, room_from}
 use Rattle.xw_net.proofs.renumber.move_rows.Given as goal
 
--- the rows so far are moved or filled, and the others are as they were
+-- the rows so far are moved or filled, and the others are unchanged
 abbrev pub invariant-loop-light : goal.invariant-loop-light
 invariant-loop-light g l = record {
   bits : (k : ℕ) → k < l.light → (row_at l.spare k).bits ≡ bits_from l.initial.rows (counts_of (g.R.Rows.entries l.words) (size_at l.after k)) (same_before l.before l.after k);

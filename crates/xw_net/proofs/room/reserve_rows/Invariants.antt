@@ -3,7 +3,7 @@ use Rattle.xw_words.specs.Dictionary.{row}
 use Rattle.xw_net.specs.Room.{counts_of, with_word, size_at, row_at}
 use Rattle.xw_net.proofs.room.reserve_rows.Given as goal
 
--- the bits stay, and there is room in the rows so far
+-- the bits stay, and the rows so far have room
 abbrev pub invariant-loop-light : goal.invariant-loop-light
 invariant-loop-light l = record {
   bits : (k : ℕ) → (row_at l.rows k).bits ≡ (row_at l.initial.rows k).bits;

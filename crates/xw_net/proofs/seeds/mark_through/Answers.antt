@@ -5,7 +5,7 @@ use Rattle.xw_net.specs.Spread.{is_marked}
 use Rattle.xw_net.proofs.SpreadLemmas.{grows_more}
 use Rattle.xw_net.proofs.seeds.mark_through.Goals as goal
 
--- what is so of each light that passes is so of the one that was found
+-- a property of each light that passes holds for the one that was found
 each_found : (P Q : ℕ → Type 0) (found : Option ℕ) → ((light : ℕ) → P light → Q light) → IfSome found P → IfSome found Q
 each_found P Q (Some light) step h = step light h
 each_found P Q None step h = tt

@@ -5,6 +5,6 @@ use Rattle.xw_session.proofs.escape.write.Given as goal
 
 abbrev pub invariant-loop-place : goal.invariant-loop-place
 invariant-loop-place g l = record {
-  told : g.W.Sink.told l.sink ≡ g.W.Sink.told l.initial.sink ++ flat_map (spelled_at l.text) (take l.place (range_with_len 0 (length l.text)));
+  transcript : g.W.Sink.transcript l.sink ≡ g.W.Sink.transcript l.initial.sink ++ flat_map (spelled_at l.text) (take l.place (range_with_len 0 (length l.text)));
   quiet : g.W.Sink.failures l.sink ≡ g.W.Sink.failures l.initial.sink;
 }

@@ -1,5 +1,5 @@
 use Rattle.std.proofs.Common.{◌≡◌, ◌++◌, ◌∷◌, [], ℕ, List, length, ap, sym, ◌∙◌, append_assoc, length-append, arith}
-use Rattle.xw_cells.specs.Grid.{entry}
+use Rattle.xw_grid.specs.Grid.{entry}
 use Rattle.xw_grid.specs.Light.{step}
 use Rattle.xw_session.specs.Text.{letter_or_dot}
 use Rattle.xw_session.proofs.LightTexts.{one_more_made, pattern_by_places}

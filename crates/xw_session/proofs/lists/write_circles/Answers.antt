@@ -1,8 +1,8 @@
 use Rattle.std.proofs.Common.{◌≡◌, ◌<◌, ◌*◌, length, get_or, ap, sym, ◌∙◌, subst, ◌++◌, arith}
 use Rattle.std.proofs.lemmas.Result.{err_from_is_err_and}
-use Rattle.xw_cells.specs.declared.cell.Cell.{Cell}
-use Rattle.xw_cells.specs.Grid.{cells}
-use Rattle.xw_cells.proofs.GridLemmas.{length-cells}
+use Rattle.xw_grid.specs.declared.cell.Cell.{Cell}
+use Rattle.xw_grid.specs.Grid.{cells}
+use Rattle.xw_grid.proofs.GridLemmas.{length-cells}
 use Rattle.xw_lines.specs.Device.{Begins, HasFailed}
 use Rattle.xw_session.specs.Text.{circle_line}
 use Rattle.xw_session.proofs.LightTexts.{cell_in_order}
@@ -17,7 +17,7 @@ loop-place-preserved g c =
     let within : c.loop-place.place < length (cells grid) = omega (arith, below, length-cells grid) in
     let wrote = c.in_ok-write_circle.ensures in
     record {
-      told = each_sent g.W.Sink.told g.W.Sink.failures (circle_line grid c.args.circles.now) (cells grid) c.args.sink.now c.loop-place.sink c.write_circle.new.sink c.loop-place.place c.cell_at.result within c.loop-place.invariant.told (wrote.0 ∙ ap (λ (cell : Cell). g.W.Sink.told c.loop-place.sink ++ circle_line grid c.args.circles.now cell) is);
+      transcript = each_sent g.W.Sink.transcript g.W.Sink.failures (circle_line grid c.args.circles.now) (cells grid) c.args.sink.now c.loop-place.sink c.write_circle.new.sink c.loop-place.place c.cell_at.result within c.loop-place.invariant.transcript (wrote.0 ∙ ap (λ (cell : Cell). g.W.Sink.transcript c.loop-place.sink ++ circle_line grid c.args.circles.now cell) is);
       quiet = wrote.1 ∙ c.loop-place.invariant.quiet;
     }
 
@@ -28,8 +28,8 @@ returns-in_err-write_circle g c =
     let below : c.loop-place.place < grid.width * grid.height = omega (arith, c.loop-place-test.true, c.size-place-end.ensures.size) in
     let is : c.cell_at.result ≡ get_or (cells grid) c.loop-place.place c.cell_at.result = c.cell_at.ensures.cell ∙ sym (cell_in_order grid c.loop-place.place c.cell_at.result below) in
     let within : c.loop-place.place < length (cells grid) = omega (arith, below, length-cells grid) in
-    let stops = subst (λ (cell : Cell). Begins (g.W.Sink.told c.loop-place.sink) (g.W.Sink.told c.write_circle.new.sink) (circle_line grid c.args.circles.now cell) × HasFailed (g.W.Sink.failures c.loop-place.sink) (g.W.Sink.failures c.write_circle.new.sink)) is c.in_err-write_circle.ensures in
-    rw e.1 (each_stops g.W.Sink.told g.W.Sink.failures (circle_line grid c.args.circles.now) (cells grid) c.args.sink.now c.loop-place.sink c.write_circle.new.sink c.loop-place.place c.cell_at.result within (c.loop-place.invariant.told, c.loop-place.invariant.quiet) stops)
+    let stops = subst (λ (cell : Cell). Begins (g.W.Sink.transcript c.loop-place.sink) (g.W.Sink.transcript c.write_circle.new.sink) (circle_line grid c.args.circles.now cell) × HasFailed (g.W.Sink.failures c.loop-place.sink) (g.W.Sink.failures c.write_circle.new.sink)) is c.in_err-write_circle.ensures in
+    rw e.1 (each_stops g.W.Sink.transcript g.W.Sink.failures (circle_line grid c.args.circles.now) (cells grid) c.args.sink.now c.loop-place.sink c.write_circle.new.sink c.loop-place.place c.cell_at.result within (c.loop-place.invariant.transcript, c.loop-place.invariant.quiet) stops)
 
 pub returns : goal.returns
-returns g c = each_all g.W.Sink.told g.W.Sink.failures (circle_line c.args.grid.now c.args.circles.now) (cells c.args.grid.now) _ _ c.loop-place.place (omega (arith, c.loop-place-test.false, length-cells c.args.grid.now, c.size-place-end.ensures.size)) (c.loop-place.invariant.told, c.loop-place.invariant.quiet)
+returns g c = each_all g.W.Sink.transcript g.W.Sink.failures (circle_line c.args.grid.now c.args.circles.now) (cells c.args.grid.now) _ _ c.loop-place.place (omega (arith, c.loop-place-test.false, length-cells c.args.grid.now, c.size-place-end.ensures.size)) (c.loop-place.invariant.transcript, c.loop-place.invariant.quiet)

@@ -1,11 +1,11 @@
 use Rattle.std.proofs.Common.{◌≡◌, ◌++◌, take}
 use Rattle.std.specs.Prelude.{flat_map}
-use Rattle.xw_cells.specs.Grid.{cells}
+use Rattle.xw_grid.specs.Grid.{cells}
 use Rattle.xw_session.specs.Text.{circle_line}
 use Rattle.xw_session.proofs.lists.write_circles.Given as goal
 
 abbrev pub invariant-loop-place : goal.invariant-loop-place
 invariant-loop-place g l = record {
-  told : g.W.Sink.told l.sink ≡ g.W.Sink.told l.initial.sink ++ flat_map (circle_line l.grid l.circles) (take l.place (cells l.grid));
+  transcript : g.W.Sink.transcript l.sink ≡ g.W.Sink.transcript l.initial.sink ++ flat_map (circle_line l.grid l.circles) (take l.place (cells l.grid));
   quiet : g.W.Sink.failures l.sink ≡ g.W.Sink.failures l.initial.sink;
 }

@@ -5,6 +5,6 @@ use Rattle.xw_session.proofs.lists.write_duplicates.Given as goal
 
 abbrev pub invariant-loop-duplicate : goal.invariant-loop-duplicate
 invariant-loop-duplicate g l = record {
-  told : g.W.Sink.told l.sink ≡ g.W.Sink.told l.initial.sink ++ flat_map (duplicate_line l.grid) (take l.duplicate-index l.found);
+  transcript : g.W.Sink.transcript l.sink ≡ g.W.Sink.transcript l.initial.sink ++ flat_map (duplicate_line l.grid) (take l.duplicate-index l.found);
   quiet : g.W.Sink.failures l.sink ≡ g.W.Sink.failures l.initial.sink;
 }

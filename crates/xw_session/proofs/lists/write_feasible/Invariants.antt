@@ -3,10 +3,10 @@ use Rattle.std.specs.Prelude.{flat_map}
 use Rattle.xw_session.specs.Text.{word_line}
 use Rattle.xw_session.proofs.lists.write_feasible.Given as goal
 
--- some first words are out or put together, and the iterator has the others
+-- the first words are written or buffered, and the iterator has the others
 abbrev pub invariant-loop-word : goal.invariant-loop-word
 invariant-loop-word g l = (sent : List ℕ) × record {
-  told : g.W.Sink.told l.sink ≡ g.W.Sink.told l.initial.sink ++ sent;
+  transcript : g.W.Sink.transcript l.sink ≡ g.W.Sink.transcript l.initial.sink ++ sent;
   left : flat_map word_line l.fn.words ≡ (sent ++ l.lines) ++ flat_map word_line l.word-iterator;
   quiet : g.W.Sink.failures l.sink ≡ g.W.Sink.failures l.initial.sink;
 }

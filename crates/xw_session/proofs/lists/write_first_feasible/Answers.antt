@@ -15,8 +15,8 @@ loop-word-preserved g c =
     let put = c.in_ok-gather_spelled.ensures in
     let some : c.loop-word.left ≡ 0 → ⊥ = λ e. c.if-left-eq0.false e in
     let next = take_due c.loop-word.left c.loop-word.word-iterator c.next.new.self (spelling c.in-Some.word) some c.in-Some.ensures.steps in
-    let more = next_gathered g.W.Sink.told g.W.Sink.failures word_line c.args.sink.now c.loop-word.sink c.gather_spelled.new.sink sent put.0 _ c.loop-word.lines c.gather_spelled.new.lines (take c.loop-word.left c.loop-word.word-iterator) (take (c.loop-word.left - 1) c.next.new.self) (spelling c.in-Some.word) kept.told kept.left next put.1.told put.1.parts in
-    (sent ++ put.0, record { told = more.0; left = more.1; quiet = put.1.quiet ∙ kept.quiet })
+    let more = next_gathered g.W.Sink.transcript g.W.Sink.failures word_line c.args.sink.now c.loop-word.sink c.gather_spelled.new.sink sent put.0 _ c.loop-word.lines c.gather_spelled.new.lines (take c.loop-word.left c.loop-word.word-iterator) (take (c.loop-word.left - 1) c.next.new.self) (spelling c.in-Some.word) kept.transcript kept.left next put.1.transcript put.1.parts in
+    (sent ++ put.0, record { transcript = more.0; left = more.1; quiet = put.1.quiet ∙ kept.quiet })
 
 pub returns-in_err-gather_spelled : goal.returns-in_err-gather_spelled
 returns-in_err-gather_spelled g c =
@@ -24,7 +24,7 @@ returns-in_err-gather_spelled g c =
     let kept = c.loop-word.invariant.1 in
     let some : c.loop-word.left ≡ 0 → ⊥ = λ e. c.if-left-eq0.false e in
     let next = take_due c.loop-word.left c.loop-word.word-iterator c.next.new.self (spelling c.in-Some.word) some c.in-Some.ensures.steps in
-    rw e.1 (next_gathered_stops g.W.Sink.told g.W.Sink.failures word_line c.args.sink.now c.loop-word.sink c.gather_spelled.new.sink c.loop-word.invariant.0 _ c.loop-word.lines (take c.loop-word.left c.loop-word.word-iterator) (take (c.loop-word.left - 1) c.next.new.self) (spelling c.in-Some.word) kept.told kept.quiet kept.left next c.in_err-gather_spelled.ensures)
+    rw e.1 (next_gathered_stops g.W.Sink.transcript g.W.Sink.failures word_line c.args.sink.now c.loop-word.sink c.gather_spelled.new.sink c.loop-word.invariant.0 _ c.loop-word.lines (take c.loop-word.left c.loop-word.word-iterator) (take (c.loop-word.left - 1) c.next.new.self) (spelling c.in-Some.word) kept.transcript kept.quiet kept.left next c.in_err-gather_spelled.ensures)
 
 pub returns : goal.returns
 returns g c =
@@ -33,4 +33,4 @@ returns g c =
       | in-None w ↦ rw (w.in-None.ensures.steps.0) (take-nil c.loop-word.left)
       | in-Some+then-left-eq0 w ↦ rw (w.if-left-eq0.true) refl
     ] in
-    gathered_all g.W.Sink.told g.W.Sink.failures word_line c.args.sink.now c.loop-word.sink c.write_all.new.sink c.write_all.result c.loop-word.invariant.0 _ c.loop-word.lines (take c.loop-word.left c.loop-word.word-iterator) kept.told kept.quiet kept.left none (rw c.bytes.ensures at c.write_all.ensures)
+    gathered_all g.W.Sink.transcript g.W.Sink.failures word_line c.args.sink.now c.loop-word.sink c.write_all.new.sink c.write_all.result c.loop-word.invariant.0 _ c.loop-word.lines (take c.loop-word.left c.loop-word.word-iterator) kept.transcript kept.quiet kept.left none (rw c.bytes.ensures at c.write_all.ensures)

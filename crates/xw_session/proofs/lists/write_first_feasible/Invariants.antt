@@ -3,10 +3,10 @@ use Rattle.std.specs.Prelude.{flat_map}
 use Rattle.xw_session.specs.Text.{word_line}
 use Rattle.xw_session.proofs.lists.write_first_feasible.Given as goal
 
--- some first words are out or put together, and the first of the others that the iterator has are left
+-- the first words are written or buffered; of the words in the iterator, the first `left` remain
 abbrev pub invariant-loop-word : goal.invariant-loop-word
 invariant-loop-word g l = (sent : List ℕ) × record {
-  told : g.W.Sink.told l.sink ≡ g.W.Sink.told l.initial.sink ++ sent;
+  transcript : g.W.Sink.transcript l.sink ≡ g.W.Sink.transcript l.initial.sink ++ sent;
   left : flat_map word_line (take l.most l.fn.words) ≡ (sent ++ l.lines) ++ flat_map word_line (take l.left l.word-iterator);
   quiet : g.W.Sink.failures l.sink ≡ g.W.Sink.failures l.initial.sink;
 }

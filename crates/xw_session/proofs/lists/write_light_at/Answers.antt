@@ -25,7 +25,7 @@ write_light-requires-clause-inside g c =
 pub returns-in-Some : goal.returns-in-Some
 returns-in-Some g c =
     let is : get_or c.args.lights.now c.args.place no_light ≡ c.in-Some.light = get_or_from_slice_get c.args.lights.now c.args.place c.in-Some.light no_light (sym c.get.ensures ∙ c.in-Some.is) in
-    subst (λ (light : Light). Sends g.W.Sink.told g.W.Sink.failures c.args.sink.now c.write_light.new.sink c.write_light.result (light_line c.args.grid.now light)) (sym is) c.write_light.ensures
+    subst (λ (light : Light). Sends g.W.Sink.transcript g.W.Sink.failures c.args.sink.now c.write_light.new.sink c.write_light.result (light_line c.args.grid.now light)) (sym is) c.write_light.ensures
 
 pub returns-in-None : goal.returns-in-None
 returns-in-None g c =

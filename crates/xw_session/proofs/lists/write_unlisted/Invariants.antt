@@ -5,6 +5,6 @@ use Rattle.xw_session.proofs.lists.write_unlisted.Given as goal
 
 abbrev pub invariant-loop-name : goal.invariant-loop-name
 invariant-loop-name g l = record {
-  told : g.W.Sink.told l.sink ≡ g.W.Sink.told l.initial.sink ++ flat_map (spelled_line l.grid) (take l.name-index l.found);
+  transcript : g.W.Sink.transcript l.sink ≡ g.W.Sink.transcript l.initial.sink ++ flat_map (spelled_line l.grid) (take l.name-index l.found);
   quiet : g.W.Sink.failures l.sink ≡ g.W.Sink.failures l.initial.sink;
 }

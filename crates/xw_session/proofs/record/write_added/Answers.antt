@@ -24,8 +24,8 @@ loop-place-preserved g c =
     let next : place - begun + 1 ≡ place + 1 - begun = omega (arith, c.loop-place.invariant.from) in
     record {
       from = omega (arith, c.loop-place.invariant.from);
-      told = subst (λ (n : ℕ). g.W.Sink.told c.write_word_command.new.sink ≡ g.W.Sink.told c.args.sink.now ++ flat_map text (take n later)) next
-          (each_sent g.W.Sink.told g.W.Sink.failures text later c.args.sink.now c.loop-place.sink c.write_word_command.new.sink (place - begun) no_entry within c.loop-place.invariant.told (rw (← same) wrote.0));
+      transcript = subst (λ (n : ℕ). g.W.Sink.transcript c.write_word_command.new.sink ≡ g.W.Sink.transcript c.args.sink.now ++ flat_map text (take n later)) next
+          (each_sent g.W.Sink.transcript g.W.Sink.failures text later c.args.sink.now c.loop-place.sink c.write_word_command.new.sink (place - begun) no_entry within c.loop-place.invariant.transcript (rw (← same) wrote.0));
       quiet = wrote.1 ∙ c.loop-place.invariant.quiet;
     }
 
@@ -42,8 +42,8 @@ returns-in_err-write_word_command g c =
     let at : begun + (place - begun) ≡ place = omega (arith, c.loop-place.invariant.from) in
     let is : get_or entries place no_entry ≡ get_or later (place - begun) no_entry = sym (get_or-drop begun entries (place - begun) no_entry ∙ ap (λ i. get_or entries i no_entry) at) in
     let same = c.word.ensures.word ∙ ap (λ (entry : Entry). entry.word) is in
-    rw e.1 (stops_as g.W.Sink.told g.W.Sink.failures _ _ _ _ (line_of_each add_command later)
-    (each_stops g.W.Sink.told g.W.Sink.failures text later c.args.sink.now c.loop-place.sink c.write_word_command.new.sink (place - begun) no_entry within (c.loop-place.invariant.told, c.loop-place.invariant.quiet) (rw (← same) c.in_err-write_word_command.ensures)))
+    rw e.1 (stops_as g.W.Sink.transcript g.W.Sink.failures _ _ _ _ (line_of_each add_command later)
+    (each_stops g.W.Sink.transcript g.W.Sink.failures text later c.args.sink.now c.loop-place.sink c.write_word_command.new.sink (place - begun) no_entry within (c.loop-place.invariant.transcript, c.loop-place.invariant.quiet) (rw (← same) c.in_err-write_word_command.ensures)))
 
 pub returns : goal.returns
 returns g c =
@@ -52,5 +52,5 @@ returns g c =
     let later = drop begun entries in
     let text : Entry → List ℕ = λ entry. command_line (add_command entry) in
     let past : length later ≤ c.loop-place.place - begun = omega (arith, c.loop-place-test.false, c.known-place-end.ensures.words, length-drop begun entries, c.loop-place.invariant.from) in
-    sent_as g.W.Sink.told g.W.Sink.failures _ _ _ _ (line_of_each add_command later)
-    (each_all g.W.Sink.told g.W.Sink.failures text later _ _ (c.loop-place.place - begun) past (c.loop-place.invariant.told, c.loop-place.invariant.quiet))
+    sent_as g.W.Sink.transcript g.W.Sink.failures _ _ _ _ (line_of_each add_command later)
+    (each_all g.W.Sink.transcript g.W.Sink.failures text later _ _ (c.loop-place.place - begun) past (c.loop-place.invariant.transcript, c.loop-place.invariant.quiet))

@@ -8,6 +8,6 @@ use Rattle.xw_session.proofs.record.write_added.Given as goal
 abbrev pub invariant-loop-place : goal.invariant-loop-place
 invariant-loop-place g l = record {
   from : l.begun ≤ l.place;
-  told : g.W.Sink.told l.sink ≡ g.W.Sink.told l.initial.sink ++ flat_map (λ entry. command_line (add_command entry)) (take (l.place - l.begun) (drop l.begun (row l.bank.words l.count)));
+  transcript : g.W.Sink.transcript l.sink ≡ g.W.Sink.transcript l.initial.sink ++ flat_map (λ entry. command_line (add_command entry)) (take (l.place - l.begun) (drop l.begun (row l.bank.words l.count)));
   quiet : g.W.Sink.failures l.sink ≡ g.W.Sink.failures l.initial.sink;
 }

@@ -13,8 +13,8 @@ returns-in_err-write_put g c =
     let count = further_pieces c.args.text.now in
     let text : ℕ → List ℕ = λ before. command_line (more_command c.args.field c.args.text.now before) in
     let inside : c.loop-before.before < count = omega (arith, c.loop-before-test.true) in
-    rw e.1 (stops_as g.W.Sink.told g.W.Sink.failures _ _ _ _ (line_of_each (more_command c.args.field c.args.text.now) (range_with_len 0 count))
-    (stops_at g.W.Sink.told g.W.Sink.failures text count _ _ _ c.loop-before.before inside (c.loop-before.invariant.told, c.loop-before.invariant.quiet) (rw (← c.piece.ensures) c.in_err-write_put.ensures)))
+    rw e.1 (stops_as g.W.Sink.transcript g.W.Sink.failures _ _ _ _ (line_of_each (more_command c.args.field c.args.text.now) (range_with_len 0 count))
+    (stops_at g.W.Sink.transcript g.W.Sink.failures text count _ _ _ c.loop-before.before inside (c.loop-before.invariant.transcript, c.loop-before.invariant.quiet) (rw (← c.piece.ensures) c.in_err-write_put.ensures)))
 
 pub loop-before-preserved : goal.loop-before-preserved
 loop-before-preserved g c =
@@ -22,7 +22,7 @@ loop-before-preserved g c =
     let text : ℕ → List ℕ = λ before. command_line (more_command c.args.field c.args.text.now before) in
     let inside : c.loop-before.before < count = omega (arith, c.loop-before-test.true) in
     record {
-      told = one_more_sent g.W.Sink.told g.W.Sink.failures text count _ _ _ c.loop-before.before inside c.loop-before.invariant.told (rw (← c.piece.ensures) c.in_ok-write_put.ensures.0);
+      transcript = one_more_sent g.W.Sink.transcript g.W.Sink.failures text count _ _ _ c.loop-before.before inside c.loop-before.invariant.transcript (rw (← c.piece.ensures) c.in_ok-write_put.ensures.0);
       quiet = c.in_ok-write_put.ensures.1 ∙ c.loop-before.invariant.quiet;
     }
 
@@ -31,5 +31,5 @@ returns g c =
     let count = further_pieces c.args.text.now in
     let text : ℕ → List ℕ = λ before. command_line (more_command c.args.field c.args.text.now before) in
     let past : count ≤ c.loop-before.before = omega (arith, c.loop-before-test.false) in
-    sent_as g.W.Sink.told g.W.Sink.failures _ _ _ _ (line_of_each (more_command c.args.field c.args.text.now) (range_with_len 0 count))
-    (all_sent g.W.Sink.told g.W.Sink.failures text count _ _ c.loop-before.before past (c.loop-before.invariant.told, c.loop-before.invariant.quiet))
+    sent_as g.W.Sink.transcript g.W.Sink.failures _ _ _ _ (line_of_each (more_command c.args.field c.args.text.now) (range_with_len 0 count))
+    (all_sent g.W.Sink.transcript g.W.Sink.failures text count _ _ c.loop-before.before past (c.loop-before.invariant.transcript, c.loop-before.invariant.quiet))

@@ -7,6 +7,6 @@ use Rattle.xw_session.proofs.record.write_further.Given as goal
 
 abbrev pub invariant-loop-before : goal.invariant-loop-before
 invariant-loop-before g l = record {
-  told : g.W.Sink.told l.sink ≡ g.W.Sink.told l.initial.sink ++ flat_map (λ before. command_line (more_command l.field l.text before)) (take l.before (range_with_len 0 (further_pieces l.text)));
+  transcript : g.W.Sink.transcript l.sink ≡ g.W.Sink.transcript l.initial.sink ++ flat_map (λ before. command_line (more_command l.field l.text before)) (take l.before (range_with_len 0 (further_pieces l.text)));
   quiet : g.W.Sink.failures l.sink ≡ g.W.Sink.failures l.initial.sink;
 }

@@ -9,7 +9,7 @@ use Rattle.xw_session.proofs.record.write_spot_text.Goals as goal
 pub returns-in_err-write_spot_spaced : goal.returns-in_err-write_spot_spaced
 returns-in_err-write_spot_spaced g c =
     let e = err_from_is_err_and c.from_residual.result c.from_residual.ensures.1 in
-    rw e.1 (stops_as g.W.Sink.told g.W.Sink.failures _ _ _ _ (spot_parts c.args.spot (line_of (direction_name c.args.direction ∷ escaped_text c.args.text.now ∷ []))) (stops-within g.W.Sink.told g.W.Sink.failures _ _ _ _ c.in_err-write_spot_spaced.ensures))
+    rw e.1 (stops_as g.W.Sink.transcript g.W.Sink.failures _ _ _ _ (spot_parts c.args.spot (line_of (direction_name c.args.direction ∷ escaped_text c.args.text.now ∷ []))) (stops-within g.W.Sink.transcript g.W.Sink.failures _ _ _ _ c.in_err-write_spot_spaced.ensures))
 
 pub returns : goal.returns
-returns g c = sends_as g.W.Sink.told g.W.Sink.failures _ _ _ _ _ (spot_parts c.args.spot (line_of (direction_name c.args.direction ∷ escaped_text c.args.text.now ∷ []))) (sends-then g.W.Sink.told g.W.Sink.failures _ _ _ _ _ _ c.in_ok-write_spot_spaced.ensures c.write_directed_text.ensures)
+returns g c = sends_as g.W.Sink.transcript g.W.Sink.failures _ _ _ _ _ (spot_parts c.args.spot (line_of (direction_name c.args.direction ∷ escaped_text c.args.text.now ∷ []))) (sends-then g.W.Sink.transcript g.W.Sink.failures _ _ _ _ _ _ c.in_ok-write_spot_spaced.ensures c.write_directed_text.ensures)

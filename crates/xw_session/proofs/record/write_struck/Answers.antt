@@ -13,7 +13,7 @@ loop-place-preserved g c =
     let within : c.loop-place.place < length entries = omega (arith, c.loop-place-test.true, c.known-place-end.ensures.words) in
     let wrote = c.in_ok-write_struck_at.ensures in
     record {
-      told = each_sent g.W.Sink.told g.W.Sink.failures text entries c.args.sink.now c.loop-place.sink c.write_struck_at.new.sink c.loop-place.place no_entry within c.loop-place.invariant.told wrote.0;
+      transcript = each_sent g.W.Sink.transcript g.W.Sink.failures text entries c.args.sink.now c.loop-place.sink c.write_struck_at.new.sink c.loop-place.place no_entry within c.loop-place.invariant.transcript wrote.0;
       quiet = wrote.1 ∙ c.loop-place.invariant.quiet;
     }
 
@@ -23,12 +23,12 @@ returns-in_err-write_struck_at g c =
     let entries = row c.args.bank.now.words c.args.count in
     let text : Entry → List ℕ = λ entry. command_lines (strike_commands entry) in
     let within : c.loop-place.place < length entries = omega (arith, c.loop-place-test.true, c.known-place-end.ensures.words) in
-    rw e.1 (stops_as g.W.Sink.told g.W.Sink.failures _ _ _ _ (lines_of_each strike_commands entries)
-    (each_stops g.W.Sink.told g.W.Sink.failures text entries c.args.sink.now c.loop-place.sink c.write_struck_at.new.sink c.loop-place.place no_entry within (c.loop-place.invariant.told, c.loop-place.invariant.quiet) c.in_err-write_struck_at.ensures))
+    rw e.1 (stops_as g.W.Sink.transcript g.W.Sink.failures _ _ _ _ (lines_of_each strike_commands entries)
+    (each_stops g.W.Sink.transcript g.W.Sink.failures text entries c.args.sink.now c.loop-place.sink c.write_struck_at.new.sink c.loop-place.place no_entry within (c.loop-place.invariant.transcript, c.loop-place.invariant.quiet) c.in_err-write_struck_at.ensures))
 
 pub returns : goal.returns
 returns g c =
     let entries = row c.args.bank.now.words c.args.count in
     let text : Entry → List ℕ = λ entry. command_lines (strike_commands entry) in
-    sent_as g.W.Sink.told g.W.Sink.failures _ _ _ _ (lines_of_each strike_commands entries)
-    (each_all g.W.Sink.told g.W.Sink.failures text entries _ _ c.loop-place.place (omega (arith, c.loop-place-test.false, c.known-place-end.ensures.words)) (c.loop-place.invariant.told, c.loop-place.invariant.quiet))
+    sent_as g.W.Sink.transcript g.W.Sink.failures _ _ _ _ (lines_of_each strike_commands entries)
+    (each_all g.W.Sink.transcript g.W.Sink.failures text entries _ _ c.loop-place.place (omega (arith, c.loop-place-test.false, c.known-place-end.ensures.words)) (c.loop-place.invariant.transcript, c.loop-place.invariant.quiet))

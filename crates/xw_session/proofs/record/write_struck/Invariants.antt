@@ -6,6 +6,6 @@ use Rattle.xw_session.proofs.record.write_struck.Given as goal
 
 abbrev pub invariant-loop-place : goal.invariant-loop-place
 invariant-loop-place g l = record {
-  told : g.W.Sink.told l.sink ≡ g.W.Sink.told l.initial.sink ++ flat_map (λ entry. command_lines (strike_commands entry)) (take l.place (row l.bank.words l.count));
+  transcript : g.W.Sink.transcript l.sink ≡ g.W.Sink.transcript l.initial.sink ++ flat_map (λ entry. command_lines (strike_commands entry)) (take l.place (row l.bank.words l.count));
   quiet : g.W.Sink.failures l.sink ≡ g.W.Sink.failures l.initial.sink;
 }

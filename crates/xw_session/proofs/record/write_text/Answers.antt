@@ -5,7 +5,7 @@ use Rattle.xw_session.proofs.record.write_text.Goals as goal
 pub returns-in_err-write_put : goal.returns-in_err-write_put
 returns-in_err-write_put g c =
     let e = err_from_is_err_and c.from_residual.result c.from_residual.ensures.1 in
-    rw (e.1, ← c.piece.ensures) (stops-within g.W.Sink.told g.W.Sink.failures _ _ _ _ c.in_err-write_put.ensures)
+    rw (e.1, ← c.piece.ensures) (stops-within g.W.Sink.transcript g.W.Sink.failures _ _ _ _ c.in_err-write_put.ensures)
 
 pub returns : goal.returns
-returns g c = rw (← c.piece.ensures) (sends-then g.W.Sink.told g.W.Sink.failures _ _ _ _ _ _ c.in_ok-write_put.ensures c.write_further.ensures)
+returns g c = rw (← c.piece.ensures) (sends-then g.W.Sink.transcript g.W.Sink.failures _ _ _ _ _ _ c.in_ok-write_put.ensures c.write_further.ensures)

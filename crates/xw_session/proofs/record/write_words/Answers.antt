@@ -11,15 +11,15 @@ returns-in_err-write_row g c =
     let e = err_from_is_err_and c.from_residual.result c.from_residual.ensures.1 in
     let text : ℕ → List ℕ = λ count. command_lines (length_commands c.args.begun.now c.args.bank.now.words count) in
     let inside : c.loop-count.count < 256 = omega arith in
-    rw e.1 (stops_as g.W.Sink.told g.W.Sink.failures _ _ _ _ (lines_of_each (length_commands c.args.begun.now c.args.bank.now.words) (range_with_len 0 256))
-    (stops_at g.W.Sink.told g.W.Sink.failures text 256 _ _ _ c.loop-count.count inside (c.loop-count.invariant.told, c.loop-count.invariant.quiet) c.in_err-write_row.ensures))
+    rw e.1 (stops_as g.W.Sink.transcript g.W.Sink.failures _ _ _ _ (lines_of_each (length_commands c.args.begun.now c.args.bank.now.words) (range_with_len 0 256))
+    (stops_at g.W.Sink.transcript g.W.Sink.failures text 256 _ _ _ c.loop-count.count inside (c.loop-count.invariant.transcript, c.loop-count.invariant.quiet) c.in_err-write_row.ensures))
 
 pub loop-count-preserved : goal.loop-count-preserved
 loop-count-preserved g c =
     let text : ℕ → List ℕ = λ count. command_lines (length_commands c.args.begun.now c.args.bank.now.words count) in
     let inside : c.loop-count.count < 256 = omega arith in
     record {
-      told = one_more_sent g.W.Sink.told g.W.Sink.failures text 256 _ _ _ c.loop-count.count inside c.loop-count.invariant.told c.in_ok-write_row.ensures.0;
+      transcript = one_more_sent g.W.Sink.transcript g.W.Sink.failures text 256 _ _ _ c.loop-count.count inside c.loop-count.invariant.transcript c.in_ok-write_row.ensures.0;
       quiet = c.in_ok-write_row.ensures.1 ∙ c.loop-count.invariant.quiet;
     }
 
@@ -27,5 +27,5 @@ pub returns : goal.returns
 returns g c =
     let text : ℕ → List ℕ = λ count. command_lines (length_commands c.args.begun.now c.args.bank.now.words count) in
     let past : 256 ≤ c.loop-count.count = omega arith in
-    sent_as g.W.Sink.told g.W.Sink.failures _ _ _ _ (lines_of_each (length_commands c.args.begun.now c.args.bank.now.words) (range_with_len 0 256))
-    (all_sent g.W.Sink.told g.W.Sink.failures text 256 _ _ c.loop-count.count past (c.loop-count.invariant.told, c.loop-count.invariant.quiet))
+    sent_as g.W.Sink.transcript g.W.Sink.failures _ _ _ _ (lines_of_each (length_commands c.args.begun.now c.args.bank.now.words) (range_with_len 0 256))
+    (all_sent g.W.Sink.transcript g.W.Sink.failures text 256 _ _ c.loop-count.count past (c.loop-count.invariant.transcript, c.loop-count.invariant.quiet))

@@ -6,6 +6,6 @@ use Rattle.xw_session.proofs.record.write_words.Given as goal
 
 abbrev pub invariant-loop-count : goal.invariant-loop-count
 invariant-loop-count g l = record {
-  told : g.W.Sink.told l.sink ≡ g.W.Sink.told l.initial.sink ++ flat_map (λ count. command_lines (length_commands l.begun l.bank.words count)) (take l.count (range_with_len 0 256));
+  transcript : g.W.Sink.transcript l.sink ≡ g.W.Sink.transcript l.initial.sink ++ flat_map (λ count. command_lines (length_commands l.begun l.bank.words count)) (take l.count (range_with_len 0 256));
   quiet : g.W.Sink.failures l.sink ≡ g.W.Sink.failures l.initial.sink;
 }

@@ -1,6 +1,6 @@
 use Rattle.std.proofs.Common.{◌+◌, ◌∷◌, drop, take, length, sym, ap, ◌∙◌, arith}
 use Rattle.std.proofs.lemmas.List.{take_rest, drop_all}
-use Rattle.xw_words.proofs.WordListLemmas.{first_of_lines, only_line}
+use Rattle.xw_text.proofs.FirstLineLemmas.{first_of_lines, only_line}
 use Rattle.xw_lines.specs.Cut.{lines_of}
 use Rattle.xw_session.proofs.Resumed.{lines_are_pieces}
 use Rattle.xw_session.proofs.resuming.first_line.Goals as goal

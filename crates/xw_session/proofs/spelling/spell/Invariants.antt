@@ -1,7 +1,7 @@
 use Rattle.std.proofs.Common.{◌≡◌, length, take}
 use Rattle.xw_session.proofs.spelling.spell.Given as goal
 
--- the letters so far are there
+-- the first letters are copied
 abbrev pub invariant-loop-place : goal.invariant-loop-place
 invariant-loop-place l = record {
   so_far : take l.place l.bytes ≡ take l.place l.letters;

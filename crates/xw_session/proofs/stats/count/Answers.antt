@@ -2,8 +2,8 @@ use Rattle.std.proofs.Common.{◌≡◌, ◌+◌, ◌*◌, ◌<◌, ◌≤◌, l
 use Rattle.std.specs.List.{count_by}
 use Rattle.std.proofs.lemmas.List.{take_all}
 use Rattle.std.proofs.lemmas.List.Sums.{count_by_more_yes, count_by_more_no}
-use Rattle.xw_cells.specs.Grid.{cells}
-use Rattle.xw_cells.proofs.GridLemmas.{length-cells}
+use Rattle.xw_grid.specs.Grid.{cells}
+use Rattle.xw_grid.proofs.GridLemmas.{length-cells}
 use Rattle.xw_session.specs.Stats.{is_counted}
 use Rattle.xw_session.proofs.LightTexts.{cell_in_order}
 use Rattle.xw_session.proofs.stats.count.Goals as goal

@@ -5,7 +5,7 @@ use Rattle.xw_session.proofs.stats.write_grid_stats.Goals as goal
 pub returns-in_err-write_cells_and_blocks : goal.returns-in_err-write_cells_and_blocks
 returns-in_err-write_cells_and_blocks g c =
     let e = err_from_is_err_and c.from_residual.result c.from_residual.ensures.1 in
-    rw e.1 (stops-within g.W.Sink.told g.W.Sink.failures _ _ _ _ c.in_err-write_cells_and_blocks.ensures)
+    rw e.1 (stops-within g.W.Sink.transcript g.W.Sink.failures _ _ _ _ c.in_err-write_cells_and_blocks.ensures)
 
 pub returns : goal.returns
-returns g c = sends-then g.W.Sink.told g.W.Sink.failures _ _ _ _ _ _ c.in_ok-write_cells_and_blocks.ensures c.write_bars_and_entries.ensures
+returns g c = sends-then g.W.Sink.transcript g.W.Sink.failures _ _ _ _ _ _ c.in_ok-write_cells_and_blocks.ensures c.write_bars_and_entries.ensures

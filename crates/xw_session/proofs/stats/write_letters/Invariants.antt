@@ -5,6 +5,6 @@ use Rattle.xw_session.proofs.stats.write_letters.Given as goal
 
 abbrev pub invariant-loop-before : goal.invariant-loop-before
 invariant-loop-before g l = record {
-  told : g.W.Sink.told l.sink ≡ g.W.Sink.told l.initial.sink ++ flat_map (λ before. letter_line l.grid (before + 65)) (take l.before (range_with_len 0 26));
+  transcript : g.W.Sink.transcript l.sink ≡ g.W.Sink.transcript l.initial.sink ++ flat_map (λ before. letter_line l.grid (before + 65)) (take l.before (range_with_len 0 26));
   quiet : g.W.Sink.failures l.sink ≡ g.W.Sink.failures l.initial.sink;
 }

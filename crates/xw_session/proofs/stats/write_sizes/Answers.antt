@@ -9,7 +9,7 @@ returns-in_err-write_size g c =
     let e = err_from_is_err_and c.from_residual.result c.from_residual.ensures.1 in
     let text : ℕ → List ℕ = λ before. size_line c.args.grid.now (before + 2) in
     let inside : c.loop-before.before < 254 = omega arith in
-    rw e.1 (stops_at g.W.Sink.told g.W.Sink.failures text 254 _ _ _ c.loop-before.before inside (c.loop-before.invariant.told, c.loop-before.invariant.quiet)
+    rw e.1 (stops_at g.W.Sink.transcript g.W.Sink.failures text 254 _ _ _ c.loop-before.before inside (c.loop-before.invariant.transcript, c.loop-before.invariant.quiet)
     c.in_err-write_size.ensures)
 
 pub loop-before-preserved : goal.loop-before-preserved
@@ -17,7 +17,7 @@ loop-before-preserved g c =
     let text : ℕ → List ℕ = λ before. size_line c.args.grid.now (before + 2) in
     let inside : c.loop-before.before < 254 = omega arith in
     record {
-      told = one_more_sent g.W.Sink.told g.W.Sink.failures text 254 _ _ _ c.loop-before.before inside c.loop-before.invariant.told c.in_ok-write_size.ensures.0;
+      transcript = one_more_sent g.W.Sink.transcript g.W.Sink.failures text 254 _ _ _ c.loop-before.before inside c.loop-before.invariant.transcript c.in_ok-write_size.ensures.0;
       quiet = c.in_ok-write_size.ensures.1 ∙ c.loop-before.invariant.quiet;
     }
 
@@ -25,4 +25,4 @@ pub returns : goal.returns
 returns g c =
     let text : ℕ → List ℕ = λ before. size_line c.args.grid.now (before + 2) in
     let past : 254 ≤ c.loop-before.before = omega arith in
-    all_sent g.W.Sink.told g.W.Sink.failures text 254 _ _ c.loop-before.before past (c.loop-before.invariant.told, c.loop-before.invariant.quiet)
+    all_sent g.W.Sink.transcript g.W.Sink.failures text 254 _ _ c.loop-before.before past (c.loop-before.invariant.transcript, c.loop-before.invariant.quiet)

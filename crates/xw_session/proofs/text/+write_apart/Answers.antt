@@ -6,4 +6,4 @@ use Rattle.xw_session.proofs.text.+write_apart.Goals as goal
 pub returns-in_ok-write_spaced-in-len1-up : goal.returns-in_ok-write_spaced-in-len1-up
 returns-in_ok-write_spaced-in-len1-up g t c =
     rw (line_of_more (λ word. word.now) c.args.words.now (record { ref_ptr = (0, 0); now = [] }) c.in-len1-up.len_at_least)
-    (sends-then g.W.Sink.told g.W.Sink.failures _ _ _ _ _ _ c.in_ok-write_spaced-in-len1-up.ensures c.write_apart.ensures)
+    (sends-then g.W.Sink.transcript g.W.Sink.failures _ _ _ _ _ _ c.in_ok-write_spaced-in-len1-up.ensures c.write_apart.ensures)

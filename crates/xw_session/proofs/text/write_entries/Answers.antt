@@ -6,4 +6,4 @@ use Rattle.xw_session.proofs.text.write_entries.Goals as goal
 pub returns-in_err-write_entry : goal.returns-in_err-write_entry
 returns-in_err-write_entry g c =
     let e = err_from_is_err_and c.from_residual.result c.from_residual.ensures.1 in
-    rw e.1 (entry_stops g.W.Sink.told g.W.Sink.failures c.args.entries.now _ _ _ c.loop-k.k (omega (arith, c.loop-k-test.true, c.len-k-end.ensures)) (c.loop-k.invariant.told, c.loop-k.invariant.quiet) c.in_err-write_entry.ensures)
+    rw e.1 (entry_stops g.W.Sink.transcript g.W.Sink.failures c.args.entries.now _ _ _ c.loop-k.k (omega (arith, c.loop-k-test.true, c.len-k-end.ensures)) (c.loop-k.invariant.transcript, c.loop-k.invariant.quiet) c.in_err-write_entry.ensures)

@@ -5,4 +5,4 @@ use Rattle.xw_session.proofs.text.write_entries_line.Goals as goal
 pub returns-in_err-write_entries : goal.returns-in_err-write_entries
 returns-in_err-write_entries g c =
     let e = err_from_is_err_and c.from_residual.result c.from_residual.ensures.1 in
-    rw e.1 (stops-within g.W.Sink.told g.W.Sink.failures _ _ _ _ c.in_err-write_entries.ensures)
+    rw e.1 (stops-within g.W.Sink.transcript g.W.Sink.failures _ _ _ _ c.in_err-write_entries.ensures)

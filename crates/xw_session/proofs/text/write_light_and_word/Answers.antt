@@ -5,7 +5,7 @@ use Rattle.xw_session.proofs.text.write_light_and_word.Goals as goal
 pub returns-in_err-write_number_spaced : goal.returns-in_err-write_number_spaced
 returns-in_err-write_number_spaced g c =
     let e = err_from_is_err_and c.from_residual.result c.from_residual.ensures.1 in
-    rw e.1 (stops-within g.W.Sink.told g.W.Sink.failures _ _ _ _ c.in_err-write_number_spaced.ensures)
+    rw e.1 (stops-within g.W.Sink.transcript g.W.Sink.failures _ _ _ _ c.in_err-write_number_spaced.ensures)
 
 pub returns : goal.returns
-returns g c = sends-then g.W.Sink.told g.W.Sink.failures _ _ _ _ _ _ c.in_ok-write_number_spaced.ensures c.write_directed_word.ensures
+returns g c = sends-then g.W.Sink.transcript g.W.Sink.failures _ _ _ _ _ _ c.in_ok-write_number_spaced.ensures c.write_directed_word.ensures

@@ -2,7 +2,7 @@ use Rattle.std.proofs.Common.{◌≡◌, ◌≤◌, ◌+◌, ℕ, ◌<◌, false
 use Rattle.xw_words.specs.Columns.{column_at}
 use Rattle.xw_words.proofs.columns.lengthen.Given as goal
 
--- the columns so far are longer, the others are as they were
+-- the columns so far are longer, and the others are unchanged
 abbrev pub invariant-loop-i : goal.invariant-loop-i
 invariant-loop-i l = record {
   done : (k : ℕ) → k < l.i → length (column_at l.columns k).bits ≡ length (column_at l.initial.columns k).bits + 64;

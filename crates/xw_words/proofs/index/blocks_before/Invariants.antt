@@ -4,7 +4,7 @@ use Rattle.std.specs.List.{concat}
 use Rattle.xw_words.specs.Index.{is_before, word_in, start}
 use Rattle.xw_words.proofs.index.blocks_before.Given as goal
 
--- the first block that does not come before the word is one from low to high
+-- the first block that does not come before the word is between low and high
 abbrev pub invariant-loop-low : goal.invariant-loop-low
 invariant-loop-low l = record {
   ordered : l.low ≤ l.high;

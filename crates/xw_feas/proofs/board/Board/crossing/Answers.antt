@@ -1,6 +1,6 @@
 use Rattle.std.proofs.Common.{get_or, refl, sym, ap, ◌∙◌}
-use Rattle.xw_cells.specs.declared.cell.Direction.TheVariants.{Down}
-use Rattle.xw_cells.specs.Grid.{cell_at}
+use Rattle.xw_grid.specs.declared.cell.Direction.TheVariants.{Down}
+use Rattle.xw_grid.specs.Grid.{cell_at}
 use Rattle.xw_grid.specs.Light.{place_through}
 use Rattle.xw_feas.specs.Board.{light_at, IsCrossing, other_than}
 use Rattle.xw_feas.proofs.CrossingLemmas.{found_crossing, only_crossing, found_first, found_second, each_some}

@@ -1,5 +1,5 @@
 use Rattle.std.proofs.Common.{sym, ◌∙◌, inl, inr}
-use Rattle.xw_cells.specs.declared.cell.Direction.TheVariants.{Across, Down}
+use Rattle.xw_grid.specs.declared.cell.Direction.TheVariants.{Across, Down}
 use Rattle.xw_feas.specs.Passes.{Passes}
 use Rattle.xw_feas.proofs.CrossingLemmas.{each_some}
 use Rattle.xw_feas.proofs.PassesLemmas.{passes_found, passes_only}

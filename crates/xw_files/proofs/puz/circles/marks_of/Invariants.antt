@@ -1,5 +1,5 @@
 use Rattle.std.proofs.Common.{◌≡◌, map, take}
-use Rattle.xw_cells.specs.Grid.{cells}
+use Rattle.xw_grid.specs.Grid.{cells}
 use Rattle.xw_files.specs.Puz.Writing.{mark_of}
 use Rattle.xw_files.proofs.puz.circles.marks_of.Given as goal
 

@@ -1,6 +1,6 @@
 use Rattle.std.proofs.Common.{◌≡◌, ◌+◌, ◌*◌, ◌≤◌, map, drop}
 use Rattle.std.specs.Prelude.{flat_map}
-use Rattle.xw_cells.specs.Grid.{cells}
+use Rattle.xw_grid.specs.Grid.{cells}
 use Rattle.xw_grid.specs.Light.{lights_at, lights_of}
 use Rattle.xw_grid.specs.Puzzle.{clue_of}
 use Rattle.xw_files.specs.Puz.Writing.{clue_with_nul}

@@ -1,5 +1,5 @@
 use Rattle.std.proofs.Common.{List, ◌∙◌, ap, arith, length, sym}
-use Rattle.xw_cells.specs.declared.cell.Cell.{Cell}
+use Rattle.xw_grid.specs.declared.cell.Cell.{Cell}
 use Rattle.xw_files.proofs.TextLemmas.Lookups.{starts_are}
 use Rattle.xw_files.proofs.TextLemmas.Clues.{start_here, no_start, no_more_starts}
 use Rattle.xw_files.proofs.text.place.light_count.Goals as goal

@@ -1,6 +1,6 @@
 use Rattle.std.proofs.Common.{List, sym, ap}
 use Rattle.std.proofs.lemmas.Result.{err_from_is_err_and}
-use Rattle.xw_cells.specs.declared.cell.Cell.{Cell}
+use Rattle.xw_grid.specs.declared.cell.Cell.{Cell}
 use Rattle.xw_files.specs.Text.Shape.{clues_at}
 use Rattle.xw_files.proofs.TextLemmas.Lookups.{starts_are}
 use Rattle.xw_files.proofs.TextLemmas.Clues.{clue_goes_on, clue_passed, clue_missing, clue_too_many, clues_done}

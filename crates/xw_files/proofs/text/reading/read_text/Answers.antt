@@ -1,5 +1,6 @@
 use Rattle.xw_files.proofs.TextLemmas.Found.{is_found, is_bare}
 use Rattle.xw_files.proofs.TextLemmas.Laws.{is_only}
+use Rattle.xw_files.proofs.TextLemmas.FirstFault.{is_first}
 use Rattle.xw_files.proofs.text.reading.read_text.Goals as goal
 
 pub returns-clause-found : goal.returns-clause-found
@@ -10,3 +11,6 @@ returns-clause-bare c = is_bare _ _ c.all.ensures
 
 pub returns-clause-only : goal.returns-clause-only
 returns-clause-only c = is_only _ _ c.all.ensures
+
+pub returns-clause-first : goal.returns-clause-first
+returns-clause-first c = is_first _ _ c.all.ensures

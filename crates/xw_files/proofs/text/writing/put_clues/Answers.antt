@@ -1,5 +1,5 @@
 use Rattle.std.proofs.Common.{List, ℕ, ◌++◌, sym, ap, ◌∙◌}
-use Rattle.xw_cells.specs.declared.cell.Cell.{Cell}
+use Rattle.xw_grid.specs.declared.cell.Cell.{Cell}
 use Rattle.xw_files.specs.Text.Written.{line}
 use Rattle.xw_files.proofs.TextLemmas.Lookups.{starts_are}
 use Rattle.xw_files.proofs.TextLemmas.Writes.{clues_after, clues_go_on, clues_passed, clues_end}

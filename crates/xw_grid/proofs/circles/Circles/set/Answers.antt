@@ -2,8 +2,8 @@ use Rattle.std.proofs.Common.{not, ap, sym, ◌∙◌, Bool, false}
 use Rattle.std.specs.Prelude.{filter}
 use Rattle.std.specs.List.{list_any}
 use Rattle.std.specs.BTreeMap.{is_at}
-use Rattle.xw_cells.specs.declared.cell.Cell.{Cell}
-use Rattle.xw_cells.specs.Grid.{cell_cmp}
+use Rattle.xw_grid.specs.declared.cell.Cell.{Cell}
+use Rattle.xw_grid.specs.Grid.{cell_cmp}
 use Rattle.xw_grid.specs.Clue.{with_circle}
 use Rattle.xw_grid.proofs.ClueLemmas.{removed_all_keys, same_tests}
 use Rattle.xw_grid.proofs.circles.Circles.set.Goals as goal

@@ -1,5 +1,5 @@
 use Rattle.std.proofs.Common.{subst, sym, ap, ◌∙◌}
-use Rattle.xw_cells.specs.declared.cell.Direction.TheVariants.{Down}
+use Rattle.xw_grid.specs.declared.cell.Direction.TheVariants.{Down}
 use Rattle.xw_grid.specs.Light.{no_light, place_through}
 use Rattle.xw_grid.specs.Places.{ArePlaces, entry_for}
 use Rattle.xw_grid.proofs.PlaceLemmas.{table_right}

@@ -1,4 +1,4 @@
--- An empty body. The borrow is opened and closed at the bytes that the clause names.
+-- The body is empty. The proof opens the borrow and closes it with the ghost bytes of the contract.
 use Rattle.std.proofs.Common.{ℕ, List, [], ◌∷◌, ◌++◌, refl, MutBor, ◌<◌, ◌^◌, length}
 use seplogic.Ra.Ura.{Ura}
 use mir.Syntax.{named}
@@ -48,7 +48,7 @@ module _ {M : Type 1} {𝓤 : Ura M} (𝓛 : Logic 𝓤) (at_mem : Memory → SP
   x = (record { ref_ptr = (b, o); ghost_name = γ; now = h }, (s, tt))
 
   abbrev h' : History
-  h' = record h { told = h.told ++ s.now }
+  h' = record h { transcript = h.transcript ++ s.now }
 
   abbrev at : List Val × (List Val × Unit {0})
   at = (vptr b o ∷ [], (slice_val s.ref_ptr (length s.now) ∷ [], tt))

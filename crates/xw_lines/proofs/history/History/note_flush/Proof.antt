@@ -1,4 +1,4 @@
--- An empty body. The borrow is opened and closed at the flush that the clause names.
+-- The body is empty. The proof opens the borrow and closes it with the flush of the contract.
 use Rattle.std.proofs.Common.{ℕ, List, [], ◌∷◌, ◌++◌, refl, MutBor}
 use seplogic.Ra.Ura.{Ura}
 use mir.Syntax.{named}
@@ -46,7 +46,7 @@ module _ {M : Type 1} {𝓤 : Ura M} (𝓛 : Logic 𝓤) (at_mem : Memory → SP
   x = (record { ref_ptr = (b, o); ghost_name = γ; now = h }, tt)
 
   abbrev h' : History
-  h' = record h { told = h.told ++ flushed ∷ [] }
+  h' = record h { transcript = h.transcript ++ flushed ∷ [] }
 
   abbrev at : List Val × Unit {0}
   at = (vptr b o ∷ [], tt)

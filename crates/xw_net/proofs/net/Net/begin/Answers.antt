@@ -4,7 +4,7 @@ use Rattle.std.proofs.lemmas.List.{with_items_is}
 use Rattle.xw_bits.specs.Bits.{RowOfBits}
 use Rattle.xw_words.specs.Dictionary.{Entry, row}
 use Rattle.xw_grid.specs.declared.lights.Light.{Light}
-use Rattle.xw_cells.specs.Grid.{Grid}
+use Rattle.xw_grid.specs.Grid.{Grid}
 use Rattle.xw_grid.specs.Light.{lights_of}
 use Rattle.xw_feas.specs.Board.{Board, board_of, light_at}
 use Rattle.xw_feas.specs.Flags.{set_has}
@@ -28,7 +28,7 @@ abbrev Lost : Change → Board → List Light → (ℕ → List Entry) → List 
 Lost change board lights entries held held' pending pending' =
     Forgets board (λ light. lost_from change.word (same_before change.before.now lights light) (length (light_at board light)) (length (entries (length (light_at board light))))) held held' pending pending'
 
--- the same of equal boards, lights and words
+-- the same for equal boards, lights and words
 opening_of : (grid : Grid) (change : Change) (old new : Arrays) (board board' : Board) (lights lights' : List Light) (entries entries' : ℕ → List Entry) → board ≡ board' → lights ≡ lights' → entries ≡ entries'
     → IsOpening grid board lights entries change old new → IsOpening grid board' lights' entries' change old new
 opening_of grid change old new board board' lights lights' entries entries' b l e opening =
@@ -118,7 +118,7 @@ returns-clause-opened g c before words action settled read is filled moved =
     c.deref_mut.ensures.value (sym held) c.deref_mut-2.ensures.value (sym pending) c.forget_lights.ensures) in
     opens before (record { grid = c.args.grid.now; words = words }) action c.args.change.now is settled c.args.self.now _ filled filled.holding moved opening lost refl refl c.requires.inside
 
--- the same of equal rows
+-- the same for equal rows
 room_by : {old old' new new' : List RowOfBits} (other : ℕ) → new' ≡ new → old ≡ old' → (row_at old other).room ≤ (row_at new other).room → (row_at old' other).room ≤ (row_at new' other).room
 room_by {old} {old'} {new} {new'} other n o more = subst (λ rows. (row_at rows other).room ≤ (row_at new' other).room) o (subst (λ rows. (row_at old other).room ≤ (row_at rows other).room) (sym n) more)
 

@@ -24,7 +24,7 @@ returns-clause-queue c listed light h =
     let same = with_items_is c.args.self.now.is_queued c.spread.new.is_queued (omega (arith, c.spread.auto.is_queued, c.deref_mut-5.ensures.len)) in
     subst (λ q. IsListed q c.spread.new.queue.items) (sym same) new light h
 
--- the lights of the chain are those of equal marks
+-- the lights of the chain, for equal marks
 along : {board : Board} {dictionary : Dictionary} {old new : Marks} (marks marks' : List Bool) → marks ≡ marks' → IsBrought board dictionary old new (is_marked marks) → IsBrought board dictionary old new (is_marked marks')
 along {board} {dictionary} {old} {new} marks marks' same brought = subst (λ m. IsBrought board dictionary old new (is_marked m)) same brought
 

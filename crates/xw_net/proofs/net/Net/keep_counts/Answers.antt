@@ -4,7 +4,7 @@ use Rattle.xw_bits.specs.Bits.{RowOfBits}
 use Rattle.xw_net.specs.Room.{row_at, AreRoomier}
 use Rattle.xw_net.proofs.net.Net.keep_counts.Goals as goal
 
--- equal rows have no less room
+-- equal rows have the same room
 same_roomier : (old new : List RowOfBits) → new ≡ old → AreRoomier old new
 same_roomier old new same = record {
   long = ap length same;

@@ -11,7 +11,7 @@ use Rattle.xw_net.proofs.Left.{left_left, left_same}
 use Rattle.xw_net.specs.declared.net.Net.{Net}
 use Rattle.xw_net.proofs.net.Net.keep_place.Goals as goal
 
--- a letter that stands at first is one of those that are gone through
+-- each letter at the start is among those the loop visits
 in_set : (net : Net) (cell set letter : ℕ) → set ≡ get_or net.letters.items cell 0 → letter_stands net cell letter ≡ true → has set letter ≡ true
 unfolding letter_stands
 in_set net cell set letter is stands = ap (λ s. has s letter) is ∙ stands

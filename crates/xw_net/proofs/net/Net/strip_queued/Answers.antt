@@ -17,7 +17,7 @@ use Rattle.xw_net.proofs.Ending.{settled_net, settled_exact}
 use Rattle.xw_net.proofs.Left.{left_left, left_queue, left_chained}
 use Rattle.xw_net.proofs.net.Net.strip_queued.Goals as goal
 
--- a light that waits is the one whose turn it is, or one of the rest
+-- a queued light is the one that was taken, or one of the rest
 of_two : (light : ℕ) (rest : List ℕ) (other : ℕ) → Contains (light ∷ rest) other → (light ≡ other) ⊎ Contains rest other
 of_two light rest other there =
     elim (Contains-append_cases (light ∷ []) rest other there) [

@@ -57,7 +57,7 @@ returns-in-Some-clause-turned g c =
       rest = c.renumber.ensures.rest ∙ ap (λ s. record c.args.self.now { rows = c.renumber.new.self.rows; base = c.renumber.new.self.base; entered = c.renumber.new.self.entered; is_queued = c.renumber.new.self.is_queued; is_marked = c.renumber.new.self.is_marked; spare = s }) c.in-Some.ensures.after;
     }
 
--- where the lights are the same the net is as it was
+-- if the lights stay, the net is unchanged
 turned_none : (before after : List Light) (net : Net) (spare : Option Spare) → AreLights after → after ≡ before → spare ≡ None → IsTurned before after net (record net { spare = spare })
 unfolding word_stands
 turned_none before after net spare are same none = subst (λ ls. IsTurned ls after net (record net { spare = spare })) same (record {

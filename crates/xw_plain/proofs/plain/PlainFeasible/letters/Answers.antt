@@ -1,7 +1,7 @@
 use Rattle.std.proofs.Common.{◌≡◌, ◌<◌, length, get_or, sym, ap, ◌∙◌, arith}
 use Rattle.std.specs.Prelude.{Ok}
 use Rattle.xw_letters.specs.LetterSet.{letters_in}
-use Rattle.xw_cells.specs.Grid.{index_of}
+use Rattle.xw_grid.specs.Grid.{index_of}
 use Rattle.std.proofs.lemmas.List.{get_or_read}
 use Rattle.xw_feas.specs.Board.{board_of}
 use Rattle.xw_feas.specs.AnswersOf.{answers_of}

@@ -1,7 +1,7 @@
 use Rattle.std.proofs.Common.{◌≡◌, ℕ, ap, sym, ◌∙◌, subst, refl, inr, List, ◌++◌}
 use Rattle.std.proofs.lemmas.Result.{err_from_is_err_and}
 use Rattle.std.specs.Prelude.{Some, flat_map}
-use Rattle.xw_cells.specs.Grid.{Grid}
+use Rattle.xw_grid.specs.Grid.{Grid}
 use Rattle.xw_fill.specs.Listing.{duplicates_of}
 use Rattle.xw_commands.specs.declared.command.Command.TheVariants as commands
 use Rattle.xw_lines.specs.Device.{Begins}
@@ -20,8 +20,8 @@ returns-in_err-write_duplicates-in-Ok g c =
     let lines : flat_map (duplicate_line c.grid.result.now) c.deref.result.now ≡ flat_map (duplicate_line state.position.grid) (duplicates_of state.position) =
     ap (λ (grid : Grid). flat_map (duplicate_line grid) c.deref.result.now) grid ∙ ap (flat_map (duplicate_line state.position.grid)) found in
     let wrote = c.in_err-write_duplicates-in-Ok.ensures in
-    rw e.1 (query_stops g.W.Sink.told g.W.Sink.failures state commands.Duplicates (flat_map (duplicate_line state.position.grid) (duplicates_of state.position)) _ _ _ refl
-    (subst (λ (xs : List ℕ). Begins (g.W.Sink.told c.args.sink.now) (g.W.Sink.told c.write_duplicates.new.sink) xs) lines wrote.0, wrote.1))
+    rw e.1 (query_stops g.W.Sink.transcript g.W.Sink.failures state commands.Duplicates (flat_map (duplicate_line state.position.grid) (duplicates_of state.position)) _ _ _ refl
+    (subst (λ (xs : List ℕ). Begins (g.W.Sink.transcript c.args.sink.now) (g.W.Sink.transcript c.write_duplicates.new.sink) xs) lines wrote.0, wrote.1))
 
 pub returns-in_ok-write_duplicates-in-Ok : goal.returns-in_ok-write_duplicates-in-Ok
 returns-in_ok-write_duplicates-in-Ok g c =
@@ -31,9 +31,9 @@ returns-in_ok-write_duplicates-in-Ok g c =
     let lines : flat_map (duplicate_line c.grid.result.now) c.deref.result.now ≡ flat_map (duplicate_line state.position.grid) (duplicates_of state.position) =
     ap (λ (grid : Grid). flat_map (duplicate_line grid) c.deref.result.now) grid ∙ ap (flat_map (duplicate_line state.position.grid)) found in
     let wrote = c.in_ok-write_duplicates-in-Ok.ensures in
-    query_answers g.W.Sink.told g.W.Sink.failures state commands.Duplicates (flat_map (duplicate_line state.position.grid) (duplicates_of state.position)) _ _ _ _ refl
-    (subst (λ (xs : List ℕ). g.W.Sink.told c.write_duplicates.new.sink ≡ g.W.Sink.told c.args.sink.now ++ xs) lines wrote.0, wrote.1) c.end_answer.ensures.sends c.end_answer.ensures.step
+    query_answers g.W.Sink.transcript g.W.Sink.failures state commands.Duplicates (flat_map (duplicate_line state.position.grid) (duplicates_of state.position)) _ _ _ _ refl
+    (subst (λ (xs : List ℕ). g.W.Sink.transcript c.write_duplicates.new.sink ≡ g.W.Sink.transcript c.args.sink.now ++ xs) lines wrote.0, wrote.1) c.end_answer.ensures.sends c.end_answer.ensures.step
 
 pub returns-in-Err : goal.returns-in-Err
 returns-in-Err g c =
-    refused_answers g.W.Sink.told g.W.Sink.failures c.args.self.now _ _ c.from.result _ _ _ (inr (refl, ap Some (sym (c.from.ensures ∙ ap refusal_of c.in-Err.ensures.memory)))) c.end_answer-in-Err.ensures.sends c.end_answer-in-Err.ensures.step
+    refused_answers g.W.Sink.transcript g.W.Sink.failures c.args.self.now _ _ c.from.result _ _ _ (inr (refl, ap Some (sym (c.from.ensures ∙ ap refusal_of c.in-Err.ensures.memory)))) c.end_answer-in-Err.ensures.sends c.end_answer-in-Err.ensures.step

@@ -12,7 +12,7 @@ returns g c =
     let start : State = record { position = g.E.Feasible.state left.engine; texts = texts_view left.texts; clues = left.clues; circles = left.circles; is_watched = left.is_watched; begun = left.begun } in
     let now = c.fill-filled.new.engine in
     let end : State = record start { position = g.E.Feasible.state now } in
-    subst (λ (s : State). AnswersBy g.W.Sink.told g.W.Sink.failures s (fill_tried s c.args.limit) (Some grid_memory) c.end_filling.result end c.args.sink.now c.end_filling.new.sink) c.self.view_is (record {
+    subst (λ (s : State). AnswersBy g.W.Sink.transcript g.W.Sink.failures s (fill_tried s c.args.limit) (Some grid_memory) c.end_filling.result end c.args.sink.now c.end_filling.new.sink) c.self.view_is (record {
       reply = _;
       fits = fill_fits start (g.E.Feasible.state now) c.args.limit c.fill-filled.result c.fill-filled.ensures.found c.fill-filled.ensures.memory;
       effect = fill_effect start left.engine now g.E.Feasible.state c.fill-filled.result refl c.fill-filled.ensures.unchanged;

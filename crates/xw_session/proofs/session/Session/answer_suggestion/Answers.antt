@@ -17,9 +17,9 @@ returns-in_err-write_suggestion g c =
     let f = c.suggest-suggestion.ensures in
     let lines : suggestion_line (g.E.Feasible.state c.suggest-suggestion.new.engine) c.suggest-suggestion.result ≡ suggestion_line start.position (suggestion start.position) =
     ap (λ (p : Position). suggestion_line p c.suggest-suggestion.result) f.unchanged ∙ ap (suggestion_line start.position) f.suggestion in
-    let wrote : Begins (g.W.Sink.told c.args.sink.now) (g.W.Sink.told c.write_suggestion.new.sink) (suggestion_line start.position (suggestion start.position)) × HasFailed (g.W.Sink.failures c.args.sink.now) (g.W.Sink.failures c.write_suggestion.new.sink) =
-    (subst (λ (xs : List ℕ). Begins (g.W.Sink.told c.args.sink.now) (g.W.Sink.told c.write_suggestion.new.sink) xs) lines c.in_err-write_suggestion.ensures.0, c.in_err-write_suggestion.ensures.1) in
-    rw (e.1, f.unchanged, ← c.self.view_is) (reply_stops g.W.Sink.told g.W.Sink.failures start _ _ (record { lines = suggestion_line start.position (suggestion start.position); state = start }) _ _ _ refl wrote)
+    let wrote : Begins (g.W.Sink.transcript c.args.sink.now) (g.W.Sink.transcript c.write_suggestion.new.sink) (suggestion_line start.position (suggestion start.position)) × HasFailed (g.W.Sink.failures c.args.sink.now) (g.W.Sink.failures c.write_suggestion.new.sink) =
+    (subst (λ (xs : List ℕ). Begins (g.W.Sink.transcript c.args.sink.now) (g.W.Sink.transcript c.write_suggestion.new.sink) xs) lines c.in_err-write_suggestion.ensures.0, c.in_err-write_suggestion.ensures.1) in
+    rw (e.1, f.unchanged, ← c.self.view_is) (reply_stops g.W.Sink.transcript g.W.Sink.failures start _ _ (record { lines = suggestion_line start.position (suggestion start.position); state = start }) _ _ _ refl wrote)
 
 pub returns : goal.returns
 returns g c =
@@ -28,6 +28,6 @@ returns g c =
     let f = c.suggest-suggestion.ensures in
     let lines : suggestion_line (g.E.Feasible.state c.suggest-suggestion.new.engine) c.suggest-suggestion.result ≡ suggestion_line start.position (suggestion start.position) =
     ap (λ (p : Position). suggestion_line p c.suggest-suggestion.result) f.unchanged ∙ ap (suggestion_line start.position) f.suggestion in
-    let wrote : (g.W.Sink.told c.write_suggestion.new.sink ≡ g.W.Sink.told c.args.sink.now ++ suggestion_line start.position (suggestion start.position)) × (g.W.Sink.failures c.write_suggestion.new.sink ≡ g.W.Sink.failures c.args.sink.now) =
-    (subst (λ (xs : List ℕ). g.W.Sink.told c.write_suggestion.new.sink ≡ g.W.Sink.told c.args.sink.now ++ xs) lines c.in_ok-write_suggestion.ensures.0, c.in_ok-write_suggestion.ensures.1) in
-    rw (f.unchanged, ← c.self.view_is) (reply_answers g.W.Sink.told g.W.Sink.failures start _ _ (record { lines = suggestion_line start.position (suggestion start.position); state = start }) _ _ _ _ refl wrote c.end_answer.ensures.sends c.end_answer.ensures.step)
+    let wrote : (g.W.Sink.transcript c.write_suggestion.new.sink ≡ g.W.Sink.transcript c.args.sink.now ++ suggestion_line start.position (suggestion start.position)) × (g.W.Sink.failures c.write_suggestion.new.sink ≡ g.W.Sink.failures c.args.sink.now) =
+    (subst (λ (xs : List ℕ). g.W.Sink.transcript c.write_suggestion.new.sink ≡ g.W.Sink.transcript c.args.sink.now ++ xs) lines c.in_ok-write_suggestion.ensures.0, c.in_ok-write_suggestion.ensures.1) in
+    rw (f.unchanged, ← c.self.view_is) (reply_answers g.W.Sink.transcript g.W.Sink.failures start _ _ (record { lines = suggestion_line start.position (suggestion start.position); state = start }) _ _ _ _ refl wrote c.end_answer.ensures.sends c.end_answer.ensures.step)

@@ -22,8 +22,8 @@ returns-in_err-write_counted-in-Some g c =
     let lines : counted_lines c.in-Some.count (first_words c.args.most c.in-Some.found) ≡ counted_lines (length all) (first_words c.args.most all) =
     ap (λ count. counted_lines count (first_words c.args.most c.in-Some.found)) words.2 ∙ ap (λ (xs : List (List ℕ)). counted_lines (length all) (first_words c.args.most xs)) words.3 in
     let wrote = c.in_err-write_counted-in-Some.ensures in
-    rw e.1 (query_stops g.W.Sink.told g.W.Sink.failures state (commands.Words c.args.named c.args.most) (counted_lines (length all) (first_words c.args.most all)) _ _ _ placed
-    (subst (λ (xs : List ℕ). Begins (g.W.Sink.told c.args.sink.now) (g.W.Sink.told c.write_counted.new.sink) xs) lines wrote.0, wrote.1))
+    rw e.1 (query_stops g.W.Sink.transcript g.W.Sink.failures state (commands.Words c.args.named c.args.most) (counted_lines (length all) (first_words c.args.most all)) _ _ _ placed
+    (subst (λ (xs : List ℕ). Begins (g.W.Sink.transcript c.args.sink.now) (g.W.Sink.transcript c.write_counted.new.sink) xs) lines wrote.0, wrote.1))
 
 pub returns-in_ok-write_counted-in-Some : goal.returns-in_ok-write_counted-in-Some
 returns-in_ok-write_counted-in-Some g c =
@@ -34,8 +34,8 @@ returns-in_ok-write_counted-in-Some g c =
     let lines : counted_lines c.in-Some.count (first_words c.args.most c.in-Some.found) ≡ counted_lines (length all) (first_words c.args.most all) =
     ap (λ count. counted_lines count (first_words c.args.most c.in-Some.found)) words.2 ∙ ap (λ (xs : List (List ℕ)). counted_lines (length all) (first_words c.args.most xs)) words.3 in
     let wrote = c.in_ok-write_counted-in-Some.ensures in
-    query_answers g.W.Sink.told g.W.Sink.failures state (commands.Words c.args.named c.args.most) (counted_lines (length all) (first_words c.args.most all)) _ _ _ _ placed
-    (subst (λ (xs : List ℕ). g.W.Sink.told c.write_counted.new.sink ≡ g.W.Sink.told c.args.sink.now ++ xs) lines wrote.0, wrote.1) c.end_answer.ensures.sends c.end_answer.ensures.step
+    query_answers g.W.Sink.transcript g.W.Sink.failures state (commands.Words c.args.named c.args.most) (counted_lines (length all) (first_words c.args.most all)) _ _ _ _ placed
+    (subst (λ (xs : List ℕ). g.W.Sink.transcript c.write_counted.new.sink ≡ g.W.Sink.transcript c.args.sink.now ++ xs) lines wrote.0, wrote.1) c.end_answer.ensures.sends c.end_answer.ensures.step
 
 pub returns-in-None : goal.returns-in-None
-returns-in-None g c = refusal_answers g.W.Sink.told g.W.Sink.failures c.args.self.now (commands.Words c.args.named c.args.most) refusals.NoLight _ _ _ (ap (λ light. worded c.args.self.now light c.args.most) c.in-None.ensures.none) c.end_answer-in-None.ensures.sends c.end_answer-in-None.ensures.step
+returns-in-None g c = refusal_answers g.W.Sink.transcript g.W.Sink.failures c.args.self.now (commands.Words c.args.named c.args.most) refusals.NoLight _ _ _ (ap (λ light. worded c.args.self.now light c.args.most) c.in-None.ensures.none) c.end_answer-in-None.ensures.sends c.end_answer-in-None.ensures.step

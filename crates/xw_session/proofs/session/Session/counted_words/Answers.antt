@@ -1,5 +1,5 @@
 use Rattle.std.proofs.Common.{◌≡◌, ap, ◌∙◌, subst}
-use Rattle.xw_cells.specs.Grid.{IsGrid}
+use Rattle.xw_grid.specs.Grid.{IsGrid}
 use Rattle.xw_session.specs.State.{State}
 use Rattle.xw_session.specs.Reply.{name_of_light}
 use Rattle.xw_session.proofs.LightTexts.{no_such_number}

@@ -1,6 +1,6 @@
 use Rattle.std.proofs.Common.{◌≡◌, subst}
 use Rattle.xw_letters.specs.LetterSet.{letters_in}
-use Rattle.xw_cells.specs.declared.cell.Cell.{Cell}
+use Rattle.xw_grid.specs.declared.cell.Cell.{Cell}
 use Rattle.xw_grid.specs.Puzzle.{texts_view}
 use Rattle.xw_session.specs.State.{State}
 use Rattle.xw_session.specs.Text.{letters_line}

@@ -1,7 +1,7 @@
 use Rattle.std.proofs.Common.{◌≡◌, ap, sym, ◌∙◌, subst}
 use Rattle.std.specs.Prelude.{slice_get}
 use Rattle.std.specs.Option.{option_and_then}
-use Rattle.xw_cells.specs.Grid.{IsGrid}
+use Rattle.xw_grid.specs.Grid.{IsGrid}
 use Rattle.xw_grid.specs.Light.{lights_of}
 use Rattle.xw_session.specs.State.{State}
 use Rattle.xw_session.specs.Reply.{name_of_light}

@@ -1,5 +1,5 @@
 use Rattle.std.proofs.Common.{◌≡◌, None, ap, ◌∙◌, subst}
-use Rattle.xw_cells.specs.Grid.{IsGrid}
+use Rattle.xw_grid.specs.Grid.{IsGrid}
 use Rattle.xw_grid.specs.Light.{lights_of, place_named}
 use Rattle.xw_feas.specs.State.{placed_in, with_grid}
 use Rattle.xw_session.specs.State.{State}

@@ -5,7 +5,7 @@ use Rattle.xw_session.specs.declared.refusal.Refusal.TheVariants.{Grid}
 use Rattle.xw_session.specs.declared.session.putting.Place.{Place}
 use Rattle.xw_session.specs.Put.{with_piece}
 use Rattle.xw_session.specs.Reply.{edited, grid_memory}
-use Rattle.xw_session.proofs.Putting.{nul_due, put_due, memory_due}
+use Rattle.xw_session.proofs.TextMode.{nul_due, put_due, memory_due}
 use Rattle.xw_session.proofs.session.Session.put.Goals as goal
 
 pub returns-then-has_nul : goal.returns-then-has_nul

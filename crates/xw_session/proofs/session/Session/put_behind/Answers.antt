@@ -1,7 +1,7 @@
 use Rattle.std.proofs.Common.{◌≡◌, ◌++◌, eqb, length, false, ap, sym, ◌∙◌}
 use Rattle.xw_session.specs.Put.{with_text_at}
 use Rattle.xw_session.proofs.Escapes.{spells_some}
-use Rattle.xw_session.proofs.Putting.{put_behind, where_done}
+use Rattle.xw_session.proofs.TextMode.{put_behind, where_done}
 use Rattle.xw_session.proofs.session.Session.put_behind.Goals as goal
 
 pub returns-clause-ok : goal.returns-clause-ok

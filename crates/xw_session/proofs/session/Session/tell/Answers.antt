@@ -8,8 +8,8 @@ use Rattle.xw_session.proofs.session.Session.tell.Goals as goal
 pub returns-in_err-write_told : goal.returns-in_err-write_told
 returns-in_err-write_told g c =
     let e = err_from_is_err_and c.from_residual.result c.from_residual.ensures.1 in
-    rw e.1 (query_stops g.W.Sink.told g.W.Sink.failures c.args.self.now (commands.Tell c.args.telling) (told_lines c.args.self.now c.args.telling) _ _ _ refl c.in_err-write_told.ensures)
+    rw e.1 (query_stops g.W.Sink.transcript g.W.Sink.failures c.args.self.now (commands.Tell c.args.telling) (told_lines c.args.self.now c.args.telling) _ _ _ refl c.in_err-write_told.ensures)
 
 pub returns : goal.returns
 returns g c =
-    query_answers g.W.Sink.told g.W.Sink.failures c.args.self.now (commands.Tell c.args.telling) (told_lines c.args.self.now c.args.telling) _ _ _ _ refl c.in_ok-write_told.ensures c.end_answer.ensures.sends c.end_answer.ensures.step
+    query_answers g.W.Sink.transcript g.W.Sink.failures c.args.self.now (commands.Tell c.args.telling) (told_lines c.args.self.now c.args.telling) _ _ _ _ refl c.in_ok-write_told.ensures c.end_answer.ensures.sends c.end_answer.ensures.step

@@ -5,10 +5,10 @@ use Rattle.xw_session.proofs.session.queries.end_filling.Goals as goal
 pub returns-in_err-write_filling-in-Ok-clause-sends : goal.returns-in_err-write_filling-in-Ok-clause-sends
 returns-in_err-write_filling-in-Ok-clause-sends g c =
     let e = err_from_is_err_and c.from_residual.result c.from_residual.ensures.1 in
-    rw (e.1, c.in-Ok.is) (λ state. stops-within g.W.Sink.told g.W.Sink.failures _ _ _ _ c.in_err-write_filling-in-Ok.ensures)
+    rw (e.1, c.in-Ok.is) (λ state. stops-within g.W.Sink.transcript g.W.Sink.failures _ _ _ _ c.in_err-write_filling-in-Ok.ensures)
 
 pub returns-in_ok-write_filling-in-Ok-clause-sends : goal.returns-in_ok-write_filling-in-Ok-clause-sends
-returns-in_ok-write_filling-in-Ok-clause-sends g c = rw c.in-Ok.is (λ state. sends-then g.W.Sink.told g.W.Sink.failures _ _ _ _ _ _ c.in_ok-write_filling-in-Ok.ensures (c.end_answer.ensures.sends state))
+returns-in_ok-write_filling-in-Ok-clause-sends g c = rw c.in-Ok.is (λ state. sends-then g.W.Sink.transcript g.W.Sink.failures _ _ _ _ _ _ c.in_ok-write_filling-in-Ok.ensures (c.end_answer.ensures.sends state))
 
 pub returns-in_ok-write_filling-in-Ok-clause-step : goal.returns-in_ok-write_filling-in-Ok-clause-step
 returns-in_ok-write_filling-in-Ok-clause-step g c = rw c.in-Ok.is c.end_answer.ensures.step

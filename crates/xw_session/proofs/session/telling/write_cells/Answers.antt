@@ -1,8 +1,8 @@
 use Rattle.std.proofs.Common.{◌≡◌, ◌<◌, ◌*◌, length, get_or, ap, sym, ◌∙◌, subst, ◌++◌, arith}
 use Rattle.std.proofs.lemmas.Result.{err_from_is_err_and}
-use Rattle.xw_cells.specs.declared.cell.Cell.{Cell}
-use Rattle.xw_cells.specs.Grid.{Grid, cells, cell_at}
-use Rattle.xw_cells.proofs.GridLemmas.{length-cells}
+use Rattle.xw_grid.specs.declared.cell.Cell.{Cell}
+use Rattle.xw_grid.specs.Grid.{Grid, cells, cell_at}
+use Rattle.xw_grid.proofs.GridLemmas.{length-cells}
 use Rattle.xw_lines.specs.Device.{Begins, HasFailed}
 use Rattle.xw_session.specs.Told.{letters_told}
 use Rattle.xw_session.proofs.LightTexts.{cell_in_order}
@@ -20,7 +20,7 @@ loop-place-preserved g c =
     let within : c.loop-place.place < length (cells grid) = omega (arith, below, length-cells grid) in
     let wrote = c.in_ok-write_cell_letters.ensures in
     record {
-      told = each_sent g.W.Sink.told g.W.Sink.failures (letters_told position) (cells grid) c.args.sink.now c.loop-place.sink c.write_cell_letters.new.sink c.loop-place.place c.cell_at.result within c.loop-place.invariant.told (wrote.0 ∙ ap (λ (cell : Cell). g.W.Sink.told c.loop-place.sink ++ letters_told position cell) is);
+      transcript = each_sent g.W.Sink.transcript g.W.Sink.failures (letters_told position) (cells grid) c.args.sink.now c.loop-place.sink c.write_cell_letters.new.sink c.loop-place.place c.cell_at.result within c.loop-place.invariant.transcript (wrote.0 ∙ ap (λ (cell : Cell). g.W.Sink.transcript c.loop-place.sink ++ letters_told position cell) is);
       quiet = wrote.1 ∙ c.loop-place.invariant.quiet;
     }
 
@@ -34,12 +34,12 @@ returns-in_err-write_cell_letters g c =
     let at : c.cell_at.result ≡ cell_at grid c.loop-place.place = c.cell_at.ensures.cell ∙ ap (λ (grid : Grid). cell_at grid c.loop-place.place) c.grid-grid.ensures in
     let is : c.cell_at.result ≡ get_or (cells grid) c.loop-place.place c.cell_at.result = at ∙ sym (cell_in_order grid c.loop-place.place c.cell_at.result below) in
     let within : c.loop-place.place < length (cells grid) = omega (arith, below, length-cells grid) in
-    let stops = subst (λ (cell : Cell). Begins (g.W.Sink.told c.loop-place.sink) (g.W.Sink.told c.write_cell_letters.new.sink) (letters_told position cell) × HasFailed (g.W.Sink.failures c.loop-place.sink) (g.W.Sink.failures c.write_cell_letters.new.sink)) is c.in_err-write_cell_letters.ensures in
-    rw e.1 (each_stops g.W.Sink.told g.W.Sink.failures (letters_told position) (cells grid) c.args.sink.now c.loop-place.sink c.write_cell_letters.new.sink c.loop-place.place c.cell_at.result within (c.loop-place.invariant.told, c.loop-place.invariant.quiet) stops)
+    let stops = subst (λ (cell : Cell). Begins (g.W.Sink.transcript c.loop-place.sink) (g.W.Sink.transcript c.write_cell_letters.new.sink) (letters_told position cell) × HasFailed (g.W.Sink.failures c.loop-place.sink) (g.W.Sink.failures c.write_cell_letters.new.sink)) is c.in_err-write_cell_letters.ensures in
+    rw e.1 (each_stops g.W.Sink.transcript g.W.Sink.failures (letters_told position) (cells grid) c.args.sink.now c.loop-place.sink c.write_cell_letters.new.sink c.loop-place.place c.cell_at.result within (c.loop-place.invariant.transcript, c.loop-place.invariant.quiet) stops)
 
 pub returns : goal.returns
 returns g c =
     let position = g.E.Feasible.state c.args.engine.now in
     let grid = position.grid in
     let size = c.size-place-end.ensures.size ∙ ap (λ (grid : Grid). grid.width * grid.height) c.grid-grid.ensures in
-    each_all g.W.Sink.told g.W.Sink.failures (letters_told position) (cells grid) _ _ c.loop-place.place (omega (arith, c.loop-place-test.false, length-cells grid, size)) (c.loop-place.invariant.told, c.loop-place.invariant.quiet)
+    each_all g.W.Sink.transcript g.W.Sink.failures (letters_told position) (cells grid) _ _ c.loop-place.place (omega (arith, c.loop-place-test.false, length-cells grid, size)) (c.loop-place.invariant.transcript, c.loop-place.invariant.quiet)

@@ -11,7 +11,7 @@ returns-in_err-write_count_at g c =
     let state = g.E.Feasible.state c.args.engine.now in
     let count = c.len-place-end.ensures.len ∙ ap length c.lights.ensures in
     let inside : c.loop-place.place < length (lights_of state.grid) = omega (arith, c.loop-place-test.true, count) in
-    rw e.1 (stops_at g.W.Sink.told g.W.Sink.failures (count_line state) (length (lights_of state.grid)) _ _ _ c.loop-place.place inside (c.loop-place.invariant.told, c.loop-place.invariant.quiet) c.in_err-write_count_at.ensures)
+    rw e.1 (stops_at g.W.Sink.transcript g.W.Sink.failures (count_line state) (length (lights_of state.grid)) _ _ _ c.loop-place.place inside (c.loop-place.invariant.transcript, c.loop-place.invariant.quiet) c.in_err-write_count_at.ensures)
 
 pub loop-place-preserved : goal.loop-place-preserved
 loop-place-preserved g c =
@@ -19,7 +19,7 @@ loop-place-preserved g c =
     let count = c.len-place-end.ensures.len ∙ ap length c.lights.ensures in
     let inside : c.loop-place.place < length (lights_of state.grid) = omega (arith, c.loop-place-test.true, count) in
     record {
-      told = one_more_sent g.W.Sink.told g.W.Sink.failures (count_line state) (length (lights_of state.grid)) _ _ _ c.loop-place.place inside c.loop-place.invariant.told c.in_ok-write_count_at.ensures.0;
+      transcript = one_more_sent g.W.Sink.transcript g.W.Sink.failures (count_line state) (length (lights_of state.grid)) _ _ _ c.loop-place.place inside c.loop-place.invariant.transcript c.in_ok-write_count_at.ensures.0;
       quiet = c.in_ok-write_count_at.ensures.1 ∙ c.loop-place.invariant.quiet;
     }
 
@@ -28,4 +28,4 @@ returns g c =
     let state = g.E.Feasible.state c.args.engine.now in
     let count = c.len-place-end.ensures.len ∙ ap length c.lights.ensures in
     let past : length (lights_of state.grid) ≤ c.loop-place.place = omega (arith, c.loop-place-test.false, count) in
-    all_sent g.W.Sink.told g.W.Sink.failures (count_line state) (length (lights_of state.grid)) _ _ c.loop-place.place past (c.loop-place.invariant.told, c.loop-place.invariant.quiet)
+    all_sent g.W.Sink.transcript g.W.Sink.failures (count_line state) (length (lights_of state.grid)) _ _ c.loop-place.place past (c.loop-place.invariant.transcript, c.loop-place.invariant.quiet)

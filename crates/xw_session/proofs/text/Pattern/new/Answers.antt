@@ -1,6 +1,6 @@
 use Rattle.std.proofs.Common.{◌≡◌, ◌<◌, ℕ, ◌++◌, ◌∷◌, [], length, take, ap, sym, ◌∙◌, length-set, arith}
 use Rattle.std.proofs.lemmas.List.{take_more_set}
-use Rattle.xw_cells.specs.Grid.{entry}
+use Rattle.xw_grid.specs.Grid.{entry}
 use Rattle.xw_grid.specs.Light.{step}
 use Rattle.xw_session.specs.Text.{letter_or_dot}
 use Rattle.xw_session.proofs.LightTexts.{one_more_made, pattern_by_places}

@@ -43,7 +43,7 @@ module _ (r s : Inside) (kept : IsKeptRow r) (count : s.count ≡ r.count) (lett
 columns_of : (r : Inside) → IsKeptRow r → AreColumns r.count r.reserved (entries_of r.count r.letters.items r.active.bits) r.columns.items
 columns_of r kept = record { few = kept.column_count; all = kept.all_columns; bits = kept.columns; room = kept.columns_room }
 
--- where room is refused the columns are those of the words that there are
+-- if an allocation failed, the columns are still those of the known words
 pub invariant_of-self-in_err-grow_columns : goal.invariant_of-self-in_err-grow_columns
 invariant_of-self-in_err-grow_columns c =
     let r = c.self.inside in

@@ -1,3 +1,0 @@
-pub mod Shapes
-pub mod Calls
-pub mod Usage

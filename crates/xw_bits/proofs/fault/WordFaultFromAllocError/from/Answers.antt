@@ -1,5 +1,0 @@
-use Rattle.std.proofs.Common.{rules}
-use Rattle.xw_bits.proofs.fault.WordFaultFromAllocError.from.Goals as goal
-
-pub returns : goal.returns
-returns c = search rules

@@ -1,4 +1,0 @@
-pub mod EdgeLemmas
-pub mod GridLemmas
-pub mod OrbitLemmas
-pub mod OrbitCellLemmas

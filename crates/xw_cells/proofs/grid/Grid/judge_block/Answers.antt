@@ -1,5 +1,0 @@
-use Rattle.std.proofs.Common.{rules}
-use Rattle.xw_cells.proofs.grid.Grid.judge_block.Goals as goal
-
-pub returns-then-is_occupied-clause-refused : goal.returns-then-is_occupied-clause-refused
-returns-then-is_occupied-clause-refused c = search rules

@@ -1,5 +1,0 @@
-use Rattle.std.proofs.Common.{rules}
-use Rattle.xw_cells.proofs.grid.Grid.squares.Goals as goal
-
-pub returns-clause-squares : goal.returns-clause-squares
-returns-clause-squares c = search rules

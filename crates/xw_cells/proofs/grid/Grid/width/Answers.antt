@@ -1,5 +1,0 @@
-use Rattle.std.proofs.Common.{rules}
-use Rattle.xw_cells.proofs.grid.Grid.width.Goals as goal
-
-pub returns-clause-width : goal.returns-clause-width
-returns-clause-width c = search rules

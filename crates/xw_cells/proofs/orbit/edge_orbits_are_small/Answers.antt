@@ -1,5 +1,0 @@
-use Rattle.xw_cells.proofs.EdgeLemmas.{edge_orbits_are_small}
-use Rattle.xw_cells.proofs.orbit.edge_orbits_are_small.Goals as goal
-
-pub returns : goal.returns
-returns c = edge_orbits_are_small

@@ -1,5 +1,0 @@
-use Rattle.xw_cells.proofs.OrbitCellLemmas.{orbits_are_small}
-use Rattle.xw_cells.proofs.orbit.orbits_are_small.Goals as goal
-
-pub returns : goal.returns
-returns c = orbits_are_small

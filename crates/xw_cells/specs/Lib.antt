@@ -1,3 +1,0 @@
-pub mod Grid
-pub mod Orbit
-pub mod Edit

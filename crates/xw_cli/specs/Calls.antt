@@ -1,0 +1,40 @@
+-- The call that the parsed arguments describe.
+use Rattle.std.specs.Prelude.{◌≡◌, ◌⊎◌, Bool, false, bytes_eq, List, Option, Some, None, codes, option_map}
+use Rattle.std.specs.Borrow.{Bor}
+use Rattle.clap.specs.Words.{Row, Text, first_of}
+use Rattle.xw_cli.specs.declared.arguments.SessionFiles.{SessionFiles}
+use Rattle.xw_cli.specs.declared.arguments.Call.{Call}
+use Rattle.xw_cli.specs.declared.arguments.Call.TheVariants.{Edit, Convert, Check}
+
+-- the name is the value of this option
+abbrev pub IsNameOf : Text → List Row → Option (Bor Text) → Type 0
+IsNameOf option rows name = option_map (λ n. n.now) name ≡ first_of option rows
+
+-- Each file is the value of its option. At most one of `--from` and `--resume` is given.
+pub record AreFiles (files : SessionFiles) (rows : List Row) : Type 0 where
+  pub dict : IsNameOf (codes "dict") rows files.dict
+  pub from_file : IsNameOf (codes "from") rows files.from_file
+  pub resume_file : IsNameOf (codes "resume") rows files.resume_file
+  pub to_file : IsNameOf (codes "to") rows files.to_file
+  pub save_file : IsNameOf (codes "save") rows files.save_file
+  pub starts : (files.from_file ≡ None) ⊎ (files.resume_file ≡ None)
+
+-- a flag is set if its value is `true`
+abbrev pub is_set : Option Text → Bool
+is_set None = false
+is_set (Some text) = bytes_eq text (codes "true")
+
+-- `explain` says whether `--explain` is given
+abbrev pub IsExplained : List Row → Bool → Type 0
+IsExplained rows explain = explain ≡ is_set (first_of (codes "explain") rows)
+
+-- the call is the subcommand with these values, and each file is the value of its option
+abbrev pub IsCall : Call → Option (Text × List Row) → Type 0
+IsCall (Edit files explain) found = (rows : List Row) × (found ≡ Some (codes "edit", rows)) × AreFiles files rows × IsExplained rows explain
+IsCall (Convert from_file to_file explain) found = (rows : List Row) × (found ≡ Some (codes "convert", rows))
+    × (Some from_file.now ≡ first_of (codes "from") rows)
+    × (Some to_file.now ≡ first_of (codes "to") rows)
+    × IsExplained rows explain
+IsCall (Check file explain) found = (rows : List Row) × (found ≡ Some (codes "check", rows))
+    × (Some file.now ≡ first_of (codes "file") rows)
+    × IsExplained rows explain

@@ -1,0 +1,360 @@
+//! The command line of the program: its options, and the call that the arguments describe.
+ghost use Rattle.std.specs.Prelude.{◌≡◌, ◌&&◌, is_some, IfOk, IfErr, OnOk, IfSome, None, Ok, map, false, [], codes};
+ghost use Rattle.clap.specs.Values.{kind_of};
+ghost use Rattle.clap.specs.Words.{AddsSubcommand, app_of, fault_of, first_of, found_of, rows_of, rule_of, subcommand_of, subcommand_rows_of};
+ghost use Rattle.clap.specs.declared.builder.command.Command.TheViews.{out-Command as fields_of};
+ghost use Rattle.xw_cli.specs.Calls.{AreFiles, IsCall, is_set};
+ghost use Rattle.xw_cli.specs.Usage.{IsTold, IsNoCall, IsUsageOf};
+ghost use Rattle.xw_cli.specs.Shapes as shapes;
+
+use clap::error::ErrorKind;
+use clap::{Arg, ArgAction, ArgMatches, Command, Error};
+use std::alloc::{AllocError, Global};
+use std::convert::AsStr;
+
+/// The version of the program and of its protocol (`docs/front-ends.md`), as `--version` prints them.
+const VERSION: &str = "0.2.0 (protocol 1)";
+
+/// The example that the help of the program and of `edit` prints.
+const EXAMPLE: &str = "Example:
+  $ xw edit --dict words.txt --to mine.puz
+  size 3 1
+  ok
+  add cat
+  ok
+  words 1 across
+  1
+  CAT
+  ok
+  fill 10
+  filled
+  ok
+  clue 1 across It purrs
+  ok";
+
+/// The files of an `edit` call, each if it is given.
+#[derive(Clone, Copy, Debug, PartialEq, Eq)]
+pub struct SessionFiles<'a> {
+    /// The word list.
+    pub dict: Option<&'a str>,
+    /// The puzzle to start with.
+    pub from_file: Option<&'a str>,
+    /// The commands to start with.
+    pub resume_file: Option<&'a str>,
+    /// The file for the puzzle at the end.
+    pub to_file: Option<&'a str>,
+    /// The file for the record at the end.
+    pub save_file: Option<&'a str>,
+}
+
+/// The message if both a puzzle and commands are given to start with.
+const TWO_STARTS: &str = "xw: --from and --resume cannot be given together\n";
+
+/// What the program has to do. `explain` asks for the place of a fault in the message.
+#[derive(Clone, Copy, Debug, PartialEq, Eq)]
+pub enum Call<'a> {
+    /// Answers commands on standard input.
+    Edit {
+        files: SessionFiles<'a>,
+        explain: bool,
+    },
+    /// Converts a puzzle file into another format.
+    Convert {
+        from_file: &'a str,
+        to_file: &'a str,
+        explain: bool,
+    },
+    /// Reports the format, size and number of lights of a puzzle file.
+    Check {
+        file: &'a str,
+        explain: bool,
+    },
+}
+
+/// Why the arguments are not a call, with the text to print. `Help` means that help or the version was requested.
+#[derive(Debug, Drop)]
+pub enum Usage {
+    Help(String),
+    Wrong(String),
+    Memory,
+}
+
+/// Returns an option that takes a file.
+fn option<'a>(alloc: Global, name: &'a str, help: &'a str) -> Arg<'a>
+    ensures rule { rule_of result ≡ shapes.option name.entry.now }
+    ensures local { result.global ≡ false }
+{
+    Arg::new(alloc, name)
+        .long(name)
+        .value_name("FILE")
+        .help(help)
+}
+
+/// Returns the option `--explain`.
+fn explain<'a>(alloc: Global) -> Arg<'a>
+    ensures rule { rule_of result ≡ shapes.explain }
+    ensures local { result.global ≡ false }
+{
+    Arg::new(alloc, "explain")
+        .long("explain")
+        .help("Tell where a fault of a file is, in one more line")
+        .action(ArgAction::SetTrue)
+}
+
+/// Returns a required operand that is a file.
+fn operand<'a>(alloc: Global, name: &'a str, shown: &'a str, help: &'a str) -> Arg<'a>
+    ensures rule { rule_of result ≡ shapes.operand name.entry.now }
+    ensures local { result.global ≡ false }
+{
+    Arg::new(alloc, name)
+        .value_name(shown)
+        .help(help)
+        .required(true)
+}
+
+/// Returns `edit` with the options `--dict` and `--from`.
+fn opened<'a>(alloc: Global) -> Result<Command<'a>, AllocError>
+    ensures shape { IfOk result (λ command. app_of command ≡ shapes.opened) }
+    ensures local { IfOk result (λ command. (fields_of command).has_globals ≡ false) }
+{
+    Command::new(alloc, "edit")
+        .about("Answer the commands on standard input, a line each")
+        .after_help(EXAMPLE)
+        .arg(option(alloc, "dict", "The word list to start with, a word a line"))?
+        .arg(option(
+            alloc,
+            "from",
+            "The puzzle to start with, .puz or text [default: 15 by 15 cells, all empty]",
+        ))
+}
+
+/// Returns `edit` with all options for the files it reads.
+fn begun<'a>(alloc: Global) -> Result<Command<'a>, AllocError>
+    ensures shape { IfOk result (λ command. app_of command ≡ shapes.begun) }
+    ensures local { IfOk result (λ command. (fields_of command).has_globals ≡ false) }
+{
+    opened(alloc)?.arg(option(
+        alloc,
+        "resume",
+        "Commands to do first, without answers, as --save wrote them",
+    ))
+}
+
+/// Returns `edit` with all options for files.
+fn kept<'a>(alloc: Global) -> Result<Command<'a>, AllocError>
+    ensures shape { IfOk result (λ command. app_of command ≡ shapes.kept) }
+    ensures local { IfOk result (λ command. (fields_of command).has_globals ≡ false) }
+{
+    begun(alloc)?
+        .arg(option(
+            alloc,
+            "to",
+            "Where to write the puzzle at the end, as .puz if it is called so, else as text",
+        ))?
+        .arg(option(
+            alloc,
+            "save",
+            "Where to write the session at the end, as commands for --resume",
+        ))
+}
+
+fn edit<'a>(alloc: Global) -> Result<Command<'a>, AllocError>
+    ensures shape { IfOk result (λ command. app_of command ≡ shapes.edit) }
+    ensures local { IfOk result (λ command. (fields_of command).has_globals ≡ false) }
+{
+    kept(alloc)?.arg(explain(alloc))
+}
+
+/// Returns `convert` with its input operand.
+fn reading<'a>(alloc: Global) -> Result<Command<'a>, AllocError>
+    ensures shape { IfOk result (λ command. app_of command ≡ shapes.reading) }
+    ensures local { IfOk result (λ command. (fields_of command).has_globals ≡ false) }
+{
+    Command::new(alloc, "convert")
+        .about("Read a puzzle file and write it in another format")
+        .arg(operand(alloc, "from", "FROM", "The puzzle to read, .puz or text"))
+}
+
+/// Returns `convert` with both operands.
+fn writing<'a>(alloc: Global) -> Result<Command<'a>, AllocError>
+    ensures shape { IfOk result (λ command. app_of command ≡ shapes.writing) }
+    ensures local { IfOk result (λ command. (fields_of command).has_globals ≡ false) }
+{
+    reading(alloc)?.arg(operand(
+        alloc,
+        "to",
+        "TO",
+        "Where to write it, as .puz if it is called so, else as text",
+    ))
+}
+
+fn convert<'a>(alloc: Global) -> Result<Command<'a>, AllocError>
+    ensures shape { IfOk result (λ command. app_of command ≡ shapes.convert) }
+    ensures local { IfOk result (λ command. (fields_of command).has_globals ≡ false) }
+{
+    writing(alloc)?.arg(explain(alloc))
+}
+
+fn check<'a>(alloc: Global) -> Result<Command<'a>, AllocError>
+    ensures shape { IfOk result (λ command. app_of command ≡ shapes.check) }
+    ensures local { IfOk result (λ command. (fields_of command).has_globals ≡ false) }
+{
+    Command::new(alloc, "check")
+        .about("Read a puzzle file and tell its format, size and number of lights")
+        .arg(operand(alloc, "file", "FILE", "The puzzle to read, .puz or text"))?
+        .arg(explain(alloc))
+}
+
+/// Returns the program without its subcommands.
+fn top<'a>(alloc: Global) -> Command<'a>
+    ensures shape { app_of result ≡ shapes.top }
+    ensures local { (fields_of result).has_globals ≡ false }
+{
+    Command::new(alloc, "xw")
+        .about("A crossword construction engine")
+        .version(VERSION)
+        .after_help(EXAMPLE)
+        .subcommand_required(true)
+}
+
+/// Adds a subcommand to a command, unless building the command failed.
+fn added<'a>(
+    command: Result<Command<'a>, AllocError>,
+    subcommand: Command<'a>,
+) -> Result<Command<'a>, AllocError>
+    ensures { IfOk result (λ with. (without : Command) × (command.entry ≡ Ok without) × AddsSubcommand without subcommand.entry with) }
+{
+    command?.subcommand(subcommand)
+}
+
+/// Returns the program with the subcommand `edit`.
+fn editing<'a>(alloc: Global) -> Result<Command<'a>, AllocError>
+    ensures shape { IfOk result (λ command. app_of command ≡ shapes.editing) }
+    ensures local { IfOk result (λ command. (fields_of command).has_globals ≡ false) }
+{
+    let edit = edit(alloc)?;
+    top(alloc).subcommand(edit)
+}
+
+/// Returns the program with the subcommands `edit` and `convert`.
+fn converting<'a>(alloc: Global) -> Result<Command<'a>, AllocError>
+    ensures shape { IfOk result (λ command. app_of command ≡ shapes.converting) }
+    ensures local { IfOk result (λ command. (fields_of command).has_globals ≡ false) }
+{
+    let convert = convert(alloc)?;
+    added(editing(alloc), convert)
+}
+
+fn command<'a>(alloc: Global) -> Result<Command<'a>, AllocError>
+    ensures shape { IfOk result (λ command. app_of command ≡ shapes.xw) }
+    ensures local { IfOk result (λ command. (fields_of command).has_globals ≡ false) }
+{
+    let check = check(alloc)?;
+    added(converting(alloc), check)
+}
+
+/// Parses the arguments, of which the first is the program's name. Returns `Help` if help or the version is requested,
+/// `Wrong` if the arguments are invalid, and `Memory` if an allocation fails.
+pub fn arguments<'a, S: AsStr>(alloc: Global, words: &'a [S]) -> Result<Call<'a>, Usage>
+    // The call is the subcommand that `clap` finds, and its files are the values that `clap` finds.
+    ensures call { IfOk result (λ call. IsCall call (subcommand_of shapes.xw (map S.text words.entry.now))) }
+    // Parsing succeeds only if `clap` finds no error.
+    ensures parsed { OnOk result (fault_of shapes.xw (map S.text words.entry.now) ≡ []) }
+    ensures usage { IfErr result (IsUsageOf (fault_of shapes.xw (map S.text words.entry.now)) (subcommand_of shapes.xw (map S.text words.entry.now))) }
+{
+    let command = command(alloc)?;
+    let matches = match command.try_get_matches_from(words) {
+        Ok(matches) => matches,
+        Err(error) => return Err(explanation(alloc, &error)),
+    };
+    match call_of(&matches) {
+        Some(call) => Ok(call),
+        // `clap` reports all other errors.
+        None => Err(Usage::Wrong(String::from_str(alloc, TWO_STARTS)?)),
+    }
+}
+
+/// Returns whether a session has two starts: a puzzle and commands.
+fn starts_twice(from_file: Option<&str>, resume_file: Option<&str>) -> bool
+    ensures { result ≡ (is_some from_file.entry && is_some resume_file.entry) }
+{
+    from_file.is_some() && resume_file.is_some()
+}
+
+/// Returns the files of a session, or `None` if both `--from` and `--resume` are given.
+fn session_files<'a>(matches: &ArgMatches<'a>) -> Option<SessionFiles<'a>>
+    ensures files { IfSome result (λ files. AreFiles files (rows_of (found_of matches.now))) }
+    ensures none { result ≡ None → (files : SessionFiles) → AreFiles files (rows_of (found_of matches.now)) → ⊥ }
+{
+    let from_file = matches.get_str("from");
+    let resume_file = matches.get_str("resume");
+    if starts_twice(from_file, resume_file) {
+        return None;
+    }
+    Some(SessionFiles {
+        dict: matches.get_str("dict"),
+        from_file,
+        resume_file,
+        to_file: matches.get_str("to"),
+        save_file: matches.get_str("save"),
+    })
+}
+
+/// Returns whether `--explain` is given.
+fn is_explained(matches: &ArgMatches<'_>) -> bool
+    ensures { result ≡ is_set (first_of (codes "explain") (rows_of (found_of matches.now))) }
+{
+    match matches.get_str("explain") {
+        Some(text) => text == "true",
+        None => false,
+    }
+}
+
+/// Returns the call of the parsed arguments, or `None` if a file is missing or both `--from` and `--resume` are given.
+fn call_of<'a>(matches: &ArgMatches<'a>) -> Option<Call<'a>>
+    ensures call { IfSome result (λ call. IsCall call (subcommand_rows_of matches.now)) }
+    ensures none { result ≡ None → IsNoCall (subcommand_rows_of matches.now) }
+{
+    let (name, files) = matches.subcommand()?;
+    match name {
+        "edit" => Some(Call::Edit {
+            files: session_files(files)?,
+            explain: is_explained(files),
+        }),
+        "convert" => Some(Call::Convert {
+            from_file: files.get_str("from")?,
+            to_file: files.get_str("to")?,
+            explain: is_explained(files),
+        }),
+        "check" => Some(Call::Check {
+            file: files.get_str("file")?,
+            explain: is_explained(files),
+        }),
+        _ => None,
+    }
+}
+
+impl From<AllocError> for Usage {
+    ghost use Rattle.std.specs.Prelude.{◌≡◌};
+    ghost use Rattle.xw_cli.specs.declared.arguments.Usage.TheVariants.{Memory};
+
+    ghost from_gives = { λ _ usage. usage ≡ Memory };
+
+    fn from(_error: AllocError) -> Usage {
+        Usage::Memory
+    }
+}
+
+/// Returns what to print for an error of `clap`.
+fn explanation(alloc: Global, error: &Error) -> Usage
+    ensures { IsTold (kind_of error.now) result }
+{
+    if error.kind() == ErrorKind::OutOfMemory {
+        return Usage::Memory;
+    }
+    match error.to_string(alloc) {
+        Ok(text) if error.use_stderr() => Usage::Wrong(text),
+        Ok(text) => Usage::Help(text),
+        Err(_) => Usage::Memory,
+    }
+}

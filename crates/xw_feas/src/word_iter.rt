@@ -1,0 +1,178 @@
+//! An iterator over the feasible words of a light.
+ghost use Rattle.std.specs.Prelude.{◌≡◌, ◌<◌, Some, length, slice_get, slice_index_or};
+ghost use Rattle.xw_grid.specs.Light.{lights_of, place_named};
+ghost use Rattle.xw_words.specs.Dictionary.{row as known_words, entry_at, most_words};
+ghost use Rattle.xw_feas.specs.Board.{board_of, spelled, light_at};
+ghost use Rattle.xw_feas.specs.Queries.{next_found, words_answer};
+ghost use Rattle.xw_feas.specs.Spelled.{spelling};
+
+use crate::board::{Board, Cells};
+use crate::edit::{Found, Refusal};
+use crate::feasible::Feasible;
+use std::marker::Model;
+use xw_grid::cell::LightName;
+use xw_letters::letter::Letter;
+
+/// The word that the letters of a light's cells spell.
+#[derive(Drop)]
+pub struct Entries<'a> {
+    board: Board<'a>,
+    cells: Cells,
+}
+
+impl<'a> Model for Entries<'a> {
+    ghost use Rattle.std.specs.Prelude.{List, ℕ};
+    ghost use Rattle.xw_feas.specs.Board.{spelled};
+
+    ghost Value = { List ℕ };
+
+    ghost view = { λ entries. spelled entries.board entries.cells };
+}
+
+impl<'a> Entries<'a> {
+    /// The number of letters.
+    pub fn len(&self) -> usize
+        ensures { result ≡ length self.now }
+    {
+        self.cells.len()
+    }
+
+    /// Letter `k`, counted from 0.
+    pub fn letter(&self, k: usize) -> Option<Letter>
+        ensures { result ≡ slice_get self.now k }
+    {
+        if k < self.cells.len() {
+            Some(self.board.letter(self.cells.at(k)))
+        } else {
+            None
+        }
+    }
+}
+
+/// The letters of a feasible word: a known word, or the word entered in a light.
+#[derive(Drop)]
+pub enum Spelled<'a> {
+    Listed(&'a [Letter]),
+    Entered(Entries<'a>),
+}
+
+impl<'a> Spelled<'a> {
+    /// The number of letters.
+    pub fn len(&self) -> usize
+        ensures { result ≡ length (spelling self.now) }
+    {
+        match self {
+            Spelled::Listed(letters) => letters.len(),
+            Spelled::Entered(entries) => entries.len(),
+        }
+    }
+
+    /// Letter `k`, counted from 0.
+    pub fn letter(&self, k: usize) -> Option<Letter>
+        ensures { result ≡ slice_get (spelling self.now) k }
+    {
+        match self {
+            Spelled::Listed(letters) => letters.get(k).copied(),
+            Spelled::Entered(entries) => entries.letter(k),
+        }
+    }
+}
+
+/// The remaining feasible words of a light, in dictionary order.
+#[derive(Drop)]
+pub struct WordIter<'a, E: Feasible> {
+    engine: &'a E,
+    name: LightName,
+    light: usize,
+    from: usize,
+}
+
+impl<'a, E: Feasible> Model for WordIter<'a, E> {
+    ghost use Rattle.std.specs.Prelude.{◌≡◌, List, ℕ, Some};
+    ghost use Rattle.xw_grid.specs.Light.{lights_of, place_named};
+    ghost use Rattle.xw_feas.specs.Board.{board_of};
+    ghost use Rattle.xw_feas.specs.Words.{words_from};
+
+    ghost Value = { List (List ℕ) };
+
+    ghost view = { λ words. words_from (board_of (E.state words.engine.now).grid) (E.state words.engine.now).words (E.answers words.engine.now) words.light words.from };
+
+    ghost invariant = { λ words. place_named (lights_of (E.state words.engine.now).grid) words.name ≡ Some words.light };
+}
+
+/// Iterates over the feasible words of a light. Returns `NoLight` if no light has this name.
+pub fn words<E: Feasible>(engine: &E, name: LightName) -> Result<WordIter<'_, E>, Refusal>
+    ensures { result ≡ words_answer (E.state engine.now) (E.answers engine.now) name }
+{
+    match engine.lights().index(name) {
+        None => Err(Refusal::NoLight),
+        Some(light) => Ok(WordIter {
+            engine,
+            name,
+            light,
+            from: 0,
+        }),
+    }
+}
+
+/// The first feasible word of an existing light whose index is at least `from`.
+fn found_in<E: Feasible>(engine: &E, name: LightName, light: usize, from: usize) -> Option<Found>
+    requires { place_named (lights_of (E.state engine.now).grid) name ≡ Some light }
+    ensures { result ≡ next_found (board_of (E.state engine.now).grid) (E.state engine.now).words (E.answers engine.now) light from }
+{
+    match engine.next_word(name, from) {
+        Ok(found) => found,
+        Err(_) => unreachable!(),
+    }
+}
+
+/// The word that the letters of a light spell.
+fn entries_in<E: Feasible>(engine: &E, light: usize) -> Entries<'_>
+    requires { light < length (board_of (E.state engine.now).grid).lights }
+    ensures { result ≡ spelled (board_of (E.state engine.now).grid) (light_at (board_of (E.state engine.now).grid) light) }
+{
+    let board = Board::new(engine.grid(), engine.lights());
+    let cells = board.light(light);
+    Entries { board, cells }
+}
+
+/// The known word at an index, of the length of a light.
+fn word_in<E: Feasible>(engine: &E, light: usize, place: usize) -> &[Letter]
+    requires light { light < length (board_of (E.state engine.now).grid).lights }
+    requires place { place < length (known_words (E.state engine.now).words (length (light_at (board_of (E.state engine.now).grid) light))) }
+    ensures word { result.now ≡ (entry_at (known_words (E.state engine.now).words (length (light_at (board_of (E.state engine.now).grid) light))) place).word }
+    ensures small { place < most_words }
+{
+    let board = Board::new(engine.grid(), engine.lights());
+    let count = board.light(light).len();
+    let bank = engine.bank();
+    let _ = bank.known(count);
+    bank.word(count, place)
+}
+
+impl<'a, E: Feasible> Iterator for WordIter<'a, E> {
+    ghost use Rattle.std.specs.Iterator.{YieldsFirstBy, item_count};
+    ghost use Rattle.xw_feas.specs.Spelled.{spelling};
+
+    type Item = Spelled<'a>;
+
+    ghost next_gives = { YieldsFirstBy spelling (λ words. words) };
+
+    ghost remaining = { item_count (λ words. words) };
+
+    fn next(&mut self) -> Option<Spelled<'a>> {
+        let engine = self.engine;
+        match found_in(engine, self.name, self.light, self.from) {
+            None => None,
+            Some(Found::Entered) => {
+                self.from = 1;
+                Some(Spelled::Entered(entries_in(engine, self.light)))
+            }
+            Some(Found::Listed(place)) => {
+                let word = word_in(engine, self.light, place);
+                self.from = place + 1;
+                Some(Spelled::Listed(word))
+            }
+        }
+    }
+}

@@ -1,0 +1,175 @@
+-- Which faults a text file has, stated apart from reading, and their order.
+use Rattle.std.specs.Prelude.{◌≡◌, ◌≢◌, ◌⊎◌, ℕ, ◌-◌, ◌<◌, ◌≤◌, true, false, List, [], ◌∷◌, length, take, drop, map, flat_map, Option, Some, None, if◌then◌else◌, slice_get}
+use Rattle.std.specs.List.{prefix_len}
+use Rattle.xw_grid.specs.declared.cell.Direction.{Direction}
+use Rattle.xw_grid.specs.declared.cell.Direction.TheVariants as directions
+use Rattle.xw_grid.specs.Grid.{Grid}
+use Rattle.xw_grid.specs.Edit.{grid_of}
+use Rattle.xw_files.specs.declared.fault.Tag.TheVariants as tags
+use Rattle.xw_files.specs.declared.fault.ReadFault.{ReadFault}
+use Rattle.xw_files.specs.declared.fault.ReadFault.TheVariants as faults
+use Rattle.xw_files.specs.Order.{IsLess}
+use Rattle.xw_files.specs.Text.Lines.{text_lines, first_of}
+use Rattle.xw_files.specs.Text.Tag.{header, name_of, names, is_tag_line}
+use Rattle.xw_files.specs.Text.Starts.{starts}
+use Rattle.xw_files.specs.Text.Shape.{Lines, is_plain, is_bad_square, square_of}
+use Rattle.xw_files.specs.Text.Relation.{IsPlain, IsSizeLine}
+
+-- ---- the parts of a file: the lines from the place of each tag line on, whether or not the tag line is right
+
+-- the lines after the first one
+abbrev pub below : Lines → Lines
+below [] = []
+below (line ∷ lines) = lines
+
+-- the lines without the first one, if that is no tag line
+abbrev pub past_line : Lines → Lines
+past_line [] = []
+past_line (line ∷ lines) = if is_tag_line line then line ∷ lines else lines
+
+-- the number of lines up to the next tag line, or up to the end
+abbrev pub count_plain : Lines → ℕ
+count_plain lines = prefix_len is_plain lines
+
+-- the lines from the next tag line on
+abbrev pub past_lines : Lines → Lines
+past_lines lines = drop (count_plain lines) lines
+
+abbrev pub from_title : Lines → Lines
+from_title lines = below lines
+
+-- at most one line stands under <TITLE>, <AUTHOR>, <COPYRIGHT> and <SIZE>
+abbrev pub from_author : Lines → Lines
+from_author lines = past_line (below (from_title lines))
+
+abbrev pub from_copyright : Lines → Lines
+from_copyright lines = past_line (below (from_author lines))
+
+abbrev pub from_size : Lines → Lines
+from_size lines = past_line (below (from_copyright lines))
+
+abbrev pub from_grid : Lines → Lines
+from_grid lines = past_line (below (from_size lines))
+
+-- one line for each row stands under <GRID>
+abbrev pub from_across : ℕ → Lines → Lines
+from_across height lines = drop height (below (from_grid lines))
+
+-- the clues stand under <ACROSS> and <DOWN>, up to the next tag line
+abbrev pub from_down : ℕ → Lines → Lines
+from_down height lines = past_lines (below (from_across height lines))
+
+abbrev pub from_notes : ℕ → Lines → Lines
+from_notes height lines = past_lines (below (from_down height lines))
+
+-- ---- what can be wrong in a part
+
+-- the first line is not the one of that name, or there is no line
+abbrev pub Lacks : List ℕ → Lines → Type 0
+Lacks name [] = Unit {0}
+Lacks name (line ∷ lines) = names line name ≡ false
+
+-- there is a first line, and it is not the one of that name
+abbrev pub HasOther : List ℕ → Lines → Type 0
+HasOther name [] = ⊥
+HasOther name (line ∷ lines) = names line name ≡ false
+
+-- the first line is a size line
+pub record HasSize (lines : Lines) (width height : ℕ) : Type 0 where
+  pub line : List ℕ
+  pub first : first_of lines ≡ Some line
+  pub plain : IsPlain line
+  pub size : IsSizeLine width height line
+
+-- the line of a row is missing, is a tag line or has another width
+abbrev pub IsNoRow : ℕ → Option (List ℕ) → Type 0
+IsNoRow width None = Unit {0}
+IsNoRow width (Some line) = (is_tag_line line ≡ true) ⊎ (length line ≢ width)
+
+-- the byte in this column, from 1, stands for no square
+abbrev pub HasBadByte : ℕ → Option (List ℕ) → Type 0
+HasBadByte col None = ⊥
+HasBadByte col (Some line) = (byte : ℕ) × (1 ≤ col) × (slice_get line (col - 1) ≡ Some byte) × (is_bad_square byte ≡ true)
+
+-- the size line is there, and P holds of its width and height
+abbrev pub WithSize : Lines → (ℕ → ℕ → Type 0) → Type 0
+WithSize lines P = (width : ℕ) × (height : ℕ) × HasSize (below (from_size lines)) width height × P width height
+
+-- the size line is there, this row is one of the grid, and P holds of the width and of the row's line; row 1 is the line after <GRID>
+abbrev pub WithRow : Lines → ℕ → (ℕ → Option (List ℕ) → Type 0) → Type 0
+WithRow lines row P = WithSize lines (λ width height. (1 ≤ row) × (row ≤ height) × P width (slice_get (from_grid lines) row))
+
+-- the grid that the rows spell
+abbrev pub grid_in : ℕ → ℕ → Lines → Grid
+grid_in width height lines = grid_of width height (flat_map (map square_of) (take height (below (from_grid lines))))
+
+-- the lines up to the next tag line are more or fewer than the lights of a direction
+abbrev pub CountsApart : Direction → Grid → Lines → Type 0
+CountsApart direction grid lines = count_plain lines ≢ length (starts grid direction)
+
+-- ---- faults
+
+-- Each fault is stated by itself: it may hold although the lines above it are wrong too. The order below says which one is the first.
+
+-- the lines have a fault, whichever others they have
+abbrev pub LinesHave : Lines → ReadFault → Type 0
+LinesHave lines faults.Header = Lacks header lines
+LinesHave lines (faults.Tag tags.Title) = Lacks (name_of tags.Title) (from_title lines)
+LinesHave lines (faults.Tag tags.Author) = Lacks (name_of tags.Author) (from_author lines)
+LinesHave lines (faults.Tag tags.Copyright) = Lacks (name_of tags.Copyright) (from_copyright lines)
+LinesHave lines (faults.Tag tags.Size) = Lacks (name_of tags.Size) (from_size lines)
+LinesHave lines faults.SizeLine = (width height : ℕ) → HasSize (below (from_size lines)) width height → ⊥
+LinesHave lines (faults.Tag tags.Grid) = Lacks (name_of tags.Grid) (from_grid lines)
+LinesHave lines (faults.GridLine row) = WithRow lines row IsNoRow
+LinesHave lines (faults.BadCell cell) = WithRow lines cell.row (λ width line. HasBadByte cell.col line)
+LinesHave lines (faults.Tag tags.Across) = WithSize lines (λ width height. Lacks (name_of tags.Across) (from_across height lines))
+LinesHave lines faults.AcrossCount = WithSize lines (λ width height. CountsApart directions.Across (grid_in width height lines) (below (from_across height lines)))
+LinesHave lines (faults.Tag tags.Down) = WithSize lines (λ width height. Lacks (name_of tags.Down) (from_down height lines))
+LinesHave lines faults.DownCount = WithSize lines (λ width height. CountsApart directions.Down (grid_in width height lines) (below (from_down height lines)))
+LinesHave lines (faults.Tag tags.Notepad) = WithSize lines (λ width height. HasOther (name_of tags.Notepad) (from_notes height lines))
+LinesHave lines fault = ⊥
+
+-- a text file has a fault, whichever others it has
+abbrev pub HasFault : List ℕ → ReadFault → Type 0
+HasFault bytes (faults.NulByte offset) = slice_get bytes offset ≡ Some 0
+HasFault bytes fault = LinesHave (text_lines bytes) fault
+
+-- ---- their order
+
+-- the tests in their order: NULs, then the parts of the file from the top
+abbrev pub place_of : ReadFault → ℕ
+place_of (faults.NulByte offset) = 0
+place_of faults.Header = 1
+place_of (faults.Tag tags.Title) = 2
+place_of (faults.Tag tags.Author) = 3
+place_of (faults.Tag tags.Copyright) = 4
+place_of (faults.Tag tags.Size) = 5
+place_of faults.SizeLine = 6
+place_of (faults.Tag tags.Grid) = 7
+place_of (faults.GridLine row) = 8
+place_of (faults.BadCell cell) = 8
+place_of (faults.Tag tags.Across) = 9
+place_of faults.AcrossCount = 10
+place_of (faults.Tag tags.Down) = 11
+place_of faults.DownCount = 12
+place_of (faults.Tag tags.Notepad) = 13
+place_of fault = 14
+
+-- among NULs the offset; in the grid the row, and 0 for its line or the column of a cell
+abbrev pub within_place : ReadFault → ℕ × ℕ
+within_place (faults.NulByte offset) = (offset, 0)
+within_place (faults.GridLine row) = (row, 0)
+within_place (faults.BadCell cell) = (cell.row, cell.col)
+within_place fault = (0, 0)
+
+-- one fault is tested before another
+abbrev pub ComesBefore : ReadFault → ReadFault → Type 0
+ComesBefore one other = (place_of one < place_of other) ⊎ ((place_of one ≡ place_of other) × IsLess (within_place one) (within_place other))
+
+-- a text file has the fault, and none that comes before it
+abbrev pub IsFirstFault : List ℕ → ReadFault → Type 0
+IsFirstFault bytes fault = HasFault bytes fault × ((earlier : ReadFault) → ComesBefore earlier fault → HasFault bytes earlier → ⊥)
+
+-- a text file has at most one first fault
+abbrev pub HasOneFirstFault : Type 0
+HasOneFirstFault = (bytes : List ℕ) (one other : ReadFault) → IsFirstFault bytes one → IsFirstFault bytes other → one ≡ other

@@ -1,0 +1,13 @@
+use Rattle.std.proofs.Common.{◌∙◌, ap, sym, subst, rules}
+use Rattle.std.specs.Prelude.{nat_eq}
+use Rattle.std.specs.List.{list_any}
+use Rattle.xw_grid.specs.Orbit.{IsLeastFrom, nearer}
+use Rattle.xw_grid.proofs.OrbitCellLemmas.{least_of_list}
+use Rattle.xw_grid.proofs.orbit.least_from.Goals as goal
+
+pub returns : goal.returns
+returns c =
+    let from = c.args.from in
+    let places = c.args.squares.now in
+    let chain = c.nearer-3.ensures ∙ ap (nearer from _) (c.nearer-2.ensures ∙ ap (nearer from _) (c.nearer.ensures ∙ ap (nearer from _) c.nearer-last.ensures)) in
+    subst (IsLeastFrom from (λ place. list_any (nat_eq place) places)) (sym chain) (least_of_list from places (search rules))

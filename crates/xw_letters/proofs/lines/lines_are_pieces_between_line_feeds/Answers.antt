@@ -1,5 +1,0 @@
-use Rattle.xw_letters.proofs.LineLemmas.{lines_of-with_lfs}
-use Rattle.xw_letters.proofs.lines.lines_are_pieces_between_line_feeds.Goals as goal
-
-pub returns : goal.returns
-returns c = lines_of-with_lfs

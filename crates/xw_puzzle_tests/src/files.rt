@@ -1,5 +1,0 @@
-//! Worked examples of files.
-mod cases;
-mod puz;
-mod puzzles;
-mod text;

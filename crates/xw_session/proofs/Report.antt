@@ -1,0 +1,83 @@
+-- The answers of an engine for each cell and each light.
+use Rattle.std.proofs.Common.{◌≡◌, ℕ, ◌<◌, Bool, true, false, not, List, length, get_or, ap, sym, ◌∙◌, refl}
+use Rattle.std.specs.Prelude.{Option, Some, None, Ok, Err, slice_get, if◌then◌else◌}
+use Rattle.std.proofs.lemmas.Option.{get_or_from_slice_get}
+use Rattle.xw_letters.specs.LetterSet.{letters_in}
+use Rattle.xw_grid.specs.declared.cell.Cell.{Cell}
+use Rattle.xw_grid.specs.declared.cell.Square.{Square}
+use Rattle.xw_grid.specs.declared.cell.Square.TheVariants.{Block, Open}
+use Rattle.xw_grid.specs.declared.lights.Light.{Light}
+use Rattle.xw_grid.specs.declared.fault.GridFault.TheVariants as grids
+use Rattle.xw_grid.specs.Grid.{Grid, is_inside, is_block, is_open, index_of, square_at, is_open_square, is_block_square}
+use Rattle.xw_grid.specs.Light.{lights_of, no_light}
+use Rattle.xw_grid.proofs.LightLemmas.{inside_from_open}
+use Rattle.xw_feas.specs.declared.edit.Refusal.{Refusal as EditRefusal}
+use Rattle.xw_feas.specs.declared.edit.Refusal.TheVariants as edits
+use Rattle.xw_feas.specs.State.{State as Position}
+use Rattle.xw_feas.specs.Feasible.{Answers}
+use Rattle.xw_feas.specs.Changes.{letters_of}
+use Rattle.xw_feas.specs.Queries.{cell_judged, count_answer, on_light, words_of}
+use Rattle.xw_feas.proofs.LightsLemmas.{found_by_name}
+use Rattle.xw_fill.specs.Position.{position_of}
+use Rattle.xw_fill.specs.FeasibleWords.{feasible_words}
+use Rattle.xw_fill.proofs.FeasibleWordsLemmas.{answered_words}
+use Rattle.xw_fill.proofs.FeasibleLettersLemmas.{answered_letters}
+use Rattle.xw_session.specs.Told.{letters_told, count_line, numbered_line}
+use Rattle.xw_session.specs.Text.{change_line}
+use Rattle.xw_session.proofs.Engine.{Knows}
+
+-- ---- lights
+
+count_is : (position : Position) (answers : Answers) (place : ℕ) → Knows position answers → place < length (lights_of position.grid)
+    → count_answer position answers (get_or (lights_of position.grid) place no_light).name ≡ Ok (length (feasible_words (position_of position) place))
+count_is position answers place exact within =
+    ap (on_light (λ light. length (words_of answers light))) (found_by_name position.grid place no_light within)
+    ∙ ap (λ words. Ok (length words)) (answered_words (position_of position) answers exact place)
+
+-- the line of a light with its count of words is the specified one
+pub counted_line : (position : Position) (answers : Answers) (place : ℕ) (light : Light) (count : ℕ) → Knows position answers → place < length (lights_of position.grid)
+    → slice_get (lights_of position.grid) place ≡ Some light → Ok count ≡ count_answer position answers light.name → numbered_line light.name count ≡ count_line position place
+counted_line position answers place light count exact within there is =
+    let found : get_or (lights_of position.grid) place no_light ≡ light = get_or_from_slice_get (lights_of position.grid) place light no_light there in
+    let counts : Ok count ≡ Ok (length (feasible_words (position_of position) place)) = is ∙ ap (λ (l : Light). count_answer position answers l.name) (sym found) ∙ count_is position answers place exact within in
+    let same : count ≡ length (feasible_words (position_of position) place) = cc in
+    ap (λ (l : Light). numbered_line l.name count) (sym found) ∙ ap (numbered_line (get_or (lights_of position.grid) place no_light).name) same
+
+-- every light has a count
+pub never_uncounted : (position : Position) (answers : Answers) (place : ℕ) (light : Light) (refusal : EditRefusal) → Knows position answers → place < length (lights_of position.grid)
+    → slice_get (lights_of position.grid) place ≡ Some light → Err refusal ≡ count_answer position answers light.name → ⊥
+never_uncounted position answers place light refusal exact within there is =
+    let found : get_or (lights_of position.grid) place no_light ≡ light = get_or_from_slice_get (lights_of position.grid) place light no_light there in
+    let counts : Err refusal ≡ Ok (length (feasible_words (position_of position) place)) = is ∙ ap (λ (l : Light). count_answer position answers l.name) (sym found) ∙ count_is position answers place exact within in
+    cc
+
+-- ---- cells
+
+not_block : (square : Option Square) → is_open_square square ≡ true → is_block_square square ≡ false
+not_block None e = cc
+not_block (Some Block) e = cc
+not_block (Some (Open entered)) e = refl
+
+-- every open cell has letters
+judged_open : (grid : Grid) (cell : Cell) (letters : List ℕ) → is_open grid cell ≡ true → cell_judged grid cell letters ≡ Ok letters
+judged_open grid cell letters opened = judged (is_inside grid cell) (is_block grid cell) (inside_from_open grid cell opened) (not_block (square_at grid cell) opened) where
+  judged : (is_in blocks : Bool) → is_in ≡ true → blocks ≡ false → (if not is_in then Err (edits.Grid grids.OutOfGrid) else if blocks then Err (edits.Grid grids.OnBlock) else Ok letters) ≡ Ok letters
+  judged true false a b = refl
+  judged true true a b = cc
+  judged false blocks a b = cc
+
+pub told_letters : (position : Position) (answers : Answers) (cell : Cell) (set : ℕ) → Knows position answers → is_open position.grid cell ≡ true
+    → cell_judged position.grid cell (letters_of answers (index_of position.grid cell)) ≡ Ok (letters_in set)
+    → change_line (cell, letters_in set) ≡ letters_told position cell
+told_letters position answers cell set exact opened is =
+    let good = letters_of answers (index_of position.grid cell) in
+    let found : Ok good ≡ Ok (letters_in set) = sym (judged_open position.grid cell good opened) ∙ is in
+    let same : letters_in set ≡ good = cc in
+    rw opened (ap (λ letters. change_line (cell, letters)) (same ∙ answered_letters (position_of position) answers exact (index_of position.grid cell)))
+
+pub never_untold : (position : Position) (answers : Answers) (cell : Cell) (refusal : EditRefusal) → is_open position.grid cell ≡ true
+    → cell_judged position.grid cell (letters_of answers (index_of position.grid cell)) ≡ Err refusal → ⊥
+never_untold position answers cell refusal opened is =
+    let good = letters_of answers (index_of position.grid cell) in
+    let found : Ok good ≡ Err refusal = sym (judged_open position.grid cell good opened) ∙ is in
+    cc

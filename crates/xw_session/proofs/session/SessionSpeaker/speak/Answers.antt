@@ -1,8 +1,0 @@
-use Rattle.std.proofs.lemmas.Result.{err_from_is_err_and}
-use Rattle.xw_session.proofs.Answering.{long_piece_broke_off}
-use Rattle.xw_session.proofs.session.SessionSpeaker.speak.Goals as goal
-
-pub returns-in_err-write_refused-in-None-clause-err : goal.returns-in_err-write_refused-in-None-clause-err
-returns-in_err-write_refused-in-None-clause-err g c =
-    let e = err_from_is_err_and c.from_residual-in_err-write_refused-in-None.result c.from_residual-in_err-write_refused-in-None.ensures.1 in
-    rw (e.1, c.in-None.is) (long_piece_broke_off c.args.self.now (g.W.Sink.told c.args.sink.now) (g.W.Sink.told c.write_refused.new.sink) c.in_err-write_refused-in-None.ensures.0)

@@ -1,0 +1,52 @@
+//! A `Sink` that collects its bytes in memory.
+ghost use Rattle.std.specs.Prelude.{◌≡◌, []};
+
+use std::alloc::Global;
+use xw_lines::{DeviceFault, Sink};
+
+/// All bytes written so far. A write fails if an allocation fails; a flush always fails, because there is nowhere to
+/// flush to.
+#[derive(Drop)]
+pub struct VecSink {
+    bytes: Vec<u8>,
+    failures: u64,
+}
+
+impl VecSink {
+    pub fn new(alloc: Global) -> VecSink
+        ensures bytes { result.bytes.items ≡ [] }
+        ensures failures { result.failures ≡ 0 }
+    {
+        VecSink {
+            bytes: Vec::new(alloc),
+            failures: 0,
+        }
+    }
+
+    pub fn into_bytes(self) -> Vec<u8>
+        ensures { result.items ≡ self.bytes.items }
+    {
+        self.bytes
+    }
+}
+
+impl Sink for VecSink {
+    ghost transcript = { λ sink. sink.bytes.items };
+
+    ghost failures = { λ sink. sink.failures };
+
+    fn write(&mut self, bytes: &[u8]) -> Result<usize, DeviceFault> {
+        match self.bytes.extend_from_slice(bytes) {
+            Ok(()) => Ok(bytes.len()),
+            Err(_) => {
+                self.failures = self.failures.saturating_add(1);
+                Err(DeviceFault)
+            }
+        }
+    }
+
+    fn flush(&mut self) -> Result<(), DeviceFault> {
+        self.failures = self.failures.saturating_add(1);
+        Err(DeviceFault)
+    }
+}

@@ -1,0 +1,5 @@
+//! Tests of puzzle files.
+mod cases;
+mod puz;
+mod puzzles;
+mod text;

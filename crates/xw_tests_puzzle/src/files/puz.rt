@@ -1,0 +1,4 @@
+//! Tests of the `.puz` format.
+mod files;
+mod reading;
+mod writing;

@@ -1,0 +1,3 @@
+pub mod Position
+pub mod LineLemmas
+pub mod FirstLineLemmas

@@ -1,0 +1,4 @@
+//! What the lines of a text are.
+#![tactic(auto)]
+
+pub mod lines;

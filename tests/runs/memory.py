@@ -1,0 +1,256 @@
+"""Every allocation of the program refused in turn: in each command, each option, and each file that is read or written."""
+import pathlib
+import re
+
+from refusing import STATE, each_call, each_line, without_memory
+from samples import CIRCLED, CORNERS_MARKED, PLAIN, TEXT, WITH_NOTES, WRONG_SUM
+from steps import write
+
+MANUAL = pathlib.Path(__file__).resolve().parents[2] / "docs/commands.md"
+
+
+def lines(text):
+    return text.encode().strip().split(b"\n")
+
+
+LONG = "It is told at length; " * 90
+
+# Each command of the manual: accepted, refused for each reason, and taking away what it set. A line with '!' takes no memory.
+COMMANDS = """size 5 5
+sym half
+watch on
+add ON
+add VERSE
+add SEVEN
+strike ON
+!add ON
+add on
+add 4
+add A
+strike DOG
+match .....
+match 4
+block 1 1
+block 9 9
+bar 2 2 right
+bar 1 5 right
+clue 1 across A clue
+clue 1 across
+clue 1 across Another
+clue 99 down Nothing
+title A title
+author An author
+copyright (c)
+notes Some notes
+title
+more notes \\nand more
+text clue 1 2 down Told
+text notes \\x
+text clue 9 9 down Nowhere
+text clue 1 2 down
+more clue 3 3 across New
+more title \\sgoes on
+text author \\\\
+text copyright Changed
+circle 2 1
+circle 2 3
+circle 1 1
+!circle 2 1
+circles
+texts
+block 1 1
+place 1 across VERSE
+place 1 across X
+block 1 1
+set 2 1 X
+set 2 1 XX
+clear 2 1
+clear 6 1
+words 1 across
+words 2 down 1
+words 99 down
+letters 2 2
+show
+lights
+stats
+cells
+counts
+dups
+unlisted
+suggest
+fill 100
+fill 0
+strike SEVEN
+record
+watch off
+bar 3 3 below
+sym leftright
+sym updown
+sym none
+sym quarter
+block 3 3
+size 4 4
+size 256 1
+nonsense
+
+# a note
+size 2 7
+size 1 1
+suggest
+fill 1"""
+
+# The square of AS, AT, SO, TO and IN, with each answer of `suggest` and of `fill`.
+SQUARE = ["size 2 2", "add AS", "add AT", "add SO", "add TO", "add IN"]
+FILLS = [*SQUARE, "watch on", "fill 3", "suggest", "fill 4", "suggest", "clear 1 1", "set 1 1 X", "suggest", "fill 9", "clear 1 1", "strike SO", "fill 100", "dups"]
+
+# One word more than a chunk of 64 holds, on lights of that length.
+CHUNK = ["size 3 2", *(f"add A{chr(65 + number // 26)}{chr(65 + number % 26)}" for number in range(65))]
+CHUNK += ["watch on", "add BAA", "strike AAA", "!add AAA", "size 7 1", "block 1 4", "block 1 4"]
+
+# More lights that repeat a word, and more that are not listed, than a list has room for at first.
+REPEATS = ["size 2 10", "add AA", *(f"place {number} across AA" for number in [1, *range(3, 11)]), "dups", "strike AA", "unlisted", "fill 3"]
+
+# Texts that grow, a line that is too long, and more circles than a set has room for at first.
+TEXTS = ["size 3 3", *(f"title {LONG}", f"more title {LONG}") * 2, f"clue 1 across {LONG}", f"more clue 1 1 across {LONG}", f"notes {LONG * 3}"]
+TEXTS += [f"circle {row} {col}" for row in (1, 2, 3) for col in (1, 2, 3)] + ["!circle 1 1"]
+
+# As many words of one length as a block of the index holds, and some of other lengths.
+MANY = "".join(f"{chr(65 + n // 676)}{chr(65 + n // 26 % 26)}{chr(65 + n % 26)}\n" for n in range(512)) + "as\nabode\neased\n"
+
+# Each line of these sessions is refused memory.
+SESSIONS = {
+    "commands": ("edit", lines(COMMANDS)),
+    "fills": ("edit", lines("\n".join(FILLS))),
+    "many_words": ("edit", lines("\n".join(CHUNK))),
+    "repeats": ("edit", lines("\n".join(REPEATS))),
+    "texts": ("edit", lines("\n".join(TEXTS))),
+    "a_list": ("edit --dict few", lines("size 5 3\nadd ABIDE\nblock 2 2\nfill 9\nsize 2 2\nfill 9")),
+    "a_full_block": ("edit --dict many", lines("size 3 1\nadd ZZZ\nadd ZZY\nadd ABIDE")),
+    "a_puzzle": ("edit --from puzzle", lines("block 3 3\nset 3 3 Z\nclue 1 across New\ncircle 3 3\n!circle 1 2\ntitle New\nsize 2 2")),
+}
+
+# A session to resume, with each kind of line.
+BEGUN = b"""# a note
+add CAT
+add COT
+strike COT
+size 3 3
+sym half
+bar 1 1 right
+block 1 3
+set 2 2 A
+title Mine
+more title , and more
+circle 1 2
+text clue 1 1 down Told
+
+watch on
+"""
+
+OLD = b"old\n"
+FILES = {
+    "few": b"as\nat\nSO;50\n\nto\nin\nabode\neased\nas\n",
+    "many": MANY.encode(),
+    "circled": CIRCLED,
+    "puzzle": CORNERS_MARKED,
+    "plain": PLAIN,
+    "noted": WITH_NOTES,
+    "wrong": WRONG_SUM,
+    "cut": PLAIN[:66],
+    "text": TEXT,
+    "misshapen": TEXT.replace(b"\td\n", b""),
+    "misspelt": TEXT.replace(b"SO", b"S?"),
+    "mine.xw": BEGUN,
+    "refused.xw": b"add CAT\nadd CAT\ntitle Mine\n",
+    "broken.xw": b"add CAT\nfrob\ntitle Mine\n",
+}
+
+NEW_PUZ, NEW_TEXT, NEW_XW = {"new.puz": OLD}, {"new.txt": None}, {"new.xw": OLD}
+
+# Each allocation of these calls is refused: the words of the call, the lines that are typed, and the files that it may write.
+CALLS = {
+    "starting": ("edit --dict few", [b"add IT", *STATE], {}),
+    "starting_over_many_words": ("edit --dict many", [b"add ZZZ"], {}),
+    "reading_puz": ("edit --from puzzle", STATE, {}),
+    "reading_text": ("edit --from text", STATE, {}),
+    "writing_puz": ("edit --from text --to new.puz", [b"circle 1 1"], NEW_PUZ),
+    "writing_text": ("edit --from noted --to new.txt", [b"title New"], NEW_TEXT),
+    "saving": ("edit --resume mine.xw --save new.xw", [b"title New"], NEW_XW),
+    "saving_both": ("edit --from text --save new.xw --to new.puz", [b"title New"], {"new.xw": None, "new.puz": None}),
+    "saving_and_not_writing": ("edit --explain --save new.xw --to new.puz", [b"size 2 2", b"bar 1 1 right"], {**NEW_XW, **NEW_PUZ}),
+    "resuming": ("edit --dict few --resume mine.xw", STATE, {}),
+    "resuming_a_refused_line": ("edit --resume refused.xw", [b"record"], {}),
+    "resuming_a_line_that_is_no_command": ("edit --resume broken.xw --save new.xw", [b"record"], NEW_XW),
+    "puz_to_puz": ("convert noted new.puz", [], NEW_PUZ),
+    "puz_to_text": ("convert noted new.txt", [], NEW_TEXT),
+    "text_to_puz": ("convert text new.puz", [], NEW_PUZ),
+    "text_to_text": ("convert text new.txt", [], NEW_TEXT),
+    "a_fault_of_writing": ("convert --explain circled new.txt", [], NEW_TEXT),
+    "a_field_that_is_not_written": ("edit --explain --from plain --to new.txt", [b"clue 2 down"], NEW_TEXT),
+    "a_sum_that_is_wrong": ("check --explain wrong", [], {}),
+    "a_text_without_end": ("check --explain cut", [], {}),
+    "a_line_that_is_missing": ("check --explain misshapen", [], {}),
+    "a_cell_that_is_wrong": ("check --explain misspelt", [], {}),
+    "a_fault_without_its_place": ("check wrong", [], {}),
+    "a_list_that_is_not_there": ("edit --dict gone", [], {}),
+    "a_puzzle_that_is_not_there": ("edit --from gone", [], {}),
+    "a_session_that_is_not_there": ("edit --resume gone --save new.xw", [], NEW_XW),
+    "a_puzzle_for_no_folder": ("convert plain no/such/folder.puz", [], {}),
+    "a_session_for_no_folder": ("edit --save no/such/folder.xw", [b"title New"], {}),
+    "checking_puz": ("check plain", [], {}),
+    "checking_text": ("check text", [], {}),
+    "help": ("--help", [], {}),
+    "help_by_a_letter": ("-h", [], {}),
+    "help_by_a_word": ("help", [], {}),
+    "help_on_edit": ("edit --help", [], {}),
+    "help_on_convert": ("convert --help", [], {}),
+    "help_on_check": ("check --help", [], {}),
+    "version": ("--version", [], {}),
+    "no_options": ("edit", [], {}),
+    "no_words": ("", [], {}),
+    "no_subcommand": ("frob", [], {}),
+    "no_option": ("edit --frob", [], {}),
+    "an_extra_word": ("edit words.txt", [], {}),
+    "a_missing_word": ("convert plain", [], {}),
+    "a_missing_value": ("edit --dict", [], {}),
+    "an_option_twice": ("edit --to a --to b", [], {}),
+    "two_starts": ("edit --from plain --resume mine.xw", [], {}),
+    "one_file_to_write": ("edit --to new --save new", [], {}),
+    "the_list_to_write": ("edit --dict few --to few", [], {}),
+}
+
+
+def has_each_of_the_manual(room, program):
+    """Each command and each option of the manual is in a session or in a call above."""
+    manual = MANUAL.read_text()
+    headings = re.findall(r"^### ([a-z].*)$", manual, re.M)
+    commands = {part.split()[0] for heading in headings for part in heading.split(", ")}
+    options = set(re.findall(r"--[a-z]+", manual.split("\n\n")[1])) | {"--help"}
+    typed = {line.split()[0].decode() for _, typed in SESSIONS.values() for line in typed if line.split()}
+    called = {word for words, _, _ in CALLS.values() for word in words.split()}
+    missing = (commands - typed) | (options - called)
+    assert len(commands) > 30 and len(options) > 6 and not missing, f"no case has {missing}"
+
+
+# Letters, placements, strikes and words that return take no memory, nor does a question.
+WITHOUT_MEMORY = {
+    b"set 1 1 X": b"ok\n",
+    b"clear 1 1": b"ok\n",
+    b"strike SO": b"ok\n",
+    b"add SO": b"ok\n",
+    b"sym half": b"ok\n",
+    b"place 1 across AT": b"ok\n",
+    b"words 1 across": b"1\nAT\nok\n",
+    b"suggest": b"try 2 down TO\nok\n",
+}
+IN_THE_SQUARE = [b"!" + line for line in WITHOUT_MEMORY] + [b"add OX", b"clear 1 1", b"clear 1 2", b"block 1 1"]
+
+PLACED = [write(name, data) for name, data in FILES.items()]
+
+CASES = {
+    "each_of_the_manual": [has_each_of_the_manual],
+    "square_without_memory": [without_memory(lines("\n".join(SQUARE)), list(WITHOUT_MEMORY), b"".join(WITHOUT_MEMORY.values()))],
+    "square_refused_line_by_line": [each_line("edit", lines("\n".join(SQUARE)) + IN_THE_SQUARE)],
+    **{f"refused_in_{name}": [*PLACED, each_line(words, typed)] for name, (words, typed) in SESSIONS.items()},
+    **{f"refused_in_{name}": [*PLACED, each_call(words, typed, files)] for name, (words, typed, files) in CALLS.items()},
+}
