@@ -5,3 +5,4 @@ pub mod Status
 pub mod Names
 pub mod Places
 pub mod Explained
+pub mod Files

@@ -1,5 +1,6 @@
 //! Failures that end a run, and exit statuses.
 ghost use Rattle.std.specs.Prelude.{◌≡◌};
+ghost use Rattle.std.specs.Process.{exit_status};
 ghost use Rattle.xw_cli.specs.Status.{code_of, status_of, run_ended};
 
 use crate::place::Place;
@@ -36,7 +37,9 @@ impl Status {
         }
     }
 
-    pub fn exit_code(self) -> ExitCode {
+    pub fn exit_code(self) -> ExitCode
+        ensures { exit_status result ≡ code_of self }
+    {
         ExitCode::from(self.code())
     }
 }
@@ -101,6 +104,11 @@ impl Failure {
 }
 
 impl From<AllocError> for Failure {
+    ghost use Rattle.std.specs.Prelude.{◌≡◌};
+    ghost use Rattle.xw_cli.specs.declared.failure.Failure.TheVariants.{Memory};
+
+    ghost from_gives = { λ _ failure. failure ≡ Memory };
+
     fn from(_error: AllocError) -> Failure {
         Failure::Memory
     }

@@ -1,4 +1,8 @@
 //! Reads and writes the files of a call.
+ghost use Rattle.std.specs.Prelude.{◌≡◌, ◌⊎◌, IfErr};
+ghost use Rattle.xw_cli.specs.declared.failure.Failure.TheVariants.{Memory};
+ghost use Rattle.xw_cli.specs.Files.{IsCannotRead, IsCannotWrite, IsFileFault, IsLineFault};
+
 use crate::arguments::SessionFiles;
 use crate::explaining::tell_rebus;
 use crate::failure::Failure;
@@ -14,7 +18,9 @@ use xw_files::{Kind, Puzzle, has_rebus, kind_of, read_puz, read_text, write_puz,
 use xw_lines::Sink;
 
 /// Returns the bytes of a file. Returns `Memory` if an allocation fails, and `CannotRead` for any other error.
-pub fn read_file<R: Files + AllocGlobal>(rt: &R, file: &str) -> Result<Vec<u8>, Failure> {
+pub fn read_file<R: Files + AllocGlobal>(rt: &R, file: &str) -> Result<Vec<u8>, Failure>
+    ensures err { IfErr result (λ failure. (failure ≡ Memory) ⊎ IsCannotRead file.now failure) }
+{
     match fs::read(rt, file) {
         Ok(bytes) => Ok(bytes),
         Err(error) => {
@@ -77,7 +83,9 @@ fn warn_of_rebus<E: Sink>(
 }
 
 /// Returns the failure for a fault of a file, with the place if there is one.
-pub fn file_fault(alloc: Global, file: &str, name: &'static str, place: Option<Place>) -> Failure {
+pub fn file_fault(alloc: Global, file: &str, name: &'static str, place: Option<Place>) -> Failure
+    ensures { (result ≡ Memory) ⊎ IsFileFault file.now name.now place result }
+{
     match (String::from_str(alloc, file), place) {
         (Ok(file), Some(place)) => Failure::Placed { file, name, place },
         (Ok(file), None) => Failure::File { file, name },
@@ -86,7 +94,9 @@ pub fn file_fault(alloc: Global, file: &str, name: &'static str, place: Option<P
 }
 
 /// The failure for a line of a file.
-pub fn line_fault(alloc: Global, file: &str, number: usize, name: &'static str) -> Failure {
+pub fn line_fault(alloc: Global, file: &str, number: usize, name: &'static str) -> Failure
+    ensures { (result ≡ Memory) ⊎ IsLineFault file.now number name.now result }
+{
     match String::from_str(alloc, file) {
         Ok(file) => Failure::Line { file, number, name },
         Err(_) => Failure::Memory,
@@ -122,7 +132,9 @@ pub fn write_puzzle<R: Files + AllocGlobal>(
 }
 
 /// Replaces a file. Returns `Memory` if an allocation fails, and `CannotWrite` for any other error.
-pub fn write_file<R: Files + AllocGlobal>(rt: &R, file: &str, bytes: &[u8]) -> Result<(), Failure> {
+pub fn write_file<R: Files + AllocGlobal>(rt: &R, file: &str, bytes: &[u8]) -> Result<(), Failure>
+    ensures err { IfErr result (λ failure. (failure ≡ Memory) ⊎ IsCannotWrite file.now failure) }
+{
     match replace(rt, file, bytes) {
         Ok(()) => Ok(()),
         Err(error) => {
