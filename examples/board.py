@@ -9,7 +9,8 @@
     #            toggles a block, with its images under the symmetry
     ?            proposes a word, and moves to its light
     enter        places the proposed word
-    ^F           searches for a fill
+    ^F           searches for the first fill in the order of the word list
+    ^A           searches for any fill; pressed again, in another order
     ^Z           undoes the last edit
     ^S           saves the log
     ^Q, ^C       saves the log and quits; quits without saving
@@ -35,7 +36,7 @@ REFUSALS = {"OnBlock": "a block is here", "Occupied": "a letter stands where a b
 FILLS = {"filled": "filled", "nofill": "there is no fill", "limit": "no fill was found"}
 PROPOSALS = {"done": "every light is entered", "try": "{2}? enter places it", "dead": "no word fits here",
              "noword": "no word here leaves every light a word"}
-MOST_PLACED = 10000
+MOST_PLACED, MOST_TRIED = 10000, 5000
 ENCODING = "latin-1"  # one character for each byte, whatever encoding the texts of a log have
 
 
@@ -85,8 +86,8 @@ class Board:
         self.log = [first]  # the commands that the board began with, then those of each edit
         self.grid, self.lights, self.letters = {}, {}, {}
         self.cursor, self.direction = (1, 1), "across"
-        self.open, self.message = True, ""
-        self.actions = {"tab": self.turn, "?": self.suggest, "enter": self.accept, "^F": self.fill, "^Z": self.undo,
+        self.open, self.message, self.seed = True, "", 0
+        self.actions = {"tab": self.turn, "?": self.suggest, "enter": self.accept, "^F": self.fill, "^A": self.autofill, "^Z": self.undo,
                         "^S": self.save, "^Q": self.quit}
 
     def begin(self):
@@ -160,7 +161,14 @@ class Board:
             self.edit("place {} {} {}".format(*rest))
 
     def fill(self):
-        answer, = self.session.ask(f"fill {MOST_PLACED}")
+        self.search(f"fill {MOST_PLACED}")
+
+    def autofill(self):
+        self.search(f"autofill {MOST_TRIED} {self.seed}")
+        self.seed += 1
+
+    def search(self, command):
+        answer, = self.session.ask(command)
         self.message = FILLS[answer]
         if answer == "filled":
             before = self.grid

@@ -139,6 +139,8 @@ without a word: none
     ("after it every light is entered", LATTICE + "^F ?", FILLED + "every light is entered\n"),
     ("a letter of it that is emptied is the only one that is feasible there", LATTICE + "^F right space left left",
      FILLED.replace(" H", " h")),
+    ("another search finds that there is none, too", LATTICE + "X ^A", DEAD + "there is no fill\n"),
+    ("and finds the only letter of a cell", LATTICE + "^F right space left left ^A", FILLED + "filled\n"),
     ("a fill is one edit", LATTICE + "^F ^Z", FIRST),
     ("undo goes back to the empty grid, and no further; there no word fits all five lights down that it crosses",
      LATTICE + "S H ^F left left ^Z ^Z ^Z ^Z ^Z ^Z ^Z", """

@@ -70,6 +70,9 @@ words 1 across
 words 2 down 1
 words 99 down
 letters 2 2
+tally 2 2
+tally 1 1
+tally 9 9
 show
 lights
 stats
@@ -80,6 +83,9 @@ unlisted
 suggest
 fill 100
 fill 0
+autofill 100
+autofill 0 1 2 down 1 across
+autofill 100 0 99 down
 strike SEVEN
 record
 watch off
@@ -101,7 +107,7 @@ fill 1"""
 
 # The square of AS, AT, SO, TO and IN, with each answer of `suggest` and of `fill`.
 SQUARE = ["size 2 2", "add AS", "add AT", "add SO", "add TO", "add IN"]
-FILLS = [*SQUARE, "watch on", "fill 3", "suggest", "fill 4", "suggest", "clear 1 1", "set 1 1 X", "suggest", "fill 9", "clear 1 1", "strike SO", "fill 100", "dups"]
+FILLS = [*SQUARE, "watch on", "fill 3", "suggest", "fill 4", "suggest", "clear 1 1", "set 1 1 X", "suggest", "fill 9", "clear 1 1", "strike SO", "fill 100", "dups", "autofill 100", "clear 1 2", "clear 2 1", "add SO", "autofill 100 3 1 across", "tally 2 1"]
 
 # One word more than a chunk of 64 holds, on lights of that length.
 CHUNK = ["size 3 2", *(f"add A{chr(65 + number // 26)}{chr(65 + number % 26)}" for number in range(65))]

@@ -432,6 +432,202 @@ cell 1 1 ABCDEFGHIJKLMNOPQRSTUVWXYZ
 ok
 > counts 1
 no Arguments
+@ tallies_of_the_square
+> tally 1 1
+A 2 2
+ok
+> tally 1 2
+S 1 1
+T 1 1
+ok
+> tally 2 1
+S 1 1
+T 1 1
+ok
+> tally 2 2
+O 2 2
+ok
+> set 1 2 T
+ok
+> tally 1 1
+A 1 2
+ok
+> tally 1 2
+T 1 1
+ok
+> place 1 across XT
+ok
+> tally 1 1
+ok
+> tally 1 2
+ok
+@ tallies_where_a_light_is_alone
+> block 1 1
+ok
+> tally 1 1
+no OnBlock
+> tally 1 2
+A - 2
+I - 1
+S - 1
+T - 1
+ok
+> tally 2 1
+A 2 -
+I 1 -
+S 1 -
+T 1 -
+ok
+> tally 2 2
+N 1 1
+O 2 2
+S 1 1
+T 1 1
+ok
+> size 1 1
+ok
+> set 1 1 Q
+ok
+> tally 1 1
+Q - -
+ok
+@ tallies_refused
+> tally 3 1
+no OutOfGrid
+> tally 0 1
+no OutOfGrid
+> tally 1 4294967297
+no OutOfGrid
+> tally 1
+no Arguments
+> tally 1 1 1
+no Arguments
+> tally x 1
+no Arguments
+> tallies 1 1
+no Command
+@ square_filled_anyhow
+> set 1 2 S
+ok
+> watch on
+ok
+> autofill 1000
+filled
+ok
+> show
+A S
+T O
+ok
+> autofill 1000 1
+filled
+ok
+> clear 1 1
+ok
+> clear 2 1
+cell 2 1 ST
+ok
+> autofill 1000 18
+filled
+ok
+> show
+A S
+T O
+ok
+@ named_lights_of_the_square_filled
+> set 1 2 S
+ok
+> autofill 1000 0 1 across
+filled
+ok
+> show
+A S
+- -
+ok
+> autofill 1000 5 3 across 1 across 3 across
+filled
+ok
+> show
+A S
+T O
+ok
+@ square_without_a_fill_of_all_lights
+> strike SO
+ok
+> autofill 1000
+nofill
+ok
+> autofill 1000 3 1 across 2 down
+filled
+ok
+> show
+A T
+- O
+ok
+> clear 1 1
+ok
+> clear 2 2
+ok
+> autofill 1000 0 2 down
+filled
+ok
+> show
+- T
+- O
+ok
+@ named_light_whose_crossing_has_no_word
+> set 1 1 X
+ok
+> set 1 2 S
+ok
+> autofill 1000 0 2 down
+nofill
+ok
+> autofill 1000 0 1 across
+nofill
+ok
+> show
+X S
+- -
+ok
+@ autofills_refused
+> autofill 1000 0 9 across
+no NoLight
+> autofill 1000 0 1 across 1 down 2 across
+no NoLight
+> autofill 1000 0 65537 across
+no NoLight
+> autofill 1000 0 999999999999999999 down
+no NoLight
+> autofill
+no Arguments
+> autofill x
+no Arguments
+> autofill 1000 x
+no Arguments
+> autofill 1000 1 across
+no Arguments
+> autofill 1000 0 1
+no Arguments
+> autofill 1000 0 1 across 1
+no Arguments
+> autofill 1000 0 1 ACROSS
+no Arguments
+> autofill 1000 0 1 across across
+no Arguments
+> show
+- -
+- -
+ok
+> size 1 1
+ok
+> autofill 1000
+filled
+ok
+> show
+-
+ok
+> autofill 1000 0 1 across
+no NoLight
 """
 
 CASES = dialogues(IN_THE_SQUARE, beginning=SQUARE)

@@ -22,7 +22,8 @@ pub const MAX_BITS: usize = 0x1FF_FFFF_FFFF_FFFF;
 /// A row of bits, packed 64 to a word.
 ///
 /// The row caches the number of set bits once `keep_count` has counted them. `set_chunk`, `put` and
-/// a `push` of a clear bit keep the cache up to date; every other change drops it.
+/// a `push` of a clear bit keep the cache up to date, and `copy_from` copies that of the other row;
+/// every other change drops it.
 #[derive(Drop)]
 pub struct BitRow {
     words: Vec<u64>,
@@ -95,7 +96,7 @@ impl BitRow {
         ensures bits { self.new.bits ≡ other.now.bits }
         ensures room { self.new.room ≡ self.old.room }
     {
-        self.counted = None;
+        self.counted = other.counted;
         self.words.as_mut_slice().copy_from_slice(&other.words);
     }
 

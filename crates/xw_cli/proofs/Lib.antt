@@ -1,2 +1,5 @@
 pub mod Rows
 pub mod Usages
+pub mod Failures
+pub mod Told
+pub mod Opened

@@ -1,8 +1,34 @@
--- Which failure names a file that cannot be read or written, or a fault of a file.
-use Rattle.std.specs.Prelude.{◌≡◌, ℕ, List, Option, Some, None}
+-- Which failure names a file that cannot be read or written, or a fault of a file; what is read from a puzzle file, and
+-- what is written to one.
+use Rattle.std.specs.Prelude.{◌≡◌, ◌⊎◌, ◌↔◌, ℕ, Bool, true, false, List, take, drop, Option, Some, None, Result, Ok, Err}
+use Rattle.std.specs.Borrow.{Bor}
+use Rattle.std.specs.List.{list_any}
+use Rattle.xw_grid.specs.Puzzle.{PuzzleShown}
+use Rattle.xw_files.specs.FaultNames.{read_fault_name, write_fault_name}
+use Rattle.xw_files.specs.Puz.Reading.{magic}
+use Rattle.xw_files.specs.Puz.Board.{puzzle_at}
+use Rattle.xw_files.specs.Puz.Relation.{IsPuz}
+use Rattle.xw_files.specs.Puz.Faults as puz_faults
+use Rattle.xw_files.specs.Puz.Sections.{Section}
+use Rattle.xw_files.specs.Puz.Rebus.{HasSections, is_rebus}
+use Rattle.xw_files.specs.Puz.Writing as puz_writing
+use Rattle.xw_files.specs.Text.Shape.{all_of}
+use Rattle.xw_files.specs.Text.Relation.{IsText}
+use Rattle.xw_files.specs.Text.Faults as text_faults
+use Rattle.xw_files.specs.Text.Written as text_writing
+use Rattle.xw_files.specs.declared.fault.ReadFault.{ReadFault}
+use Rattle.xw_files.specs.declared.fault.WriteFault.{WriteFault}
+use Rattle.xw_files.specs.declared.kind.Kind.{Kind}
+use Rattle.xw_files.specs.declared.kind.Kind.TheVariants.{Puz, Text}
+use Rattle.xw_cli.specs.declared.arguments.SessionFiles.{SessionFiles}
 use Rattle.xw_cli.specs.declared.failure.Failure.{Failure}
 use Rattle.xw_cli.specs.declared.failure.Failure.TheVariants as failures
 use Rattle.xw_cli.specs.declared.place.Place.{Place}
+use Rattle.xw_cli.specs.Explained.{GoesOut, rebus_line}
+use Rattle.xw_cli.specs.Names.{IsKindNamed}
+use Rattle.xw_cli.specs.Places.{read_place, write_place}
+
+-- ---- failures
 
 -- the file with this name cannot be read
 abbrev pub IsCannotRead : List ℕ → Failure → Type 0
@@ -24,3 +50,110 @@ IsFileFault name fault place other = ⊥
 abbrev pub IsLineFault : List ℕ → ℕ → List ℕ → Failure → Type 0
 IsLineFault name number fault (failures.Line file line told) = (file.bytes.items ≡ name) × (line ≡ number) × (told.now ≡ fault)
 IsLineFault name number fault other = ⊥
+
+-- the place if `explain` is set, and otherwise none
+abbrev pub place_if : Bool → Option Place → Option Place
+place_if true place = place
+place_if false place = None
+
+-- ---- reading a puzzle file
+
+-- the format that the bytes of a file have
+abbrev pub HasFormat : List ℕ → Kind → Type 0
+HasFormat bytes kind = (kind ≡ Puz) ↔ (take 12 (drop 2 bytes) ≡ magic)
+
+-- the bytes are a file of this puzzle in this format
+abbrev pub IsFileOf : Kind → List ℕ → PuzzleShown → Type 0
+IsFileOf Puz bytes puzzle = IsPuz bytes puzzle
+IsFileOf Text bytes puzzle = IsText bytes puzzle
+
+-- the puzzle that the reader of this format makes of the bytes, or its fault
+abbrev pub puzzle_in : Kind → List ℕ → Result PuzzleShown ReadFault
+puzzle_in Puz bytes = puzzle_at bytes
+puzzle_in Text bytes = all_of bytes
+
+-- this is the first fault of the bytes, as a file in this format
+abbrev pub IsFirstFault : Kind → List ℕ → ReadFault → Type 0
+IsFirstFault Puz bytes fault = puz_faults.IsFirstFault bytes fault
+IsFirstFault Text bytes fault = text_faults.IsFirstFault bytes fault
+
+-- The bytes have this format and are a file of this puzzle. Of the puzzles that they are a file of, it is the one that
+-- the reader makes.
+pub record IsRead (kind : Kind) (bytes : List ℕ) (puzzle : PuzzleShown) : Type 0 where
+  pub format : HasFormat bytes kind
+  pub file : IsFileOf kind bytes puzzle
+  pub exact : puzzle_in kind bytes ≡ Ok puzzle
+
+-- The bytes have a first fault in their format. The failure names it and the file, and its place if `explain` is set.
+pub record IsMalformed (name : List ℕ) (explain : Bool) (bytes : List ℕ) (failure : Failure) : Type 0 where
+  pub kind : Kind
+  pub format : HasFormat bytes kind
+  pub fault : ReadFault
+  pub first : IsFirstFault kind bytes fault
+  pub told : IsFileFault name (read_fault_name fault) (place_if explain (read_place bytes fault)) failure
+
+-- why the puzzle file with this name is not read
+abbrev pub IsUnread : List ℕ → Bool → Failure → Type 0
+IsUnread name explain failure = (failure ≡ failures.Memory) ⊎ (IsCannotRead name failure ⊎ ((bytes : List ℕ) × IsMalformed name explain bytes failure))
+
+-- the report goes out if there are rebus cells, and otherwise nothing does
+abbrev pub IsToldIf : {S : Type 0} → (S → List ℕ) → (S → ℕ) → List ℕ → Bool → S → S → Type 0
+IsToldIf transcript failures name true old new = GoesOut transcript failures old new (rebus_line name)
+IsToldIf transcript failures name false old new = new ≡ old
+
+-- rebus cells of a `.puz` file are reported, and nothing else
+abbrev pub IsRebusTold : {S : Type 0} → (S → List ℕ) → (S → ℕ) → List ℕ → Kind → List ℕ → S → S → Type 0
+IsRebusTold transcript failures name Puz bytes old new = (sections : List Section) → HasSections bytes sections → IsToldIf transcript failures name (list_any is_rebus sections) old new
+IsRebusTold transcript failures name Text bytes old new = new ≡ old
+
+-- ---- writing a puzzle file
+
+-- the bytes of the puzzle in this format, or why the format cannot hold it
+abbrev pub written_as : Kind → PuzzleShown → Result (List ℕ) WriteFault
+written_as Puz puzzle = puz_writing.written puzzle
+written_as Text puzzle = text_writing.written puzzle
+
+-- these are the bytes of the puzzle in the format that the name asks for
+pub record AreBytesFor (name : List ℕ) (puzzle : PuzzleShown) (bytes : List ℕ) : Type 0 where
+  pub kind : Kind
+  pub named : IsKindNamed name kind
+  pub written : written_as kind puzzle ≡ Ok bytes
+
+-- The format that the name asks for cannot hold the puzzle. The failure names the first reason and the file, and the
+-- place if `explain` is set.
+pub record IsUnfit (name : List ℕ) (explain : Bool) (puzzle : PuzzleShown) (failure : Failure) : Type 0 where
+  pub kind : Kind
+  pub named : IsKindNamed name kind
+  pub fault : WriteFault
+  pub refused : written_as kind puzzle ≡ Err fault
+  pub told : IsFileFault name (write_fault_name fault) (place_if explain (write_place puzzle.grid fault)) failure
+
+-- why the puzzle is not written to the file with this name
+abbrev pub IsUnwritten : List ℕ → Bool → PuzzleShown → Failure → Type 0
+IsUnwritten name explain puzzle failure = (failure ≡ failures.Memory) ⊎ (IsCannotWrite name failure ⊎ IsUnfit name explain puzzle failure)
+
+-- ---- files that must differ
+
+-- the file is named, and P holds of its name
+abbrev pub IfNamed : Option (Bor (List ℕ)) → (List ℕ → Type 0) → Type 0
+IfNamed None P = ⊥
+IfNamed (Some file) P = P file.now
+
+-- this file cannot be written, since it is the word list
+abbrev pub IsOneFile : List ℕ → Failure → Type 0
+IsOneFile name (failures.OneFile file) = file.bytes.items ≡ name
+IsOneFile name other = ⊥
+
+-- this file is named for the puzzle and for the record
+abbrev pub IsTwoTexts : List ℕ → Failure → Type 0
+IsTwoTexts name (failures.TwoTexts file) = file.bytes.items ≡ name
+IsTwoTexts name other = ⊥
+
+-- the file with the second name is the word list, which the first names
+abbrev pub IsOverList : Option (Bor (List ℕ)) → Option (Bor (List ℕ)) → Failure → Type 0
+IsOverList dict written failure = IfNamed dict (λ _. IfNamed written (λ name. IsOneFile name failure))
+
+-- The word list is named for the puzzle or for the record, or one file for both.
+abbrev pub IsNotApart : SessionFiles → Failure → Type 0
+IsNotApart files failure =
+    (failure ≡ failures.Memory) ⊎ (IsOverList files.dict files.to_file failure ⊎ (IsOverList files.dict files.save_file failure ⊎ IfNamed files.to_file (λ _. IfNamed files.save_file (λ name. IsTwoTexts name failure))))

@@ -6,3 +6,5 @@ pub mod Names
 pub mod Places
 pub mod Explained
 pub mod Files
+pub mod SessionFiles
+pub mod Performed

@@ -1,5 +1,5 @@
 //! Prints help, usage errors and failures.
-ghost use Rattle.std.specs.Prelude.{◌≡◌, [], ◌∷◌, ◌++◌, OnOk, OnErr};
+ghost use Rattle.std.specs.Prelude.{◌≡◌, [], ◌∷◌, ◌++◌, OnOk, OnErr, IsOkUnless};
 ghost use Rattle.xw_lines.specs.Device.{flushed};
 ghost use Rattle.xw_lines.specs.Sends.{Sends};
 ghost use Rattle.xw_cli.specs.Explained.{rebus_line, GoesOut, IsExplained, IsTold};
@@ -35,7 +35,8 @@ pub fn explain<O: Sink, E: Sink>(usage: &Usage, output: &mut O, errors: &mut E) 
 
 /// Writes a text and flushes the writer.
 pub fn show<O: Sink>(output: &mut O, text: &[u8]) -> Result<(), Failure>
-    ensures { Sends O.transcript O.failures output.old output.new result (text.now ++ flushed ∷ []) }
+    ensures sends { Sends O.transcript O.failures output.old output.new result (text.now ++ flushed ∷ []) }
+    ensures output { IsOkUnless result Failure.Output }
 {
     device::write_all(output, text).map_err(|_| Failure::Output)?;
     output.flush().map_err(|_| Failure::Output)
@@ -44,6 +45,7 @@ pub fn show<O: Sink>(output: &mut O, text: &[u8]) -> Result<(), Failure>
 /// Reports that the rebus cells of a file are not kept. Write errors are ignored.
 pub fn tell_rebus<E: Sink>(alloc: Global, errors: &mut E, file: &str) -> Result<(), Failure>
     ensures transcript { OnOk result (GoesOut E.transcript E.failures errors.old errors.new (rebus_line file.now)) }
+    ensures memory { IsOkUnless result Failure.Memory }
     ensures untold { OnErr result (errors.new ≡ errors.old) }
 {
     let text = format!(in alloc; "xw: {file}: rebus cells are not kept\n")?;

@@ -1,12 +1,15 @@
 //! Reads and writes the files of a call.
-ghost use Rattle.std.specs.Prelude.{◌≡◌, ◌⊎◌, IfErr};
+ghost use Rattle.std.specs.Prelude.{◌≡◌, ◌≢◌, ◌⊎◌, ℕ, List, IfOk, IfErr, OnOk, OnErr, IsOkUnless};
+ghost use Rattle.xw_grid.specs.Puzzle.{puzzle_view};
+ghost use Rattle.xw_files.specs.FaultNames.{read_fault_name, write_fault_name};
 ghost use Rattle.xw_cli.specs.declared.failure.Failure.TheVariants.{Memory};
-ghost use Rattle.xw_cli.specs.Files.{IsCannotRead, IsCannotWrite, IsFileFault, IsLineFault};
+ghost use Rattle.xw_cli.specs.Files.{place_if, IsCannotRead, IsCannotWrite, IsFileFault, IsLineFault, IsFileOf, puzzle_in, IsFirstFault, IsRead, IsMalformed, IsUnread, IsRebusTold, written_as, AreBytesFor, IsUnfit, IsUnwritten, IsOverList, IsNotApart};
+ghost use Rattle.xw_cli.specs.Places.{read_place, write_place};
 
 use crate::arguments::SessionFiles;
 use crate::explaining::tell_rebus;
 use crate::failure::Failure;
-use crate::names::{kind_by_name, read_fault_name, write_fault_name};
+use crate::names::kind_by_name;
 use crate::place::{self, Place};
 use crate::replacing::replace;
 use std::alloc::Global;
@@ -15,6 +18,7 @@ use std::rt::Files;
 use std::{fs, io};
 use xw_files::fault::{ReadFault, WriteFault};
 use xw_files::{Kind, Puzzle, has_rebus, kind_of, read_puz, read_text, write_puz, write_text};
+use xw_grid::grid::Grid;
 use xw_lines::Sink;
 
 /// Returns the bytes of a file. Returns `Memory` if an allocation fails, and `CannotRead` for any other error.
@@ -40,30 +44,67 @@ pub fn read_puzzle<R: Files + AllocGlobal, E: Sink>(
     file: &str,
     explain: bool,
     errors: &mut E,
-) -> Result<(Kind, Puzzle), Failure> {
-    let alloc = rt.alloc();
+) -> Result<(Kind, Puzzle), Failure>
+    // The result is what some bytes mean, and rebus cells in them are reported.
+    ensures ok { IfOk result (λ read. (bytes : List ℕ) × IsRead read.0 bytes (puzzle_view read.1) × IsRebusTold E.transcript E.failures file.now read.0 bytes errors.old errors.new) }
+    ensures err { IfErr result (λ failure. IsUnread file.now explain failure) }
+    ensures untold { OnErr result (errors.new ≡ errors.old) }
+{
     let bytes = read_file(rt, file)?;
-    let kind = kind_of(bytes.as_slice());
-    let read = match kind {
-        Kind::Puz => read_puz(alloc, bytes.as_slice()),
-        Kind::Text => read_text(alloc, bytes.as_slice()),
-    };
-    match read {
+    puzzle_of(rt.alloc(), file, bytes.as_slice(), explain, errors)
+}
+
+/// Reads the puzzle in the bytes of a file, as `read_puzzle`.
+fn puzzle_of<E: Sink>(
+    alloc: Global,
+    file: &str,
+    bytes: &[u8],
+    explain: bool,
+    errors: &mut E,
+) -> Result<(Kind, Puzzle), Failure>
+    ensures read { IfOk result (λ read. IsRead read.0 bytes.now (puzzle_view read.1)) }
+    ensures warned { IfOk result (λ read. IsRebusTold E.transcript E.failures file.now read.0 bytes.now errors.old errors.new) }
+    ensures err { IfErr result (λ failure. (failure ≡ Memory) ⊎ IsMalformed file.now explain bytes.now failure) }
+    ensures untold { OnErr result (errors.new ≡ errors.old) }
+{
+    let kind = kind_of(bytes);
+    match read_as(alloc, kind, bytes) {
         Ok(puzzle) => {
-            if kind == Kind::Puz {
-                warn_of_rebus(alloc, file, bytes.as_slice(), errors)?;
-            }
+            warn_of_rebus(alloc, file, kind, bytes, errors)?;
             Ok((kind, puzzle))
         }
-        Err(ReadFault::Memory) => Err(Failure::Memory),
-        Err(fault) => {
-            let place = if explain {
-                place::in_file(alloc, bytes.as_slice(), fault)?
-            } else {
-                None
-            };
-            Err(file_fault(alloc, file, read_fault_name(fault), place))
-        }
+        Err(fault) => Err(malformed(alloc, file, explain, bytes, fault)),
+    }
+}
+
+/// Reads the puzzle in the bytes of a file of this format.
+fn read_as(alloc: Global, kind: Kind, bytes: &[u8]) -> Result<Puzzle, ReadFault>
+    ensures file { IfOk result (λ puzzle. IsFileOf kind bytes.now (puzzle_view puzzle)) }
+    ensures exact { IfOk result (λ puzzle. puzzle_in kind bytes.now ≡ Ok (puzzle_view puzzle)) }
+    ensures first { IfErr result (λ fault. fault ≢ ReadFault.Memory → IsFirstFault kind bytes.now fault) }
+{
+    match kind {
+        Kind::Puz => read_puz(alloc, bytes),
+        Kind::Text => read_text(alloc, bytes),
+    }
+}
+
+/// Returns the failure for a fault of the bytes of a file.
+fn malformed(alloc: Global, file: &str, explain: bool, bytes: &[u8], fault: ReadFault) -> Failure
+    ensures memory { fault ≡ ReadFault.Memory → result ≡ Memory }
+    ensures told { (result ≡ Memory) ⊎ IsFileFault file.now (read_fault_name fault) (place_if explain (read_place bytes.now fault)) result }
+{
+    if fault == ReadFault::Memory {
+        return Failure::Memory;
+    }
+    let place = if explain {
+        place::in_file(alloc, bytes, fault)
+    } else {
+        Ok(None)
+    };
+    match place {
+        Ok(place) => file_fault(alloc, file, fault.name(), place),
+        Err(failure) => failure,
     }
 }
 
@@ -71,9 +112,17 @@ pub fn read_puzzle<R: Files + AllocGlobal, E: Sink>(
 fn warn_of_rebus<E: Sink>(
     alloc: Global,
     file: &str,
+    kind: Kind,
     bytes: &[u8],
     errors: &mut E,
-) -> Result<(), Failure> {
+) -> Result<(), Failure>
+    ensures told { OnOk result (IsRebusTold E.transcript E.failures file.now kind bytes.now errors.old errors.new) }
+    ensures memory { IsOkUnless result Memory }
+    ensures untold { OnErr result (errors.new ≡ errors.old) }
+{
+    if kind == Kind::Text {
+        return Ok(());
+    }
     match has_rebus(alloc, bytes) {
         Ok(true) => tell_rebus(alloc, errors, file),
         Ok(false) => Ok(()),
@@ -110,25 +159,53 @@ pub fn write_puzzle<R: Files + AllocGlobal>(
     file: &str,
     puzzle: &Puzzle,
     explain: bool,
-) -> Result<(), Failure> {
-    let alloc = rt.alloc();
-    let made = match kind_by_name(file) {
+) -> Result<(), Failure>
+    ensures ok { OnOk result ((bytes : List ℕ) × AreBytesFor file.now (puzzle_view puzzle.now) bytes) }
+    ensures err { IfErr result (λ failure. IsUnwritten file.now explain (puzzle_view puzzle.now) failure) }
+{
+    let bytes = bytes_for(rt.alloc(), file, puzzle, explain)?;
+    write_file(rt, file, bytes.as_slice())
+}
+
+/// Returns the bytes of a puzzle in the format that the name of a file asks for.
+fn bytes_for(alloc: Global, file: &str, puzzle: &Puzzle, explain: bool) -> Result<Vec<u8>, Failure>
+    ensures ok { IfOk result (λ bytes. AreBytesFor file.now (puzzle_view puzzle.now) bytes.items) }
+    ensures err { IfErr result (λ failure. (failure ≡ Memory) ⊎ IsUnfit file.now explain (puzzle_view puzzle.now) failure) }
+{
+    match write_as(alloc, kind_by_name(file), puzzle) {
+        Ok(bytes) => Ok(bytes),
+        Err(fault) => Err(unfit(alloc, file, explain, &puzzle.grid, fault)),
+    }
+}
+
+/// Returns the bytes of a puzzle in this format.
+fn write_as(alloc: Global, kind: Kind, puzzle: &Puzzle) -> Result<Vec<u8>, WriteFault>
+    ensures ok { IfOk result (λ bytes. written_as kind (puzzle_view puzzle.now) ≡ Ok bytes.items) }
+    ensures refused { IfErr result (λ fault. fault ≢ WriteFault.Memory → written_as kind (puzzle_view puzzle.now) ≡ Err fault) }
+{
+    match kind {
         Kind::Puz => write_puz(alloc, puzzle),
         Kind::Text => write_text(alloc, puzzle),
+    }
+}
+
+/// Returns the failure for a fault of a puzzle that is to be written to a file.
+fn unfit(alloc: Global, file: &str, explain: bool, grid: &Grid, fault: WriteFault) -> Failure
+    ensures memory { fault ≡ WriteFault.Memory → result ≡ Memory }
+    ensures told { (result ≡ Memory) ⊎ IsFileFault file.now (write_fault_name fault) (place_if explain (write_place grid.now fault)) result }
+{
+    if fault == WriteFault::Memory {
+        return Failure::Memory;
+    }
+    let place = if explain {
+        place::in_puzzle(alloc, grid, fault)
+    } else {
+        Ok(None)
     };
-    let bytes = match made {
-        Ok(bytes) => bytes,
-        Err(WriteFault::Memory) => return Err(Failure::Memory),
-        Err(fault) => {
-            let place = if explain {
-                place::in_puzzle(alloc, &puzzle.grid, fault)?
-            } else {
-                None
-            };
-            return Err(file_fault(alloc, file, write_fault_name(fault), place));
-        }
-    };
-    write_file(rt, file, bytes.as_slice())
+    match place {
+        Ok(place) => file_fault(alloc, file, fault.name(), place),
+        Err(failure) => failure,
+    }
 }
 
 /// Replaces a file. Returns `Memory` if an allocation fails, and `CannotWrite` for any other error.
@@ -149,7 +226,9 @@ pub fn write_file<R: Files + AllocGlobal>(rt: &R, file: &str, bytes: &[u8]) -> R
 
 /// Refuses to write over the word list, and to write both the puzzle and the record to one file. Compares the files
 /// themselves, not their names, if both exist.
-pub fn keep_apart<R: Files + AllocGlobal>(rt: &R, named: SessionFiles<'_>) -> Result<(), Failure> {
+pub fn keep_apart<R: Files + AllocGlobal>(rt: &R, named: SessionFiles<'_>) -> Result<(), Failure>
+    ensures err { IfErr result (λ failure. IsNotApart named.entry failure) }
+{
     spare(rt, named.dict, named.to_file)?;
     spare(rt, named.dict, named.save_file)?;
     match (named.to_file, named.save_file) {
@@ -166,7 +245,9 @@ fn spare<R: Files + AllocGlobal>(
     rt: &R,
     dict: Option<&str>,
     written: Option<&str>,
-) -> Result<(), Failure> {
+) -> Result<(), Failure>
+    ensures err { IfErr result (λ failure. (failure ≡ Memory) ⊎ IsOverList dict.entry written.entry failure) }
+{
     match (dict, written) {
         (Some(dict), Some(file)) if is_one_file(rt, dict, file) => {
             let file = String::from_str(rt.alloc(), file)?;

@@ -1,4 +1,15 @@
 //! Executes a call.
+ghost use Rattle.std.specs.Prelude.{◌≡◌, ◌⊎◌, ℕ, List, length, Ok, Err, IfOk, IfErr, OnOk, IsOkUnless};
+ghost use Rattle.xw_grid.specs.Edit.{blank};
+ghost use Rattle.xw_grid.specs.Light.{lights_of};
+ghost use Rattle.xw_grid.specs.Puzzle.{PuzzleShown, puzzle_view};
+ghost use Rattle.xw_files.specs.declared.kind.Kind.{Kind};
+ghost use Rattle.xw_cli.specs.declared.failure.Failure.TheVariants.{Memory};
+ghost use Rattle.xw_cli.specs.declared.failure.Status.TheVariants.{Accepted};
+ghost use Rattle.xw_cli.specs.Files.{AreBytesFor, IfNamed, IsRead, IsUnread, IsUnwritten};
+ghost use Rattle.xw_cli.specs.SessionFiles.{IsUnloaded, IsUnsaved};
+ghost use Rattle.xw_cli.specs.Performed.{format_name, described, IsChecked, IsUnchecked, IsConverted, IsUnconverted, HasWords, empty_puzzle, opened_on, IsOpened, HasResumed, puzzle_of, IsKept, AreAnswered, IsRun, IsEdited, IsUnopened, IsUnresumed, IsUnanswered, IsUnclosed, IsCut, IsUnedited, IsPerformed, MayEnd, IsEnded};
+
 use crate::arguments::{Call, SessionFiles};
 use crate::explaining::{show, tell};
 use crate::failure::{Failure, Status, run_status};
@@ -7,7 +18,8 @@ use crate::session_files::{read_dictionary, resume_file, write_record};
 use std::alloc::Global;
 use std::rt::Files;
 use xw_feas::feasible::Feasible;
-use xw_files::Kind;
+use xw_feas::searchable::Searchable;
+use xw_files::{Kind, Puzzle};
 use xw_grid::{Grid, Lights};
 use xw_session::{Session, Sink, Source};
 use xw_words::Bank;
@@ -16,26 +28,33 @@ use xw_words::Bank;
 const START: u32 = 15;
 
 /// Executes a call, prints a failure if there is one, and returns the exit status.
-pub fn perform<F: Feasible, R: Files + AllocGlobal, I: Source, O: Sink, E: Sink>(
+pub fn perform<F: Searchable, R: Files + AllocGlobal, I: Source, O: Sink, E: Sink>(
     rt: &R,
     call: Call<'_>,
     input: &mut I,
     output: &mut O,
     errors: &mut E,
-) -> Status {
+) -> Status
+    // The call is done, or a failure ends it and is told.
+    ensures { IsPerformed call.entry result (I.transcript input.old) (I.transcript input.new) (O.transcript output.old) (O.transcript output.new) ⊎ IsEnded E.transcript E.failures call.entry result errors.new }
+{
     match run::<F, R, I, O, E>(rt, call, input, output, errors) {
         Ok(status) => status,
         Err(failure) => tell(rt.alloc(), errors, &failure),
     }
 }
 
-fn run<F: Feasible, R: Files + AllocGlobal, I: Source, O: Sink, E: Sink>(
+/// Executes a call.
+fn run<F: Searchable, R: Files + AllocGlobal, I: Source, O: Sink, E: Sink>(
     rt: &R,
     call: Call<'_>,
     input: &mut I,
     output: &mut O,
     errors: &mut E,
-) -> Result<Status, Failure> {
+) -> Result<Status, Failure>
+    ensures ok { IfOk result (λ status. IsPerformed call.entry status (I.transcript input.old) (I.transcript input.new) (O.transcript output.old) (O.transcript output.new)) }
+    ensures err { IfErr result (λ failure. MayEnd call.entry failure) }
+{
     match call {
         Call::Edit { files, explain } => {
             edit::<F, R, I, O, E>(rt, files, explain, input, output, errors)
@@ -50,21 +69,24 @@ fn run<F: Feasible, R: Files + AllocGlobal, I: Source, O: Sink, E: Sink>(
 }
 
 /// Runs a session: opens its files, answers the input, and writes its files.
-fn edit<F: Feasible, R: Files + AllocGlobal, I: Source, O: Sink, E: Sink>(
+fn edit<F: Searchable, R: Files + AllocGlobal, I: Source, O: Sink, E: Sink>(
     rt: &R,
     named: SessionFiles<'_>,
     explain: bool,
     input: &mut I,
     output: &mut O,
     errors: &mut E,
-) -> Result<Status, Failure> {
+) -> Result<Status, Failure>
+    ensures ok { IfOk result (λ status. IsEdited named.entry status (I.transcript input.old) (I.transcript input.new) (O.transcript output.old) (O.transcript output.new)) }
+    ensures err { IfErr result (λ failure. IsUnedited named.entry explain failure) }
+{
     files::keep_apart(rt, named)?;
     let mut session: Session<F> = open(rt, named, explain, errors)?;
     answer(rt, &mut session, named, explain, input, output, errors)
 }
 
 /// Replays the commands to start with, answers the input, and writes the files of the session.
-fn answer<F: Feasible, R: Files + AllocGlobal, I: Source, O: Sink, E: Sink>(
+fn answer<F: Searchable, R: Files + AllocGlobal, I: Source, O: Sink, E: Sink>(
     rt: &R,
     session: &mut Session<F>,
     named: SessionFiles<'_>,
@@ -72,10 +94,26 @@ fn answer<F: Feasible, R: Files + AllocGlobal, I: Source, O: Sink, E: Sink>(
     input: &mut I,
     output: &mut O,
     errors: &mut E,
-) -> Result<Status, Failure> {
+) -> Result<Status, Failure>
+    ensures ok { IfOk result (λ status. IsRun named.entry session.old status (I.transcript input.old) (I.transcript input.new) (O.transcript output.old) (O.transcript output.new)) }
+    ensures err { IfErr result (λ failure. IsCut named.entry explain failure) }
+{
     let refused = resume(rt, session, named.resume_file, errors)?;
-    let answered = run_status(session.run_lines(input, output), refused);
+    let answered = converse(session, refused, input, output);
     close(rt, session, named, explain, answered)
+}
+
+/// Answers the input, and returns the status. `before` is the number of lines refused earlier.
+fn converse<F: Searchable, I: Source, O: Sink>(
+    session: &mut Session<F>,
+    before: usize,
+    input: &mut I,
+    output: &mut O,
+) -> Result<Status, Failure>
+    ensures ok { IfOk result (λ status. AreAnswered before session.old session.new status (I.transcript input.old) (I.transcript input.new) (O.transcript output.old) (O.transcript output.new)) }
+    ensures err { IfErr result (λ failure. IsUnanswered failure) }
+{
+    run_status(session.run_lines(input, output), before)
 }
 
 /// Opens a session on the given word list and puzzle. The word list is read first.
@@ -84,7 +122,10 @@ fn open<F: Feasible, R: Files + AllocGlobal, E: Sink>(
     named: SessionFiles<'_>,
     explain: bool,
     errors: &mut E,
-) -> Result<Session<F>, Failure> {
+) -> Result<Session<F>, Failure>
+    ensures ok { IfOk result (λ session. IsOpened named.entry session) }
+    ensures err { IfErr result (λ failure. IsUnopened named.entry explain failure) }
+{
     let bank = dictionary(rt, named.dict, errors)?;
     match named.from_file {
         Some(file) => open_puzzle(rt, bank, file, explain, errors),
@@ -97,7 +138,10 @@ fn dictionary<R: Files + AllocGlobal, E: Sink>(
     rt: &R,
     named: Option<&str>,
     errors: &mut E,
-) -> Result<Bank, Failure> {
+) -> Result<Bank, Failure>
+    ensures ok { IfOk result (λ bank. HasWords named.entry bank.words) }
+    ensures err { IfErr result (λ failure. (failure ≡ Memory) ⊎ IfNamed named.entry (λ name. IsUnloaded name failure)) }
+{
     match named {
         Some(file) => read_dictionary(rt, file, errors),
         None => Bank::new(rt.alloc()).map_err(|_| Failure::Memory),
@@ -111,26 +155,58 @@ fn open_puzzle<F: Feasible, R: Files + AllocGlobal, E: Sink>(
     file: &str,
     explain: bool,
     errors: &mut E,
-) -> Result<Session<F>, Failure> {
+) -> Result<Session<F>, Failure>
+    ensures ok { IfOk result (λ session. (puzzle : PuzzleShown) × ((kind : Kind) × (bytes : List ℕ) × IsRead kind bytes puzzle) × (session ≡ opened_on bank.words puzzle)) }
+    ensures err { IfErr result (λ failure. IsUnread file.now explain failure) }
+{
     let (_, puzzle) = files::read_puzzle(rt, file, explain, errors)?;
-    let engine = F::open(rt.alloc(), puzzle.grid, bank).map_err(|_| Failure::Memory)?;
-    Ok(Session::open(engine, puzzle.texts, puzzle.clues, puzzle.circles))
+    session_of(rt.alloc(), bank, puzzle)
+}
+
+/// Opens a session on a dictionary and a puzzle.
+fn session_of<F: Feasible>(alloc: Global, bank: Bank, puzzle: Puzzle) -> Result<Session<F>, Failure>
+    ensures ok { IfOk result (λ session. session ≡ opened_on bank.words (puzzle_view puzzle)) }
+    ensures memory { IsOkUnless result Memory }
+{
+    match F::open(alloc, puzzle.grid, bank) {
+        Ok(engine) => Ok(Session::open(engine, puzzle.texts, puzzle.clues, puzzle.circles)),
+        Err(_) => Err(Failure::Memory),
+    }
 }
 
 /// Opens a session on an empty grid.
-fn open_empty<F: Feasible>(alloc: Global, bank: Bank) -> Result<Session<F>, Failure> {
-    let grid = Grid::new(alloc, START, START).map_err(|_| Failure::Memory)?;
-    let engine = F::open(alloc, grid, bank).map_err(|_| Failure::Memory)?;
-    Ok(Session::new(alloc, engine))
+fn open_empty<F: Feasible>(alloc: Global, bank: Bank) -> Result<Session<F>, Failure>
+    ensures ok { IfOk result (λ session. session ≡ opened_on bank.words empty_puzzle) }
+    ensures memory { IsOkUnless result Memory }
+{
+    let grid = empty_grid(alloc)?;
+    match F::open(alloc, grid, bank) {
+        Ok(engine) => Ok(Session::new(alloc, engine)),
+        Err(_) => Err(Failure::Memory),
+    }
+}
+
+/// Returns the grid that a session begins with if no puzzle is given.
+fn empty_grid(alloc: Global) -> Result<Grid, Failure>
+    ensures ok { IfOk result (λ grid. grid ≡ blank 15 15) }
+    ensures memory { IsOkUnless result Memory }
+{
+    match Grid::new(alloc, START, START) {
+        Ok(grid) => Ok(grid),
+        Err(_) => Err(Failure::Memory),
+    }
 }
 
 /// Replays the commands of a file if one is given, and returns the number of refused lines.
-fn resume<F: Feasible, R: Files + AllocGlobal, E: Sink>(
+fn resume<F: Searchable, R: Files + AllocGlobal, E: Sink>(
     rt: &R,
     session: &mut Session<F>,
     named: Option<&str>,
     errors: &mut E,
-) -> Result<usize, Failure> {
+) -> Result<usize, Failure>
+    ensures ok { IfOk result (λ refused. HasResumed named.entry session.old refused session.new) }
+    ensures err { IfErr result (λ failure. IfNamed named.entry (λ name. IsUnresumed name failure)) }
+{
     match named {
         Some(file) => resume_file(rt, file, session, errors),
         None => Ok(0),
@@ -145,7 +221,10 @@ fn close<F: Feasible, R: Files + AllocGlobal>(
     named: SessionFiles<'_>,
     explain: bool,
     answered: Result<Status, Failure>,
-) -> Result<Status, Failure> {
+) -> Result<Status, Failure>
+    ensures ok { IfOk result (λ status. (answered ≡ Ok status) × IsKept named.entry.to_file (puzzle_of session.now)) }
+    ensures err { IfErr result (λ failure. (answered ≡ Err failure) ⊎ IsUnclosed named.entry explain failure) }
+{
     let saved = save(rt, session, named.save_file);
     let status = answered?;
     saved?;
@@ -160,7 +239,9 @@ fn save<F: Feasible, R: Files + AllocGlobal>(
     rt: &R,
     session: &Session<F>,
     named: Option<&str>,
-) -> Result<(), Failure> {
+) -> Result<(), Failure>
+    ensures err { IfErr result (λ failure. IfNamed named.entry (λ name. IsUnsaved name failure)) }
+{
     match named {
         Some(file) => write_record(rt, file, session),
         None => Ok(()),
@@ -173,7 +254,10 @@ fn keep<F: Feasible, R: Files + AllocGlobal>(
     file: &str,
     session: &Session<F>,
     explain: bool,
-) -> Result<(), Failure> {
+) -> Result<(), Failure>
+    ensures ok { OnOk result ((bytes : List ℕ) × AreBytesFor file.now (puzzle_of session.now) bytes) }
+    ensures err { IfErr result (λ failure. IsUnwritten file.now explain (puzzle_of session.now) failure) }
+{
     match session.puzzle() {
         Ok(puzzle) => files::write_puzzle(rt, file, &puzzle, explain),
         Err(_) => Err(Failure::Memory),
@@ -187,7 +271,10 @@ fn convert<R: Files + AllocGlobal, E: Sink>(
     to_file: &str,
     explain: bool,
     errors: &mut E,
-) -> Result<Status, Failure> {
+) -> Result<Status, Failure>
+    ensures ok { IfOk result (λ status. (status ≡ Accepted) × IsConverted to_file.now) }
+    ensures err { IfErr result (λ failure. IsUnconverted from_file.now to_file.now explain failure) }
+{
     let (_, puzzle) = files::read_puzzle(rt, from_file, explain, errors)?;
     files::write_puzzle(rt, to_file, &puzzle, explain)?;
     Ok(Status::Accepted)
@@ -200,7 +287,10 @@ fn check<R: Files + AllocGlobal, O: Sink, E: Sink>(
     explain: bool,
     output: &mut O,
     errors: &mut E,
-) -> Result<Status, Failure> {
+) -> Result<Status, Failure>
+    ensures ok { IfOk result (λ status. (status ≡ Accepted) × IsChecked (O.transcript output.old) (O.transcript output.new)) }
+    ensures err { IfErr result (λ failure. IsUnchecked file.now explain failure) }
+{
     let (kind, puzzle) = files::read_puzzle(rt, file, explain, errors)?;
     let line = describe(rt.alloc(), kind, &puzzle.grid)?;
     show(output, line.as_bytes())?;
@@ -208,12 +298,31 @@ fn check<R: Files + AllocGlobal, O: Sink, E: Sink>(
 }
 
 /// Returns the line with the format, size and number of lights.
-fn describe(alloc: Global, kind: Kind, grid: &Grid) -> Result<String, Failure> {
-    let lights = Lights::of(alloc, grid).map_err(|_| Failure::Memory)?;
-    let kind = match kind {
+fn describe(alloc: Global, kind: Kind, grid: &Grid) -> Result<String, Failure>
+    ensures line { IfOk result (λ line. line.bytes.items ≡ described kind grid.now) }
+    ensures memory { IsOkUnless result Memory }
+{
+    let count = light_count(alloc, grid)?;
+    let kind = format_name(kind);
+    let (width, height) = (grid.width(), grid.height());
+    Ok(format!(in alloc; "{kind} {width}x{height} {count} lights\n")?)
+}
+
+fn light_count(alloc: Global, grid: &Grid) -> Result<usize, Failure>
+    ensures ok { IfOk result (λ count. count ≡ length (lights_of grid.now)) }
+    ensures memory { IsOkUnless result Memory }
+{
+    match Lights::of(alloc, grid) {
+        Ok(lights) => Ok(lights.len()),
+        Err(_) => Err(Failure::Memory),
+    }
+}
+
+fn format_name(kind: Kind) -> &'static str
+    ensures { result.now ≡ format_name kind }
+{
+    match kind {
         Kind::Puz => "puz",
         Kind::Text => "text",
-    };
-    let (width, height, count) = (grid.width(), grid.height(), lights.len());
-    Ok(format!(in alloc; "{kind} {width}x{height} {count} lights\n")?)
+    }
 }

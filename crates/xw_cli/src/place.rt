@@ -1,5 +1,5 @@
 //! The places of faults in files and puzzles.
-ghost use Rattle.std.specs.Prelude.{◌≡◌, IfOk};
+ghost use Rattle.std.specs.Prelude.{◌≡◌, IfOk, IsOkUnless};
 ghost use Rattle.xw_grid.specs.Light.{lights_of};
 ghost use Rattle.xw_files.specs.Puz.Board.{grid_of_puz};
 ghost use Rattle.xw_files.specs.Text.Place.{text_place as text_place_in};
@@ -69,7 +69,8 @@ fn direction_name(direction: Direction) -> &'static str
 
 /// Returns the place of a write fault, if it has one. Fails only if an allocation fails.
 pub fn in_puzzle(alloc: Global, grid: &Grid, fault: WriteFault) -> Result<Option<Place>, Failure>
-    ensures { IfOk result (λ place. place ≡ write_place grid.now fault) }
+    ensures place { IfOk result (λ place. place ≡ write_place grid.now fault) }
+    ensures memory { IsOkUnless result Failure.Memory }
 {
     match fault {
         WriteFault::NotFilled(cell) | WriteFault::Circled(cell) => Ok(Some(Place::Cell(cell))),
@@ -80,7 +81,8 @@ pub fn in_puzzle(alloc: Global, grid: &Grid, fault: WriteFault) -> Result<Option
 
 /// Returns the place of a text. A clue comes with its light if the grid has one at that position.
 fn of_text(alloc: Global, grid: &Grid, text: TextName) -> Result<Place, Failure>
-    ensures { IfOk result (λ place. place ≡ text_place (lights_of grid.now) text) }
+    ensures place { IfOk result (λ place. place ≡ text_place (lights_of grid.now) text) }
+    ensures memory { IsOkUnless result Failure.Memory }
 {
     let TextName::Clue(number) = text else {
         return Ok(Place::Text(text));
@@ -94,7 +96,8 @@ fn of_text(alloc: Global, grid: &Grid, text: TextName) -> Result<Place, Failure>
 
 /// Returns the place of a read fault, if it has one. Fails only if an allocation fails.
 pub fn in_file(alloc: Global, bytes: &[u8], fault: ReadFault) -> Result<Option<Place>, Failure>
-    ensures { IfOk result (λ place. place ≡ read_place bytes.now fault) }
+    ensures place { IfOk result (λ place. place ≡ read_place bytes.now fault) }
+    ensures memory { IsOkUnless result Failure.Memory }
 {
     match fault {
         ReadFault::Short(piece) => Ok(Some(Place::Piece(piece))),
@@ -107,7 +110,8 @@ pub fn in_file(alloc: Global, bytes: &[u8], fault: ReadFault) -> Result<Option<P
 
 /// Returns the place of an unterminated text. A clue comes with its light if the file's grid can be read.
 fn of_cut_text(alloc: Global, bytes: &[u8], text: TextName) -> Result<Place, Failure>
-    ensures { IfOk result (λ place. place ≡ cut_text_place (grid_of_puz bytes.now) text) }
+    ensures place { IfOk result (λ place. place ≡ cut_text_place (grid_of_puz bytes.now) text) }
+    ensures memory { IsOkUnless result Failure.Memory }
 {
     match grid_of_puz(alloc, bytes) {
         Ok(grid) => of_text(alloc, &grid, text),
@@ -118,7 +122,8 @@ fn of_cut_text(alloc: Global, bytes: &[u8], text: TextName) -> Result<Place, Fai
 
 /// Returns the line of a fault of a text file, if it has one.
 fn of_line(alloc: Global, bytes: &[u8], fault: ReadFault) -> Result<Option<Place>, Failure>
-    ensures { IfOk result (λ place. place ≡ line_place (text_place_in bytes.now fault)) }
+    ensures place { IfOk result (λ place. place ≡ line_place (text_place_in bytes.now fault)) }
+    ensures memory { IsOkUnless result Failure.Memory }
 {
     match text_place(alloc, bytes, fault) {
         Ok(Some(TextPlace::Line(number))) => Ok(Some(Place::Line(number))),

@@ -1,9 +1,18 @@
 //! The files of a session other than its puzzle: the word list, the commands to replay, and the record.
+ghost use Rattle.std.specs.Prelude.{◌≡◌, ◌⊎◌, ℕ, List, IfOk, IfErr, OnOk, OnErr, IsOkUnless};
+ghost use Rattle.xw_words.specs.WordList.{listed_in};
+ghost use Rattle.xw_session.specs.Text.{name_of};
+ghost use Rattle.xw_cli.specs.declared.failure.Failure.TheVariants.{Memory};
+ghost use Rattle.xw_cli.specs.Explained.{GoesOut};
+ghost use Rattle.xw_cli.specs.Files.{IsFileFault};
+ghost use Rattle.xw_cli.specs.SessionFiles.{counts_line, loaded_line, IsOverfull, IsUnloaded, IsStopped, Replays, IsResumed, IsUnsaved};
+
 use crate::failure::Failure;
 use crate::files::{file_fault, line_fault, read_file, write_file};
 use std::alloc::Global;
 use std::rt::Files;
 use xw_feas::feasible::Feasible;
+use xw_feas::searchable::Searchable;
 use xw_lines::device;
 use xw_session::refusal::{self, Refusal};
 use xw_session::resuming::{self, Stop};
@@ -16,16 +25,45 @@ pub fn read_dictionary<R: Files + AllocGlobal, E: Sink>(
     rt: &R,
     file: &str,
     errors: &mut E,
-) -> Result<Bank, Failure> {
-    let alloc = rt.alloc();
+) -> Result<Bank, Failure>
+    // The dictionary is the one that some bytes list, and their lines are counted in a report.
+    ensures ok { IfOk result (λ bank. (bytes : List ℕ) × (bank.words ≡ listed_in bytes) × GoesOut E.transcript E.failures errors.old errors.new (loaded_line file.now bytes)) }
+    ensures err { IfErr result (λ failure. IsUnloaded file.now failure) }
+    ensures untold { OnErr result (errors.new ≡ errors.old) }
+{
     let bytes = read_file(rt, file)?;
-    match Bank::load_list(alloc, bytes.as_slice()) {
+    dictionary_of(rt.alloc(), file, bytes.as_slice(), errors)
+}
+
+/// Loads the bytes of a word list, as `read_dictionary`.
+fn dictionary_of<E: Sink>(
+    alloc: Global,
+    file: &str,
+    bytes: &[u8],
+    errors: &mut E,
+) -> Result<Bank, Failure>
+    ensures words { IfOk result (λ bank. bank.words ≡ listed_in bytes.now) }
+    ensures told { OnOk result (GoesOut E.transcript E.failures errors.old errors.new (loaded_line file.now bytes.now)) }
+    ensures err { IfErr result (λ failure. (failure ≡ Memory) ⊎ IsOverfull file.now bytes.now failure) }
+    ensures untold { OnErr result (errors.new ≡ errors.old) }
+{
+    match Bank::load_list(alloc, bytes) {
         Ok((bank, loaded)) => {
             tell_loaded(alloc, file, loaded, errors)?;
             Ok(bank)
         }
-        Err(WordFault::Memory) => Err(Failure::Memory),
-        Err(fault) => Err(file_fault(alloc, file, refusal::name(Refusal::Word(fault)), None)),
+        Err(fault) => Err(unloaded(alloc, file, fault)),
+    }
+}
+
+/// Returns the failure for a fault of a word list.
+fn unloaded(alloc: Global, file: &str, fault: WordFault) -> Failure
+    ensures memory { fault ≡ WordFault.Memory → result ≡ Memory }
+    ensures told { (result ≡ Memory) ⊎ IsFileFault file.now (name_of (Refusal.Word fault)) None result }
+{
+    match fault {
+        WordFault::Memory => Failure::Memory,
+        _ => file_fault(alloc, file, refusal::name(Refusal::Word(fault)), None),
     }
 }
 
@@ -35,7 +73,11 @@ fn tell_loaded<E: Sink>(
     file: &str,
     loaded: Loaded,
     errors: &mut E,
-) -> Result<(), Failure> {
+) -> Result<(), Failure>
+    ensures told { OnOk result (GoesOut E.transcript E.failures errors.old errors.new (counts_line file.now loaded.added loaded.skipped)) }
+    ensures memory { IsOkUnless result Memory }
+    ensures untold { OnErr result (errors.new ≡ errors.old) }
+{
     let (added, skipped) = (loaded.added, loaded.skipped);
     let text = format!(in alloc; "xw: {file}: {added} added, {skipped} skipped\n")?;
     let _ = device::write_all(errors, text.as_bytes());
@@ -43,22 +85,40 @@ fn tell_loaded<E: Sink>(
 }
 
 /// Replays the commands of a file, and returns the number of refused lines.
-pub fn resume_file<R: Files + AllocGlobal, F: Feasible, E: Sink>(
+pub fn resume_file<R: Files + AllocGlobal, F: Searchable, E: Sink>(
     rt: &R,
     file: &str,
     session: &mut Session<F>,
     errors: &mut E,
-) -> Result<usize, Failure> {
+) -> Result<usize, Failure>
+    // The lines of some bytes are replayed, or the file cannot be read and nothing changes.
+    ensures { IsResumed E.transcript E.failures file.now session.old session.new result errors.old errors.new }
+{
     let alloc = rt.alloc();
     let text = read_file(rt, file)?;
-    match resuming::resume(alloc, session, file, text.as_slice(), errors) {
+    resume_text(alloc, file, session, text.as_slice(), errors)
+}
+
+/// Replays the commands in the bytes of a file, as `resume_file`.
+fn resume_text<F: Searchable, E: Sink>(
+    alloc: Global,
+    file: &str,
+    session: &mut Session<F>,
+    text: &[u8],
+    errors: &mut E,
+) -> Result<usize, Failure>
+    ensures { Replays E.transcript E.failures file.now text.now session.old session.new result errors.old errors.new }
+{
+    match resuming::resume(alloc, session, file, text, errors) {
         Ok(refused) => Ok(refused),
         Err(stop) => Err(stopped(alloc, file, stop)),
     }
 }
 
 /// The failure for a replay that stopped.
-fn stopped(alloc: Global, file: &str, stop: Stop) -> Failure {
+fn stopped(alloc: Global, file: &str, stop: Stop) -> Failure
+    ensures { IsStopped file.now stop result }
+{
     match stop {
         Stop::NoCommand { number, refusal } => {
             line_fault(alloc, file, number, refusal::name(refusal))
@@ -72,7 +132,9 @@ pub fn write_record<R: Files + AllocGlobal, F: Feasible>(
     rt: &R,
     file: &str,
     session: &Session<F>,
-) -> Result<(), Failure> {
+) -> Result<(), Failure>
+    ensures err { IfErr result (λ failure. IsUnsaved file.now failure) }
+{
     let bytes = record(rt.alloc(), session)?;
     write_file(rt, file, bytes.as_slice())
 }

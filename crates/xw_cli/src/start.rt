@@ -4,14 +4,14 @@ use crate::explaining::explain;
 use crate::failure::Status;
 use crate::perform::perform;
 use std::io::{self, BufWriter, ErrorKind};
-use xw_feas::feasible::Feasible;
+use xw_feas::searchable::Searchable;
 use xw_session::{FromRead, Sink, ToWrite};
 
 /// The size of the output buffer in bytes.
 const GATHERED: usize = 65536;
 
 /// Runs the program and returns its exit status.
-pub fn start<F: Feasible>(rt: &HostRuntime) -> Status {
+pub fn start<F: Searchable>(rt: &HostRuntime) -> Status {
     let mut errors = ToWrite::new(rt.stderr());
     match start_gathered::<F, _>(rt, &mut errors) {
         Ok(status) => status,
@@ -20,7 +20,7 @@ pub fn start<F: Feasible>(rt: &HostRuntime) -> Status {
 }
 
 /// Runs the program with buffered output. Fails if an allocation for the setup fails.
-fn start_gathered<F: Feasible, E: Sink>(rt: &HostRuntime, errors: &mut E) -> io::Result<Status> {
+fn start_gathered<F: Searchable, E: Sink>(rt: &HostRuntime, errors: &mut E) -> io::Result<Status> {
     let mut output = ToWrite::new(BufWriter::with_capacity(rt.alloc(), GATHERED, rt.stdout())?);
     let words: Vec<String> = match std::env::args(rt) {
         Ok(words) => words.collect(rt.alloc())?,

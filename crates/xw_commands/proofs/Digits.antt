@@ -20,6 +20,9 @@ digit_at digits i h l = each_passes is_digit digits i 0 l (both _ _ h).1
 pub is_short : (digits : List ℕ) → is_number digits ≡ true → length digits ≤ 18
 is_short digits h = let e : leb (length digits) 18 ≡ true = (both (leb 1 (length digits)) _ (both _ (list_all is_digit digits) h).0).1 in grind (arith, nat_tests, e)
 
+pub has_digits : (digits : List ℕ) → is_number digits ≡ true → 1 ≤ length digits
+has_digits digits h = let e : leb 1 (length digits) ≡ true = (both _ (leb (length digits) 18) (both _ (list_all is_digit digits) h).0).0 in grind (arith, nat_tests, e)
+
 pub in_range : (c : ℕ) → is_digit c ≡ true → (48 ≤ c) × (c ≤ 57)
 in_range c h = let e : (leb 48 c ≡ true) × (leb c 57 ≡ true) = both _ _ h in grind (arith, nat_tests, e)
 

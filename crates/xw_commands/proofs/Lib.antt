@@ -1,3 +1,4 @@
 pub mod Passing
 pub mod Digits
 pub mod Naming
+pub mod LightLists

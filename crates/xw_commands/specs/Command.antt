@@ -1,14 +1,15 @@
 -- The command of a line.
 use Rattle.std.specs.Prelude.{ℕ, ◌==◌, nat_lt, List, [], ◌∷◌, length, codes, slice_index, Option, Some, None, Result, Ok, Err, if◌then◌else◌}
 use Rattle.xw_commands.specs.declared.command.Command.{Command}
-use Rattle.xw_commands.specs.declared.command.Command.TheVariants.{Size, Symmetry, Add, Strike, Match, Set, Clear, Place, Block, Bar, Clue, Write, Circle, Circles, Show, Lights, Words, Letters, Duplicates, Unlisted, Suggest, Fill, Watch, Tell, Put}
+use Rattle.xw_commands.specs.declared.command.Command.TheVariants.{Size, Symmetry, Add, Strike, Match, Set, Clear, Place, Block, Bar, Clue, Write, Circle, Circles, Show, Lights, Words, Letters, Tally, Duplicates, Unlisted, Suggest, Fill, Autofill, Watch, Tell, Put}
 use Rattle.xw_commands.specs.declared.command.TextField.TheVariants.{Title, Author, Copyright, Notes}
 use Rattle.xw_commands.specs.declared.command.Report.TheVariants.{Cells, Counts, Texts, Stats, Record}
 use Rattle.xw_commands.specs.declared.command.TextMode.TheVariants.{Instead, Behind}
 use Rattle.xw_commands.specs.declared.command.SyntaxFault.{SyntaxFault}
 use Rattle.xw_commands.specs.declared.command.SyntaxFault.TheVariants as faults
 use Rattle.xw_commands.specs.Line.{without_cr, first_word}
-use Rattle.xw_commands.specs.Reading.{Reading, ◌>>=◌, given, fault, word, number, number_if_any, byte, text, symmetry, side, switch, spot, named, field, lookup, is_ended}
+use Rattle.xw_commands.specs.Names.{field_name, clue_name}
+use Rattle.xw_commands.specs.Reading.{Reading, ◌>>=◌, given, fault, word, number, number_if_any, number_or_zero, byte, text, symmetry, side, switch, spot, named, lights, field, lookup, is_ended}
 
 -- every command word with the reading of its arguments
 abbrev pub commands : List (List ℕ × Reading Command)
@@ -23,21 +24,23 @@ commands =
     ∷ (codes "place", do given (Place (← named) (← word)))
     ∷ (codes "block", do given (Block (← spot)))
     ∷ (codes "bar", do given (Bar (← spot) (← side)))
-    ∷ (codes "clue", do given (Clue (← named) (← text)))
-    ∷ (codes "title", do given (Write Title (← text)))
-    ∷ (codes "author", do given (Write Author (← text)))
-    ∷ (codes "copyright", do given (Write Copyright (← text)))
-    ∷ (codes "notes", do given (Write Notes (← text)))
+    ∷ (clue_name, do given (Clue (← named) (← text)))
+    ∷ (field_name Title, do given (Write Title (← text)))
+    ∷ (field_name Author, do given (Write Author (← text)))
+    ∷ (field_name Copyright, do given (Write Copyright (← text)))
+    ∷ (field_name Notes, do given (Write Notes (← text)))
     ∷ (codes "circle", do given (Circle (← spot)))
     ∷ (codes "circles", given Circles)
     ∷ (codes "show", given Show)
     ∷ (codes "lights", given Lights)
     ∷ (codes "words", do given (Words (← named) (← number_if_any)))
     ∷ (codes "letters", do given (Letters (← spot)))
+    ∷ (codes "tally", do given (Tally (← spot)))
     ∷ (codes "dups", given Duplicates)
     ∷ (codes "unlisted", given Unlisted)
     ∷ (codes "suggest", given Suggest)
     ∷ (codes "fill", do given (Fill (← number)))
+    ∷ (codes "autofill", do given (Autofill (← number) (← number_or_zero) (← lights)))
     ∷ (codes "watch", do given (Watch (← switch)))
     ∷ (codes "cells", given (Tell Cells))
     ∷ (codes "counts", given (Tell Counts))

@@ -1,4 +1,5 @@
 pub mod Line
+pub mod Names
 pub mod Reading
 pub mod Name
 pub mod Command

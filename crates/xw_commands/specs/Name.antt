@@ -1,11 +1,11 @@
 -- The words of the commands.
 use Rattle.std.specs.Prelude.{ℕ, List, codes}
 use Rattle.xw_commands.specs.declared.command.Name.{Name}
-use Rattle.xw_commands.specs.declared.command.Name.TheVariants.{Size, Symmetry, Word, Cell, Light, Text, Circles, Show, Lights, Duplicates, Unlisted, Suggest, Fill, Watch, Tell, Put}
+use Rattle.xw_commands.specs.declared.command.Name.TheVariants.{Size, Symmetry, Word, Cell, Light, Text, Circles, Show, Lights, Duplicates, Unlisted, Suggest, Fill, Autofill, Watch, Tell, Put}
 use Rattle.xw_commands.specs.declared.command.WithWord.TheVariants.{Add, Strike, Match}
-use Rattle.xw_commands.specs.declared.command.WithCell.TheVariants.{Set, Clear, Block, Bar, Circle, Letters}
+use Rattle.xw_commands.specs.declared.command.WithCell.TheVariants.{Set, Clear, Block, Bar, Circle, Letters, Tally}
 use Rattle.xw_commands.specs.declared.command.WithLight.TheVariants.{Place, Clue, Words}
-use Rattle.xw_commands.specs.declared.command.TextField.TheVariants.{Title, Author, Copyright, Notes}
+use Rattle.xw_commands.specs.Names.{field_name, clue_name}
 use Rattle.xw_commands.specs.declared.command.Report.TheVariants.{Cells, Counts, Texts, Stats, Record}
 use Rattle.xw_commands.specs.declared.command.TextMode.TheVariants.{Instead, Behind}
 
@@ -21,21 +21,20 @@ word_of (Cell Clear) = codes "clear"
 word_of (Light Place) = codes "place"
 word_of (Cell Block) = codes "block"
 word_of (Cell Bar) = codes "bar"
-word_of (Light Clue) = codes "clue"
-word_of (Text Title) = codes "title"
-word_of (Text Author) = codes "author"
-word_of (Text Copyright) = codes "copyright"
-word_of (Text Notes) = codes "notes"
+word_of (Light Clue) = clue_name
+word_of (Text field) = field_name field
 word_of (Cell Circle) = codes "circle"
 word_of Circles = codes "circles"
 word_of Show = codes "show"
 word_of Lights = codes "lights"
 word_of (Light Words) = codes "words"
 word_of (Cell Letters) = codes "letters"
+word_of (Cell Tally) = codes "tally"
 word_of Duplicates = codes "dups"
 word_of Unlisted = codes "unlisted"
 word_of Suggest = codes "suggest"
 word_of Fill = codes "fill"
+word_of Autofill = codes "autofill"
 word_of Watch = codes "watch"
 word_of (Tell Cells) = codes "cells"
 word_of (Tell Counts) = codes "counts"

@@ -1,19 +1,16 @@
 -- Reading the arguments of a command one after another.
-use Rattle.std.specs.Prelude.{◌≡◌, ℕ, Bool, true, false, ◌==◌, List, [], ◌∷◌, length, Option, Some, None, Result, Ok, Err, bytes_eq, codes, if◌then◌else◌}
+use Rattle.std.specs.Prelude.{◌≡◌, ℕ, zero, suc, Bool, ◌==◌, List, [], ◌∷◌, length, Option, Some, None, Result, Ok, Err, bytes_eq, unwrap_or, if◌then◌else◌}
 use Rattle.xw_grid.specs.declared.cell.Direction.{Direction}
-use Rattle.xw_grid.specs.declared.cell.Direction.TheVariants.{Across, Down}
 use Rattle.xw_grid.specs.declared.cell.Side.{Side}
-use Rattle.xw_grid.specs.declared.cell.Side.TheVariants.{Right, Below}
 use Rattle.xw_grid.specs.declared.cell.Symmetry.{Symmetry}
-use Rattle.xw_grid.specs.declared.cell.Symmetry.TheVariants as kinds
 use Rattle.xw_commands.specs.declared.command.CellArg.{CellArg}
 use Rattle.xw_commands.specs.declared.command.LightArg.{LightArg}
 use Rattle.xw_commands.specs.declared.command.TextField.{TextField}
-use Rattle.xw_commands.specs.declared.command.TextField.TheVariants.{Title, Author, Copyright, Notes}
 use Rattle.xw_commands.specs.declared.command.Field.{Field}
 use Rattle.xw_commands.specs.declared.command.Field.TheVariants as fields
 use Rattle.xw_commands.specs.declared.command.SyntaxFault.{SyntaxFault}
 use Rattle.xw_commands.specs.declared.command.SyntaxFault.TheVariants as faults
+use Rattle.xw_commands.specs.Names.{directions, sides, symmetries, switches, text_fields}
 use Rattle.xw_commands.specs.Line.{first_word, trimmed, trimmed_start, number_in, byte_in}
 
 -- a function from the rest of a line to a value and the new rest, or to a fault
@@ -25,8 +22,13 @@ abbrev pub Reads : {X A : Type 0} → (X → A) → Result X SyntaxFault → Lis
 Reads view (Ok x) left reading = reading ≡ Ok (view x, left)
 Reads view (Err fault) left reading = reading ≡ Err fault
 
+-- nothing is read
+abbrev pub HasFault : {A : Type 0} → Result (A × List ℕ) SyntaxFault → Type 0
+HasFault (Ok found) = ⊥
+HasFault (Err fault) = Unit {0}
+
 -- the second reading runs on the value and the rest of the first
-abbrev then_others : {A B : Type 0} → Result (A × List ℕ) SyntaxFault → (A → Reading B) → Result (B × List ℕ) SyntaxFault
+abbrev pub then_others : {A B : Type 0} → Result (A × List ℕ) SyntaxFault → (A → Reading B) → Result (B × List ℕ) SyntaxFault
 then_others (Ok found) others = others found.0 found.1
 then_others (Err fault) others = Err fault
 
@@ -45,9 +47,9 @@ abbrev pub wanted : {A : Type 0} → Option A → Reading A
 wanted None = fault faults.Arguments
 wanted (Some x) = given x
 
--- ---- words, numbers, texts
+-- ---- words, numbers, text_fields
 
-abbrev next_word : Option (List ℕ × List ℕ) → Result (List ℕ × List ℕ) SyntaxFault
+abbrev pub next_word : Option (List ℕ × List ℕ) → Result (List ℕ × List ℕ) SyntaxFault
 next_word None = Err faults.Arguments
 next_word (Some found) = Ok found
 
@@ -74,6 +76,10 @@ is_ended rest = length (trimmed_start rest) == 0
 abbrev pub number_if_any : Reading (Option ℕ)
 number_if_any rest = if is_ended rest then given None rest else (do given (Some (← number))) rest
 
+-- a number, if another word follows, and else 0
+abbrev pub number_or_zero : Reading ℕ
+number_or_zero = do given (unwrap_or (← number_if_any) 0)
+
 -- ---- key words
 
 -- the value of the table's first row with this name
@@ -85,22 +91,16 @@ abbrev pub key_word : {A : Type 0} → List (List ℕ × A) → Reading A
 key_word table = do wanted (lookup table (← word))
 
 abbrev pub direction : Reading Direction
-direction = key_word ((codes "across", Across) ∷ (codes "down", Down) ∷ [])
+direction = key_word directions
 
 abbrev pub side : Reading Side
-side = key_word ((codes "right", Right) ∷ (codes "below", Below) ∷ [])
+side = key_word sides
 
 abbrev pub symmetry : Reading Symmetry
-symmetry = key_word (
-    (codes "none", kinds.None)
-    ∷ (codes "half", kinds.Half)
-    ∷ (codes "quarter", kinds.Quarter)
-    ∷ (codes "leftright", kinds.LeftRight)
-    ∷ (codes "updown", kinds.UpDown)
-    ∷ [])
+symmetry = key_word symmetries
 
 abbrev pub switch : Reading Bool
-switch = key_word ((codes "on", true) ∷ (codes "off", false) ∷ [])
+switch = key_word switches
 
 -- ---- cells and lights
 
@@ -116,17 +116,31 @@ named = do
   way ← direction
   given (record { number = count; direction = way })
 
--- ---- texts by their names
+-- ---- lists of lights
+
+-- the first light, the lights after it, and what follows them; none if the text does not begin with a light
+abbrev pub before_others : List ℕ → (List ℕ → List LightArg × List ℕ) → Result (LightArg × List ℕ) SyntaxFault → List LightArg × List ℕ
+before_others rest others (Ok found) = (found.0 ∷ (others found.1).0, (others found.1).1)
+before_others rest others (Err fault) = ([], rest)
+
+-- the lights that a text begins with, at most this many, and what follows them
+abbrev pub first_lights : ℕ → List ℕ → List LightArg × List ℕ
+first_lights zero rest = ([], rest)
+first_lights (suc most) rest = before_others rest (first_lights most) (named rest)
+
+-- all lights that a text begins with, and what follows them; a light has at least one byte
+abbrev pub lights_first : List ℕ → List LightArg × List ℕ
+lights_first rest = first_lights (length rest) rest
+
+-- as many lights as come next
+abbrev pub lights : Reading (List LightArg)
+lights rest = Ok (lights_first rest)
+
+-- ---- text_fields by their names
 
 -- the name of a text field, or None for `clue`
 abbrev pub text_name : Reading (Option TextField)
-text_name = key_word (
-    (codes "title", Some Title)
-    ∷ (codes "author", Some Author)
-    ∷ (codes "copyright", Some Copyright)
-    ∷ (codes "notes", Some Notes)
-    ∷ (codes "clue", None)
-    ∷ [])
+text_name = key_word text_fields
 
 abbrev pub clue_place : Reading Field
 clue_place = do

@@ -4,6 +4,7 @@ ghost use Rattle.xw_commands.specs.Reading.{Reads};
 ghost use Rattle.xw_commands.specs.Name.{word_of};
 ghost use Rattle.xw_commands.specs.Command.{command_named as command_named_so, command_of};
 
+use crate::lights::LightArgs;
 use crate::line;
 use crate::words::Words;
 use std::marker::Model;
@@ -114,10 +115,12 @@ pub enum Command<'a> {
     Lights,
     Words(LightArg, Option<u64>),
     Letters(CellArg),
+    Tally(CellArg),
     Duplicates,
     Unlisted,
     Suggest,
     Fill(u64),
+    Autofill(u64, u64, LightArgs<'a>),
     Watch(bool),
     Tell(Report),
     Put(TextMode, Field, Text<'a>),
@@ -140,6 +143,7 @@ pub enum WithCell {
     Bar,
     Circle,
     Letters,
+    Tally,
 }
 
 /// The commands whose first argument is a light.
@@ -166,13 +170,14 @@ pub enum Name {
     Unlisted,
     Suggest,
     Fill,
+    Autofill,
     Watch,
     Tell(Report),
     Put(TextMode),
 }
 
 /// Every command word with its name.
-const NAMES: [(&str, Name); 33] = [
+const NAMES: [(&str, Name); 35] = [
     ("size", Name::Size),
     ("sym", Name::Symmetry),
     ("add", Name::Word(WithWord::Add)),
@@ -194,10 +199,12 @@ const NAMES: [(&str, Name); 33] = [
     ("lights", Name::Lights),
     ("words", Name::Light(WithLight::Words)),
     ("letters", Name::Cell(WithCell::Letters)),
+    ("tally", Name::Cell(WithCell::Tally)),
     ("dups", Name::Duplicates),
     ("unlisted", Name::Unlisted),
     ("suggest", Name::Suggest),
     ("fill", Name::Fill),
+    ("autofill", Name::Autofill),
     ("watch", Name::Watch),
     ("cells", Name::Tell(Report::Cells)),
     ("counts", Name::Tell(Report::Counts)),
@@ -232,6 +239,7 @@ fn with_cell<'a>(name: WithCell, words: &mut Words<'a>) -> Result<Command<'a>, S
         WithCell::Bar => Ok(Command::Bar(spot, words.side()?)),
         WithCell::Circle => Ok(Command::Circle(spot)),
         WithCell::Letters => Ok(Command::Letters(spot)),
+        WithCell::Tally => Ok(Command::Tally(spot)),
     }
 }
 
@@ -265,6 +273,11 @@ fn arguments<'a>(name: Name, words: &mut Words<'a>) -> Result<Command<'a>, Synta
         Name::Unlisted => Ok(Command::Unlisted),
         Name::Suggest => Ok(Command::Suggest),
         Name::Fill => Ok(Command::Fill(words.number()?)),
+        Name::Autofill => Ok(Command::Autofill(
+            words.number()?,
+            words.number_or_zero()?,
+            LightArgs::read(words),
+        )),
         Name::Watch => Ok(Command::Watch(words.switch()?)),
         Name::Tell(telling) => Ok(Command::Tell(telling)),
         Name::Put(putting) => Ok(Command::Put(putting, words.field()?, words.text())),

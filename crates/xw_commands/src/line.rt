@@ -3,8 +3,11 @@ ghost use Rattle.std.specs.Prelude.{◌≡◌, ◌+◌, ◌*◌, ◌^◌, ◌<�
 ghost use Rattle.std.specs.Option.{option_map};
 ghost use Rattle.std.specs.List.{list_all};
 ghost use Rattle.std.specs.Str.Parse.{digits_value};
+ghost use Rattle.xw_commands.specs.Names.{by_name};
 ghost use Rattle.xw_commands.specs.Reading.{lookup as lookup_in};
 ghost use Rattle.xw_commands.specs.Line.{is_blank as is_blank_byte, is_ink as is_ink_byte, is_digit as is_digit_byte, is_number as is_number_word, number_in as number_in_word, byte_in as byte_in_word, without_cr as line_without_cr, trimmed as trimmed_text, trimmed_start as text_trimmed_at_start, trimmed_end as text_trimmed_at_end, first_word as first_word_of};
+
+use crate::names::Named;
 
 /// The maximum number of digits of a number.
 const MOST_DIGITS: usize = 18;
@@ -17,7 +20,7 @@ fn is_blank(byte: u8) -> bool
 }
 
 /// Returns whether a word is this name.
-pub fn is(word: &[u8], name: &str) -> bool
+fn is(word: &[u8], name: &str) -> bool
     ensures { result ≡ bytes_eq word.now name.now }
 {
     word == name.as_bytes()
@@ -29,6 +32,18 @@ pub fn lookup<T: Copy>(table: &[(&str, T)], word: &[u8]) -> Option<T>
 {
     for (name, value) in table {
         if is(word, name) {
+            return Some(*value);
+        }
+    }
+    None
+}
+
+/// Returns the first of these values that has this word.
+pub fn named<T: Named>(values: &[T], word: &[u8]) -> Option<T>
+    ensures { result ≡ lookup_in (by_name T.name values.now) word.now }
+{
+    for value in values {
+        if is(word, value.name()) {
             return Some(*value);
         }
     }

@@ -1,9 +1,9 @@
 //! Reads the arguments of a command one after another.
-ghost use Rattle.std.specs.Prelude.{◌≡◌, Ok};
-ghost use Rattle.xw_commands.specs.Reading.{word as word_of, number as number_of, byte as byte_of, text as text_of, number_if_any as number_if_any_of, is_ended as is_ended_text, direction as direction_of, side as side_of, symmetry as symmetry_of, switch as switch_of, spot as spot_of, named as named_of, text_name as text_name_of, field as field_of, Reads};
+ghost use Rattle.std.specs.Prelude.{◌≡◌, Ok, IfSome, IfNone};
+ghost use Rattle.xw_commands.specs.Reading.{word as word_of, number as number_of, byte as byte_of, text as text_of, number_if_any as number_if_any_of, number_or_zero as number_or_zero_of, is_ended as is_ended_text, direction as direction_of, side as side_of, symmetry as symmetry_of, switch as switch_of, spot as spot_of, named as named_of, text_name as text_name_of, field as field_of, Reads, HasFault};
 
 use crate::command::{CellArg, Field, LightArg, SyntaxFault, Text, TextField};
-use crate::line;
+use crate::{line, names};
 use std::marker::Model;
 use xw_grid::{Direction, Side, Symmetry};
 
@@ -26,6 +26,12 @@ impl<'a> Words<'a> {
         ensures { result ≡ rest.now }
     {
         Words { rest }
+    }
+
+    pub fn copy(&self) -> Words<'a>
+        ensures { result ≡ self.now }
+    {
+        Words { rest: self.rest }
     }
 
     pub fn is_ended(&self) -> bool
@@ -74,6 +80,13 @@ impl<'a> Words<'a> {
         Ok(Some(self.number()?))
     }
 
+    /// Reads a number if another word follows. Returns 0 if none does.
+    pub fn number_or_zero(&mut self) -> Result<u64, SyntaxFault>
+        ensures { Reads (λ number. number) result self.new (number_or_zero_of self.old) }
+    {
+        Ok(self.number_if_any()?.unwrap_or(0))
+    }
+
     pub fn byte(&mut self) -> Result<u8, SyntaxFault>
         ensures { Reads (λ byte. byte) result self.new (byte_of self.old) }
     {
@@ -83,48 +96,25 @@ impl<'a> Words<'a> {
     pub fn direction(&mut self) -> Result<Direction, SyntaxFault>
         ensures { Reads (λ direction. direction) result self.new (direction_of self.old) }
     {
-        let word = self.next()?;
-        match word {
-            _ if line::is(word, "across") => Ok(Direction::Across),
-            _ if line::is(word, "down") => Ok(Direction::Down),
-            _ => Err(SyntaxFault::Arguments),
-        }
+        line::named(&names::DIRECTIONS, self.next()?).ok_or(SyntaxFault::Arguments)
     }
 
     pub fn side(&mut self) -> Result<Side, SyntaxFault>
         ensures { Reads (λ side. side) result self.new (side_of self.old) }
     {
-        let word = self.next()?;
-        match word {
-            _ if line::is(word, "right") => Ok(Side::Right),
-            _ if line::is(word, "below") => Ok(Side::Below),
-            _ => Err(SyntaxFault::Arguments),
-        }
+        line::named(&names::SIDES, self.next()?).ok_or(SyntaxFault::Arguments)
     }
 
     pub fn symmetry(&mut self) -> Result<Symmetry, SyntaxFault>
         ensures { Reads (λ kind. kind) result self.new (symmetry_of self.old) }
     {
-        let word = self.next()?;
-        match word {
-            _ if line::is(word, "none") => Ok(Symmetry::None),
-            _ if line::is(word, "half") => Ok(Symmetry::Half),
-            _ if line::is(word, "quarter") => Ok(Symmetry::Quarter),
-            _ if line::is(word, "leftright") => Ok(Symmetry::LeftRight),
-            _ if line::is(word, "updown") => Ok(Symmetry::UpDown),
-            _ => Err(SyntaxFault::Arguments),
-        }
+        line::named(&names::SYMMETRIES, self.next()?).ok_or(SyntaxFault::Arguments)
     }
 
     pub fn switch(&mut self) -> Result<bool, SyntaxFault>
         ensures { Reads (λ is_on. is_on) result self.new (switch_of self.old) }
     {
-        let word = self.next()?;
-        match word {
-            _ if line::is(word, "on") => Ok(true),
-            _ if line::is(word, "off") => Ok(false),
-            _ => Err(SyntaxFault::Arguments),
-        }
+        line::named(&names::SWITCHES, self.next()?).ok_or(SyntaxFault::Arguments)
     }
 
     pub fn spot(&mut self) -> Result<CellArg, SyntaxFault>
@@ -143,19 +133,27 @@ impl<'a> Words<'a> {
         Ok(LightArg { number, direction })
     }
 
+    /// Reads the light that comes next. Reads nothing if something else comes next.
+    pub fn named_if_any(&mut self) -> Option<LightArg>
+        ensures some { IfSome result (λ named. named_of self.old ≡ Ok (named, self.new)) }
+        ensures none { IfNone result (HasFault (named_of self.old)) }
+        ensures left { IfNone result (self.new ≡ self.old) }
+    {
+        let mut ahead = self.copy();
+        match ahead.named() {
+            Ok(named) => {
+                self.rest = ahead.rest;
+                Some(named)
+            }
+            Err(_) => None,
+        }
+    }
+
     /// Reads the name of a text field, or `None` for `clue`.
     fn text_name(&mut self) -> Result<Option<TextField>, SyntaxFault>
         ensures { Reads (λ name. name) result self.new (text_name_of self.old) }
     {
-        let word = self.next()?;
-        match word {
-            _ if line::is(word, "title") => Ok(Some(TextField::Title)),
-            _ if line::is(word, "author") => Ok(Some(TextField::Author)),
-            _ if line::is(word, "copyright") => Ok(Some(TextField::Copyright)),
-            _ if line::is(word, "notes") => Ok(Some(TextField::Notes)),
-            _ if line::is(word, "clue") => Ok(None),
-            _ => Err(SyntaxFault::Arguments),
-        }
+        line::named(&names::TEXT_FIELDS, self.next()?).ok_or(SyntaxFault::Arguments)
     }
 
     pub fn field(&mut self) -> Result<Field, SyntaxFault>

@@ -1,8 +1,8 @@
 -- Lemmas about a word that is new to a dictionary.
-use Rattle.std.proofs.Common.{◌≡◌, ℕ, ◌<◌, ◌≤◌, ◌+◌, Bool, true, false, cond, List, [], ◌∷◌, ◌++◌, map, length, get_or, set, take, None, Some, refl, sym, ◌∙◌, ap, subst, arith}
+use Rattle.std.proofs.Common.{◌≡◌, ℕ, ◌<◌, ◌≤◌, Bool, true, false, cond, List, map, length, None, Some, refl, sym, ◌∙◌, ap, subst, arith}
 use Rattle.std.specs.Prelude.{Option, Result, Ok, Err, position, nat_le}
 use Rattle.std.proofs.lemmas.Bool.Decides.{nat_tests}
-use Rattle.std.proofs.lemmas.List.{length-map, take_more, take_more_set}
+use Rattle.std.proofs.lemmas.List.{length-map}
 use Rattle.xw_words.specs.declared.fault.WordFault.{WordFault}
 use Rattle.xw_words.specs.declared.fault.WordFault.TheVariants.{Length, Full, Known}
 use Rattle.xw_words.specs.declared.bank.Added.{Added}
@@ -21,9 +21,9 @@ pub record IsNewWord (words : Dictionary) (bytes : List ℕ) : Type 0 where
   pub few : length (row words (length bytes)) < most_words
   pub answer : add_answer words bytes ≡ Ok (New (length (row words (length bytes))))
 
-judged_same : (bad : Option ℕ) (count : ℕ) (x y : List ℕ) → judged bad count x ≡ Ok y → y ≡ x
-judged_same (Some place) count x y h = cc
-judged_same None count x y h = split (is_word_length count) h where
+judged_same : (bad : Option ℕ) (len : ℕ) (x y : List ℕ) → judged bad len x ≡ Ok y → y ≡ x
+judged_same (Some place) len x y h = cc
+judged_same None len x y h = split (is_word_length len) h where
   split : (b : Bool) → cond {A = Result (List ℕ) WordFault} b (Ok x) (Err Length) ≡ Ok y → y ≡ x
   split true h = cc
   split false h = cc
@@ -55,11 +55,3 @@ new_word words bytes new = split (word_of bytes) refl new where
         few = subst (λ n. length (row words n) < most_words) long found.1.0;
         answer = ap (answer_on add_to words) is ∙ found.1.1 ∙ ap (λ n. Ok (New (length (row words n)))) long;
       }
-
--- one more letter of a word
-pub letters_more : (word letters : List ℕ) (k letter : ℕ) → k < length word → k < length letters → letter ≡ get_or (map folded word) k 0 → take k letters ≡ take k (map folded word) → take (k + 1) (set letters k letter) ≡ take (k + 1) (map folded word)
-letters_more word letters k letter below under is front =
-    take_more_set letters k letter under
-    ∙ ap (λ first. first ++ letter ∷ []) front
-    ∙ ap (λ last. take k (map folded word) ++ last ∷ []) is
-    ∙ sym (take_more (map folded word) k 0 (omega (arith, length-map word folded)))

@@ -1,5 +1,5 @@
 -- Lemmas about the cells whose letters differ.
-use Rattle.std.proofs.Common.{◌≡◌, ℕ, suc, ◌+◌, ◌-◌, ◌*◌, ◌<◌, ◌≤◌, true, false, cond, not, ◌&&◌, List, [], ◌∷◌, map, get_or, refl, sym, ◌∙◌, ap, arith}
+use Rattle.std.proofs.Common.{◌≡◌, ℕ, suc, ◌+◌, ◌-◌, ◌*◌, ◌<◌, true, false, cond, not, ◌&&◌, List, [], ◌∷◌, map, get_or, refl, sym, ◌∙◌, ap, arith}
 use Rattle.std.specs.Prelude.{bytes_eq}
 use Rattle.std.specs.List.{range_with_len}
 use Rattle.std.proofs.lemmas.List.Elements.{filter_agree}
@@ -36,11 +36,6 @@ changes-not grid before after place below none =
     let rest = cells_that_differ grid (letters_at before) (letters_at after) (place + 1) in
     let same : cond (is_open (board_of grid) place && not (bytes_eq (letters_at before place) (letters_at after place))) (place ∷ rest) rest ≡ rest = rw none refl in
     ap (map (λ p. (cell_at grid p, get_or after p 0))) (cells_that_differ-more grid (letters_at before) (letters_at after) place below ∙ same)
-
-pub changes-end : (grid : Grid) (before after : List ℕ) (place : ℕ) → grid.width * grid.height ≤ place → changed_sets grid before after place ≡ []
-changes-end grid before after place past =
-    let left : grid.width * grid.height - place ≡ 0 = omega arith in
-    rw left refl
 
 spelled-cells : (grid : Grid) (sets : List ℕ) (answers : Answers) → ((place : ℕ) → letters_of answers place ≡ letters_at sets place) → (places : List ℕ) → spelled_out (map (λ p. (cell_at grid p, get_or sets p 0)) places) ≡ map (λ p. (cell_at grid p, letters_of answers p)) places
 spelled-cells grid sets answers same [] = refl

@@ -2,14 +2,13 @@
 use Rattle.std.proofs.Common.{◌≡◌, ℕ, ◌+◌, ◌<◌, ◌≤◌, cond, List, [], ◌∷◌, ◌++◌, map, take, length, get_or, sym, ◌∙◌, ap, subst, arith, Some, inl, inr, ◌⊎◌}
 use Rattle.std.specs.Prelude.{Result, Ok, Err, is_err, IsOk, IfErr, IsErrAnd}
 use Rattle.std.proofs.lemmas.List.{take_more, take_all, map_push}
-use Rattle.xw_feas.specs.State.{State, Action, after, action_of, IsRefused, IsAfter, done, accepted, skipped, with_grid, by_fault, block_toggled, bar_toggled}
+use Rattle.xw_feas.specs.State.{State, Action, after, action_of, IsRefused, IsAfter, done, accepted, skipped, with_grid, by_fault, block_toggled}
 use Rattle.xw_feas.specs.Shape.{IsGridRefused}
 use Rattle.xw_grid.specs.declared.cell.Cell.{Cell}
-use Rattle.xw_grid.specs.declared.cell.Side.{Side}
 use Rattle.xw_grid.specs.declared.fault.GridFault.{GridFault}
 use Rattle.xw_grid.specs.declared.fault.GridFault.TheVariants as grids
 use Rattle.xw_grid.specs.Grid.{Grid}
-use Rattle.xw_grid.specs.Edit.{toggle_block, toggle_bar}
+use Rattle.xw_grid.specs.Edit.{toggle_block}
 use Rattle.xw_feas.specs.declared.edit.Refusal.TheVariants as refusals
 use Rattle.xw_feas.specs.Feasible.{Answers}
 use Rattle.xw_feas.specs.Engine.{IsEdited}
@@ -67,9 +66,6 @@ grid_refused state (Err other) fault (inr (ok, memory)) = cc
 
 pub block_refused : (state : State) (cell : Cell) (fault : GridFault) → IsGridRefused (toggle_block state.grid cell) fault → IsRefused state (block_toggled cell) (refusals.Grid fault)
 block_refused state cell fault refused = grid_refused state (toggle_block state.grid cell) fault refused
-
-pub bar_refused : (state : State) (cell : Cell) (side : Side) (fault : GridFault) → IsGridRefused (toggle_bar state.grid cell side) fault → IsRefused state (bar_toggled cell side) (refusals.Grid fault)
-bar_refused state cell side fault refused = grid_refused state (toggle_bar state.grid cell side) fault refused
 
 pub refusal_made : {X : Type 0} (result : Result X Refusal) (refusal : Refusal) (P : Refusal → Type 0) → IsErrAnd result (λ made. made ≡ refusal) → P refusal → IfErr result P
 refusal_made (Ok x) refusal P made holds = tt

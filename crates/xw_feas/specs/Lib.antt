@@ -19,3 +19,4 @@ pub mod Spelled
 pub mod WellFormed
 pub mod Laws
 pub mod Passes
+pub mod Snapshot

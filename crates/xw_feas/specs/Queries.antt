@@ -1,5 +1,5 @@
 -- What the queries of an engine return, from the answers.
-use Rattle.std.specs.Prelude.{◌≡◌, ℕ, ◌+◌, Bool, not, cond, ◌&&◌, ◌==◌, List, [], drop, length, slice_index_or, position, Option, Some, None, option_map, Result, Ok, Err, if◌then◌else◌}
+use Rattle.std.specs.Prelude.{◌≡◌, ℕ, ◌+◌, Bool, not, cond, ◌&&◌, ◌==◌, List, [], drop, length, slice_index, slice_index_or, count_by, position, Option, Some, None, option_map, Result, Ok, Err, if◌then◌else◌}
 use Rattle.xw_letters.specs.LetterSet.{letters_in}
 use Rattle.xw_words.specs.Dictionary.{Entry, Dictionary, row as known_words}
 use Rattle.xw_grid.specs.declared.cell.Cell.{Cell}
@@ -19,6 +19,10 @@ use Rattle.xw_feas.specs.declared.edit.Refusal.TheVariants as refusals
 -- the words of a light in the answers
 abbrev pub words_of : Answers → ℕ → List (List ℕ)
 words_of answers light = slice_index_or answers.words light []
+
+-- the number of words of a light in the answers that have the letter at a position
+abbrev pub tally_of : Answers → ℕ → ℕ → ℕ → ℕ
+tally_of answers light k letter = count_by (λ word. slice_index word k == letter) (words_of answers light)
 
 -- whether a known word is active and in the answers for the light
 abbrev pub is_active_answer : Answers → ℕ → Entry → Bool

@@ -71,8 +71,8 @@ IsGrid-prop grid x y = λ i. record {
   turned = Π_prop (λ _. Coded-set coded_ℕ _ _) x.turned y.turned i;
 }
 
-AreWords-prop : (count : ℕ) (entries : List Entry) → IsProp (AreWords count entries)
-AreWords-prop count entries x y = λ i. record {
+AreWords-prop : (len : ℕ) (entries : List Entry) → IsProp (AreWords len entries)
+AreWords-prop len entries x y = λ i. record {
   long = Π_prop (λ k. Π_prop (λ d. Π_prop (λ below. Coded-set coded_ℕ _ _))) x.long y.long i;
   letters = Π_prop (λ k. Π_prop (λ d. Π_prop (λ below. Π_prop (λ j. Π_prop (λ e. Π_prop (λ under. letter_prop _)))))) x.letters y.letters i;
   distinct = Π_prop (λ j. Π_prop (λ k. Π_prop (λ d. Π_prop (λ before. Π_prop (λ below. Π_prop (λ same. ⊥_prop)))))) x.distinct y.distinct i;
@@ -82,8 +82,8 @@ AreWords-prop count entries x y = λ i. record {
 IsDictionary-prop : (dictionary : Dictionary) → IsProp (IsDictionary dictionary)
 IsDictionary-prop dictionary x y = λ i. record {
   lengths = Coded-set coded_ℕ _ _ x.lengths y.lengths i;
-  words = Π_prop (λ count. AreWords-prop count (row dictionary count)) x.words y.words i;
-  none_shorter = Π_prop (λ count. Π_prop (λ short. Coded-set (coded_list coded_entry) _ _)) x.none_shorter y.none_shorter i;
+  words = Π_prop (λ len. AreWords-prop len (row dictionary len)) x.words y.words i;
+  none_shorter = Π_prop (λ len. Π_prop (λ short. Coded-set (coded_list coded_entry) _ _)) x.none_shorter y.none_shorter i;
 }
 
 IsLaidOut-prop : (board : Board) → IsProp (IsLaidOut board)

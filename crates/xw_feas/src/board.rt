@@ -22,7 +22,7 @@ use xw_letters::letter_set::LetterSet;
 pub struct Cells {
     first: usize,
     stride: usize,
-    count: usize,
+    len: usize,
 }
 
 impl Model for Cells {
@@ -31,9 +31,9 @@ impl Model for Cells {
 
     ghost Value = { List ℕ };
 
-    ghost view = { λ cells. map (λ k. cells.first + k * cells.stride) (range_with_len 0 cells.count) };
+    ghost view = { λ cells. map (λ k. cells.first + k * cells.stride) (range_with_len 0 cells.len) };
 
-    ghost invariant = { λ cells. (cells.first ≤ 65025) × (cells.stride ≤ 255) × (cells.count ≤ 255) };
+    ghost invariant = { λ cells. (cells.first ≤ 65025) × (cells.stride ≤ 255) × (cells.len ≤ 255) };
 }
 
 impl Cells {
@@ -41,7 +41,7 @@ impl Cells {
     pub fn len(&self) -> usize
         ensures { result ≡ length self.now }
     {
-        self.count
+        self.len
     }
 
     /// The index of cell `k` of the light.
@@ -208,7 +208,7 @@ fn cells_of(grid: &Grid, light: Light) -> Cells
         Some(first) => Cells {
             first,
             stride: stride(grid, light.name.direction),
-            count: light.size as usize,
+            len: light.size as usize,
         },
         None => unreachable!(),
     }

@@ -11,10 +11,12 @@ pub mod feasible;
 pub mod grid_edit;
 pub mod laws;
 mod place;
+pub mod searchable;
 pub mod word_iter;
 pub mod write;
 
 pub use changed::Changed;
 pub use edit::{Edit, Found, Refusal};
 pub use feasible::{Feasible, run};
+pub use searchable::Searchable;
 pub use word_iter::{Spelled, WordIter, words};

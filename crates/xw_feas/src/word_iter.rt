@@ -144,10 +144,10 @@ fn word_in<E: Feasible>(engine: &E, light: usize, place: usize) -> &[Letter]
     ensures small { place < most_words }
 {
     let board = Board::new(engine.grid(), engine.lights());
-    let count = board.light(light).len();
+    let len = board.light(light).len();
     let bank = engine.bank();
-    let _ = bank.known(count);
-    bank.word(count, place)
+    let _ = bank.known(len);
+    bank.word(len, place)
 }
 
 impl<'a, E: Feasible> Iterator for WordIter<'a, E> {

@@ -1,4 +1,5 @@
 pub mod Part
+pub mod FaultNames
 pub mod Finished
 pub mod Steps
 pub mod Order

@@ -1,5 +1,9 @@
-//! Faults of reading and writing puzzle files.
+//! Faults of reading and writing puzzle files, and their names.
+ghost use Rattle.std.specs.Prelude.{◌≡◌};
+ghost use Rattle.xw_files.specs.FaultNames.{read_fault_name, write_fault_name};
+
 use std::alloc::{AllocError, AllocFailed};
+use std::fmt;
 use xw_grid::cell::Cell;
 use xw_grid::fault::GridFault;
 
@@ -74,6 +78,47 @@ pub enum ReadFault {
     GextSum,
 }
 
+impl ReadFault {
+    /// Returns the name of the fault. The name does not include the place.
+    pub fn name(self) -> &'static str
+        ensures { result.now ≡ read_fault_name self }
+    {
+        match self {
+            ReadFault::Short(_) => "Short",
+            ReadFault::Magic => "Magic",
+            ReadFault::Version => "Version",
+            ReadFault::Scrambled => "Scrambled",
+            ReadFault::Size => "Size",
+            ReadFault::NoNul(_) => "NoNul",
+            ReadFault::BadSum(_) => "BadSum",
+            ReadFault::BadCell(_) => "BadCell",
+            ReadFault::ClueCount => "ClueCount",
+            ReadFault::Memory => "Memory",
+            ReadFault::Header => "Header",
+            ReadFault::Tag(_) => "Tag",
+            ReadFault::SizeLine => "SizeLine",
+            ReadFault::GridLine(_) => "GridLine",
+            ReadFault::AcrossCount => "AcrossCount",
+            ReadFault::DownCount => "DownCount",
+            ReadFault::NulByte(_) => "NulByte",
+            ReadFault::GextSize => "GextSize",
+            ReadFault::GextSum => "GextSum",
+        }
+    }
+}
+
+/// Writes the name of the fault.
+impl fmt::Display for ReadFault {
+    ghost use Rattle.std.specs.Prelude.{Some};
+    ghost use Rattle.xw_files.specs.FaultNames.{read_fault_name};
+
+    ghost output = { λ fault. Some (read_fault_name fault) };
+
+    fn fmt<W: fmt::Write>(&self, f: &mut fmt::Formatter<W>) -> fmt::Result {
+        f.write_str(self.name())
+    }
+}
+
 impl From<AllocError> for ReadFault {
     ghost use Rattle.std.specs.Prelude.{◌≡◌};
     ghost use Rattle.xw_files.specs.declared.fault.ReadFault.TheVariants.{Memory};
@@ -119,6 +164,33 @@ pub enum WriteFault {
     Memory,
     /// This open cell is circled, and the text format has no circles.
     Circled(Cell),
+}
+
+impl WriteFault {
+    /// Returns the name of the fault. The name does not include the place.
+    pub fn name(self) -> &'static str
+        ensures { result.now ≡ write_fault_name self }
+    {
+        match self {
+            WriteFault::Barred => "Barred",
+            WriteFault::NotFilled(_) => "NotFilled",
+            WriteFault::Field(_) => "Field",
+            WriteFault::Memory => "Memory",
+            WriteFault::Circled(_) => "Circled",
+        }
+    }
+}
+
+/// Writes the name of the fault.
+impl fmt::Display for WriteFault {
+    ghost use Rattle.std.specs.Prelude.{Some};
+    ghost use Rattle.xw_files.specs.FaultNames.{write_fault_name};
+
+    ghost output = { λ fault. Some (write_fault_name fault) };
+
+    fn fmt<W: fmt::Write>(&self, f: &mut fmt::Formatter<W>) -> fmt::Result {
+        f.write_str(self.name())
+    }
 }
 
 impl From<AllocError> for WriteFault {

@@ -13,20 +13,20 @@ use Rattle.xw_fill.specs.FeasibleLetters.{is_family_leaving, is_feasible_letter,
 use Rattle.xw_fill.proofs.BelowLemmas.{any_part-from, any_part-gives}
 use Rattle.xw_fill.proofs.FeasibleWordsLemmas.{family_of, family_is_supported, family_is_kept, letter_of_family, same_tests, filter-same}
 
-is_feasible_letter-gives : (state : Position) (cell letter : ℕ) → is_feasible_letter state cell letter ≡ true → (family : Family) × IsSupported state.board state.words family × (family.letters cell letter ≡ true)
+pub is_feasible_letter-gives : (state : Position) (cell letter : ℕ) → is_feasible_letter state cell letter ≡ true → (family : Family) × IsSupported state.board state.words family × (family.letters cell letter ≡ true)
 unfolding is_feasible_letter
 is_feasible_letter-gives state cell letter h =
     let found = any_part-gives (is_family_leaving state cell letter) (base_pairs state.board state.words (length state.board.lights)) h in
     let parts = and_parts (list_all (is_kept state.board state.words found.0) found.0) (leaves_letter state.board found.0 cell letter) found.1 in
     (family_of state.board found.0, family_is_supported state.board state.words found.0 parts.0, parts.1)
 
-is_feasible_letter-from : (state : Position) (cell letter : ℕ) (family : Family) → IsSupported state.board state.words family → family.letters cell letter ≡ true → is_feasible_letter state cell letter ≡ true
+pub is_feasible_letter-from : (state : Position) (cell letter : ℕ) (family : Family) → IsSupported state.board state.words family → family.letters cell letter ≡ true → is_feasible_letter state cell letter ≡ true
 unfolding is_feasible_letter
 is_feasible_letter-from state cell letter family supported h =
     any_part-from (is_family_leaving state cell letter) (λ (pair : Pair). family.words pair.0 pair.1) (base_pairs state.board state.words (length state.board.lights))
     (and_from _ _ (family_is_kept state.board state.words family supported) (letter_of_family state.board state.words family supported cell letter h))
 
-answers_letter-is : (state : Position) (answers : Answers) → AreAnswers state.board state.words answers → (cell letter : ℕ) → answers_letter answers cell letter ≡ is_feasible_letter state cell letter
+pub answers_letter-is : (state : Position) (answers : Answers) → AreAnswers state.board state.words answers → (cell letter : ℕ) → answers_letter answers cell letter ≡ is_feasible_letter state cell letter
 answers_letter-is state answers exact cell letter =
     same_tests _ _
     (λ h. ∥∥₁_elim ((exact.letters cell letter).0 h) (Bool-set _ _) (λ feasible. is_feasible_letter-from state cell letter feasible.0 feasible.1 feasible.2))

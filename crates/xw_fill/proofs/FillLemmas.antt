@@ -63,7 +63,7 @@ fill-agrees position entries fill light in_grid =
     let same = sym (fill.kept (get_or (light_at position.board light) k 0) entered e) ∙ fill-at position entries fill light k in_grid below in cc))
 
 -- an active word that agrees is a base word
-active_base : (board : Board) (dictionary : Dictionary) (light : ℕ) (word : List ℕ) → light < length board.lights → is_wholly_entered board (light_at board light) ≡ false → IsActive dictionary word → agrees board (light_at board light) word ≡ true → Among word (base_words_at board dictionary light)
+pub active_base : (board : Board) (dictionary : Dictionary) (light : ℕ) (word : List ℕ) → light < length board.lights → is_wholly_entered board (light_at board light) ≡ false → IsActive dictionary word → agrees board (light_at board light) word ≡ true → Among word (base_words_at board dictionary light)
 active_base board dictionary light word below not_entered active fits =
     let test : Entry → Bool = λ known. known.active && agrees board (light_at board light) known.word in
     let words = known_words dictionary (length (light_at board light)) in
@@ -72,7 +72,7 @@ active_base board dictionary light word below not_entered active fits =
     let known : Among is words = subst (λ n. Among is (known_words dictionary n)) (agrees-length board (light_at board light) word fits) (Among-contained is (known_words dictionary (length word)) active) in
     subst (Among word) (sym here) (Among-map (λ (w : Entry). w.word) is (filter test words) (Among-filter test words is known fits))
 
-entered_base : (board : Board) (dictionary : Dictionary) (light : ℕ) → light < length board.lights → is_wholly_entered board (light_at board light) ≡ true → Among (spelled board (light_at board light)) (base_words_at board dictionary light)
+pub entered_base : (board : Board) (dictionary : Dictionary) (light : ℕ) → light < length board.lights → is_wholly_entered board (light_at board light) ≡ true → Among (spelled board (light_at board light)) (base_words_at board dictionary light)
 entered_base board dictionary light below entered =
     let test : Entry → Bool = λ known. known.active && agrees board (light_at board light) known.word in
     let here : base_words_at board dictionary light ≡ spelled board (light_at board light) ∷ [] = get_or-map (base_words board dictionary) board.lights light [] [] below ∙ ap (λ b. cond b (spelled board (light_at board light) ∷ []) (map (λ (known : Entry). known.word) (filter test (known_words dictionary (length (light_at board light)))))) entered in
@@ -115,7 +115,7 @@ fill_is_feasible position entries laid fill light in_grid =
 
 -- ---- If a fill exists, one is found.
 
-has_words : (position : Position) (light : ℕ) (word : List ℕ) → Among word (feasible_words position light) → lacks_words position light ≡ false
+pub has_words : (position : Position) (light : ℕ) (word : List ℕ) → Among word (feasible_words position light) → lacks_words position light ≡ false
 has_words position light word among =
     let found = Contains-among word (feasible_words position light) among in
     ne_eqb (length (feasible_words position light)) 0 (λ e. absurd (let below : found.0 < length (feasible_words position light) = found.1 in omega arith))

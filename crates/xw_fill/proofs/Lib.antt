@@ -1,6 +1,7 @@
 pub mod BelowLemmas
 pub mod Shaped
 pub mod StateLemmas
+pub mod MarksLemmas
 pub mod FeasibleWordsLemmas
 pub mod FeasibleLettersLemmas
 pub mod PlacingLemmas
@@ -13,6 +14,7 @@ pub mod ScanLemmas
 pub mod WordsLemmas
 pub mod Trail
 pub mod Searching
+pub mod MarkedTries
 pub mod SuggestingLemmas
 pub mod ListingLemmas
 pub mod LawLemmas

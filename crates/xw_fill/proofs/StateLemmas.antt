@@ -98,6 +98,12 @@ DiffersInEntries-then first second third a b =
     ∙ ap (λ state. filled_in state (board_of third.grid).entries) a
     ∙ ap (λ squares. record first { grid = record (first.grid) { squares = squares } }) (squares_with-twice first.grid.squares (board_of second.grid).entries (board_of third.grid).entries)
 
+pub DiffersInEntries-back : (start first second : State) → DiffersInEntries start first → DiffersInEntries start second → DiffersInEntries first second
+DiffersInEntries-back start first second a b =
+    b
+    ∙ ap (λ squares. record start { grid = record (start.grid) { squares = squares } }) (sym (squares_with-twice start.grid.squares (board_of first.grid).entries (board_of second.grid).entries))
+    ∙ ap (λ state. filled_in state (board_of second.grid).entries) (sym a)
+
 -- such states with the same position are equal
 pub same_state : (start now : State) → DiffersInEntries start now → position_of now ≡ position_of start → now ≡ start
 same_state start now differs same = differs ∙ ap (λ position. filled_in start position.board.entries) same ∙ sym (DiffersInEntries-itself start)
@@ -149,7 +155,7 @@ letters_squares grid (cell ∷ cells) [] = refl
 letters_squares grid (cell ∷ cells) (letter ∷ word) = letters_squares (with_entry grid cell (Some letter)) cells word
 
 -- a grid that differs only in its squares and has the same open cells
-differs_in_squares : (state : State) (grid : Grid) → grid ≡ record (state.grid) { squares = grid.squares } → (board_of grid).open_cells ≡ (board_of state.grid).open_cells → DiffersInEntries state (record state { grid = grid })
+pub differs_in_squares : (state : State) (grid : Grid) → grid ≡ record (state.grid) { squares = grid.squares } → (board_of grid).open_cells ≡ (board_of state.grid).open_cells → DiffersInEntries state (record state { grid = grid })
 unfolding board_of
 differs_in_squares state grid squares opens =
     ap (λ g. record state { grid = g }) squares
@@ -284,7 +290,7 @@ open_with (Block ∷ squares) entries zero = refl
 open_with (Open entered ∷ squares) entries zero = refl
 open_with (square ∷ squares) entries (suc at) = open_with squares (drop 1 entries) at
 
-filled_open : (state : State) (entries : List (Option ℕ)) (cell : Cell) → is_open (filled_in state entries).grid cell ≡ is_open state.grid cell
+pub filled_open : (state : State) (entries : List (Option ℕ)) (cell : Cell) → is_open (filled_in state entries).grid cell ≡ is_open state.grid cell
 filled_open state entries cell = by_test (is_inside state.grid cell) where
   by_test : (b : Bool) → is_open_square (cond b (slice_get (squares_with state.grid.squares entries) (index_of state.grid cell)) None) ≡ is_open_square (cond b (slice_get state.grid.squares (index_of state.grid cell)) None)
   by_test true = open_with state.grid.squares entries (index_of state.grid cell)

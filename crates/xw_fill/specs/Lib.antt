@@ -7,6 +7,7 @@ pub mod Noted
 pub mod Linked
 pub mod Fill
 pub mod Tries
+pub mod Marks
 pub mod Filling
 pub mod Words
 pub mod Suggesting

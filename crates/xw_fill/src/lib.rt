@@ -1,16 +1,18 @@
 //! Finds repeated and unlisted words, suggests words, and fills grids. Works over any engine that implements
-//! `Feasible`.
+//! `Feasible`; filling needs one that implements `Searchable`.
 #![tactic(auto)]
 
 pub mod laws;
 pub mod listing;
+pub mod marks;
 mod noted;
 mod repeats;
-mod scan;
+pub mod scan;
 pub mod search;
 pub mod suggesting;
 mod tries;
 
 pub use listing::{Duplicate, duplicates, unlisted};
+pub use marks::Marks;
 pub use search::{Filling, fill};
 pub use suggesting::{Suggestion, suggest};

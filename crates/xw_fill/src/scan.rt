@@ -7,7 +7,7 @@ ghost use Rattle.xw_fill.specs.Position.{position_of, name_at};
 ghost use Rattle.xw_fill.specs.FeasibleWords.{feasible_words};
 ghost use Rattle.xw_fill.specs.Below.{first_below};
 ghost use Rattle.xw_fill.specs.Words.{IsNextWord, HasNoMore};
-ghost use Rattle.xw_fill.specs.Search.{is_entered, spelling, spell_same, first_same, lacks_words, light_count, chosen};
+ghost use Rattle.xw_fill.specs.Search.{is_entered, spelling, spell_same, first_same, lacks_words, light_count, chosen, unentered_count};
 ghost use Rattle.xw_fill.specs.Noted.{has_note, AreEntered};
 ghost use Rattle.xw_fill.specs.Filling.{scanned};
 
@@ -52,7 +52,7 @@ pub fn name_at<E: Feasible>(engine: &E, light: usize) -> LightName
 }
 
 /// Returns the number of feasible words of a light.
-fn word_count<E: Feasible>(engine: &E, light: usize) -> usize
+pub fn word_count<E: Feasible>(engine: &E, light: usize) -> usize
     requires { light < light_count (position_of (E.state engine.now)) }
     ensures { result ≡ length (feasible_words (position_of (E.state engine.now)) light) }
 {
@@ -84,6 +84,19 @@ pub fn is_entered<E: Feasible>(engine: &E, light: usize) -> bool
 {
     let board = board(engine);
     has_all_entries(&board, &board.light(light))
+}
+
+/// Returns the number of lights that are not wholly entered.
+pub fn unentered_count<E: Feasible>(engine: &E) -> usize
+    ensures { result ≡ unentered_count (position_of (E.state engine.now)) }
+{
+    let mut count = 0;
+    for light in 0..light_count(engine) {
+        if !is_entered(engine, light) {
+            count += 1;
+        }
+    }
+    count
 }
 
 /// Returns whether two lights have the same letters, whether or not they are wholly entered.

@@ -1,20 +1,29 @@
 //! The search for a fill: depth first, with the words of each light in dictionary order.
-ghost use Rattle.std.specs.Prelude.{◌≡◌, false, suc, [], length, slice_index_or, IfOk, IfErr, OnErr};
+ghost use Rattle.std.specs.Prelude.{◌≡◌, ◌<◌, ◌≤◌, false, suc, [], length, slice_index_or, IfOk, IfErr, OnErr};
 ghost use Rattle.xw_fill.specs.Position.{position_of, placed, DiffersInEntries};
-ghost use Rattle.xw_fill.specs.Search.{is_dead, light_count};
+ghost use Rattle.xw_fill.specs.Search.{is_dead, light_count, unentered_count};
+ghost use Rattle.xw_fill.specs.Marks.{held_of, but_last, AreTwins};
+ghost use Rattle.xw_fill.specs.Tries.{taken_back, IsMarkedBefore};
 ghost use Rattle.xw_fill.specs.Noted.{noted, AreEntered, StayNoted};
 ghost use Rattle.xw_fill.specs.Suggesting.{IsTriedAt};
 ghost use Rattle.xw_fill.specs.Words.{spellings_at};
 ghost use Rattle.xw_fill.specs.Filling.{IsFilling, HasFill, UnlessFilled, unless_repeated, outlook};
 
+use crate::marks::Marks;
 use crate::noted::{has_new_repeat, note_entered};
 use crate::repeats::has_repeat;
-use crate::scan::{Scan, light_count, next_place, scan_lights};
+use crate::scan::{Scan, light_count, next_place, scan_lights, unentered_count};
 use crate::tries::{Try, make_try, place_word, take_all_back, take_back};
 use std::alloc::Global;
 use xw_feas::edit::Refusal;
 use xw_feas::feasible::Feasible;
+use xw_feas::searchable::Searchable;
 use xw_grid::fault::GridFault;
+
+/// The most marks that a search has room for. It needs one for each light that is not wholly entered. A placement whose
+/// mark is forgotten is undone by an edit. Each mark takes one snapshot: two bits for each known word of each light's
+/// length, and some 440 bytes for each cell.
+const MARKS: usize = 32;
 
 /// How a search for a fill ended.
 /// - `Filled`: the grid holds a fill.
@@ -102,9 +111,37 @@ fn try_word<E: Feasible>(
     }
 }
 
+/// Returns how many marks a search makes room for. `next` is its first step; a search that ends there needs none.
+fn marks_for<E: Feasible>(engine: &E, next: Next) -> usize
+    ensures few { result ≤ MARKS }
+    ensures lights { result ≤ unentered_count (position_of (E.state engine.now)) }
+{
+    match next {
+        Next::Done | Next::Spent => 0,
+        Next::Words(..) => unentered_count(engine).min(MARKS),
+    }
+}
+
+/// Undoes the last placement: returns to the mark before it or, if that is forgotten, clears the cells that were empty
+/// before it.
+fn go_back<E: Searchable>(engine: &mut E, marks: &mut Marks<E>, tried: &Try)
+    requires light { tried.now.light < light_count (position_of (E.state engine.old)) }
+    requires twins { AreTwins E.saved marks.old (E.state engine.old) }
+    requires marked { IsMarkedBefore (held_of E.saved marks.old) (E.state engine.old) tried.now }
+    ensures back { position_of (E.state engine.new) ≡ taken_back (position_of (E.state engine.old)) tried.now }
+    ensures entries { DiffersInEntries (E.state engine.old) (E.state engine.new) }
+    ensures held { held_of E.saved marks.new ≡ but_last (held_of E.saved marks.old) }
+    ensures twins { AreTwins E.saved marks.new (E.state engine.new) }
+{
+    if !marks.back(engine) {
+        take_back(engine, tried);
+    }
+}
+
 /// Fills the grid with at most `limit` placements. The engine changes only for `Filled`. Returns `Memory` if an
-/// allocation fails, and then leaves the engine unchanged.
-pub fn fill<E: Feasible>(alloc: Global, engine: &mut E, limit: u64) -> Result<Filling, Refusal>
+/// allocation fails, and then leaves the engine unchanged. All memory is allocated before the first placement: a try and
+/// a note for each light, and a snapshot for each light that is not wholly entered, up to `MARKS`.
+pub fn fill<E: Searchable>(alloc: Global, engine: &mut E, limit: u64) -> Result<Filling, Refusal>
     ensures found { IfOk result (IsFilling limit (E.state engine.old) (E.state engine.new)) }
     ensures fill { IfOk result (HasFill (E.state engine.old) (E.state engine.new)) }
     ensures memory { IfErr result (λ refusal. refusal ≡ Refusal.Grid GridFault.Memory) }
@@ -118,13 +155,14 @@ pub fn fill<E: Feasible>(alloc: Global, engine: &mut E, limit: u64) -> Result<Fi
     let mut since = vec![in alloc; None; count].map_err(|_| Refusal::Grid(GridFault::Memory))?;
     let mut used = 0;
     let mut next = begin(alloc, engine, since.as_mut_slice())?;
+    let mut marks = Marks::new(alloc, engine, marks_for(engine, next))?;
     'search: loop {
         match next {
             Next::Done => return Ok(Filling::Filled),
             Next::Spent => match tries.pop() {
                 None => return Ok(Filling::NoFill),
                 Some(tried) => {
-                    take_back(engine, &tried);
+                    go_back(engine, &mut marks, &tried);
                     next = Next::Words(tried.light, tried.place + 1);
                 }
             },
@@ -136,6 +174,7 @@ pub fn fill<E: Feasible>(alloc: Global, engine: &mut E, limit: u64) -> Result<Fi
                         return Ok(Filling::Limit);
                     }
                     used += 1;
+                    marks.mark(engine);
                     let _ = tries.push(make_try(engine, light, place));
                     next = try_word(engine, since.as_mut_slice(), tries.len(), light, place);
                 }

@@ -107,6 +107,19 @@ impl Grid {
         })
     }
 
+    /// Copies `other`, a grid with as many cells. It allocates nothing.
+    pub fn copy_from(&mut self, other: &Grid)
+        requires { length self.old.squares ≡ length other.now.squares }
+        ensures { self.new ≡ other.now }
+    {
+        self.width = other.width;
+        self.height = other.height;
+        self.squares.as_mut_slice().copy_from_slice(&other.squares);
+        self.right.as_mut_slice().copy_from_slice(&other.right);
+        self.below.as_mut_slice().copy_from_slice(&other.below);
+        self.symmetry = other.symmetry;
+    }
+
     /// The number of columns.
     pub fn width(&self) -> u32
         ensures width { result ≡ self.now.width }

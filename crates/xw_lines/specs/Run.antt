@@ -1,7 +1,7 @@
 -- What a run over a reader and a writer does.
-use Rattle.std.specs.Prelude.{◌≡◌, ℕ, List, ◌∷◌, ◌++◌, Option}
+use Rattle.std.specs.Prelude.{◌≡◌, ℕ, ◌-◌, ◌^◌, ◌≤◌, Bool, IsTrue, List, ◌∷◌, ◌++◌, length, Option}
 use Rattle.xw_lines.specs.Cut.{ended_lines, last_piece, lines_of, held}
-use Rattle.xw_lines.specs.Device.{saturated, counted_up, Begins}
+use Rattle.xw_lines.specs.Device.{saturated, counted_up, Begins, HasFailed}
 use Rattle.xw_lines.specs.Spoken.{Spoken}
 use Rattle.xw_lines.specs.declared.outcome.Step.{Step}
 use Rattle.xw_lines.specs.declared.outcome.RunEnd.{RunEnd}
@@ -87,3 +87,34 @@ read_failures_after ReadFailed failures = counted_up failures
 read_failures_after WriteFailed failures = failures
 read_failures_after Endless failures = failures
 read_failures_after Memory failures = failures
+
+-- What a run did, and how it ended. `read`, `is_at_end` and `read_failures` are the ghost functions of the reader, `written` and
+-- `write_failures` those of the writer. `start`, `source` and `sink` are the line handler, the reader and the writer before the run,
+-- `end`, `source'` and `sink'` after it.
+pub record IsRun {S R W : Type 0} (Answers : S → List ℕ → Step → List ℕ → S → Type 0) (read : R → List ℕ) (is_at_end : R → Bool) (read_failures : R → ℕ) (written : W → List ℕ) (write_failures : W → ℕ)
+    (result : RunEnd) (start end : S) (source source' : R) (sink sink' : W) : Type 0 where
+  -- The reader reached its end, and all lines are answered.
+  pub done : IfDone result (λ refused. (text : List ℕ) × (read source' ≡ read source ++ text)
+      × IsTrue (is_at_end source')
+      × (count : ℕ) × (refused ≡ saturated count)
+      × Speaks Answers start (lines_of text) count end (written sink) (written sink'))
+  -- The reader failed in this call. All complete lines before the failure are answered.
+  pub read_failed : OnReadFailed result ((text : List ℕ) × (read source' ≡ read source ++ text)
+      × HasFailed (read_failures source) (read_failures source')
+      × (count : ℕ)
+      × Speaks Answers start (ended_lines text) count end (written sink) (written sink'))
+  -- The writer failed in this call, or took no bytes.
+  pub write_failed : OnWriteFailed result ((text : List ℕ) × (read source' ≡ read source ++ text)
+      × HasFailed (write_failures sink) (write_failures sink')
+      × StopsIn Answers start text end (written sink) (written sink'))
+  -- At least `u64::MAX` bytes were read, and the reader did not end.
+  pub endless : OnEndless result ((text : List ℕ) × (read source' ≡ read source ++ text)
+      × (2 ^ 64 - 1 ≤ length text)
+      × (count : ℕ)
+      × Speaks Answers start (ended_lines text) count end (written sink) (written sink'))
+  -- Neither the reader nor the writer was called.
+  pub memory : OnMemory result ((source' ≡ source) × (sink' ≡ sink) × (end ≡ start))
+  -- The writer failed in no other case: after a failed write or flush the run stops.
+  pub unfailed : UnlessWriteFailed result (write_failures sink' ≡ write_failures sink)
+  -- The reader failed once if the end says so, and never otherwise: no failed read is ignored.
+  pub reads : read_failures source' ≡ read_failures_after result (read_failures source)

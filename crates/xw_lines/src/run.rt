@@ -1,11 +1,11 @@
 //! Reads lines and writes their answers.
-ghost use Rattle.std.specs.Prelude.{true, ◌≡◌, ℕ, ◌+◌, ◌-◌, ◌^◌, ◌<◌, ◌≤◌, List, [], ◌∷◌, ◌++◌, length, take, drop, position, Option, Some, None, IfOk, IfSome, IfNone, OnOk, OnErr, IsTrue};
+ghost use Rattle.std.specs.Prelude.{◌≡◌, ℕ, ◌+◌, ◌<◌, ◌≤◌, List, [], ◌∷◌, ◌++◌, length, drop, position, Some, IfOk, IfSome, IfNone, OnOk, OnErr};
 ghost use Rattle.std.specs.Option.{option_map};
-ghost use Rattle.xw_lines.specs.Cut.{lines_of, ended_lines, held, HasNoLf, EndsLine};
+ghost use Rattle.xw_lines.specs.Cut.{lines_of, HasNoLf, EndsLine};
 ghost use Rattle.xw_text.specs.Lines.{is_line_feed};
 ghost use Rattle.xw_lines.specs.Device.{flushed, saturated, HasFailed};
 ghost use Rattle.xw_lines.specs.Spoken.{Answered, BrokeOff, refusals, flush_after};
-ghost use Rattle.xw_lines.specs.Run.{Speaks, StopsIn, Progress, IfDone, OnReadFailed, OnWriteFailed, OnEndless, OnMemory, UnlessWriteFailed, read_failures_after};
+ghost use Rattle.xw_lines.specs.Run.{Speaks, StopsIn, Progress, IsRun};
 
 use crate::device::{Sink, Source, WriteFailed};
 use crate::line_buffer::LineBuffer;
@@ -196,37 +196,8 @@ pub fn run_lines<S: LineHandler, R: Source, W: Sink>(
     source: &mut R,
     sink: &mut W,
 ) -> RunEnd
-    // The reader reached its end, and all lines are answered.
-    ensures done { IfDone result (λ refused. (text : List ℕ) × (R.transcript source.new ≡ R.transcript source.old ++ text)
-        × IsTrue (R.is_at_end source.new)
-        × (count : ℕ) × (refused ≡ saturated count)
-        × Speaks S.answers handler.old (lines_of text) count handler.new (W.transcript sink.old) (W.transcript sink.new)) }
-
-    // The reader failed in this call. All complete lines before the failure are answered.
-    ensures read_failed { OnReadFailed result ((text : List ℕ) × (R.transcript source.new ≡ R.transcript source.old ++ text)
-        × HasFailed (R.failures source.old) (R.failures source.new)
-        × (count : ℕ)
-        × Speaks S.answers handler.old (ended_lines text) count handler.new (W.transcript sink.old) (W.transcript sink.new)) }
-
-    // The writer failed in this call, or took no bytes.
-    ensures write_failed { OnWriteFailed result ((text : List ℕ) × (R.transcript source.new ≡ R.transcript source.old ++ text)
-        × HasFailed (W.failures sink.old) (W.failures sink.new)
-        × StopsIn S.answers handler.old text handler.new (W.transcript sink.old) (W.transcript sink.new)) }
-
-    // At least `u64::MAX` bytes were read, and the reader did not end.
-    ensures endless { OnEndless result ((text : List ℕ) × (R.transcript source.new ≡ R.transcript source.old ++ text)
-        × (2 ^ 64 - 1 ≤ length text)
-        × (count : ℕ)
-        × Speaks S.answers handler.old (ended_lines text) count handler.new (W.transcript sink.old) (W.transcript sink.new)) }
-
-    // Neither the reader nor the writer was called.
-    ensures memory { OnMemory result ((source.new ≡ source.old) × (sink.new ≡ sink.old) × (handler.new ≡ handler.old)) }
-
-    // The writer failed in no other case: after a failed write or flush the run stops.
-    ensures unfailed { UnlessWriteFailed result (W.failures sink.new ≡ W.failures sink.old) }
-
-    // The reader failed once if the end says so, and never otherwise: no failed read is ignored.
-    ensures reads { R.failures source.new ≡ read_failures_after result (R.failures source.old) }
+    ensures { IsRun S.answers R.transcript R.is_at_end R.failures W.transcript W.failures result
+        handler.old handler.new source.old source.new sink.old sink.new }
 {
     let Ok(mut piece) = LineBuffer::new(alloc) else {
         return RunEnd::Memory;

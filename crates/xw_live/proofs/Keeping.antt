@@ -114,28 +114,28 @@ one_if true n = (omega arith, omega arith)
 one_if false n = (omega arith, omega arith)
 
 -- room for no more words
-pub room_for_none : (lights : List Light) (words : Dictionary) (net : Net) (waiting : Option Spare) → HasRoomIn lights (λ count. known_counts words count + (if grows None count then 1 else 0)) net waiting → HasRoomIn lights (known_counts words) net waiting
-room_for_none lights words net waiting room = subst (λ known. HasRoomIn lights known net waiting) (λ i count. add-zero (known_counts words count) i) room
+pub room_for_none : (lights : List Light) (words : Dictionary) (net : Net) (waiting : Option Spare) → HasRoomIn lights (λ len. known_counts words len + (if grows None len then 1 else 0)) net waiting → HasRoomIn lights (known_counts words) net waiting
+room_for_none lights words net waiting room = subst (λ known. HasRoomIn lights known net waiting) (λ i len. add-zero (known_counts words len) i) room
 
 -- if the number of known words stays, there is room for them
 pub room_for_same : (lights : List Light) (old new : Dictionary) (net : Net) → SameCounts old new → HasRoom lights (known_counts old) net → HasRoom lights (known_counts new) net
-room_for_same lights old new net same room = subst (λ known. HasRoom lights known net) (λ i count. sym (same count) i) room
+room_for_same lights old new net same room = subst (λ known. HasRoom lights known net) (λ i len. sym (same len) i) room
 
 -- if there is one more known word of a length, there is room for it
-pub room_for_grown : (lights : List Light) (old new : Dictionary) (grown : ℕ) (net : Net) → GrowsAt old new grown → HasRoom lights (λ count. known_counts old count + (if grows (Some grown) count then 1 else 0)) net → HasRoom lights (known_counts new) net
-room_for_grown lights old new grown net more room = subst (λ known. HasRoom lights known net) (λ i count. sym (more count) i) room
+pub room_for_grown : (lights : List Light) (old new : Dictionary) (grown : ℕ) (net : Net) → GrowsAt old new grown → HasRoom lights (λ len. known_counts old len + (if grows (Some grown) len then 1 else 0)) net → HasRoom lights (known_counts new) net
+room_for_grown lights old new grown net more room = subst (λ known. HasRoom lights known net) (λ i len. sym (more len) i) room
 
 -- ---- what a net was settled for
 
-near_same : (old new : Dictionary) → SameCounts old new → (count : ℕ) → (known_counts old count ≤ known_counts new count) × (known_counts new count ≤ known_counts old count + 1)
-near_same old new same count =
-    let is : known_counts new count ≡ known_counts old count = same count in
+near_same : (old new : Dictionary) → SameCounts old new → (len : ℕ) → (known_counts old len ≤ known_counts new len) × (known_counts new len ≤ known_counts old len + 1)
+near_same old new same len =
+    let is : known_counts new len ≡ known_counts old len = same len in
     (omega (arith, is), omega (arith, is))
 
-near_grown : (old new : Dictionary) (grown : ℕ) → GrowsAt old new grown → (count : ℕ) → (known_counts old count ≤ known_counts new count) × (known_counts new count ≤ known_counts old count + 1)
-near_grown old new grown more count =
-    let is : known_counts new count ≡ known_counts old count + (if grows (Some grown) count then 1 else 0) = more count in
-    subst (λ n. (known_counts old count ≤ n) × (n ≤ known_counts old count + 1)) (sym is) (one_if (grows (Some grown) count) (known_counts old count))
+near_grown : (old new : Dictionary) (grown : ℕ) → GrowsAt old new grown → (len : ℕ) → (known_counts old len ≤ known_counts new len) × (known_counts new len ≤ known_counts old len + 1)
+near_grown old new grown more len =
+    let is : known_counts new len ≡ known_counts old len + (if grows (Some grown) len then 1 else 0) = more len in
+    subst (λ n. (known_counts old len ≤ n) × (n ≤ known_counts old len + 1)) (sym is) (one_if (grows (Some grown) len) (known_counts old len))
 
 module _ (state : State) (net : Net) (lights : List Light) (are : lights ≡ lights_of state.grid) (known : ∥ IsSettledFor state net ∥₁) where
   abbrev pub stands_for : StandsFor lights net

@@ -4,3 +4,4 @@ pub mod Idle
 pub mod Made
 pub mod Next
 pub mod Noting
+mod Saving

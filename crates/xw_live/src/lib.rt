@@ -3,10 +3,12 @@
 
 pub mod live;
 mod noted;
+pub mod searching;
 mod settling;
 #[cfg(test)]
 mod tests;
 mod written;
 
 pub use live::Live;
+pub use searching::Saved;
 pub use xw_net::{Change, Net};

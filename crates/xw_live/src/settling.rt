@@ -132,7 +132,7 @@ pub fn make_room(
     ensures words { bank.new.words ≡ bank.old.words }
     ensures same { IsAlike net.old net.new }
     ensures bank_room { OnOk result (has_room bank.new (length word.now) ≡ true) }
-    ensures net_room { OnOk result (HasRoom lights.now (λ count. known_counts bank.old.words count + (if grows (Some (length word.now)) count then 1 else 0)) net.new) }
+    ensures net_room { OnOk result (HasRoom lights.now (λ len. known_counts bank.old.words len + (if grows (Some (length word.now)) len then 1 else 0)) net.new) }
     ensures none_waits { OnOk result (is_some net.new.spare ≡ false) }
     ensures spare { OnErr result (net.new.spare ≡ net.old.spare) }
     ensures memory { IfErr result (λ refusal. refusal ≡ Refusal.Word WordFault.Memory) }

@@ -299,7 +299,7 @@ fn pass(
     for (at, step) in steps.iter().enumerate() {
         let list = "step";
         let place = Place { name, list, at };
-        assert!(rt; goes(rt, watched, *step, place), "{name}, step {at}");
+        assert!(rt; goes(rt, watched, *step, place), "{name}: step {at} failed");
     }
 }
 
@@ -349,6 +349,9 @@ fn pass_case(rt: &(impl Abort + AllocGlobal), case: &Case) -> Result<(), Refusal
 fn pass_each(rt: &(impl Abort + AllocGlobal), cases: &[Case]) {
     for case in cases {
         let name = case.name;
-        assert!(rt; pass_case(rt, case) == Ok(()), "{name}, for want of memory");
+        assert!(rt;
+            pass_case(rt, case) == Ok(()),
+            "{name}: an allocation failed"
+        );
     }
 }

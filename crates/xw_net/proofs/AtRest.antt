@@ -16,19 +16,19 @@ use Rattle.xw_feas.proofs.FormedLemmas.{length-light_at}
 use Rattle.xw_net.specs.Nets.{queued_in}
 use Rattle.xw_net.specs.Spread.{is_marked, bits_in}
 use Rattle.xw_net.specs.Room.{size_at, row_at}
-use Rattle.xw_net.specs.Filled.{IsFilled}
+use Rattle.xw_net.specs.Filled.{IsWholeNet, IsQuiet, IsFilled}
 use Rattle.xw_net.specs.Fit.{AreNear, IsAtRest}
 use Rattle.xw_net.specs.Net.{known_counts, StoodFor, IsSettledFor}
 use Rattle.xw_net.specs.declared.net.Net.{Net}
 use Rattle.xw_net.proofs.Quiet.{quiet_queue_room, quiet_stack_room}
 use Rattle.xw_net.proofs.Rooms.{bits_are}
 
-module _ (grid : Grid) (dictionary : Dictionary) (net : Net) (filled : IsFilled (board_of grid) dictionary net) where
-  pub filled_rest : IsAtRest (lights_of grid) (vec_len net.letters) net
+module _ (grid : Grid) (dictionary : Dictionary) (net : Net) (whole : IsWholeNet (board_of grid) (row dictionary) net) (quiet : IsQuiet net) where
+  pub whole_rest : IsAtRest (lights_of grid) (vec_len net.letters) net
   unfolding queued_in is_marked
-  filled_rest =
-      let shaped = filled.whole.shaped in
-      let chained = filled.whole.chained in
+  whole_rest =
+      let shaped = whole.shaped in
+      let chained = whole.chained in
       record {
         few_cells = omega (arith, shaped.few_cells, shaped.letters);
         rows = omega (arith, shaped.rows, length-lights grid);
@@ -38,18 +38,22 @@ module _ (grid : Grid) (dictionary : Dictionary) (net : Net) (filled : IsFilled 
         held = omega (arith, shaped.held, shaped.letters);
         restart = omega (arith, shaped.restart, shaped.letters);
         pending = omega (arith, shaped.pending, shaped.letters);
-        queue = filled.quiet.queue;
+        queue = quiet.queue;
         queued_long = omega (arith, shaped.is_queued, length-lights grid);
-        is_queued = filled.quiet.queued;
-        queue_room = quiet_queue_room net filled.quiet (board_of grid) shaped;
-        stack = filled.quiet.stack;
+        is_queued = quiet.queued;
+        queue_room = quiet_queue_room net quiet (board_of grid) shaped;
+        stack = quiet.stack;
         marked_long = omega (arith, chained.is_marked, length-lights grid);
-        is_marked = filled.quiet.marked;
-        stack_room = quiet_stack_room net filled.quiet (board_of grid) chained;
+        is_marked = quiet.marked;
+        stack_room = quiet_stack_room net quiet (board_of grid) chained;
       }
 
+module _ (grid : Grid) (dictionary : Dictionary) (net : Net) (filled : IsFilled (board_of grid) dictionary net) where
+  pub filled_rest : IsAtRest (lights_of grid) (vec_len net.letters) net
+  filled_rest = whole_rest grid dictionary net filled.whole filled.quiet
+
   -- if at most one word of each length is new, a row that was complete lacks at most one bit
-  near : (counts : ℕ → ℕ) → ((count : ℕ) → (known_counts dictionary count ≤ counts count) × (counts count ≤ known_counts dictionary count + 1)) → (rows : List RowOfBits)
+  near : (counts : ℕ → ℕ) → ((len : ℕ) → (known_counts dictionary len ≤ counts len) × (counts len ≤ known_counts dictionary len + 1)) → (rows : List RowOfBits)
       → ((light : ℕ) → light < length (board_of grid).lights → length (bits_in rows light) ≡ length (row dictionary (length (light_at (board_of grid) light)))) → AreNear (lights_of grid) counts rows
   near counts grown rows bits light lt =
       let size = length-light_at grid light lt in
@@ -58,12 +62,12 @@ module _ (grid : Grid) (dictionary : Dictionary) (net : Net) (filled : IsFilled 
       let is = grown (size_at (lights_of grid) light) in
       (omega (arith, long, is.0), omega (arith, long, is.1))
 
-  pub filled_near : (counts : ℕ → ℕ) → ((count : ℕ) → (known_counts dictionary count ≤ counts count) × (counts count ≤ known_counts dictionary count + 1)) → AreNear (lights_of grid) counts net.rows.items × AreNear (lights_of grid) counts net.base.items
+  pub filled_near : (counts : ℕ → ℕ) → ((len : ℕ) → (known_counts dictionary len ≤ counts len) × (counts len ≤ known_counts dictionary len + 1)) → AreNear (lights_of grid) counts net.rows.items × AreNear (lights_of grid) counts net.base.items
   filled_near counts grown = (near counts grown net.rows.items filled.whole.bits, near counts grown net.base.items filled.whole.base.bits)
 
 -- ---- uniqueness of the proof
 
-rest_prop : (lights : List Light) (cells : ℕ) (net : Net) → IsProp (IsAtRest lights cells net)
+pub rest_prop : (lights : List Light) (cells : ℕ) (net : Net) → IsProp (IsAtRest lights cells net)
 rest_prop lights cells net x y = λ i. record {
   few_cells = le_prop x.few_cells y.few_cells i;
   rows = le_prop x.rows y.rows i;

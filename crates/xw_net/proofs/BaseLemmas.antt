@@ -122,28 +122,6 @@ pub record IsBelow (now target : List Bool) (n : ℕ) : Type 0 where
   pub long : length now ≡ length target
   pub below : (i : ℕ) → i < n → get_or now i false ≡ get_or target i false
 
-pub below_none : (now target : List Bool) → length now ≡ length target → IsBelow now target (64 * 0)
-below_none now target long = record { long = long; below = λ i lt. absurd (omega arith) }
-
--- one more chunk is written
-pub below_chunk : (now next target : List Bool) (chunk word : ℕ) → length next ≡ length now
-    → ((k : ℕ) → k < 64 → 64 * chunk + k < length now → get_or next (64 * chunk + k) false ≡ has_bit word k)
-    → ((i : ℕ) → (i / 64 ≡ chunk → ⊥) → get_or next i false ≡ get_or now i false)
-    → ((k : ℕ) → k < 64 → has_bit word k ≡ get_or target (64 * chunk + k) false)
-    → IsBelow now target (64 * chunk) → IsBelow next target (64 * (chunk + 1))
-below_chunk now next target chunk word long inside others bits before = record {
-  long = long ∙ before.long;
-  below = λ i lt. elim (cases_lt i (64 * chunk)) [
-    | inl early ↦ others i (λ e. omega arith) ∙ before.below i early
-    | inr here ↦
-        let at : 64 * chunk + (i - 64 * chunk) ≡ i = omega arith in
-        elim (cases_lt i (length now)) [
-          | inl within ↦ ap (λ n. get_or next n false) (sym at) ∙ inside (i - 64 * chunk) (omega arith) (omega arith) ∙ bits (i - 64 * chunk) (omega arith) ∙ ap (λ n. get_or target n false) at
-          | inr past ↦ get_or_past next i false (omega arith) ∙ sym (get_or_past target i false (omega (arith, before.long)))
-        ]
-  ];
-}
-
 -- once all bits are covered, the rows are equal
 pub below_all : (now target : List Bool) (n : ℕ) → IsBelow now target n → length now ≤ n → now ≡ target
 below_all now target n is all =

@@ -13,7 +13,7 @@ use Rattle.xw_letters.proofs.LetterSetLemmas.{has-none, capital_is_letter}
 use Rattle.xw_letters.specs.LetterSet.{has}
 use Rattle.xw_grid.specs.Grid.{Grid, IsGrid}
 use Rattle.xw_grid.specs.Light.{lights_of}
-use Rattle.xw_feas.specs.Board.{Board, board_of, light_at}
+use Rattle.xw_feas.specs.Board.{board_of, light_at}
 use Rattle.xw_feas.proofs.BoardLemmas.{length-open_cells, length-lights, light_in_board}
 use Rattle.xw_feas.proofs.FormedLemmas.{length-light_at}
 use Rattle.xw_net.specs.Marks.{IsPlace, cell_at, slot_at}
@@ -41,9 +41,6 @@ all_zero n i = elim (cases_lt i n) [
 
 module _ (grid : Grid) (is_grid : IsGrid grid) (dictionary : Dictionary) (is_dictionary : IsDictionary dictionary) (net : Net)
     (blank : IsBlank (lights_of grid) (counts_of (row dictionary)) (length grid.squares) net) (room : HasRoom (lights_of grid) (counts_of (row dictionary)) net) where
-  abbrev board : Board
-  board = board_of grid
-
   in_lights : (light : ℕ) → light < length (board_of grid).lights → light < length (lights_of grid)
   in_lights light lt = omega (arith, lt, length-lights grid)
 

@@ -21,12 +21,12 @@ use Rattle.xw_words.specs.declared.bank.Added.{Added}
 use Rattle.xw_words.specs.declared.bank.Added.TheVariants.{New, Returned}
 use Rattle.xw_feas.proofs.BoardLemmas.{entry-square}
 use Rattle.xw_net.specs.declared.change.Change.{Change}
-use Rattle.xw_net.specs.Change.{IsChange, with_entry_of, cells_written, places_listed, IsPlaceOf, word_changed, place_added, place_struck}
+use Rattle.xw_net.specs.Change.{IsChange, with_entry_of, places_listed, IsPlaceOf, word_changed, place_added, place_struck}
 use Rattle.xw_net.specs.Base.{base_bits, is_base_word}
 use Rattle.xw_net.specs.Spread.{bits_in, IsSpread, HasAll, no_places}
 use Rattle.xw_net.specs.Brought.{IsBase}
 use Rattle.xw_net.specs.Revival.{same_light, StandsOn}
-use Rattle.xw_net.specs.Region.{IsRegion, edited_cells, changes_words}
+use Rattle.xw_net.specs.Region.{IsRegion, cells_written, edited_cells, changes_words}
 use Rattle.xw_net.specs.Marks.{Marks, IsPlace, cell_at, slot_at, known, puts}
 use Rattle.xw_net.specs.Begin.{IsEdited, is_long, is_read, may_have, is_seed, is_fill, IsStarted}
 use Rattle.xw_net.proofs.Narrowed.{common_bits}
@@ -300,28 +300,28 @@ mapped f [] x k below at = absurd (omega arith)
 mapped f (y ∷ xs) x zero below at = (0, omega arith, ap f at)
 mapped f (y ∷ xs) x (suc k) below at = let rest = mapped f xs x k (omega arith) at in (suc rest.0, omega (arith, rest.1), rest.2)
 
-first_of : (len place count at : ℕ) → ◌≡◌ {A = Option (ℕ × ℕ)} (Some (len, place)) (Some (count, at)) → len ≡ count
-first_of len place count at h = ap (λ (o : Option (ℕ × ℕ)). (unwrap_or o (len, place)).0) h
+first_of : (len place word_len at : ℕ) → ◌≡◌ {A = Option (ℕ × ℕ)} (Some (len, place)) (Some (word_len, at)) → len ≡ word_len
+first_of len place word_len at h = ap (λ (o : Option (ℕ × ℕ)). (unwrap_or o (len, place)).0) h
 
-added_count : (len count place : ℕ) (answer : Result Added WordFault) → place_added len answer ≡ Some (count, place) → eqb len count ≡ true
-added_count len count place (Ok (New at)) h = eq-eqb len count (first_of len at count place h)
-added_count len count place (Ok (Returned at)) h = eq-eqb len count (first_of len at count place h)
-added_count len count place (Err fault) h = cc
+added_len : (len word_len place : ℕ) (answer : Result Added WordFault) → place_added len answer ≡ Some (word_len, place) → eqb len word_len ≡ true
+added_len len word_len place (Ok (New at)) h = eq-eqb len word_len (first_of len at word_len place h)
+added_len len word_len place (Ok (Returned at)) h = eq-eqb len word_len (first_of len at word_len place h)
+added_len len word_len place (Err fault) h = cc
 
-struck_count : (len count place : ℕ) (answer : Result ℕ WordFault) → place_struck len answer ≡ Some (count, place) → eqb len count ≡ true
-struck_count len count place (Ok at) h = eq-eqb len count (first_of len at count place h)
-struck_count len count place (Err fault) h = cc
+struck_len : (len word_len place : ℕ) (answer : Result ℕ WordFault) → place_struck len answer ≡ Some (word_len, place) → eqb len word_len ≡ true
+struck_len len word_len place (Ok at) h = eq-eqb len word_len (first_of len at word_len place h)
+struck_len len word_len place (Err fault) h = cc
 
-changed_count : (words : Dictionary) (action : Action) (count place : ℕ) → word_changed words action ≡ Some (count, place) → changes_words action count ≡ true
-changed_count words (word_added word) count place h = added_count (length word) count place (add_answer words word) h
-changed_count words (word_struck word) count place h = struck_count (length word) count place (strike_answer words word) h
-changed_count words (letter_set cell letter) count place h = cc
-changed_count words (cell_cleared cell) count place h = cc
-changed_count words (word_placed name word) count place h = cc
-changed_count words (list_written list) count place h = cc
-changed_count words (block_toggled cell) count place h = cc
-changed_count words (bar_toggled cell side) count place h = cc
-changed_count words (symmetry_chosen kind) count place h = cc
+changed_len : (words : Dictionary) (action : Action) (word_len place : ℕ) → word_changed words action ≡ Some (word_len, place) → changes_words action word_len ≡ true
+changed_len words (word_added word) word_len place h = added_len (length word) word_len place (add_answer words word) h
+changed_len words (word_struck word) word_len place h = struck_len (length word) word_len place (strike_answer words word) h
+changed_len words (letter_set cell letter) word_len place h = cc
+changed_len words (cell_cleared cell) word_len place h = cc
+changed_len words (word_placed name word) word_len place h = cc
+changed_len words (list_written list) word_len place h = cc
+changed_len words (block_toggled cell) word_len place h = cc
+changed_len words (bar_toggled cell side) word_len place h = cc
+changed_len words (symmetry_chosen kind) word_len place h = cc
 
 module _ (before now : State) (action : Action) (change : Change) (is : IsChange before now action change) (member : List ℕ → Bool) (region : IsRegion before now action member) where
   -- the new lights, those through edited cells, and those with the length of the changed word are
@@ -340,10 +340,10 @@ module _ (before now : State) (action : Action) (change : Change) (is : IsChange
       region.edited (light_at (board_of now.grid) light) (cell_at (board_of now.grid) light place) (inr (light_stands now light here.0)) (Contains-get_or (light_at (board_of now.grid) light) place 0 here.1)
       (subst (Contains (edited_cells before.grid action)) (sym cell) (subst (λ ps. Contains ps (index_of before.grid listed.0)) cells among))
 
-  pub long_within : (count place light : ℕ) → change.word ≡ Some (count, place) → light < length (board_of now.grid).lights → length (light_at (board_of now.grid) light) ≡ count → member (light_at (board_of now.grid) light) ≡ true
-  long_within count place light some in_board long =
+  pub long_within : (word_len place light : ℕ) → change.word ≡ Some (word_len, place) → light < length (board_of now.grid).lights → length (light_at (board_of now.grid) light) ≡ word_len → member (light_at (board_of now.grid) light) ≡ true
+  long_within word_len place light some in_board long =
       region.long (light_at (board_of now.grid) light) (inr (light_stands now light in_board))
-      (ap (changes_words action) long ∙ changed_count before.words action count place (sym is.word ∙ some))
+      (ap (changes_words action) long ∙ changed_len before.words action word_len place (sym is.word ∙ some))
 
 -- ---- the state at which a revival starts
 

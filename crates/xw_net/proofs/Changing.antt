@@ -1,5 +1,5 @@
 -- Facts about the description of an edit.
-use Rattle.std.proofs.Common.{◌≡◌, ℕ, zero, suc, ◌<◌, ◌≤◌, List, [], ◌∷◌, ◌++◌, true, false, map, length, get_or, set, Some, None, refl, sym, ◌∙◌, ap, subst, arith, inl, inr}
+use Rattle.std.proofs.Common.{◌≡◌, ℕ, zero, suc, ◌<◌, ◌≤◌, List, [], ◌∷◌, ◌++◌, true, false, map, length, set, Some, None, refl, sym, ◌∙◌, ap, subst, arith, inl, inr}
 use Rattle.std.specs.Prelude.{Option, Result, Ok, Err, Contains, slice_get}
 use Rattle.std.proofs.lemmas.Bool.{cases_lt, cases_eq}
 use Rattle.std.proofs.lemmas.List.{get_or-set_same, get_or-set_other, get_or_append_left, length-map}
@@ -11,16 +11,13 @@ use Rattle.xw_words.specs.Dictionary.{Entry, Dictionary, row, entry_at, no_entry
 use Rattle.xw_words.proofs.DictionaryLemmas.{word-marked}
 use Rattle.xw_grid.specs.declared.cell.Cell.{Cell}
 use Rattle.xw_grid.specs.Grid.{Grid, IsGrid, index_of}
-use Rattle.xw_grid.specs.Light.{lights_of, cells_of, place_named, no_light}
-use Rattle.xw_grid.specs.Orbit.{orbit_of}
+use Rattle.xw_grid.specs.Light.{lights_of}
 use Rattle.xw_feas.specs.State.{State, Action, after, grid_after, letter_set, cell_cleared, word_placed, list_written, block_toggled, bar_toggled, symmetry_chosen, word_added, word_struck, answered, add_word, strike_word}
 use Rattle.xw_feas.specs.WellFormed.{IsWellFormed}
 use Rattle.xw_feas.proofs.AdditionLemmas.{new_word}
-use Rattle.xw_feas.proofs.BoardLemmas.{length-lights, light_at-board}
-use Rattle.xw_feas.proofs.WordsLemmas.{named_within}
 use Rattle.xw_net.specs.declared.change.Change.{Change}
-use Rattle.xw_net.specs.Change.{IsChange, IsPlaceOf, cells_named, with_entry_of, entries_written, places_listed, place_added, place_struck, word_changed}
-use Rattle.xw_net.specs.Region.{cells_found, cells_changed, edited_cells}
+use Rattle.xw_net.specs.Change.{IsChange, IsPlaceOf, with_entry_of, entries_written, places_listed, place_added, place_struck, word_changed}
+use Rattle.xw_net.specs.Region.{cells_written, edited_cells}
 use Rattle.xw_net.proofs.Edits.{IsWrittenAt, grid_of_after, written_after, with_grid-Ok, with_words-Ok}
 
 -- ---- the listed cells
@@ -29,22 +26,9 @@ listed_places : (grid : Grid) (cells : List Cell) → places_listed grid (map (w
 listed_places grid [] = refl
 listed_places grid (cell ∷ cells) = ap (λ places. index_of grid cell ∷ places) (listed_places grid cells)
 
-named_places : (grid : Grid) (found : Option ℕ) → ((light : ℕ) → found ≡ Some light → light < length (lights_of grid)) → places_listed grid (map (with_entry_of grid) (cells_named grid found)) ≡ cells_found grid found
-named_places grid None within = refl
-named_places grid (Some light) within =
-    listed_places grid (cells_of (get_or (lights_of grid) light no_light)) ∙ sym (light_at-board grid light no_light (within light refl))
-
 -- the cells that an edit writes are its edited cells
 pub written_places : (grid : Grid) (action : Action) → places_listed grid (entries_written grid action) ≡ edited_cells grid action
-written_places grid (letter_set cell letter) = refl
-written_places grid (cell_cleared cell) = refl
-written_places grid (word_placed name word) = named_places grid (place_named (lights_of grid) name) (λ light found. omega (arith, named_within grid name light found, length-lights grid))
-written_places grid (list_written list) = listed_places grid (cells_changed grid (grid_after grid (list_written list)))
-written_places grid (block_toggled cell) = listed_places grid (orbit_of grid cell)
-written_places grid (bar_toggled cell side) = refl
-written_places grid (symmetry_chosen kind) = refl
-written_places grid (word_added word) = refl
-written_places grid (word_struck word) = refl
+written_places grid action = listed_places grid (cells_written grid action)
 
 -- the grid keeps its size
 pub size_kept : (grid new : Grid) (action : Action) → IsGrid grid → grid_after grid action ≡ Ok new → IsWrittenAt grid new (edited_cells grid action)
@@ -58,12 +42,12 @@ set_past (first ∷ words) zero entries past = absurd (omega arith)
 set_past (first ∷ words) (suc at) entries past = ap (λ rest. first ∷ rest) (set_past words at entries (omega arith))
 
 -- a property of the words of each length, after those of one length were replaced
-row_set : (P : ℕ → List Entry → Type 0) (words : Dictionary) (len : ℕ) (entries : List Entry) (count : ℕ) → P len entries → P count (row words count) → (count ≡ len → P len entries → P count entries) → P count (row (set words len entries) count)
-row_set P words len entries count there here moved = elim (cases_eq count len) [
-  | inr apart ↦ subst (P count) (sym (get_or-set_other words len count entries [] apart)) here
+row_set : (P : ℕ → List Entry → Type 0) (words : Dictionary) (len : ℕ) (entries : List Entry) (word_len : ℕ) → P len entries → P word_len (row words word_len) → (word_len ≡ len → P len entries → P word_len entries) → P word_len (row (set words len entries) word_len)
+row_set P words len entries word_len there here moved = elim (cases_eq word_len len) [
+  | inr apart ↦ subst (P word_len) (sym (get_or-set_other words len word_len entries [] apart)) here
   | inl e ↦ elim (cases_lt len (length words)) [
-    | inl below ↦ subst (P count) (sym (ap (λ n. row (set words len entries) n) e ∙ get_or-set_same words len entries [] below)) (moved e there)
-    | inr past ↦ subst (P count) (sym (ap (λ (d : Dictionary). row d count) (set_past words len entries past))) here
+    | inl below ↦ subst (P word_len) (sym (ap (λ n. row (set words len entries) n) e ∙ get_or-set_same words len entries [] below)) (moved e there)
+    | inr past ↦ subst (P word_len) (sym (ap (λ (d : Dictionary). row d word_len) (set_past words len entries past))) here
   ]
 ]
 
@@ -90,22 +74,22 @@ set_agrees (first ∷ entries) (suc place) entry (suc k) apart = set_agrees entr
 
 -- both facts, for a word given by its length and index
 record AreWordsBut (old new : Dictionary) (word : Option (ℕ × ℕ)) : Type 0 where
-  agree : (count place : ℕ) → ¬ IsPlaceOf word count place → slice_get (row new count) place ≡ slice_get (row old count) place
-  alike : (count : ℕ) → AreSpelledAlike (row old count) (row new count)
+  agree : (word_len place : ℕ) → ¬ IsPlaceOf word word_len place → slice_get (row new word_len) place ≡ slice_get (row old word_len) place
+  alike : (word_len : ℕ) → AreSpelledAlike (row old word_len) (row new word_len)
 
 same_words : (old new : Dictionary) (word : Option (ℕ × ℕ)) → new ≡ old → AreWordsBut old new word
 same_words old new word same = record {
-  agree = λ count place apart. ap (λ (d : Dictionary). slice_get (row d count) place) same;
-  alike = λ count k below. ap (λ (d : Dictionary). (entry_at (row d count) k).word) same;
+  agree = λ word_len place apart. ap (λ (d : Dictionary). slice_get (row d word_len) place) same;
+  alike = λ word_len k below. ap (λ (d : Dictionary). (entry_at (row d word_len) k).word) same;
 }
 
 words_but : (old : Dictionary) (len place : ℕ) (entries : List Entry) → AgreeBut place (row old len) entries → AreSpelledAlike (row old len) entries → AreWordsBut old (set old len entries) (Some (len, place))
 words_but old len place entries agree alike = record {
-  agree = λ count k apart.
-      row_set (λ n es. ¬ ((len ≡ n) × (place ≡ k)) → slice_get es k ≡ slice_get (row old n) k) old len entries count
+  agree = λ word_len k apart.
+      row_set (λ n es. ¬ ((len ≡ n) × (place ≡ k)) → slice_get es k ≡ slice_get (row old n) k) old len entries word_len
       (λ apart'. agree k (λ e. apart' (refl, sym e))) (λ _. refl) (λ e there apart'. subst (λ n. ¬ ((len ≡ n) × (place ≡ k)) → slice_get entries k ≡ slice_get (row old n) k) (sym e) there apart') apart;
-  alike = λ count.
-      row_set (λ n es. AreSpelledAlike (row old n) es) old len entries count alike (λ k below. refl) (λ e there. subst (λ n. AreSpelledAlike (row old n) entries) (sym e) there);
+  alike = λ word_len.
+      row_set (λ n es. AreSpelledAlike (row old n) es) old len entries word_len alike (λ k below. refl) (λ e there. subst (λ n. AreSpelledAlike (row old n) entries) (sym e) there);
 }
 
 added_but : (old new : Dictionary) (word : List ℕ) (answer : Result Added WordFault) → add_answer old word ≡ answer → answered (after_add old (map folded word)) answer ≡ Ok new → AreWordsBut old new (place_added (length word) answer)
@@ -170,6 +154,6 @@ change_made before now action change made formed_before formed_now cells lights 
       width = written.width;
       height = written.height;
       squares = λ place outside. written.squares place (λ edited. outside (subst (λ ps. Contains ps place) (sym places) edited));
-      entries = λ count place apart. words.agree count place (λ at. apart (subst (λ w. IsPlaceOf w count place) (sym word) at));
-      spelling = λ count place below. words.alike count place below;
+      entries = λ word_len place apart. words.agree word_len place (λ at. apart (subst (λ w. IsPlaceOf w word_len place) (sym word) at));
+      spelling = λ word_len place below. words.alike word_len place below;
     }

@@ -1,5 +1,5 @@
 -- The cost of updating the base rows of a set of lights, light by light.
-use Rattle.std.proofs.Common.{◌≡◌, ℕ, suc, ◌+◌, ◌*◌, Bool, true, cond, List, length, refl, ap, arith}
+use Rattle.std.proofs.Common.{◌≡◌, ℕ, suc, ◌+◌, ◌*◌, Bool, true, cond, List, length, ap, arith}
 use Rattle.std.proofs.lemmas.Bool.{cond-true}
 use Rattle.xw_words.specs.Dictionary.{Entry}
 use Rattle.xw_feas.specs.Board.{Board, light_at}
@@ -14,10 +14,6 @@ cost_here board entries member light = cond (member light) ((length (light_at bo
 -- the cost of the first lights
 unfoldable pub cost_below : Board → (ℕ → List Entry) → (ℕ → Bool) → ℕ → ℕ
 cost_below board entries member n = sum_to (cost_here board entries member) n
-
-pub cost_none : (board : Board) (entries : ℕ → List Entry) (member : ℕ → Bool) → cost_below board entries member 0 ≡ 0
-unfolding cost_below sum_to
-cost_none board entries member = refl
 
 pub cost_more : (board : Board) (entries : ℕ → List Entry) (member : ℕ → Bool) (n : ℕ) → cost_below board entries member (n + 1) ≡ cost_below board entries member n + cost_here board entries member n
 unfolding cost_below sum_to

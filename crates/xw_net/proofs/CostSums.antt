@@ -25,7 +25,7 @@ sum_below-le f g zero less = omega arith
 sum_below-le f g (suc n) less = omega (arith, sum_below-le f g n (λ k below. less k (omega arith)), less n (omega arith))
 
 -- splits off the first term
-sum_below-first : (f : ℕ → ℕ) (n : ℕ) → sum_below f (suc n) ≡ f 0 + sum_below (λ k. f (suc k)) n
+pub sum_below-first : (f : ℕ → ℕ) (n : ℕ) → sum_below f (suc n) ≡ f 0 + sum_below (λ k. f (suc k)) n
 sum_below-first f zero = omega arith
 sum_below-first f (suc n) = omega (arith, sum_below-first f n)
 

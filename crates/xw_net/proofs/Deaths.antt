@@ -19,9 +19,6 @@ module _ (board : Board) (i q b : ℕ) (place : IsPlace board i q) (old new : Ma
   module _ (other : ℕ) (crossing : IsCrossing board i (cell_at board i q) other) (only : (one : ℕ) → IsCrossing board i (cell_at board i q) one → other ≡ one)
       (pending : (s d : ℕ) → new.pending s d ≡ (old.pending s d || (eqb s (2 * cell_at board i q + side_of (light_at board other)) && eqb d b)))
       (queued : (j : ℕ) → new.queued j ≡ (old.queued j || eqb j other)) where
-    slot : ℕ
-    slot = 2 * cell_at board i q + side_of (light_at board other)
-
     the_other : (j : ℕ) → j ≡ other → IsOther board i q j crossing.place
     the_other j e = subst (λ n. IsOther board i q n crossing.place) (sym e) (record { place_there = (crossing.in_board, crossing.below); apart = crossing.apart; meets = crossing.meets })
 

@@ -1,21 +1,21 @@
 -- What an edit keeps: the squares of the cells it does not write, and the known words of other
 -- lengths.
-use Rattle.std.proofs.Common.{◌≡◌, ℕ, zero, suc, ◌*◌, ◌<◌, Bool, true, false, cond, not, List, [], ◌∷◌, map, length, get_or, set, eqb, Some, None, refl, sym, ◌∙◌, ap, subst, arith, inl, inr}
+use Rattle.std.proofs.Common.{◌≡◌, ℕ, zero, suc, ◌*◌, Bool, true, false, cond, not, List, [], ◌∷◌, map, length, get_or, set, eqb, Some, None, refl, sym, ◌∙◌, ap, subst, arith, inl, inr}
 use Rattle.std.specs.Prelude.{Option, Result, Ok, Err, Contains, slice_get, position, filter}
-use Rattle.std.proofs.lemmas.Bool.{cases_lt, cases_Bool, eqb-true, eqb-false, false≢true}
-use Rattle.std.proofs.lemmas.List.{get_or-set_other, get_or-map, length-map}
+use Rattle.std.proofs.lemmas.Bool.{cases_lt, cases_Bool, eqb-true, false≢true}
+use Rattle.std.proofs.lemmas.List.{get_or-map, length-map}
 use Rattle.std.proofs.lemmas.List.Elements.{Contains-get_or}
 use Rattle.std.proofs.lemmas.List.FromFn.{get_or-map-range_with_len}
 use Rattle.std.proofs.lemmas.Option.{slice_get-get_or, slice_get_past}
 use Rattle.xw_words.specs.declared.fault.WordFault.{WordFault}
-use Rattle.xw_words.specs.declared.bank.Added.{Added}
 use Rattle.xw_letters.specs.Letter.{folded}
 use Rattle.xw_words.specs.Word.{is_bad_letter}
-use Rattle.xw_words.specs.Dictionary.{Entry, Dictionary, row, add_answer, after_add, strike_answer, after_strike}
+use Rattle.xw_words.specs.Dictionary.{Dictionary}
 use Rattle.xw_grid.specs.declared.cell.Cell.{Cell}
 use Rattle.xw_grid.specs.declared.cell.Square.{Square}
 use Rattle.xw_grid.specs.declared.cell.Square.TheVariants.{Block, Open}
 use Rattle.xw_grid.specs.declared.cell.LightName.{LightName}
+use Rattle.xw_grid.specs.declared.lights.Light.{Light}
 use Rattle.xw_grid.specs.declared.cell.Side.{Side}
 use Rattle.xw_grid.specs.declared.cell.Symmetry.{Symmetry}
 use Rattle.xw_grid.specs.declared.fault.GridFault.{GridFault}
@@ -27,11 +27,10 @@ use Rattle.xw_grid.specs.Orbit.{is_in_orbit, orbit_of}
 use Rattle.xw_grid.proofs.GridLemmas.{index_of-cell_at, length-cells, cell_at-inside}
 use Rattle.xw_feas.specs.declared.edit.Refusal.{Refusal}
 use Rattle.xw_feas.specs.declared.edit.Refusal.TheVariants as refusals
-use Rattle.xw_feas.specs.Board.{board_of, entry, is_open, light_at}
-use Rattle.xw_feas.specs.State.{State, Action, letter_set, cell_cleared, word_placed, list_written, block_toggled, bar_toggled, symmetry_chosen, word_added, word_struck, after, grid_after, with_grid, with_words, by_fault, write_list, with_letters, place_word, placed_in, spelled_in, answered, add_word, strike_word}
-use Rattle.xw_feas.proofs.BoardLemmas.{is_open-square, entry-square, light_at-board, length-lights}
-use Rattle.xw_feas.proofs.WordsLemmas.{named_within}
-use Rattle.xw_net.specs.Region.{cells_found, same_entry, cells_changed, edited_cells, changes_words}
+use Rattle.xw_feas.specs.Board.{board_of, entry, is_open}
+use Rattle.xw_feas.specs.State.{State, Action, letter_set, cell_cleared, word_placed, list_written, block_toggled, bar_toggled, symmetry_chosen, word_added, word_struck, after, grid_after, with_grid, with_words, by_fault, write_list, with_letters, place_word, placed_in, spelled_in, add_word, strike_word}
+use Rattle.xw_feas.proofs.BoardLemmas.{is_open-square, entry-square}
+use Rattle.xw_net.specs.Region.{cells_named, same_entry, cells_changed, edited_cells}
 use Rattle.xw_net.proofs.Writing.{StaysOrOpen, LeavesOpen, list_leaves}
 
 -- a write keeps the other elements
@@ -85,23 +84,20 @@ letters_kept grid (cell ∷ light_cells) (letter ∷ letters) =
     }
 
 word_kept : (grid new : Grid) (name : LightName) (bytes : List ℕ) → place_word grid name bytes ≡ Ok new → IsWrittenAt grid new (edited_cells grid (word_placed name bytes))
-word_kept grid new name bytes ok = by_place (place_named (lights_of grid) name) refl ok where
-  by_size : (place : ℕ) (fits : Bool) → place < length (lights_of grid)
-      → cond fits (Ok (with_letters grid (cells_of (get_or (lights_of grid) place no_light)) (map folded bytes))) (Err refusals.PlaceLength) ≡ Ok new → IsWrittenAt grid new (light_at (board_of grid) place)
-  by_size place false within h = cc
-  by_size place true within h =
-      let light = get_or (lights_of grid) place no_light in
+word_kept grid new name bytes ok = by_place (place_named (lights_of grid) name) ok where
+  by_size : (light : Light) (fits : Bool) → cond fits (Ok (with_letters grid (cells_of light) (map folded bytes))) (Err refusals.PlaceLength) ≡ Ok new → IsWrittenAt grid new (map (index_of grid) (cells_of light))
+  by_size light false h = cc
+  by_size light true h =
       let is_new : with_letters grid (cells_of light) (map folded bytes) ≡ new = cc in
-      subst (λ g. IsWrittenAt grid g (light_at (board_of grid) place)) is_new
-      (subst (IsWrittenAt grid (with_letters grid (cells_of light) (map folded bytes))) (sym (light_at-board grid place no_light within)) (letters_kept grid (cells_of light) (map folded bytes)))
+      subst (λ g. IsWrittenAt grid g (map (index_of grid) (cells_of light))) is_new (letters_kept grid (cells_of light) (map folded bytes))
 
-  by_word : (place : ℕ) (bad : Option ℕ) → place < length (lights_of grid) → spelled_in grid (get_or (lights_of grid) place no_light) bad bytes ≡ Ok new → IsWrittenAt grid new (light_at (board_of grid) place)
-  by_word place (Some at) within h = cc
-  by_word place None within h = by_size place (eqb (length bytes) (get_or (lights_of grid) place no_light).size) within h
+  by_word : (light : Light) (bad : Option ℕ) → spelled_in grid light bad bytes ≡ Ok new → IsWrittenAt grid new (map (index_of grid) (cells_of light))
+  by_word light (Some at) h = cc
+  by_word light None h = by_size light (eqb (length bytes) light.size) h
 
-  by_place : (found : Option ℕ) → place_named (lights_of grid) name ≡ found → placed_in grid found bytes ≡ Ok new → IsWrittenAt grid new (cells_found grid found)
-  by_place None is h = cc
-  by_place (Some place) is h = by_word place (position is_bad_letter bytes) (omega (arith, named_within grid name place is, length-lights grid)) h
+  by_place : (found : Option ℕ) → placed_in grid found bytes ≡ Ok new → IsWrittenAt grid new (map (index_of grid) (cells_named grid found))
+  by_place None h = cc
+  by_place (Some place) h = by_word (get_or (lights_of grid) place no_light) (position is_bad_letter bytes) h
 
 -- an element that passes a filter is in the result
 pub contains_filtered : {X : Type 0} (test : X → Bool) (xs : List X) (x : X) → Contains xs x → test x ≡ true → Contains (filter test xs) x
@@ -249,35 +245,6 @@ grid_of_after state next (bar_toggled cell side) h = (with_grid-Ok state next (g
 grid_of_after state next (symmetry_chosen kind) h = (with_grid-Ok state next (grid_after state.grid (symmetry_chosen kind)) h).0
 grid_of_after state next (word_added word) h = ap Ok (sym (with_words-Ok state next (add_word state.words word) h).1)
 grid_of_after state next (word_struck word) h = ap Ok (sym (with_words-Ok state next (strike_word state.words word) h).1)
-
--- ---- the known words
-
-row_of_other : (words : Dictionary) (count other : ℕ) (entries : List Entry) → eqb count other ≡ false → row (set words count entries) other ≡ row words other
-row_of_other words count other entries apart = get_or-set_other words count other entries [] (λ e. eqb-false count other apart (sym e))
-
-rows_after_add : (words new : Dictionary) (word : List ℕ) (answer : Result Added WordFault) (count : ℕ) → eqb (length word) count ≡ false → answered (after_add words (map folded word)) answer ≡ Ok new → row new count ≡ row words count
-rows_after_add words new word (Ok added) count apart h =
-    let is : after_add words (map folded word) added ≡ new = cc in
-    ap (λ d. row d count) (sym is) ∙ row_of_other words (length (map folded word)) count _ (ap (λ n. eqb n count) (length-map word folded) ∙ apart)
-rows_after_add words new word (Err fault) count apart h = cc
-
-rows_after_strike : (words new : Dictionary) (word : List ℕ) (answer : Result ℕ WordFault) (count : ℕ) → eqb (length word) count ≡ false → answered (after_strike words (map folded word)) answer ≡ Ok new → row new count ≡ row words count
-rows_after_strike words new word (Ok place) count apart h =
-    let is : after_strike words (map folded word) place ≡ new = cc in
-    ap (λ d. row d count) (sym is) ∙ row_of_other words (length (map folded word)) count _ (ap (λ n. eqb n count) (length-map word folded) ∙ apart)
-rows_after_strike words new word (Err fault) count apart h = cc
-
--- an edit keeps the words of each length but that of its word
-pub row_after : (state next : State) (action : Action) (count : ℕ) → after state action ≡ Ok next → changes_words action count ≡ false → row next.words count ≡ row state.words count
-row_after state next (letter_set cell letter) count h no_words = ap (λ d. row d count) (with_grid-Ok state next (grid_after state.grid (letter_set cell letter)) h).1
-row_after state next (cell_cleared cell) count h no_words = ap (λ d. row d count) (with_grid-Ok state next (grid_after state.grid (cell_cleared cell)) h).1
-row_after state next (word_placed name bytes) count h no_words = ap (λ d. row d count) (with_grid-Ok state next (grid_after state.grid (word_placed name bytes)) h).1
-row_after state next (list_written list) count h no_words = ap (λ d. row d count) (with_grid-Ok state next (grid_after state.grid (list_written list)) h).1
-row_after state next (block_toggled cell) count h no_words = ap (λ d. row d count) (with_grid-Ok state next (grid_after state.grid (block_toggled cell)) h).1
-row_after state next (bar_toggled cell side) count h no_words = ap (λ d. row d count) (with_grid-Ok state next (grid_after state.grid (bar_toggled cell side)) h).1
-row_after state next (symmetry_chosen kind) count h no_words = ap (λ d. row d count) (with_grid-Ok state next (grid_after state.grid (symmetry_chosen kind)) h).1
-row_after state next (word_added word) count h no_words = rows_after_add state.words next.words word (add_answer state.words word) count no_words (with_words-Ok state next (add_word state.words word) h).0
-row_after state next (word_struck word) count h no_words = rows_after_strike state.words next.words word (strike_answer state.words word) count no_words (with_words-Ok state next (strike_word state.words word) h).0
 
 -- ---- the board
 

@@ -1,5 +1,5 @@
 -- A cell in which an edit writes a letter was open.
-use Rattle.std.proofs.Common.{◌≡◌, ℕ, zero, suc, ◌+◌, ◌-◌, ◌*◌, ◌<◌, Bool, true, false, cond, not, List, [], ◌∷◌, length, Some, None, refl, sym, ◌∙◌, ap, subst, arith}
+use Rattle.std.proofs.Common.{◌≡◌, ℕ, zero, suc, ◌+◌, ◌-◌, ◌*◌, ◌<◌, Bool, true, false, cond, not, List, [], ◌∷◌, map, length, Some, None, refl, sym, ◌∙◌, ap, subst, arith}
 use Rattle.std.specs.Prelude.{Option, Ok, Err, Contains, slice_get, is_some, is_none}
 use Rattle.std.proofs.lemmas.Bool.{false≢true, and_parts}
 use Rattle.std.proofs.lemmas.List.{get_or_default}
@@ -9,7 +9,7 @@ use Rattle.xw_grid.specs.declared.cell.Square.{Square}
 use Rattle.xw_grid.specs.declared.cell.Square.TheVariants.{Block, Open}
 use Rattle.xw_grid.specs.declared.fault.GridFault.TheVariants as grids
 use Rattle.xw_grid.specs.Grid.{Grid, IsGrid, is_inside, is_block, index_of, is_open_square, is_block_square, letter_in}
-use Rattle.xw_grid.specs.Light.{lights_of, place_named}
+use Rattle.xw_grid.specs.Light.{lights_of, place_named, no_light}
 use Rattle.xw_grid.specs.Orbit.{is_in_orbit}
 use Rattle.xw_grid.specs.Edit.{set_entry, toggle_block, turned, square_of, with_entry}
 use Rattle.xw_grid.proofs.GridLemmas.{index_of-lt}
@@ -17,11 +17,12 @@ use Rattle.xw_grid.proofs.ChangeLemmas.{blocks_change_orbits}
 use Rattle.xw_feas.specs.Board.{board_of, entry, is_open, light_at}
 use Rattle.xw_feas.specs.State.{State, Action, grid_after, write_list, letter_set, cell_cleared, word_placed, list_written, block_toggled, bar_toggled, symmetry_chosen, word_added, word_struck}
 use Rattle.xw_feas.specs.WellFormed.{IsLaidOut}
-use Rattle.xw_feas.proofs.BoardLemmas.{is_open-square, entry-square}
+use Rattle.xw_feas.proofs.BoardLemmas.{is_open-square, entry-square, length-lights, light_at-board}
+use Rattle.xw_feas.proofs.WordsLemmas.{named_within}
 use Rattle.xw_net.specs.declared.change.Change.{Change}
 use Rattle.xw_net.specs.Change.{IsChange, places_listed}
 use Rattle.xw_net.specs.Begin.{is_fill}
-use Rattle.xw_net.specs.Region.{cells_found, edited_cells}
+use Rattle.xw_net.specs.Region.{cells_named, edited_cells}
 use Rattle.xw_net.proofs.Writing.{list_open}
 use Rattle.xw_net.proofs.Edits.{by_fault-Ok, contains_mapped, grid_of_after}
 use Rattle.xw_net.proofs.Changing.{written_places}
@@ -62,9 +63,12 @@ in_none : (cells : List ℕ) (place : ℕ) → length cells ≡ 0 → Contains c
 in_none cells place none (k, below, at) = omega (arith, below, none)
 
 module _ (grid new : Grid) (other : Cell) (is : IsGrid grid) (laid_out : IsLaidOut (board_of grid)) (inside : is_inside grid other ≡ true) where
-  open_found : (found : Option ℕ) → Contains (cells_found grid found) (index_of grid other) → is_open (board_of grid) (index_of grid other) ≡ true
-  open_found None among = absurd (in_none [] (index_of grid other) refl among)
-  open_found (Some light) (k, below, at) = subst (λ p. is_open (board_of grid) p ≡ true) (get_or_default (light_at (board_of grid) light) k 0 (index_of grid other) below ∙ at) (laid_out.cells_open light k below)
+  open_at : (light : ℕ) → Contains (light_at (board_of grid) light) (index_of grid other) → is_open (board_of grid) (index_of grid other) ≡ true
+  open_at light (k, below, at) = subst (λ p. is_open (board_of grid) p ≡ true) (get_or_default (light_at (board_of grid) light) k 0 (index_of grid other) below ∙ at) (laid_out.cells_open light k below)
+
+  open_found : (found : Option ℕ) → ((light : ℕ) → found ≡ Some light → light < length (lights_of grid)) → Contains (map (index_of grid) (cells_named grid found)) (index_of grid other) → is_open (board_of grid) (index_of grid other) ≡ true
+  open_found None within among = absurd (in_none [] (index_of grid other) refl among)
+  open_found (Some light) within among = open_at light (subst (λ places. Contains places (index_of grid other)) (sym (light_at-board grid light no_light (within light refl))) among)
 
   written_one : (cell : Cell) (letter : Option ℕ) → index_of grid cell ≡ index_of grid other → set_entry grid cell letter ≡ Ok new → is_open (board_of grid) (index_of grid other) ≡ true
   written_one cell letter same ok = by_inside (is_inside grid cell) refl where
@@ -86,7 +90,7 @@ module _ (grid new : Grid) (other : Cell) (is : IsGrid grid) (laid_out : IsLaidO
       → is_some (entry (board_of new) (index_of grid other)) ≡ true → is_open (board_of grid) (index_of grid other) ≡ true
   open_written (letter_set cell letter) ok same inside_new among has = written_one cell (Some letter) (only_one (index_of grid other) (index_of grid cell) among) (by_fault-Ok (set_entry grid cell (Some letter)) new ok)
   open_written (cell_cleared cell) ok same inside_new among has = written_one cell None (only_one (index_of grid other) (index_of grid cell) among) (by_fault-Ok (set_entry grid cell None) new ok)
-  open_written (word_placed name word) ok same inside_new among has = open_found (place_named (lights_of grid) name) among
+  open_written (word_placed name word) ok same inside_new among has = open_found (place_named (lights_of grid) name) (λ light found. omega (arith, named_within grid name light found, length-lights grid)) among
   open_written (list_written list) ok same inside_new among has = list_open grid new list (index_of grid other) (by_fault-Ok (write_list list grid) new ok) has
   open_written (block_toggled cell) ok same inside_new among has = block_open cell (by_fault-Ok (toggle_block grid cell) new ok) same inside_new has
   open_written (bar_toggled cell side) ok same inside_new among has = absurd (in_none [] (index_of grid other) refl among)

@@ -1,5 +1,5 @@
 -- The held words and the pending letters at the start of an update.
-use Rattle.std.proofs.Common.{◌≡◌, ℕ, ◌+◌, ◌-◌, ◌*◌, ◌<◌, ◌≤◌, Bool, true, false, cond, ◌&&◌, leb, ltb, eqb, List, [], ◌∷◌, map, length, get_or, Some, None, lit<, lit≤, refl, sym, ◌∙◌, ap, subst, arith, inl, inr}
+use Rattle.std.proofs.Common.{◌≡◌, ℕ, ◌+◌, ◌-◌, ◌*◌, ◌<◌, ◌≤◌, Bool, true, false, cond, ◌&&◌, leb, ltb, eqb, [], ◌∷◌, map, length, get_or, Some, None, lit<, lit≤, refl, sym, ◌∙◌, ap, subst, arith, inl, inr}
 use Rattle.std.specs.Prelude.{Option}
 use Rattle.std.proofs.lemmas.Bool.{cases_lt, cases_eq, cases_Bool, both_ways, and_from, and_parts, or_left, eq-eqb, le-leb, leb-false, ltb-false}
 use Rattle.std.proofs.lemmas.List.{get_or_append_left, get_or-map, length-map}
@@ -80,9 +80,6 @@ module _ (before now : State) (action : Action) (change : Change) (is : IsChange
 
   none_lost : (light : ℕ) → light < length (board_of now.grid).lights → seed light ≡ false → lost light ≡ nowhere
   none_lost light in_board no_seed = by_match (same_light before.grid now.grid light) refl where
-    bits : List Bool
-    bits = base_bits (board_of now.grid) (light_at (board_of now.grid) light) (row now.words (length (light_at (board_of now.grid) light)))
-
     by_word : (other : ℕ) (word : Option (ℕ × ℕ)) → change.word ≡ word → lost_from word (Some other) (length (light_at (board_of now.grid) light)) (known (board_of now.grid) now.words light) ≡ nowhere
     by_word other None none = refl
     by_word other (Some word) some = elim (cases_Bool (eqb word.0 (length (light_at (board_of now.grid) light)) && leb (known (board_of now.grid) now.words light) (word.1 + 1))) [

@@ -53,7 +53,7 @@ left_chained board old new left chained = record {
 }
 
 -- base rows for equal words
-pub base_read : (board : Board) (entries entries' : ℕ → List Entry) (base : List RowOfBits) → ((count : ℕ) → entries count ≡ entries' count) → HasBase board entries base → HasBase board entries' base
+pub base_read : (board : Board) (entries entries' : ℕ → List Entry) (base : List RowOfBits) → ((len : ℕ) → entries len ≡ entries' len) → HasBase board entries base → HasBase board entries' base
 base_read board entries entries' base same has = record {
   rows = has.rows;
   bits = λ light lt. has.bits light lt ∙ ap length (same (length (light_at board light)));

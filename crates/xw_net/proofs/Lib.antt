@@ -1,7 +1,5 @@
 pub mod Exact
 pub mod Revival
-pub mod Growth
-pub mod Chain
 pub mod Region
 pub mod Writing
 pub mod Edits
@@ -23,8 +21,6 @@ pub mod Slots
 pub mod Fresh
 pub mod Closed
 pub mod CostSums
-pub mod Narrowing
-pub mod Restricting
 pub mod Least
 pub mod Rooms
 mod Rowwise
@@ -60,3 +56,5 @@ pub mod Moving
 pub mod Resting
 pub mod Listed
 pub mod Narrowed
+pub mod Copies
+pub mod Tallies

@@ -15,9 +15,8 @@ use Rattle.xw_feas.specs.declared.edit.Refusal.{Refusal}
 use Rattle.xw_feas.specs.State.{State, Action, after, grid_after, letter_set, cell_cleared, word_placed, list_written, block_toggled, bar_toggled, symmetry_chosen, word_added, word_struck}
 use Rattle.xw_feas.proofs.BoardLemmas.{length-lights}
 use Rattle.xw_feas.proofs.WordsLemmas.{named_within}
-use Rattle.xw_net.specs.declared.change.Change.{Change}
-use Rattle.xw_net.specs.Region.{same_entry, cells_changed}
-use Rattle.xw_net.specs.Change.{IsChange, cells_named, cells_written, entries_written, with_entry_of}
+use Rattle.xw_net.specs.Region.{same_entry, cells_named, cells_changed, cells_written}
+use Rattle.xw_net.specs.Change.{entries_written, with_entry_of}
 use Rattle.xw_net.proofs.Edits.{by_fault-Ok, grid_of_after}
 use Rattle.xw_net.proofs.Changing.{size_kept}
 
@@ -98,7 +97,3 @@ edit_in_grid before now action cells is made are listed has =
     let among = subst (λ ls. Contains ls listed) are has in
     inside_sized before.grid now.grid size.width size.height listed.0
     (written_inside before.grid now.grid is action grid_made listed.0 (written_cell before.grid (cells_written before.grid action) listed among.0 among.1 among.2))
-
--- the cells that a change lists are in the grid after it
-pub listed_in_grid : (before now : State) (action : Action) (change : Change) → IsChange before now action change → (listed : Cell × Option ℕ) → Contains change.cells.now listed → is_inside now.grid listed.0 ≡ true
-listed_in_grid before now action change is = edit_in_grid before now action change.cells.now is.formed_before.grid is.made is.cells

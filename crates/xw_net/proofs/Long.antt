@@ -4,16 +4,16 @@ use Rattle.std.specs.Prelude.{Option}
 use Rattle.std.proofs.lemmas.Bool.{and_parts, or_cases, eqb-true}
 use Rattle.xw_net.specs.Begin.{is_long, may_have, has_changed}
 
-pub long_word : (word : Option (ℕ × ℕ)) (count : ℕ) → is_long word count ≡ true → (place : ℕ) × (word ≡ Some (count, place))
-long_word None count long = cc
-long_word (Some word) count long = (word.1, ap (λ n. Some (n, word.1)) (eqb-true word.0 count long))
+pub long_word : (word : Option (ℕ × ℕ)) (len : ℕ) → is_long word len ≡ true → (place : ℕ) × (word ≡ Some (len, place))
+long_word None len long = cc
+long_word (Some word) len long = (word.1, ap (λ n. Some (n, word.1)) (eqb-true word.0 len long))
 
-pub may_have_long : (word : Option (ℕ × ℕ)) (count : ℕ) (bits : List Bool) → may_have word count bits ≡ true → is_long word count ≡ true
-may_have_long None count bits has = has
-may_have_long (Some word) count bits has = (and_parts (eqb word.0 count) _ has).0
+pub may_have_long : (word : Option (ℕ × ℕ)) (len : ℕ) (bits : List Bool) → may_have word len bits ≡ true → is_long word len ≡ true
+may_have_long None len bits has = has
+may_have_long (Some word) len bits has = (and_parts (eqb word.0 len) _ has).0
 
-pub has_changed_long : (word : Option (ℕ × ℕ)) (count : ℕ) (base bits : List Bool) → has_changed word count base bits ≡ true → is_long word count ≡ true
-has_changed_long word count base bits has = elim (or_cases (may_have word count base) (may_have word count bits) has) [
-  | inl may ↦ may_have_long word count base may
-  | inr stood ↦ may_have_long word count bits stood
+pub has_changed_long : (word : Option (ℕ × ℕ)) (len : ℕ) (base bits : List Bool) → has_changed word len base bits ≡ true → is_long word len ≡ true
+has_changed_long word len base bits has = elim (or_cases (may_have word len base) (may_have word len bits) has) [
+  | inl may ↦ may_have_long word len base may
+  | inr stood ↦ may_have_long word len bits stood
 ]

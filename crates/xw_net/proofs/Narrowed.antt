@@ -16,8 +16,8 @@ and_none true = refl
 and_none false = refl
 
 -- a row intersected with the base row
-pub common_narrowed : (word : Option (ℕ × ℕ)) (count : ℕ) (bits base : List Bool) → length bits ≡ length base → IsNarrowedRow word count bits base (common_bits bits base)
-common_narrowed word count bits base long = record {
+pub common_narrowed : (word : Option (ℕ × ℕ)) (word_len : ℕ) (bits base : List Bool) → length bits ≡ length base → IsNarrowedRow word word_len bits base (common_bits bits base)
+common_narrowed word word_len bits base long = record {
   len = length-zip2 (λ x y. x && y) bits base long;
   from = λ k is. (and_parts (get_or bits k false) (get_or base k false) (sym (common k) ∙ is)).0;
   stays = λ k stood is. common k ∙ and_from (get_or bits k false) (get_or base k false) stood is;
@@ -32,11 +32,11 @@ common_narrowed word count bits base long = record {
   ]
 
 -- a row with one chunk intersected with that of the base row
-pub chunk_narrowed : (count place : ℕ) (bits base bits' : List Bool) → length bits' ≡ length bits
+pub chunk_narrowed : (word_len place : ℕ) (bits base bits' : List Bool) → length bits' ≡ length bits
     → ((k : ℕ) → k / 64 ≡ place / 64 → get_or bits' k false ≡ (get_or bits k false && get_or base k false))
     → ((k : ℕ) → (k / 64 ≡ place / 64 → ⊥) → get_or bits' k false ≡ get_or bits k false)
-    → IsNarrowedRow (Some (count, place)) count bits base bits'
-chunk_narrowed count place bits base bits' len inside others = record {
+    → IsNarrowedRow (Some (word_len, place)) word_len bits base bits'
+chunk_narrowed word_len place bits base bits' len inside others = record {
   len = len;
   from = λ k is. elim (cases_eq (k / 64) (place / 64)) [
     | inl here ↦ (and_parts (get_or bits k false) (get_or base k false) (sym (inside k here) ∙ is)).0
@@ -47,7 +47,7 @@ chunk_narrowed count place bits base bits' len inside others = record {
     | inr elsewhere ↦ others k elsewhere ∙ stood
   ];
   goes = λ k changed none.
-      let here : place ≡ k = ap (λ (o : Option (ℕ × ℕ)). place_of o) (changed (eq-eqb count count refl)) in
+      let here : place ≡ k = ap (λ (o : Option (ℕ × ℕ)). place_of o) (changed (eq-eqb word_len word_len refl)) in
       inside k (ap (λ n. n / 64) (sym here)) ∙ ap (λ b. get_or bits k false && b) none ∙ and_none (get_or bits k false);
 } where
   place_of : Option (ℕ × ℕ) → ℕ
@@ -55,10 +55,10 @@ chunk_narrowed count place bits base bits' len inside others = record {
   place_of (Some word) = word.1
 
 -- if each word, except perhaps the changed one, is a base word, the result is the intersection
-pub narrowed_common : (word : Option (ℕ × ℕ)) (count : ℕ) (bits base bits' : List Bool) → length bits ≡ length base → IsNarrowedRow word count bits base bits'
-    → ((place : ℕ) → word ≡ Some (count, place) → (k : ℕ) → (k ≡ place → ⊥) → get_or bits k false ≡ true → get_or base k false ≡ true)
+pub narrowed_common : (word : Option (ℕ × ℕ)) (word_len : ℕ) (bits base bits' : List Bool) → length bits ≡ length base → IsNarrowedRow word word_len bits base bits'
+    → ((place : ℕ) → word ≡ Some (word_len, place) → (k : ℕ) → (k ≡ place → ⊥) → get_or bits k false ≡ true → get_or base k false ≡ true)
     → bits' ≡ common_bits bits base
-narrowed_common word count bits base bits' long is still =
+narrowed_common word word_len bits base bits' long is still =
     same_lists bits' (common_bits bits base) (is.len ∙ sym (length-zip2 (λ x y. x && y) bits base long)) (λ k d lt.
     get_or_default bits' k d false lt ∙ at k (omega (arith, lt, is.len))
     ∙ sym (get_or-zip2 (λ x y. x && y) bits base k false false d (omega (arith, lt, is.len)) (omega (arith, lt, is.len, long)))) where
@@ -66,11 +66,11 @@ narrowed_common word count bits base bits' long is still =
       none_stood k none true left = absurd (both_ways (get_or bits k false) none (is.from k left))
       none_stood k none false left = sym (ap (λ b. b && get_or base k false) none)
 
-      gone : (k : ℕ) → get_or bits k false ≡ true → get_or base k false ≡ false → is_long word count ≡ true → word ≡ Some (count, k)
+      gone : (k : ℕ) → get_or bits k false ≡ true → get_or base k false ≡ false → is_long word word_len ≡ true → word ≡ Some (word_len, k)
       gone k stood none long =
-          let found = long_word word count long in
+          let found = long_word word word_len long in
           elim (cases_eq k found.0) [
-            | inl same ↦ found.1 ∙ ap (λ n. Some (count, n)) (sym same)
+            | inl same ↦ found.1 ∙ ap (λ n. Some (word_len, n)) (sym same)
             | inr apart ↦ absurd (both_ways (get_or base k false) none (still found.0 found.1 k apart stood))
           ]
 

@@ -8,7 +8,7 @@ use Rattle.xw_words.specs.Dictionary.{Entry, row, entry_at, no_entry}
 use Rattle.xw_grid.specs.declared.cell.Cell.{Cell}
 use Rattle.xw_grid.specs.Grid.{is_inside}
 use Rattle.xw_grid.specs.Light.{lights_of, no_light, step}
-use Rattle.xw_feas.specs.Board.{Board, board_of, entry, light_at, is_wholly_entered}
+use Rattle.xw_feas.specs.Board.{board_of, entry, light_at, is_wholly_entered}
 use Rattle.xw_feas.specs.Choices.{is_base_at}
 use Rattle.xw_feas.specs.Flags.{set_has}
 use Rattle.xw_feas.specs.State.{State, Action, after, letter_set, cell_cleared, word_placed, list_written, block_toggled, bar_toggled, symmetry_chosen, word_added, word_struck, add_word, strike_word}
@@ -67,12 +67,6 @@ module _ (before now : State) (action : Action) (change : Change) (is : IsChange
     (opening : IsOpening now.grid (board_of now.grid) (lights_of now.grid) (row now.words) change (arrays_of net) (arrays_of opened))
     (entered_kept : opened.entered.items ≡ net.entered.items)
     (inside : (listed : Cell × Option ℕ) → Contains change.cells.now listed → is_inside now.grid listed.0 ≡ true) where
-  abbrev old_board : Board
-  old_board = board_of before.grid
-
-  abbrev new_board : Board
-  new_board = board_of now.grid
-
   abbrev seed : ℕ → Bool
   seed = is_marked opened.is_marked.items
 

@@ -1,15 +1,21 @@
 -- Revival and stripping stay in the region: at a settled cell the only letter allowed was feasible
 -- before, and still is.
-use Rattle.std.proofs.Common.{◌≡◌, ℕ, ◌<◌, [], length, subst, inl, inr}
+use Rattle.std.proofs.Common.{◌≡◌, ℕ, ◌<◌, ◌&&◌, [], length, Some, sym, ◌∙◌, ap, subst, inl, inr}
 use Rattle.std.specs.Prelude.{IsTrue, Bool, List, Contains, slice_index}
+use Rattle.std.proofs.lemmas.Bool.{and_parts, eqb-true}
 use Rattle.std.proofs.lemmas.List.Elements.{Contains-get_or}
-use Rattle.xw_feas.specs.Board.{board_of, light_at}
+use Rattle.xw_letters.specs.Letter.{is_capital}
+use Rattle.xw_feas.specs.Board.{Board, board_of, light_at, entry, is_open, allows}
 use Rattle.xw_feas.specs.Feasible.{may_stand, IsFeasibleLetter}
 use Rattle.xw_feas.specs.Choices.{IsExact, IsWithinBase}
 use Rattle.xw_feas.specs.State.{State, Action}
-use Rattle.xw_net.specs.Chain.{IsHeld}
 use Rattle.xw_net.specs.Region.{IsSettled, StandsIn, IsRegion}
-use Rattle.xw_net.proofs.Chain.{entry_is}
+
+-- a cell with a letter allows no other letter
+entry_is : (board : Board) (cell entered letter : ℕ) → entry board cell ≡ Some entered → IsTrue (may_stand board cell letter) → entered ≡ letter
+entry_is board cell entered letter holds may =
+    let parts = and_parts (is_open board cell && is_capital letter) (allows (entry board cell) letter) may in
+    eqb-true entered letter (sym (ap (λ e. allows e letter) holds) ∙ parts.1)
 
 -- each letter that a settled cell allows was feasible before
 pub settled_stood : (before after : State) (words letters : ℕ → ℕ → Bool) → IsExact (board_of before.grid) before.words words letters
@@ -59,16 +65,6 @@ module _ (before after : State) (action : Action) (member : List ℕ → Bool) (
       region.spreads first second (slice_index first k) (region.gone first stood gone) (inl stood) (inr (light_stands after other in_board'))
       (Contains-get_or first k 0 below) (subst (Contains second) meets (Contains-get_or second j 0 below')) unsettled
 
-  -- if a letter came back at a cell of a light of the region, the other lights there are in the
-  -- region
-  pub revival_spreads : (words letters : ℕ → ℕ → Bool) → IsExact (board_of before.grid) before.words words letters
-      → (light k other j letter : ℕ) → light < length (board_of after.grid).lights → k < length (light_at (board_of after.grid) light) → other < length (board_of after.grid).lights → j < length (light_at (board_of after.grid) other)
-      → slice_index (light_at (board_of after.grid) other) j ≡ slice_index (light_at (board_of after.grid) light) k
-      → IsTrue (may_stand (board_of after.grid) (slice_index (light_at (board_of after.grid) light) k) letter) → ¬ IsTrue (letters (slice_index (light_at (board_of after.grid) light) k) letter)
-      → IsTrue (member (light_at (board_of after.grid) light)) → IsTrue (member (light_at (board_of after.grid) other))
-  revival_spreads words letters exact light k other j letter in_board below in_board' below' meets may not_stood has =
-      region_spreads light k other j in_board below in_board' below' meets (came_unsettled before after words letters exact _ letter may not_stood) has
-
   pub revival_spreads_gone : (words letters : ℕ → ℕ → Bool) → IsExact (board_of before.grid) before.words words letters
       → (light k other j letter : ℕ) → light < length (board_of before.grid).lights → ¬ StandsIn after (light_at (board_of before.grid) light) → k < length (light_at (board_of before.grid) light) → other < length (board_of after.grid).lights → j < length (light_at (board_of after.grid) other)
       → slice_index (light_at (board_of after.grid) other) j ≡ slice_index (light_at (board_of before.grid) light) k
@@ -94,8 +90,3 @@ module _ (before after : State) (action : Action) (member : List ℕ → Bool) (
       → IsTrue (member (light_at (board_of after.grid) light)) → IsTrue (member (light_at (board_of after.grid) other))
   region_closed words' letters' within light k other j letter in_board below in_board' below' meets stands lost has =
       stripping_spreads light k other j letter in_board below in_board' below' meets (within.letters _ letter stands) lost has
-
--- a settled cell is held, so a chain that stops at held cells stays in the region
-pub settled_held : (before after : State) (words letters : ℕ → ℕ → Bool) → IsExact (board_of before.grid) before.words words letters
-    → (cell : ℕ) → IsSettled before after cell → IsHeld (board_of before.grid) (board_of after.grid) letters cell
-settled_held before after words letters exact cell (letter, first, then, feasible, still) = (letter, first, then, (exact.letters cell letter).1 feasible)

@@ -15,7 +15,7 @@ use Rattle.xw_feas.specs.Flags.{flag_at, standing_count}
 use Rattle.xw_feas.proofs.BoardLemmas.{length-lights}
 use Rattle.xw_feas.proofs.FormedLemmas.{length-light_at}
 use Rattle.xw_net.specs.Nets.{bits_for, word_stands, letter_stands}
-use Rattle.xw_net.specs.Filled.{IsFilled}
+use Rattle.xw_net.specs.Filled.{IsWholeNet, IsQuiet, IsFilled}
 use Rattle.xw_net.specs.Layout.{layout_of}
 use Rattle.xw_net.specs.Room.{size_at, HasRoom}
 use Rattle.xw_net.specs.Net.{row_flags, flags_of, flags_at, sets_of, IsSettledOn, StandsFor, known_counts}
@@ -58,19 +58,22 @@ filled_settled grid dictionary net filled = record {
   filled = filled;
 }
 
--- it has room for its lights and the known words
-pub filled_room : (grid : Grid) (dictionary : Dictionary) (net : Net) → IsFilled (board_of grid) dictionary net → HasRoom (lights_of grid) (known_counts dictionary) net
-filled_room grid dictionary net filled = record {
-  rows = λ light lt. omega (arith, filled.whole.room light (in_board light lt), long light lt);
-  base = λ light lt. omega (arith, filled.whole.base_room light (in_board light lt), long light lt);
-  queue = omega (arith, quiet_queue_room net filled.quiet (board_of grid) filled.whole.shaped, filled.whole.shaped.is_queued, length-lights grid);
-  stack = omega (arith, quiet_stack_room net filled.quiet (board_of grid) filled.whole.chained, filled.whole.chained.is_marked, length-lights grid);
+-- a net between edits has room for its lights and the known words
+pub whole_room : (grid : Grid) (dictionary : Dictionary) (net : Net) → IsWholeNet (board_of grid) (row dictionary) net → IsQuiet net → HasRoom (lights_of grid) (known_counts dictionary) net
+whole_room grid dictionary net whole quiet = record {
+  rows = λ light lt. omega (arith, whole.room light (in_board light lt), long light lt);
+  base = λ light lt. omega (arith, whole.base_room light (in_board light lt), long light lt);
+  queue = omega (arith, quiet_queue_room net quiet (board_of grid) whole.shaped, whole.shaped.is_queued, length-lights grid);
+  stack = omega (arith, quiet_stack_room net quiet (board_of grid) whole.chained, whole.chained.is_marked, length-lights grid);
 } where
   in_board : (light : ℕ) → light < length (lights_of grid) → light < length (board_of grid).lights
   in_board light lt = omega (arith, lt, length-lights grid)
 
   long : (light : ℕ) → light < length (lights_of grid) → length (row dictionary (length (light_at (board_of grid) light))) ≡ known_counts dictionary (size_at (lights_of grid) light)
   long light lt = ap (known_counts dictionary) (length-light_at grid light lt)
+
+pub filled_room : (grid : Grid) (dictionary : Dictionary) (net : Net) → IsFilled (board_of grid) dictionary net → HasRoom (lights_of grid) (known_counts dictionary) net
+filled_room grid dictionary net filled = whole_room grid dictionary net filled.whole filled.quiet
 
 -- each light of the grid has its row and its flag
 pub stands_shaped : (lights : List Light) (net : Net) (light : ℕ) → StandsFor lights net → light < length lights → (light < length net.rows.items) × (light < length net.entered.items)

@@ -1,11 +1,10 @@
 -- Marks that spread from light to light, with the letters that come back.
 use Rattle.std.proofs.Common.{◌≡◌, ℕ, ◌+◌, ◌<◌, Bool, true, false, ◌||◌, eqb, leb, cond, List, [], ◌∷◌, ◌++◌, length, get_or, set, refl, subst, sym, ap, ◌∙◌, inl, inr, arith}
-use Rattle.std.specs.Prelude.{All, filter, bytes_eq}
+use Rattle.std.specs.Prelude.{filter, bytes_eq}
 use Rattle.std.specs.List.{list_any}
 use Rattle.std.proofs.lemmas.Bool.{and_parts, and_from, or_left, or_right, or_cases, cases_eq, cases_lt, cases_Bool, both_ways, eq-eqb, eqb-true, le-leb, leb-true, cond-true, cond-false, false_from_ne_true}
 use Rattle.std.proofs.lemmas.List.{get_or-set_same, get_or-set_other, set_past}
 use Rattle.std.proofs.lemmas.List.Folds.{list_any-append}
-use Rattle.std.proofs.lemmas.List.Elements.{All-push}
 use Rattle.std.proofs.lemmas.Slice.Eq.{bytes_eq-Decides}
 use Rattle.xw_letters.specs.Letter.{alphabet}
 use Rattle.xw_letters.specs.LetterSet.{has, letters_in}
@@ -59,14 +58,6 @@ still_waits marks stack o stack' n is w =
     elim (cases_Bool (is_marked marks o)) [
       | inl m ↦ ap (λ l. is_waiting l n) (is ∙ cond-true (is_marked marks o) stack (stack ++ o ∷ []) m) ∙ w
       | inr m ↦ ap (λ l. is_waiting l n) (is ∙ cond-false (is_marked marks o) stack (stack ++ o ∷ []) m) ∙ waiting-push stack o n ∙ or_left (is_waiting stack n) (eqb o n) w
-    ]
-
-pub pushed_within : (marks : List Bool) (stack : List ℕ) (o n : ℕ) (stack' : List ℕ) → IsPushed marks stack o stack' → o < n → All (λ i. i < n) stack → All (λ i. i < n) stack'
-pushed_within marks stack o n stack' is lt all =
-    let Within : List ℕ → Type 0 = λ xs. All (λ i. i < n) xs in
-    elim (cases_Bool (is_marked marks o)) [
-      | inl m ↦ subst Within (sym (is ∙ cond-true (is_marked marks o) stack (stack ++ o ∷ []) m)) all
-      | inr m ↦ subst Within (sym (is ∙ cond-false (is_marked marks o) stack (stack ++ o ∷ []) m)) (All-push (λ i. i < n) stack o all lt)
     ]
 
 pub grows_mark : (marks : List Bool) (stack : List ℕ) (o : ℕ) (stack' : List ℕ) → o < length marks → IsPushed marks stack o stack' → Grows marks stack (set marks o true) stack'

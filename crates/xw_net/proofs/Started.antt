@@ -9,8 +9,7 @@ use Rattle.xw_feas.specs.Board.{Board, entry, light_at, allows, agrees, is_wholl
 use Rattle.xw_feas.specs.Choices.{choices, base_flags, choice_at, is_base_at, IsExact}
 use Rattle.xw_feas.proofs.ChoicesLemmas.{base_flag_known, base_flag_entered, length-base_flags}
 use Rattle.xw_feas.proofs.Support.{set_flag_within}
-use Rattle.xw_net.specs.Chain.{IsKept}
-use Rattle.xw_net.specs.Revival.{IsMatching}
+use Rattle.xw_net.specs.Revival.{IsMatching, IsKept}
 use Rattle.xw_net.specs.Marks.{Marks, slot_at, known}
 use Rattle.xw_net.specs.Brought.{IsBegun, IsCarried}
 use Rattle.xw_net.specs.Begin.{IsStarted}

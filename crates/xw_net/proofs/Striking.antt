@@ -22,13 +22,6 @@ one_of_set words position set letter word has_it = of_option (slice_get (entry_a
   of_option None h = absurd (both_ways false refl h)
   of_option (Some other) h = ap (has set) (eqb-true other letter h)
 
--- a set of one letter
-pub one_of_only : (words : List Entry) (position set letter word : ℕ) → ((other : ℕ) → has set other ≡ eqb other letter) → has_one_of words position set word ≡ has_letter words position letter word
-one_of_only words position set letter word only = of_option (slice_get (entry_at words word).word position) where
-  of_option : (o : Option ℕ) → is_among set o ≡ letter_is o letter
-  of_option None = refl
-  of_option (Some other) = only other
-
 module _ (words : List Entry) (position pending alive : ℕ) (old new : ℕ → Bool) (apart : AreApart pending alive) where
   -- only the words with one of the letters left stay
   pub kept_alive : ((i : ℕ) → new i ≡ (old i && has_one_of words position alive i)) → Strikes words position pending alive old new

@@ -1,7 +1,7 @@
 -- Sums over the first numbers.
 use Rattle.std.proofs.Common.{◌≡◌, ℕ, zero, suc, ◌+◌, ◌-◌, ◌*◌, ◌/◌, ◌<◌, ◌≤◌, Bool, true, cond, length, take, refl, ap, ◌∙◌, inl, inr, arith}
 use Rattle.std.specs.Prelude.{filter}
-use Rattle.std.proofs.lemmas.Bool.{cases_eq, cases_lt, cases_Bool}
+use Rattle.std.proofs.lemmas.Bool.{cases_eq, cases_Bool}
 use Rattle.std.proofs.lemmas.List.{take_all}
 use Rattle.xw_letters.specs.Letter.{alphabet}
 use Rattle.xw_letters.specs.LetterSet.{has, letters_in}
@@ -44,19 +44,6 @@ pub sum_to-none : (f : ℕ → ℕ) (n : ℕ) → ((k : ℕ) → k < n → f k �
 unfolding sum_to
 sum_to-none f zero each = refl
 sum_to-none f (suc n) each = omega (arith, sum_to-none f n (λ k lt. each k (omega arith)), each n (omega arith))
-
-pub sum_to-grows : (f : ℕ → ℕ) (n m : ℕ) → n ≤ m → sum_to f n ≤ sum_to f m
-unfolding sum_to
-sum_to-grows f n zero le = let e : n ≡ zero = omega arith in omega (arith, ap (sum_to f) e)
-sum_to-grows f n (suc m) le =
-    elim (cases_lt n (suc m)) [
-      | inl lt ↦ omega (arith, sum_to-grows f n m (omega arith))
-      | inr past ↦ let e : n ≡ suc m = omega arith in omega (arith, ap (sum_to f) e)
-    ]
-
-pub sum_to-more : (f : ℕ → ℕ) (n : ℕ) → sum_to f (n + 1) ≡ sum_to f n + f n
-unfolding sum_to
-sum_to-more f n = let e : n + 1 ≡ suc n = omega arith in ap (sum_to f) e
 
 -- at most one number passes
 pub sum_to-one : (p : ℕ → Bool) (n : ℕ) → ((j k : ℕ) → p j ≡ true → p k ≡ true → j ≡ k) → sum_to (λ k. cond (p k) 1 0) n ≤ 1

@@ -18,18 +18,18 @@ is_fill board cell old = is_none old && is_some (entry board cell)
 
 -- whether the changed word has this length
 abbrev pub is_long : Option (ℕ × ℕ) → ℕ → Bool
-is_long None count = false
-is_long (Some word) count = word.0 == count
+is_long None len = false
+is_long (Some word) len = word.0 == len
 
 -- whether the changed word has this length, and is in the row or is the last known word or past the
 -- end of the row
 abbrev pub may_have : Option (ℕ × ℕ) → ℕ → List Bool → Bool
-may_have None count bits = false
-may_have (Some word) count bits = (word.0 == count) && (nat_le (length bits) (word.1 + 1) || slice_index_or bits word.1 false)
+may_have None len bits = false
+may_have (Some word) len bits = (word.0 == len) && (nat_le (length bits) (word.1 + 1) || slice_index_or bits word.1 false)
 
 -- whether the changed word may be a base word of the light, or may be among its words in the net
 abbrev pub has_changed : Option (ℕ × ℕ) → ℕ → List Bool → List Bool → Bool
-has_changed word count base bits = may_have word count base || may_have word count bits
+has_changed word len base bits = may_have word len base || may_have word len bits
 
 -- whether a light's base row is updated: the light is queued or has the length of the changed word
 abbrev pub is_read : Board → Option (ℕ × ℕ) → (ℕ → Bool) → ℕ → Bool
@@ -41,11 +41,11 @@ is_seed board word cells bits = is_wholly_entered board cells || may_have word (
 
 -- the row keeps only base words. If the changed word has the light's length, only that word need be
 -- removed
-pub record IsNarrowedRow (word : Option (ℕ × ℕ)) (count : ℕ) (bits base bits' : List Bool) : Type 0 where
+pub record IsNarrowedRow (word : Option (ℕ × ℕ)) (word_len : ℕ) (bits base bits' : List Bool) : Type 0 where
   pub len : length bits' ≡ length bits
   pub from : (k : ℕ) → slice_index_or bits' k false ≡ true → slice_index_or bits k false ≡ true
   pub stays : (k : ℕ) → slice_index_or bits k false ≡ true → slice_index_or base k false ≡ true → slice_index_or bits' k false ≡ true
-  pub goes : (k : ℕ) → (is_long word count ≡ true → word ≡ Some (count, k)) → slice_index_or base k false ≡ false → slice_index_or bits' k false ≡ false
+  pub goes : (k : ℕ) → (is_long word word_len ≡ true → word ≡ Some (word_len, k)) → slice_index_or base k false ≡ false → slice_index_or bits' k false ≡ false
 
 module _ (board : Board) where
   -- the state at an edited cell, whose entry before was `old`: it has only allowed letters, and the

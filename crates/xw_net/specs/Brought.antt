@@ -9,8 +9,7 @@ use Rattle.xw_feas.specs.Choices.{choice_at, is_base_at}
 use Rattle.xw_net.specs.Base.{base_bits}
 use Rattle.xw_net.specs.Region.{chunks_of}
 use Rattle.xw_net.specs.Due.{sum_to}
-use Rattle.xw_net.specs.Revival.{StandsOn, was}
-use Rattle.xw_net.specs.Chain.{IsKept}
+use Rattle.xw_net.specs.Revival.{StandsOn, was, IsKept}
 use Rattle.xw_net.specs.Marks.{Marks, IsPlace, cell_at, slot_at, known, puts, letter_of, IsHeld, IsHolding}
 use Rattle.xw_net.specs.Spread.{bits_in, HasAll}
 

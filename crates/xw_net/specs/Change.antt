@@ -1,34 +1,16 @@
 -- The description of an edit that a net is given.
-use Rattle.std.specs.Prelude.{◌≡◌, ℕ, ◌<◌, Bool, not, List, [], ◌∷◌, map, length, Option, Some, None, Result, Ok, Err, slice_get, slice_index_or, Contains}
+use Rattle.std.specs.Prelude.{◌≡◌, ℕ, ◌<◌, Bool, not, List, [], map, length, Option, Some, None, Result, Ok, Err, slice_get, Contains}
 use Rattle.xw_words.specs.declared.fault.WordFault.{WordFault}
 use Rattle.xw_words.specs.declared.bank.Added.{Added}
 use Rattle.xw_words.specs.declared.bank.Added.TheVariants.{New, Returned}
 use Rattle.xw_words.specs.Dictionary.{Entry, Dictionary, row, entry_at, add_answer, strike_answer}
 use Rattle.xw_grid.specs.declared.cell.Cell.{Cell}
 use Rattle.xw_grid.specs.Grid.{Grid, entry, index_of}
-use Rattle.xw_grid.specs.Light.{lights_of, cells_of, place_named, no_light}
-use Rattle.xw_grid.specs.Orbit.{orbit_of}
-use Rattle.xw_feas.specs.State.{State, Action, after, grid_after, letter_set, cell_cleared, word_placed, list_written, block_toggled, bar_toggled, symmetry_chosen, word_added, word_struck}
+use Rattle.xw_grid.specs.Light.{lights_of}
+use Rattle.xw_feas.specs.State.{State, Action, after, word_added, word_struck}
 use Rattle.xw_feas.specs.WellFormed.{IsWellFormed}
 use Rattle.xw_net.specs.declared.change.Change.{Change}
-use Rattle.xw_net.specs.Region.{same_entry, cells_changed}
-
--- the cells of a light, if there is one
-abbrev pub cells_named : Grid → Option ℕ → List Cell
-cells_named grid None = []
-cells_named grid (Some light) = cells_of (slice_index_or (lights_of grid) light no_light)
-
--- the cells that an edit writes
-abbrev pub cells_written : Grid → Action → List Cell
-cells_written grid (letter_set cell letter) = cell ∷ []
-cells_written grid (cell_cleared cell) = cell ∷ []
-cells_written grid (word_placed name word) = cells_named grid (place_named (lights_of grid) name)
-cells_written grid (list_written list) = cells_changed grid (grid_after grid (list_written list))
-cells_written grid (block_toggled cell) = orbit_of grid cell
-cells_written grid (bar_toggled cell side) = []
-cells_written grid (symmetry_chosen kind) = []
-cells_written grid (word_added word) = []
-cells_written grid (word_struck word) = []
+use Rattle.xw_net.specs.Region.{same_entry, cells_written}
 
 -- a cell with its entry
 abbrev pub with_entry_of : Grid → Cell → Cell × Option ℕ
@@ -57,13 +39,7 @@ place_struck len (Err fault) = None
 abbrev pub word_changed : Dictionary → Action → Option (ℕ × ℕ)
 word_changed words (word_added word) = place_added (length word) (add_answer words word)
 word_changed words (word_struck word) = place_struck (length word) (strike_answer words word)
-word_changed words (letter_set cell letter) = None
-word_changed words (cell_cleared cell) = None
-word_changed words (word_placed name word) = None
-word_changed words (list_written list) = None
-word_changed words (block_toggled cell) = None
-word_changed words (bar_toggled cell side) = None
-word_changed words (symmetry_chosen kind) = None
+word_changed words other = None
 
 -- the indices of the listed cells
 abbrev pub places_listed : Grid → List (Cell × Option ℕ) → List ℕ
@@ -71,8 +47,8 @@ places_listed grid cells = map (λ listed. index_of grid listed.0) cells
 
 -- the changed word has this length and index
 abbrev pub IsPlaceOf : Option (ℕ × ℕ) → ℕ → ℕ → Type 0
-IsPlaceOf None count place = ⊥
-IsPlaceOf (Some word) count place = (word.0 ≡ count) × (word.1 ≡ place)
+IsPlaceOf None len place = ⊥
+IsPlaceOf (Some word) len place = (word.0 ≡ len) × (word.1 ≡ place)
 
 -- the change describes this edit
 pub record IsChange (before now : State) (action : Action) (change : Change) : Type 0 where
@@ -91,8 +67,8 @@ pub record IsChange (before now : State) (action : Action) (change : Change) : T
   pub height : now.grid.height ≡ before.grid.height
   pub squares : (place : ℕ) → ¬ Contains (places_listed before.grid change.cells.now) place → slice_get now.grid.squares place ≡ slice_get before.grid.squares place
   -- the known words are the same, except perhaps whether the changed word is known and active
-  pub entries : (count place : ℕ) → ¬ IsPlaceOf change.word count place → slice_get (row now.words count) place ≡ slice_get (row before.words count) place
-  pub spelling : (count place : ℕ) → place < length (row before.words count) → (entry_at (row now.words count) place).word ≡ (entry_at (row before.words count) place).word
+  pub entries : (len place : ℕ) → ¬ IsPlaceOf change.word len place → slice_get (row now.words len) place ≡ slice_get (row before.words len) place
+  pub spelling : (len place : ℕ) → place < length (row before.words len) → (entry_at (row now.words len) place).word ≡ (entry_at (row before.words len) place).word
 
 -- the edit adds or strikes the word with this length and index, and keeps the grid
 pub record IsWordEdit (grid : Grid) (old new : Dictionary) (action : Action) (word : ℕ × ℕ) : Type 0 where
@@ -102,4 +78,4 @@ pub record IsWordEdit (grid : Grid) (old new : Dictionary) (action : Action) (wo
 
 -- the reads return the words of a dictionary
 abbrev pub AreReadsOf : (ℕ → List Entry) → Dictionary → Type 0
-AreReadsOf entries words = (count : ℕ) → entries count ≡ row words count
+AreReadsOf entries words = (len : ℕ) → entries len ≡ row words len

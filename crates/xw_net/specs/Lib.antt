@@ -1,7 +1,5 @@
 pub mod Revival
-pub mod Chain
 pub mod Region
-pub mod Came
 pub mod Sums
 pub mod Marks
 pub mod Due
@@ -23,4 +21,6 @@ pub mod Change
 pub mod Layout
 pub mod Net
 pub mod Sizes
+pub mod Copy
+pub mod Tally
 pub mod Cost

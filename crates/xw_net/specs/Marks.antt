@@ -43,7 +43,7 @@ pub record IsPosition (board : Board) (entries : ℕ → List Entry) (dictionary
   pub laid_out : IsLaidOut board
   pub apart : AreSlotsApart board
   pub words : IsDictionary dictionary
-  pub read : (count : ℕ) → entries count ≡ row dictionary count
+  pub read : (len : ℕ) → entries len ≡ row dictionary len
 
 -- the state of a net
 pub record Marks : Type 0 where

@@ -61,7 +61,7 @@ HasRoomFor lights counts net = HasRoomIn lights counts net net.spare
 
 -- the number of known words of a length
 abbrev pub known_counts : Dictionary → ℕ → ℕ
-known_counts dictionary count = length (row dictionary count)
+known_counts dictionary len = length (row dictionary len)
 
 -- the net is settled for some grid with these lights
 pub record StandsFor (lights : List Light) (net : Net) : Type 0 where
@@ -73,7 +73,7 @@ pub record StandsFor (lights : List Light) (net : Net) : Type 0 where
 -- length has become known
 pub record StoodFor (lights : List Light) (counts : ℕ → ℕ) (net : Net) : Type 0 where
   pub stands : StandsFor lights net
-  pub near : (count : ℕ) → (known_counts stands.state.words count ≤ counts count) × (counts count ≤ known_counts stands.state.words count + 1)
+  pub near : (len : ℕ) → (known_counts stands.state.words len ≤ counts len) × (counts len ≤ known_counts stands.state.words len + 1)
 
 -- the first set flag from an index on
 abbrev pub first_from : List Bool → ℕ → Option ℕ

@@ -85,7 +85,7 @@ HasBits board entries net = (light : ℕ) → light < length board.lights → le
 -- the fields of a `Place` describe a position of a light of the board
 pub record IsThere (board : Board) (here : Place) : Type 0 where
   pub place : IsPlace board here.light here.place
-  pub count : here.count ≡ length (light_at board here.light)
+  pub len : here.len ≡ length (light_at board here.light)
   pub cell : here.cell ≡ cell_at board here.light here.place
   pub slot : here.slot ≡ slot_at board here.light here.place
   pub in_board : here.cell < length board.open_cells

@@ -56,7 +56,7 @@ pub record IsOpening (grid : Grid) (board : Board) (lights : List Light) (entrie
       → ((light : ℕ) → is_marked old.is_queued light ≡ true → member light ≡ true)
       → ((light : ℕ) → light < length board.lights → same_before change.before.now lights light ≡ None → member light ≡ true)
       → ((listed : Cell × Option ℕ) (light place : ℕ) → Contains change.cells.now listed → IsPlace board light place → cell_at board light place ≡ index_of grid listed.0 → member light ≡ true)
-      → ((count place light : ℕ) → change.word ≡ Some (count, place) → light < length board.lights → length (light_at board light) ≡ count → member light ≡ true)
+      → ((len place light : ℕ) → change.word ≡ Some (len, place) → light < length board.lights → length (light_at board light) ≡ len → member light ≡ true)
       → (light : ℕ) → is_marked new.is_queued light ≡ true → member light ≡ true
   pub within : (member : ℕ → Bool)
       → ((light : ℕ) → is_marked old.is_queued light ≡ true → member light ≡ true)
@@ -64,7 +64,7 @@ pub record IsOpening (grid : Grid) (board : Board) (lights : List Light) (entrie
       → ((light : ℕ) → light < length board.lights → same_before change.before.now lights light ≡ None → member light ≡ true)
       → ((cell light place : ℕ) → IsFreed grid change.before.now lights (length change.before.now) cell → ¬ HasAll board (set_has old.letters) cell → IsPlace board light place → cell_at board light place ≡ cell → member light ≡ true)
       → ((listed : Cell × Option ℕ) (light place : ℕ) → Contains change.cells.now listed → IsPlace board light place → cell_at board light place ≡ index_of grid listed.0 → member light ≡ true)
-      → ((count place light : ℕ) → change.word ≡ Some (count, place) → light < length board.lights → length (light_at board light) ≡ count → member light ≡ true)
+      → ((len place light : ℕ) → change.word ≡ Some (len, place) → light < length board.lights → length (light_at board light) ≡ len → member light ≡ true)
       → (light : ℕ) → is_marked new.is_marked light ≡ true → member light ≡ true
 
 module _ (before now : State) where

@@ -9,11 +9,11 @@ use Rattle.xw_net.specs.declared.room.Spare.{Spare}
 
 -- the number of known words of a length
 abbrev pub counts_of : (ℕ → List Entry) → ℕ → ℕ
-counts_of entries count = length (entries count)
+counts_of entries len = length (entries len)
 
 -- the numbers of known words, with one more word of length `grown`
 abbrev pub with_word : ℕ → (ℕ → ℕ) → ℕ → ℕ
-with_word grown counts count = counts count + (if count == grown then 1 else 0)
+with_word grown counts len = counts len + (if len == grown then 1 else 0)
 
 -- the number of cells of a light
 abbrev pub size_at : List Light → ℕ → ℕ
@@ -27,17 +27,17 @@ no_row = record { bits = []; room = 0 }
 abbrev pub row_at : List RowOfBits → ℕ → RowOfBits
 row_at rows light = slice_index_or rows light no_row
 
--- the bits of a light, with a clear bit appended if the light has length `count`
+-- the bits of a light, with a clear bit appended if the light has length `len`
 abbrev pub with_bit : List Light → ℕ → ℕ → List Bool → List Bool
-with_bit lights count light bits = if size_at lights light == count then bits ++ false ∷ [] else bits
+with_bit lights len light bits = if size_at lights light == len then bits ++ false ∷ [] else bits
 
--- the row of each light of length `count` has room for one more bit
+-- the row of each light of length `len` has room for one more bit
 abbrev pub HaveBitRoom : List Light → ℕ → List RowOfBits → Type 0
-HaveBitRoom lights count rows = (light : ℕ) → light < length lights → size_at lights light ≡ count → length (row_at rows light).bits < (row_at rows light).room
+HaveBitRoom lights len rows = (light : ℕ) → light < length lights → size_at lights light ≡ len → length (row_at rows light).bits < (row_at rows light).room
 
--- the row of each light of length `count` got one more clear bit
+-- the row of each light of length `len` got one more clear bit
 abbrev pub HaveBitMore : List Light → ℕ → List RowOfBits → List RowOfBits → Type 0
-HaveBitMore lights count old new = (light : ℕ) → light < length lights → (row_at new light).bits ≡ with_bit lights count light (row_at old light).bits
+HaveBitMore lights len old new = (light : ℕ) → light < length lights → (row_at new light).bits ≡ with_bit lights len light (row_at old light).bits
 
 -- the rows have the same bits, and at least as much room
 pub record AreRoomier (old new : List RowOfBits) : Type 0 where

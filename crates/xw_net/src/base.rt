@@ -82,17 +82,17 @@ fn base_chunk<R: Rows>(
 }
 
 /// Sets the bit of each known word of a length that is active, and clears the others.
-fn read_active<R: Rows>(rows: &mut R, count: usize, row: &mut BitRow)
-    requires { length row.old.bits ≡ length (R.entries rows.old count) }
+fn read_active<R: Rows>(rows: &mut R, len: usize, row: &mut BitRow)
+    requires { length row.old.bits ≡ length (R.entries rows.old len) }
     ensures entries { R.entries rows.new ≡ R.entries rows.old }
     ensures risen { R.ticks rows.old ≤ R.ticks rows.new }
     ensures len { length row.new.bits ≡ length row.old.bits }
-    ensures bits { (i : ℕ) → slice_index_or row.new.bits i false ≡ is_active (R.entries rows.old count) i }
+    ensures bits { (i : ℕ) → slice_index_or row.new.bits i false ≡ is_active (R.entries rows.old len) i }
     ensures room { row.new.room ≡ row.old.room }
     ensures cost { R.ticks rows.new ≤ R.ticks rows.old + chunks_of (length row.old.bits) }
 {
     for chunk in 0..row.len().div_ceil(64) {
-        let words = rows.active(count, chunk);
+        let words = rows.active(len, chunk);
         row.set_chunk(chunk, words);
     }
 }
@@ -186,13 +186,13 @@ fn read_chunk<R: Rows>(
     row.set_chunk(place / 64, words);
 }
 
-/// The index of the changed word, if that word has length `count`.
-pub(crate) fn place_if_long(word: Option<(usize, usize)>, count: usize) -> Option<usize>
-    ensures found { IfSome result (λ place. word ≡ Some (count, place)) }
-    ensures none { IfNone result ((place : ℕ) → word ≡ Some (count, place) → ⊥) }
+/// The index of the changed word, if that word has length `len`.
+pub(crate) fn place_if_long(word: Option<(usize, usize)>, len: usize) -> Option<usize>
+    ensures found { IfSome result (λ place. word ≡ Some (len, place)) }
+    ensures none { IfNone result ((place : ℕ) → word ≡ Some (len, place) → ⊥) }
 {
     match word {
-        Some((long, place)) if long == count => Some(place),
+        Some((long, place)) if long == len => Some(place),
         _ => None,
     }
 }

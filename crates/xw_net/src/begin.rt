@@ -151,12 +151,12 @@ fn edit_cells(
 
 /// Whether the changed word has this length and is in the row, or is the last known word or past
 /// the end of the row.
-fn may_have_word(word: Option<(usize, usize)>, count: usize, row: &BitRow) -> bool
-    ensures { result ≡ may_have word count row.now.bits }
+fn may_have_word(word: Option<(usize, usize)>, len: usize, row: &BitRow) -> bool
+    ensures { result ≡ may_have word len row.now.bits }
 {
     match word {
         Some((long, place)) => {
-            long == count && (row.len() <= place || row.len() - 1 == place || row.has(place))
+            long == len && (row.len() <= place || row.len() - 1 == place || row.has(place))
         }
         None => false,
     }
@@ -250,15 +250,10 @@ fn touch_lights(
 
 /// Whether the changed word may be a base word of a light of this length, or may be among its words
 /// in the net.
-fn has_changed_word(
-    word: Option<(usize, usize)>,
-    count: usize,
-    base: &BitRow,
-    words: &BitRow,
-) -> bool
-    ensures { result ≡ has_changed word count base.now.bits words.now.bits }
+fn has_changed_word(word: Option<(usize, usize)>, len: usize, base: &BitRow, words: &BitRow) -> bool
+    ensures { result ≡ has_changed word len base.now.bits words.now.bits }
 {
-    may_have_word(word, count, base) || may_have_word(word, count, words)
+    may_have_word(word, len, base) || may_have_word(word, len, words)
 }
 
 /// Queues a light if the changed word may concern it.
@@ -284,8 +279,8 @@ fn queue_if_changed(
     ensures queued { has_changed word (length (light_at board.now light)) (bits_in base.now light) (bits_in words.now light) ≡ true → is_marked is_queued.new light ≡ true }
     ensures within { (member : ℕ → Bool) → ((other : ℕ) → is_marked is_queued.old other ≡ true → member other ≡ true) → (has_changed word (length (light_at board.now light)) (bits_in base.now light) (bits_in words.now light) ≡ true → member light ≡ true) → (other : ℕ) → is_marked is_queued.new other ≡ true → member other ≡ true }
 {
-    let count = board.light(light).len();
-    if has_changed_word(word, count, &base[light], &words[light]) {
+    let len = board.light(light).len();
+    if has_changed_word(word, len, &base[light], &words[light]) {
         mark_found(Some(light), is_queued, queue);
     }
 }
@@ -359,7 +354,7 @@ fn prepare<R: Rows>(
     ensures capacity { vec_capacity stack.old ≤ vec_capacity stack.new }
     ensures grows { Grows marks.old stack.old.items marks.new stack.new.items }
     ensures prepared { AreBaseBut board.now (R.entries rows.old) word base.old → IsPrepared board.now (R.entries rows.old) word words.old words.new base.old base.new (is_marked is_queued.new) (is_marked marks.new) }
-    ensures queued_within { (member : ℕ → Bool) → ((light : ℕ) → is_marked is_queued.old light ≡ true → member light ≡ true) → ((count place light : ℕ) → word ≡ Some (count, place) → light < length board.now.lights → length (light_at board.now light) ≡ count → member light ≡ true) → (light : ℕ) → is_marked is_queued.new light ≡ true → member light ≡ true }
+    ensures queued_within { (member : ℕ → Bool) → ((light : ℕ) → is_marked is_queued.old light ≡ true → member light ≡ true) → ((len place light : ℕ) → word ≡ Some (len, place) → light < length board.now.lights → length (light_at board.now light) ≡ len → member light ≡ true) → (light : ℕ) → is_marked is_queued.new light ≡ true → member light ≡ true }
     ensures within { (member : ℕ → Bool) → ((light : ℕ) → is_marked marks.old light ≡ true → member light ≡ true) → ((light : ℕ) → is_marked is_queued.new light ≡ true → member light ≡ true) → (light : ℕ) → is_marked marks.new light ≡ true → member light ≡ true }
     ensures cost { (member : ℕ → Bool) → ((light : ℕ) → light < length board.now.lights → is_read board.now word (is_marked is_queued.new) light ≡ true → member light ≡ true) → R.ticks rows.new ≤ R.ticks rows.old + base_cost board.now (R.entries rows.old) member }
 {
@@ -425,8 +420,8 @@ pub fn begin<R: Rows>(
     ensures spread { IsSpread board.now (set_has letters.old) (set_has letters.new) (is_marked marks.new) (is_waiting stack.new.items) no_places }
     ensures freed { (cell : ℕ) → IsFreed grid.now change.now.before.now lights.now (length change.now.before.now) cell → HasAll board.now (set_has letters.new) cell }
     ensures prepared { AreBaseBut board.now (R.entries rows.old) change.now.word base.old → IsPrepared board.now (R.entries rows.old) change.now.word words.old words.new base.old base.new (is_marked is_queued.new) (is_marked marks.new) }
-    ensures queued_within { (member : ℕ → Bool) → ((light : ℕ) → is_marked is_queued.old light ≡ true → member light ≡ true) → ((light : ℕ) → light < length board.now.lights → option_and_then (place_with_cells change.now.before.now) (slice_get lights.now light) ≡ None → member light ≡ true) → ((listed : CellOfGrid × Option ℕ) (light place : ℕ) → Contains change.now.cells.now listed → IsPlace board.now light place → cell_at board.now light place ≡ index_of grid.now listed.0 → member light ≡ true) → ((count place light : ℕ) → change.now.word ≡ Some (count, place) → light < length board.now.lights → length (light_at board.now light) ≡ count → member light ≡ true) → (light : ℕ) → is_marked is_queued.new light ≡ true → member light ≡ true }
-    ensures within { (member : ℕ → Bool) → ((light : ℕ) → is_marked is_queued.old light ≡ true → member light ≡ true) → ((light : ℕ) → is_marked marks.old light ≡ true → member light ≡ true) → ((light : ℕ) → light < length board.now.lights → option_and_then (place_with_cells change.now.before.now) (slice_get lights.now light) ≡ None → member light ≡ true) → ((cell light place : ℕ) → IsFreed grid.now change.now.before.now lights.now (length change.now.before.now) cell → ¬ HasAll board.now (set_has letters.old) cell → IsPlace board.now light place → cell_at board.now light place ≡ cell → member light ≡ true) → ((listed : CellOfGrid × Option ℕ) (light place : ℕ) → Contains change.now.cells.now listed → IsPlace board.now light place → cell_at board.now light place ≡ index_of grid.now listed.0 → member light ≡ true) → ((count place light : ℕ) → change.now.word ≡ Some (count, place) → light < length board.now.lights → length (light_at board.now light) ≡ count → member light ≡ true) → (light : ℕ) → is_marked marks.new light ≡ true → member light ≡ true }
+    ensures queued_within { (member : ℕ → Bool) → ((light : ℕ) → is_marked is_queued.old light ≡ true → member light ≡ true) → ((light : ℕ) → light < length board.now.lights → option_and_then (place_with_cells change.now.before.now) (slice_get lights.now light) ≡ None → member light ≡ true) → ((listed : CellOfGrid × Option ℕ) (light place : ℕ) → Contains change.now.cells.now listed → IsPlace board.now light place → cell_at board.now light place ≡ index_of grid.now listed.0 → member light ≡ true) → ((len place light : ℕ) → change.now.word ≡ Some (len, place) → light < length board.now.lights → length (light_at board.now light) ≡ len → member light ≡ true) → (light : ℕ) → is_marked is_queued.new light ≡ true → member light ≡ true }
+    ensures within { (member : ℕ → Bool) → ((light : ℕ) → is_marked is_queued.old light ≡ true → member light ≡ true) → ((light : ℕ) → is_marked marks.old light ≡ true → member light ≡ true) → ((light : ℕ) → light < length board.now.lights → option_and_then (place_with_cells change.now.before.now) (slice_get lights.now light) ≡ None → member light ≡ true) → ((cell light place : ℕ) → IsFreed grid.now change.now.before.now lights.now (length change.now.before.now) cell → ¬ HasAll board.now (set_has letters.old) cell → IsPlace board.now light place → cell_at board.now light place ≡ cell → member light ≡ true) → ((listed : CellOfGrid × Option ℕ) (light place : ℕ) → Contains change.now.cells.now listed → IsPlace board.now light place → cell_at board.now light place ≡ index_of grid.now listed.0 → member light ≡ true) → ((len place light : ℕ) → change.now.word ≡ Some (len, place) → light < length board.now.lights → length (light_at board.now light) ≡ len → member light ≡ true) → (light : ℕ) → is_marked marks.new light ≡ true → member light ≡ true }
     ensures cost { (member : ℕ → Bool) → ((light : ℕ) → light < length board.now.lights → is_read board.now change.now.word (is_marked is_queued.new) light ≡ true → member light ≡ true) → R.ticks rows.new ≤ R.ticks rows.old + base_cost board.now (R.entries rows.old) member }
 {
     mark_new(lights, change.before, stays, is_queued, queue, marks, stack);

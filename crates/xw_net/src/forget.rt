@@ -67,7 +67,7 @@ fn lost_from(word: Option<(usize, usize)>, has_stayed: bool, size: usize, known:
         return 0;
     }
     match word {
-        Some((count, place)) if count == size && (known <= place || known - 1 == place) => place,
+        Some((len, place)) if len == size && (known <= place || known - 1 == place) => place,
         _ => NOWHERE,
     }
 }

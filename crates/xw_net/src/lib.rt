@@ -10,6 +10,7 @@ mod base;
 mod begin;
 mod blank;
 pub mod change;
+mod copy;
 mod counts;
 mod fill;
 mod fit;
@@ -27,6 +28,7 @@ mod settle;
 pub mod sizes;
 mod spread;
 mod support;
+mod tally;
 mod unmoved;
 
 pub use change::Change;

@@ -13,7 +13,7 @@ use xw_feas::board::Board;
 fn narrow_at(base: &BitRow, place: usize, row: &mut BitRow)
     requires { length row.old.bits ≡ length base.now.bits }
     ensures room { row.new.room ≡ row.old.room }
-    ensures narrowed { (count : ℕ) → IsNarrowedRow (Some (count, place)) count row.old.bits base.now.bits row.new.bits }
+    ensures narrowed { (len : ℕ) → IsNarrowedRow (Some (len, place)) len row.old.bits base.now.bits row.new.bits }
 {
     let chunk = place / 64;
     if 64 * chunk >= row.len() {
@@ -25,12 +25,12 @@ fn narrow_at(base: &BitRow, place: usize, row: &mut BitRow)
 
 /// Removes the words that are not base words. If the changed word has the light's length, it only
 /// processes that word's chunk.
-fn narrow(word: Option<(usize, usize)>, count: usize, base: &BitRow, row: &mut BitRow)
+fn narrow(word: Option<(usize, usize)>, len: usize, base: &BitRow, row: &mut BitRow)
     requires { length row.old.bits ≡ length base.now.bits }
     ensures room { row.new.room ≡ row.old.room }
-    ensures narrowed { IsNarrowedRow word count row.old.bits base.now.bits row.new.bits }
+    ensures narrowed { IsNarrowedRow word len row.old.bits base.now.bits row.new.bits }
 {
-    match place_if_long(word, count) {
+    match place_if_long(word, len) {
         Some(place) => narrow_at(base, place, row),
         None => row.and(base),
     }

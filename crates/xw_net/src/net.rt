@@ -119,14 +119,7 @@ impl Net {
         let pending = self.pending[here.slot];
         let alive = self.letters[here.cell];
         self.pending[here.slot] = LetterSet::new();
-        strike_row(
-            rows,
-            &mut self.rows[light],
-            here.count,
-            place,
-            pending,
-            alive,
-        );
+        strike_row(rows, &mut self.rows[light], here.len, place, pending, alive);
         self.entered[light] &= !pending.has(board.letter(here.cell));
     }
 

@@ -11,7 +11,7 @@ use xw_feas::board::{Board, Cells};
 pub(crate) struct Place {
     pub light: usize,
     pub place: usize,
-    pub count: usize,
+    pub len: usize,
     pub cell: usize,
     pub slot: usize,
 }
@@ -49,7 +49,7 @@ pub(crate) fn place_of(board: &Board<'_>, light: usize, place: usize) -> Place
     Place {
         light,
         place,
-        count: cells.len(),
+        len: cells.len(),
         cell,
         slot: 2 * cell + side(&cells),
     }

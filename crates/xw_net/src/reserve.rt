@@ -31,22 +31,22 @@ impl Net {
         Spare::of(alloc, lights, bank)
     }
 
-    /// Reserves room for one more word of length `count`. The lights are those of the net.
+    /// Reserves room for one more word of length `len`. The lights are those of the net.
     pub(crate) fn reserve_word(
         &mut self,
         lights: &Lights,
         bank: &Bank,
-        count: usize,
+        len: usize,
     ) -> Result<(), AllocError>
         requires rows { length lights.now ≤ vec_len self.old.rows }
         requires base { length lights.now ≤ vec_len self.old.base }
-        ensures room { OnOk result (HasRoom lights.now (with_word count (counts_of (words_of bank.now.words))) self.new) }
+        ensures room { OnOk result (HasRoom lights.now (with_word len (counts_of (words_of bank.now.words))) self.new) }
         ensures same { IsRoomier self.old self.new }
     {
         reserve_list(&mut self.queue, lights.len())?;
         reserve_list(&mut self.stack, lights.len())?;
-        reserve_rows(&mut self.rows, lights, bank, count)?;
-        reserve_rows(&mut self.base, lights, bank, count)
+        reserve_rows(&mut self.rows, lights, bank, len)?;
+        reserve_rows(&mut self.base, lights, bank, len)
     }
 
     /// Reserves spare arrays for these lights. The next `settle` takes them.
@@ -67,16 +67,16 @@ impl Net {
         }
     }
 
-    /// Reserves room for one more word of length `count`, and drops any spare arrays.
-    fn reserve_length(&mut self, lights: &Lights, bank: &Bank, count: usize) -> Result<(), Refusal>
+    /// Reserves room for one more word of length `len`, and drops any spare arrays.
+    fn reserve_length(&mut self, lights: &Lights, bank: &Bank, len: usize) -> Result<(), Refusal>
         requires { StandsFor lights.now self.old }
-        ensures room { OnOk result (HasRoomFor lights.now (with_word count (known_counts bank.now.words)) self.new) }
+        ensures room { OnOk result (HasRoomFor lights.now (with_word len (known_counts bank.now.words)) self.new) }
         ensures none_waits { OnOk result (is_some self.new.spare ≡ false) }
         ensures err { IfErr result (λ refusal. refusal ≡ Refusal.Word WordFault.Memory) }
         ensures same { IsAlike self.old self.new }
         ensures spare { OnErr result (self.new.spare ≡ self.old.spare) }
     {
-        match self.reserve_word(lights, bank, count) {
+        match self.reserve_word(lights, bank, len) {
             Ok(()) => {
                 self.spare = None;
                 Ok(())
@@ -98,34 +98,34 @@ impl Net {
         len: Option<usize>,
     ) -> Result<(), Refusal>
         requires { IfSome len (λ _. StandsFor lights.now self.old) }
-        ensures room { OnOk result (HasRoomFor lights.now (λ count. known_counts bank.now.words count + (if grows len count then 1 else 0)) self.new) }
+        ensures room { OnOk result (HasRoomFor lights.now (λ word_len. known_counts bank.now.words word_len + (if grows len word_len then 1 else 0)) self.new) }
         ensures waits { len ≡ None → OnOk result (is_some self.new.spare ≡ true) }
-        ensures none_waits { (count : ℕ) → len ≡ Some count → OnOk result (is_some self.new.spare ≡ false) }
+        ensures none_waits { (word_len : ℕ) → len ≡ Some word_len → OnOk result (is_some self.new.spare ≡ false) }
         ensures grid_memory { len ≡ None → IfErr result (λ refusal. refusal ≡ Refusal.Grid GridFault.Memory) }
-        ensures word_memory { (count : ℕ) → len ≡ Some count → IfErr result (λ refusal. refusal ≡ Refusal.Word WordFault.Memory) }
+        ensures word_memory { (word_len : ℕ) → len ≡ Some word_len → IfErr result (λ refusal. refusal ≡ Refusal.Word WordFault.Memory) }
         ensures same { IsAlike self.old self.new }
         ensures spare { OnErr result (self.new.spare ≡ self.old.spare) }
     {
         match len {
             None => self.reserve_shape(lights, bank),
-            Some(count) => self.reserve_length(lights, bank, count),
+            Some(word_len) => self.reserve_length(lights, bank, word_len),
         }
     }
 
-    /// Appends a clear bit to the rows of each light of length `count`, for a new word.
+    /// Appends a clear bit to the rows of each light of length `len`, for a new word.
     #[tactic(auto, using(crate::proofs::Rooms::bit_steps))]
-    pub(crate) fn push_word(&mut self, lights: &Lights, count: usize)
+    pub(crate) fn push_word(&mut self, lights: &Lights, len: usize)
         requires rows { length lights.now ≤ vec_len self.old.rows }
         requires base { length lights.now ≤ vec_len self.old.base }
-        requires room_rows { HaveBitRoom lights.now count self.old.rows.items }
-        requires room_base { HaveBitRoom lights.now count self.old.base.items }
-        ensures rows { HaveBitMore lights.now count self.old.rows.items self.new.rows.items }
-        ensures base { HaveBitMore lights.now count self.old.base.items self.new.base.items }
+        requires room_rows { HaveBitRoom lights.now len self.old.rows.items }
+        requires room_base { HaveBitRoom lights.now len self.old.base.items }
+        ensures rows { HaveBitMore lights.now len self.old.rows.items self.new.rows.items }
+        ensures base { HaveBitMore lights.now len self.old.base.items self.new.base.items }
         ensures rest { self.new ≡ record self.old { rows = self.new.rows; base = self.new.base } }
-        ensures whole { (counts : ℕ → ℕ) → IsWhole lights.now counts self.old → IsWhole lights.now (with_word count counts) self.new }
+        ensures whole { (counts : ℕ → ℕ) → IsWhole lights.now counts self.old → IsWhole lights.now (with_word len counts) self.new }
         ensures room { (counts : ℕ → ℕ) → HasRoom lights.now counts self.old → HasRoom lights.now counts self.new }
     {
-        push_bits(&mut self.rows, lights, count);
-        push_bits(&mut self.base, lights, count);
+        push_bits(&mut self.rows, lights, len);
+        push_bits(&mut self.base, lights, len);
     }
 }

@@ -25,20 +25,20 @@ pub(crate) fn size_at(lights: &Lights, light: usize) -> usize
 
 /// The number of known words of a length.
 #[tactic(auto, using(crate::proofs::Rooms::known_few))]
-fn known(bank: &Bank, count: usize) -> usize
-    ensures words { result ≡ counts_of (words_of bank.now.words) count }
+fn known(bank: &Bank, len: usize) -> usize
+    ensures words { result ≡ counts_of (words_of bank.now.words) len }
     ensures few { result ≤ 1048576 }
 {
-    bank.known(count)
+    bank.known(len)
 }
 
 /// The number of known words of a length, after one more word of length `grown`.
-fn known_with(bank: &Bank, grown: usize, count: usize) -> usize
-    ensures words { result ≡ with_word grown (counts_of (words_of bank.now.words)) count }
+fn known_with(bank: &Bank, grown: usize, len: usize) -> usize
+    ensures words { result ≡ with_word grown (counts_of (words_of bank.now.words)) len }
     ensures few { result ≤ 1048577 }
 {
-    let known = known(bank, count);
-    if count == grown { known + 1 } else { known }
+    let known = known(bank, len);
+    if len == grown { known + 1 } else { known }
 }
 
 /// Reserves room for `room` bits in total.
@@ -165,15 +165,15 @@ pub(crate) fn reserve_rows(
     Ok(())
 }
 
-/// Appends a clear bit to the row of each light of length `count`.
-pub(crate) fn push_bits(rows: &mut [BitRow], lights: &Lights, count: usize)
+/// Appends a clear bit to the row of each light of length `len`.
+pub(crate) fn push_bits(rows: &mut [BitRow], lights: &Lights, len: usize)
     requires lights { length lights.now ≤ length rows.old }
-    requires room { HaveBitRoom lights.now count rows.old }
-    ensures bits { HaveBitMore lights.now count rows.old rows.new }
+    requires room { HaveBitRoom lights.now len rows.old }
+    ensures bits { HaveBitMore lights.now len rows.old rows.new }
     ensures more { (light : ℕ) → (row_at rows.old light).room ≤ (row_at rows.new light).room }
 {
     for light in 0..lights.len() {
-        if size_at(lights, light) == count {
+        if size_at(lights, light) == len {
             let row = &mut rows[light];
             row.push(false);
         }

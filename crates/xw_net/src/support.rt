@@ -17,19 +17,19 @@ use xw_words::rows::Rows;
 fn first_support<R: Rows>(
     rows: &mut R,
     row: &BitRow,
-    count: usize,
+    len: usize,
     position: usize,
     letter: Letter,
     from: usize,
 ) -> Option<usize>
     ensures entries { R.entries rows.new ≡ R.entries rows.old }
     ensures risen { R.ticks rows.old ≤ R.ticks rows.new }
-    ensures found { IfSome result (λ word. (64 * from ≤ word) × (supports row.now.bits (R.entries rows.old count) position letter word ≡ true)) }
-    ensures first { IfSome result (λ word. (other : ℕ) → 64 * from ≤ other → other < word → supports row.now.bits (R.entries rows.old count) position letter other ≡ false) }
-    ensures none { IfNone result ((other : ℕ) → 64 * from ≤ other → supports row.now.bits (R.entries rows.old count) position letter other ≡ false) }
+    ensures found { IfSome result (λ word. (64 * from ≤ word) × (supports row.now.bits (R.entries rows.old len) position letter word ≡ true)) }
+    ensures first { IfSome result (λ word. (other : ℕ) → 64 * from ≤ other → other < word → supports row.now.bits (R.entries rows.old len) position letter other ≡ false) }
+    ensures none { IfNone result ((other : ℕ) → 64 * from ≤ other → supports row.now.bits (R.entries rows.old len) position letter other ≡ false) }
     ensures cost { MatchOption result (R.ticks rows.new ≤ R.ticks rows.old + (chunks_of (length row.now.bits) - from)) (λ word. R.ticks rows.new + from ≤ R.ticks rows.old + (word / 64 + 1)) }
 {
-    rows.next_with(count, position, letter, row, from)
+    rows.next_with(len, position, letter, row, from)
 }
 
 /// Removes from the row the words that have a pending letter at the position. If fewer letters are
@@ -38,23 +38,23 @@ fn first_support<R: Rows>(
 pub(crate) fn strike_row<R: Rows>(
     rows: &mut R,
     row: &mut BitRow,
-    count: usize,
+    len: usize,
     position: usize,
     pending: LetterSet,
     alive: LetterSet,
 )
-    requires { length row.old.bits ≡ length (R.entries rows.old count) }
+    requires { length row.old.bits ≡ length (R.entries rows.old len) }
     ensures entries { R.entries rows.new ≡ R.entries rows.old }
     ensures risen { R.ticks rows.old ≤ R.ticks rows.new }
     ensures len { length row.new.bits ≡ length row.old.bits }
-    ensures strikes { AreApart pending alive → Strikes (R.entries rows.old count) position pending alive (λ word. slice_index_or row.old.bits word false) (λ word. slice_index_or row.new.bits word false) }
+    ensures strikes { AreApart pending alive → Strikes (R.entries rows.old len) position pending alive (λ word. slice_index_or row.old.bits word false) (λ word. slice_index_or row.new.bits word false) }
     ensures room { row.new.room ≡ row.old.room }
     ensures cost { R.ticks rows.new ≤ R.ticks rows.old + chunks_of (length row.old.bits) * letter_count pending }
 {
     if alive.len() < pending.len() {
-        rows.keep_columns(count, position, alive, row);
+        rows.keep_columns(len, position, alive, row);
     } else {
-        rows.strike_columns(count, position, pending, row);
+        rows.strike_columns(len, position, pending, row);
     }
 }
 
@@ -96,13 +96,13 @@ pub(crate) fn find_support<R: Rows>(
     ensures risen { R.ticks rows.old ≤ R.ticks rows.new }
     ensures held { length held.new ≡ length held.old }
     ensures restart { length restart.new ≡ length restart.old }
-    ensures finds { Finds row.now.bits (R.entries rows.old here.count) here.place here.slot letter record { places = held.old; restart = restart.old } record { places = held.new; restart = restart.new } result (R.ticks rows.new - R.ticks rows.old) }
+    ensures finds { Finds row.now.bits (R.entries rows.old here.len) here.place here.slot letter record { places = held.old; restart = restart.old } record { places = held.new; restart = restart.new } result (R.ticks rows.new - R.ticks rows.old) }
 {
     let at = 26 * here.slot + (letter.byte() - b'A') as usize;
     let Some(from) = search_start(row, held[at], restart[here.slot].has(letter)) else {
         return true;
     };
-    match first_support(rows, row, here.count, here.place, letter, from) {
+    match first_support(rows, row, here.len, here.place, letter, from) {
         Some(word) => {
             held[at] = word;
             restart[here.slot].remove(letter);

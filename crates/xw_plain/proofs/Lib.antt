@@ -1,2 +1,3 @@
 pub mod FlagsLemmas
 pub mod Strip
+mod Tallies

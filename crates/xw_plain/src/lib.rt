@@ -5,6 +5,8 @@
 mod flags;
 pub mod plain;
 mod rows;
+pub mod searching;
 mod standing;
 
 pub use plain::Plain;
+pub use searching::Saved;

@@ -89,11 +89,11 @@ fn settle_anew(
 /// before the last edit.
 #[derive(Drop)]
 pub struct Plain {
-    alloc: Global,
-    grid: Grid,
-    lights: Lights,
-    bank: Bank,
-    words: Vec<Flags>,
+    pub(crate) alloc: Global,
+    pub(crate) grid: Grid,
+    pub(crate) lights: Lights,
+    pub(crate) bank: Bank,
+    pub(crate) words: Vec<Flags>,
     letters: Vec<LetterSet>,
     before: Vec<LetterSet>,
     ghost light_list: { lights ≡ lights_of grid },
@@ -378,6 +378,23 @@ impl Plain {
         let before = make_grid_sets(self.alloc, &grid)?;
         self.replace(grid, lights, words, letters, before);
         Ok(())
+    }
+
+    /// Exchanges the grid for one of the same shape, and computes the answers.
+    pub(crate) fn swap_grid(&mut self, grid: &mut Grid)
+        requires { SameShape self.old.grid grid.old }
+        ensures now { self.new.grid ≡ grid.old }
+        ensures before { grid.new ≡ self.old.grid }
+        ensures words { self.new.bank.words ≡ self.old.bank.words }
+    {
+        std::mem::swap(&mut self.grid, grid);
+        settle_grid(
+            &self.grid,
+            &self.lights,
+            &self.bank,
+            &mut self.words,
+            &mut self.letters,
+        );
     }
 
     /// The number of feasible words of a light.

@@ -19,29 +19,33 @@ use Rattle.xw_commands.specs.declared.command.Command.{Command}
 use Rattle.xw_session.specs.declared.refusal.Refusal.{Refusal}
 use Rattle.xw_session.specs.declared.refusal.Refusal.TheVariants as refusals
 use Rattle.xw_session.specs.Reply.{Reply, shown, reply_to, want_of}
-use Rattle.xw_session.specs.Answer.{Answers, IsReply, AnswersBy, AnswersTo, AnswersParsed, AnswersLine, Edits, reply_of, text_of, step_of}
+use Rattle.xw_session.specs.Answer.{Answers, IsReply, IsDue, AnswersBy, AnswersTo, AnswersParsed, AnswersLine, Edits, reply_of, text_of, step_of}
 
 -- a command was executed or refused, and then its answer was written
 pub edit_answers : {S E T : Type 0} (transcript : S → List ℕ) (failures : S → ℕ) (state after : State) (command : Command) (done : Result T Refusal) (result : Result Step E) (old new : S)
-    → Edits state command done after
+    → IsDue state command (reply_to state command) → Edits state command done after
     → ((g : State) → Sends transcript failures old new result (text_of (reply_of done g)))
     → ((g : State) → IfOk result (λ o. o ≡ step_of (reply_of done g)))
     → AnswersTo transcript failures state command result after old new
-edit_answers transcript failures state after command done result old new edits sends outcome = record {
-  reply = reply_of done after;
-  fits = edits.0;
-  effect = edits.1;
-  sends = sends after;
-  step = outcome after;
-}
+edit_answers transcript failures state after command done result old new is edits sends outcome = (
+  reply_to state command,
+  is,
+  record {
+    reply = reply_of done after;
+    fits = edits.0;
+    effect = edits.1;
+    sends = sends after;
+    step = outcome after;
+  },
+)
 
 -- a line with a command
 pub line_answers : {S E : Type 0} (transcript : S → List ℕ) (failures : S → ℕ) (state after : State) (line : List ℕ) (command : Command) (result : Result Step E) (old new : S)
     → Ok (Some command) ≡ command_of line → AnswersTo transcript failures state command result after old new → AnswersLine transcript failures state line result after old new
-line_answers transcript failures state after line command result old new is a = record {
+line_answers transcript failures state after line command result old new is (due, owed, a) = record {
   outcome = step_of a.reply;
   answer = text_of a.reply;
-  fits = subst (λ parsed. AnswersParsed state parsed (step_of a.reply) (text_of a.reply) after) is (a.reply, a.fits, refl, refl, a.effect);
+  fits = subst (λ parsed. AnswersParsed state parsed (step_of a.reply) (text_of a.reply) after) is (a.reply, (due, owed, a.fits), refl, refl, a.effect);
   sends = a.sends;
   is = a.step;
 }
@@ -107,30 +111,30 @@ module _ {S : Type 0} (transcript : S → List ℕ) (failures : S → ℕ) where
 
   -- a query wrote its lines, and then the end of its answer
   pub query_answers : {E : Type 0} (state : State) (command : Command) (lines : List ℕ) (result : Result Step E) (old mid new : S)
-      → reply_to state command ≡ shown state lines
+      → IsDue state command (shown state lines)
       → (transcript mid ≡ transcript old ++ lines) × (failures mid ≡ failures old)
       → ((g : State) → Sends transcript failures mid new result (text_of (reply_of {T = Unit {0}} (Ok tt) g)))
       → ((g : State) → IfOk result (λ o. o ≡ step_of (reply_of {T = Unit {0}} (Ok tt) g)))
       → AnswersTo transcript failures state command result state old new
   query_answers state command lines result old mid new is wrote sends outcome =
-      reply_answers state (reply_to state command) (want_of state command) (record { lines = lines; state = state }) result old mid new is wrote sends outcome
+      (shown state lines, is, reply_answers state (shown state lines) (want_of state command) (record { lines = lines; state = state }) result old mid new refl wrote sends outcome)
 
   -- the writer failed within the lines of a query
   pub query_stops : {E : Type 0} (state : State) (command : Command) (lines : List ℕ) (error : E) (old new : S)
-      → reply_to state command ≡ shown state lines
+      → IsDue state command (shown state lines)
       → Begins (transcript old) (transcript new) lines × HasFailed (failures old) (failures new)
       → AnswersTo transcript failures state command (Err error) state old new
   query_stops state command lines error old new is sends =
-      reply_stops state (reply_to state command) (want_of state command) (record { lines = lines; state = state }) error old new is sends
+      (shown state lines, is, reply_stops state (shown state lines) (want_of state command) (record { lines = lines; state = state }) error old new refl sends)
 
   -- a query was refused
   pub refusal_answers : {E : Type 0} (state : State) (command : Command) (refusal : Refusal) (result : Result Step E) (old new : S)
-      → reply_to state command ≡ Err refusal
+      → IsDue state command (Err refusal)
       → ((g : State) → Sends transcript failures old new result (text_of (reply_of {T = Unit {0}} (Err refusal) g)))
       → ((g : State) → IfOk result (λ o. o ≡ step_of (reply_of {T = Unit {0}} (Err refusal) g)))
       → AnswersTo transcript failures state command result state old new
   refusal_answers state command refusal result old new is sends outcome =
-      refused_answers state (reply_to state command) (want_of state command) refusal result old new (inl is) sends outcome
+      (Err refusal, is, refused_answers state (Err refusal) (want_of state command) refusal result old new (inl refl) sends outcome)
 
 -- only a line without a command is silent
 never_silent : (reply : Result Reply Refusal) → step_of reply ≡ Silent → ⊥

@@ -29,7 +29,8 @@ use Rattle.xw_session.specs.declared.refusal.Refusal.TheVariants as refusals
 use Rattle.xw_session.specs.Refusal.{refusal_of}
 use Rattle.xw_session.specs.State.{State}
 use Rattle.xw_session.specs.Text.{word_line, change_line, letters_line}
-use Rattle.xw_session.specs.Reply.{Reply, filling_name, changes_between, moved, want_of_action, lettered, shown, fill_tried, grid_memory}
+use Rattle.xw_session.specs.Tally.{tally_line}
+use Rattle.xw_session.specs.Reply.{Reply, filling_name, changes_between, moved, want_of_action, lettered, tallied, shown, fill_tried, grid_memory}
 use Rattle.xw_session.specs.Answer.{IsReply, edit_reply, fill_reply, state_after}
 
 abbrev pub Knows : Position → Answers → Type 0
@@ -79,6 +80,13 @@ pub lettered_is : (state : State) (answers : Answers) (cell : Cell) (set : ℕ) 
     → lettered state cell ≡ shown state (letters_line (letters_in set))
 lettered_is state answers cell set exact is =
     judged (is_inside state.position.grid cell) (is_block state.position.grid cell) _ _ (λ letters. shown state (letters_line letters))
+    (ap (cell_judged state.position.grid cell) (sym (answered_letters (position_of state.position) answers exact (index_of state.position.grid cell))) ∙ is)
+
+pub tallied_is : (state : State) (answers : Answers) (cell : Cell) (set : ℕ) → Knows state.position answers
+    → cell_judged state.position.grid cell (letters_of answers (index_of state.position.grid cell)) ≡ Ok (letters_in set)
+    → tallied state cell ≡ shown state (flat_map (tally_line state.position cell) (letters_in set))
+tallied_is state answers cell set exact is =
+    judged (is_inside state.position.grid cell) (is_block state.position.grid cell) _ _ (λ letters. shown state (flat_map (tally_line state.position cell) letters))
     (ap (cell_judged state.position.grid cell) (sym (answered_letters (position_of state.position) answers exact (index_of state.position.grid cell))) ∙ is)
 
 -- ---- words of a light

@@ -2,7 +2,8 @@
 use Rattle.std.proofs.Common.{◌≡◌, ℕ, false, eqb, List, [], ◌∷◌, ◌++◌, length, codes, refl}
 use Rattle.std.specs.Prelude.{decimal}
 use Rattle.xw_grid.specs.declared.cell.LightName.{LightName}
-use Rattle.xw_session.specs.Text.{line_of, direction_name}
+use Rattle.xw_commands.specs.Names.{direction_name, clue_name}
+use Rattle.xw_session.specs.Text.{line_of}
 use Rattle.xw_session.specs.Escape.{escaped_text}
 use Rattle.xw_session.specs.Told.{field_line, clue_line}
 
@@ -10,6 +11,6 @@ pub field_told : (name text : List ℕ) → eqb (length text) 0 ≡ false → (n
 field_told name [] some = cc
 field_told name (byte ∷ bytes) some = refl
 
-pub clue_is_told : (name : LightName) (text : List ℕ) → eqb (length text) 0 ≡ false → (codes "clue" ++ codes " ") ++ line_of (decimal name.number ∷ direction_name name.direction ∷ escaped_text text ∷ []) ≡ clue_line name text
+pub clue_is_told : (name : LightName) (text : List ℕ) → eqb (length text) 0 ≡ false → (clue_name ++ codes " ") ++ line_of (decimal name.number ∷ direction_name name.direction ∷ escaped_text text ∷ []) ≡ clue_line name text
 clue_is_told name [] some = cc
 clue_is_told name (byte ∷ bytes) some = refl

@@ -1,9 +1,10 @@
 pub mod Gathering
 pub mod Answering
 pub mod Engine
+pub mod Autofilling
+pub mod Tallying
 pub mod Sending
 pub mod Bars
-pub mod Decimals
 pub mod LetterTexts
 pub mod LightTexts
 pub mod Escapes

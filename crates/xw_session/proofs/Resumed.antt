@@ -20,10 +20,14 @@ use Rattle.xw_session.specs.State.{State}
 use Rattle.xw_session.specs.Resuming.{AreDone, IsDone, IsReached, Resumes, ResumesLine, Tells, count, is_memory, line_fault, refused_line, told_of}
 
 -- commands are split into lines in the same way as word lists
-pub lines_are_pieces : (text : List ℕ) → pieces_of text ≡ lines_of text
+lines_are_pieces : (text : List ℕ) → pieces_of text ≡ lines_of text
 lines_are_pieces text =
     let whole = cut-whole text in
     ap pieces_of whole.0 ∙ lines_of-with_lfs (ended_lines text) (last_piece text) whole.1 whole.2
+
+-- the first line, and the lines after it
+pub first_of_both : (text line rest : List ℕ) → pieces_of text ≡ line ∷ pieces_of rest → lines_of text ≡ line ∷ lines_of rest
+first_of_both text line rest first = sym (lines_are_pieces text) ∙ first ∙ ap (λ lines. line ∷ lines) (lines_are_pieces rest)
 
 -- ---- one line
 

@@ -10,12 +10,14 @@ use Rattle.xw_fill.specs.declared.search.Filling.{Filling}
 use Rattle.xw_lines.specs.declared.outcome.Step.{Step}
 use Rattle.xw_lines.specs.declared.outcome.Step.TheVariants.{Silent, Accepted, Refused}
 use Rattle.xw_commands.specs.declared.command.Command.{Command}
+use Rattle.xw_commands.specs.declared.command.Command.TheVariants as commands
 use Rattle.xw_commands.specs.declared.command.SyntaxFault.{SyntaxFault}
 use Rattle.xw_session.specs.declared.refusal.Refusal.{Refusal}
 use Rattle.xw_session.specs.declared.refusal.Refusal.TheVariants as refusals
 use Rattle.xw_commands.specs.Command.{command_of}
 use Rattle.xw_session.specs.Refusal.{refusal_of}
 use Rattle.xw_session.specs.Reply.{Reply, reply_to, want_of, want_of_action, moved, filling_name}
+use Rattle.xw_session.specs.Autofill.{names_of, IsAutofillDue}
 use Rattle.xw_lines.specs.Sends.{Sends}
 use Rattle.xw_session.specs.State.{State}
 use Rattle.xw_session.specs.Text.{accepted, refused, word_line, change_line}
@@ -25,9 +27,14 @@ abbrev pub IsReply : Result Reply Refusal → Option Refusal → Result Reply Re
 IsReply due want (Ok reply) = due ≡ Ok reply
 IsReply due want (Err refusal) = (due ≡ Err refusal) ⊎ (IsOk due × (want ≡ Some refusal))
 
+-- a reply that the command may get if no allocation fails: more than one for autofill, and one for any other command
+abbrev pub IsDue : State → Command → Result Reply Refusal → Type 0
+IsDue state (commands.Autofill limit seed lights) due = IsAutofillDue state (names_of lights) due
+IsDue state other due = reply_to state other ≡ due
+
 -- a reply that the command may get
 abbrev pub Replies : State → Command → Result Reply Refusal → Type 0
-Replies state command = IsReply (reply_to state command) (want_of state command)
+Replies state command reply = (due : Result Reply Refusal) × IsDue state command due × IsReply due (want_of state command) reply
 
 abbrev pub text_of : Result Reply Refusal → List ℕ
 text_of (Ok reply) = reply.lines ++ accepted
@@ -52,14 +59,15 @@ pub record AnswersBy {S E : Type 0} (transcript : S → List ℕ) (failures : S 
 
 -- the command was answered
 abbrev pub AnswersTo : {S E : Type 0} → (S → List ℕ) → (S → ℕ) → State → Command → Result Step E → State → S → S → Type 0
-AnswersTo transcript failures state command result after old new = AnswersBy transcript failures state (reply_to state command) (want_of state command) result after old new
+AnswersTo transcript failures state command result after old new =
+    (due : Result Reply Refusal) × IsDue state command due × AnswersBy transcript failures state due (want_of state command) result after old new
 
 -- ---- what single functions of a session do
 
 -- the command asks for this edit, or is refused before it
 abbrev pub Asks : State → Command → Result Edit Refusal → Type 0
-Asks state command (Ok edit) = (reply_to state command ≡ moved state (after state.position (action_of edit))) × (want_of state command ≡ want_of_action state (action_of edit))
-Asks state command (Err refusal) = reply_to state command ≡ Err refusal
+Asks state command (Ok edit) = IsDue state command (moved state (after state.position (action_of edit))) × (want_of state command ≡ want_of_action state (action_of edit))
+Asks state command (Err refusal) = IsDue state command (Err refusal)
 
 -- the result of a command without answer lines, as a reply
 abbrev pub reply_of : {T : Type 0} → Result T Refusal → State → Result Reply Refusal
@@ -76,9 +84,9 @@ abbrev pub fill_reply : Result Filling EditRefusal → State → Result Reply Re
 fill_reply (Ok filling) state = Ok (record { lines = word_line (filling_name filling); state = state })
 fill_reply (Err refusal) state = Err (refusal_of refusal)
 
--- the command was executed or refused, and the state is the one that its reply leaves
+-- the command, which has one allowed reply, was executed or refused, and the state is the one that its reply leaves
 abbrev pub Edits : {T : Type 0} → State → Command → Result T Refusal → State → Type 0
-Edits state command result after = Replies state command (reply_of result after) × (after ≡ state_after state (reply_of result after))
+Edits state command result after = IsReply (reply_to state command) (want_of state command) (reply_of result after) × (after ≡ state_after state (reply_of result after))
 
 -- ---- lines
 

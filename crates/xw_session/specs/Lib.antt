@@ -4,10 +4,12 @@ pub mod Refusal
 pub mod Text
 pub mod Show
 pub mod Told
+pub mod Tally
 pub mod Stats
 pub mod Put
 pub mod Spelling
 pub mod Record
 pub mod Reply
+pub mod Autofill
 pub mod Answer
 pub mod Resuming

@@ -40,6 +40,7 @@ use Rattle.xw_commands.specs.declared.command.Field.{Field}
 use Rattle.xw_session.specs.State.{State, with_text_in}
 pub use Rattle.xw_session.specs.State.{cell_of}
 use Rattle.xw_session.specs.Escape.{text_spelled}
+use Rattle.xw_session.specs.Tally.{tally_lines}
 use Rattle.xw_session.specs.Told.{cell_lines, count_lines, text_lines}
 use Rattle.xw_session.specs.Stats.{stat_lines}
 use Rattle.xw_session.specs.Record.{record_lines}
@@ -151,6 +152,13 @@ lettered state cell =
     else if is_block state.position.grid cell then Err (refusals.Grid grids.OnBlock)
     else shown state (letters_line (feasible_letters (position_of state.position) (index_of state.position.grid cell)))
 
+-- for each feasible letter of an open cell the counts of its lights
+abbrev pub tallied : State → Cell → Result Reply Refusal
+tallied state cell =
+    if not (is_inside state.position.grid cell) then Err (refusals.Grid grids.OutOfGrid)
+    else if is_block state.position.grid cell then Err (refusals.Grid grids.OnBlock)
+    else shown state (tally_lines state.position cell)
+
 abbrev pub filling_name : Filling → List ℕ
 filling_name fillings.Filled = codes "filled"
 filling_name fillings.NoFill = codes "nofill"
@@ -164,6 +172,10 @@ fill_tried state limit =
     else shown state (word_line (filling_name fillings.NoFill))
 
 -- ---- the reply to each command if no allocation fails
+
+-- autofill has more than one allowed reply, which IsDue of Answer.antt defines; no command is replayed as this one
+abbrev pub not_determined : Result Reply Refusal
+not_determined = Err refusals.NoLight
 
 abbrev pub reply_to : State → Command → Result Reply Refusal
 reply_to state (commands.Size width height) = resized state (new_grid width height)
@@ -184,10 +196,12 @@ reply_to state commands.Show = shown state (show_lines state.position.grid)
 reply_to state commands.Lights = shown state (light_lines state.position.grid)
 reply_to state (commands.Words named most) = worded state (place_named (lights_of state.position.grid) (name_of_light named)) most
 reply_to state (commands.Letters spot) = lettered state (cell_of spot)
+reply_to state (commands.Tally spot) = tallied state (cell_of spot)
 reply_to state commands.Duplicates = shown state (flat_map (duplicate_line state.position.grid) (duplicates_of state.position))
 reply_to state commands.Unlisted = shown state (flat_map (spelled_line state.position.grid) (unlisted_of state.position))
 reply_to state commands.Suggest = shown state (suggestion_line state.position (suggestion state.position))
 reply_to state (commands.Fill limit) = fill_tried state limit
+reply_to state (commands.Autofill limit seed lights) = not_determined
 reply_to state (commands.Watch is_on) = edited (record state { is_watched = is_on })
 reply_to state (commands.Tell telling) = shown state (told_lines state telling)
 reply_to state (commands.Put putting field spelling) = put state putting field (text_spelled spelling)
@@ -200,10 +214,12 @@ has_lines commands.Show = true
 has_lines commands.Lights = true
 has_lines (commands.Words named most) = true
 has_lines (commands.Letters spot) = true
+has_lines (commands.Tally spot) = true
 has_lines commands.Duplicates = true
 has_lines commands.Unlisted = true
 has_lines commands.Suggest = true
 has_lines (commands.Fill limit) = true
+has_lines (commands.Autofill limit seed lights) = true
 has_lines (commands.Tell telling) = true
 has_lines other = false
 
@@ -240,10 +256,12 @@ want_of state commands.Show = None
 want_of state commands.Lights = None
 want_of state (commands.Words named most) = None
 want_of state (commands.Letters spot) = None
+want_of state (commands.Tally spot) = None
 want_of state commands.Duplicates = Some grid_memory
 want_of state commands.Unlisted = Some grid_memory
 want_of state commands.Suggest = None
 want_of state (commands.Fill limit) = Some grid_memory
+want_of state (commands.Autofill limit seed lights) = Some grid_memory
 want_of state (commands.Watch is_on) = None
 want_of state (commands.Tell telling) = None
 want_of state (commands.Put putting field spelling) = want_of_text spelling

@@ -1,9 +1,5 @@
 -- The line of a command.
-use Rattle.std.specs.Prelude.{ℕ, Bool, true, false, List, [], ◌∷◌, codes, decimal, Option, Some, None}
-use Rattle.xw_grid.specs.declared.cell.Side.{Side}
-use Rattle.xw_grid.specs.declared.cell.Side.TheVariants.{Right, Below}
-use Rattle.xw_grid.specs.declared.cell.Symmetry.{Symmetry}
-use Rattle.xw_grid.specs.declared.cell.Symmetry.TheVariants as kinds
+use Rattle.std.specs.Prelude.{ℕ, List, [], ◌∷◌, decimal, Option, Some, None}
 use Rattle.xw_commands.specs.declared.command.Command.{Command}
 use Rattle.xw_commands.specs.declared.command.Command.TheVariants as commands
 use Rattle.xw_commands.specs.declared.command.Field.{Field}
@@ -11,34 +7,12 @@ use Rattle.xw_commands.specs.declared.command.Field.TheVariants as fields
 use Rattle.xw_commands.specs.declared.command.Name.TheVariants as names
 use Rattle.xw_commands.specs.declared.command.LightArg.{LightArg}
 use Rattle.xw_commands.specs.declared.command.CellArg.{CellArg}
-use Rattle.xw_commands.specs.declared.command.TextField.{TextField}
-use Rattle.xw_commands.specs.declared.command.TextField.TheVariants.{Title, Author, Copyright, Notes}
 use Rattle.xw_commands.specs.declared.command.WithWord.TheVariants as with_word
 use Rattle.xw_commands.specs.declared.command.WithCell.TheVariants as with_cell
 use Rattle.xw_commands.specs.declared.command.WithLight.TheVariants as with_light
 use Rattle.xw_commands.specs.Name.{word_of}
-use Rattle.xw_session.specs.Text.{line_of, direction_name}
-
-abbrev pub symmetry_name : Symmetry → List ℕ
-symmetry_name kinds.None = codes "none"
-symmetry_name kinds.Half = codes "half"
-symmetry_name kinds.Quarter = codes "quarter"
-symmetry_name kinds.LeftRight = codes "leftright"
-symmetry_name kinds.UpDown = codes "updown"
-
-abbrev pub side_name : Side → List ℕ
-side_name Right = codes "right"
-side_name Below = codes "below"
-
-abbrev pub switch_name : Bool → List ℕ
-switch_name true = codes "on"
-switch_name false = codes "off"
-
-abbrev pub field_name : TextField → List ℕ
-field_name Title = codes "title"
-field_name Author = codes "author"
-field_name Copyright = codes "copyright"
-field_name Notes = codes "notes"
+use Rattle.xw_commands.specs.Names.{direction_name, side_name, symmetry_name, switch_name, field_name, clue_name}
+use Rattle.xw_session.specs.Text.{line_of}
 
 -- the words of a cell, a light or a field, followed by further words
 abbrev pub at_spot : CellArg → List (List ℕ) → List (List ℕ)
@@ -47,9 +21,13 @@ at_spot spot rest = decimal spot.row ∷ decimal spot.col ∷ rest
 abbrev pub at_light : LightArg → List (List ℕ) → List (List ℕ)
 at_light named rest = decimal named.number ∷ direction_name named.direction ∷ rest
 
+abbrev pub at_lights : List LightArg → List (List ℕ)
+at_lights [] = []
+at_lights (named ∷ lights) = at_light named (at_lights lights)
+
 abbrev pub in_field : Field → List (List ℕ) → List (List ℕ)
 in_field (fields.Text name) rest = field_name name ∷ rest
-in_field (fields.Clue spot direction) rest = codes "clue" ∷ at_spot spot (direction_name direction ∷ rest)
+in_field (fields.Clue spot direction) rest = clue_name ∷ at_spot spot (direction_name direction ∷ rest)
 
 abbrev number_if_any : Option ℕ → List (List ℕ)
 number_if_any None = []
@@ -75,10 +53,12 @@ command_words commands.Show = word_of names.Show ∷ []
 command_words commands.Lights = word_of names.Lights ∷ []
 command_words (commands.Words named most) = word_of (names.Light with_light.Words) ∷ at_light named (number_if_any most)
 command_words (commands.Letters spot) = word_of (names.Cell with_cell.Letters) ∷ at_spot spot []
+command_words (commands.Tally spot) = word_of (names.Cell with_cell.Tally) ∷ at_spot spot []
 command_words commands.Duplicates = word_of names.Duplicates ∷ []
 command_words commands.Unlisted = word_of names.Unlisted ∷ []
 command_words commands.Suggest = word_of names.Suggest ∷ []
 command_words (commands.Fill limit) = word_of names.Fill ∷ decimal limit ∷ []
+command_words (commands.Autofill limit seed lights) = word_of names.Autofill ∷ decimal limit ∷ decimal seed ∷ at_lights lights
 command_words (commands.Watch is_on) = word_of names.Watch ∷ switch_name is_on ∷ []
 command_words (commands.Tell telling) = word_of (names.Tell telling) ∷ []
 command_words (commands.Put putting field spelling) = word_of (names.Put putting) ∷ in_field field (spelling ∷ [])

@@ -2,8 +2,6 @@
 use Rattle.std.specs.Prelude.{ℕ, List, [], ◌∷◌, ◌++◌, map, ◌&&◌, flat_map, codes, decimal, slice_get, Option, Some, None, if◌then◌else◌}
 use Rattle.std.specs.Option.{option_and_then}
 use Rattle.xw_grid.specs.declared.cell.Cell.{Cell}
-use Rattle.xw_grid.specs.declared.cell.Direction.{Direction}
-use Rattle.xw_grid.specs.declared.cell.Direction.TheVariants.{Across, Down}
 use Rattle.xw_grid.specs.declared.fault.GridFault.{GridFault}
 use Rattle.xw_grid.specs.declared.fault.GridFault.TheVariants as grids
 use Rattle.xw_grid.specs.declared.lights.Light.{Light}
@@ -18,6 +16,7 @@ use Rattle.xw_fill.specs.declared.suggesting.Suggestion.{Suggestion}
 use Rattle.xw_fill.specs.declared.suggesting.Suggestion.TheVariants as suggestions
 use Rattle.xw_words.specs.declared.fault.WordFault.{WordFault}
 use Rattle.xw_words.specs.declared.fault.WordFault.TheVariants as words
+use Rattle.xw_commands.specs.Names.{direction_name}
 use Rattle.xw_commands.specs.declared.command.SyntaxFault.{SyntaxFault}
 use Rattle.xw_commands.specs.declared.command.SyntaxFault.TheVariants as syntax
 use Rattle.xw_session.specs.declared.refusal.Refusal.{Refusal}
@@ -91,10 +90,6 @@ change_line change = line_of (codes "cell" ∷ decimal change.0.row ∷ decimal 
 -- the number of words, and then the words
 abbrev pub counted_lines : ℕ → List (List ℕ) → List ℕ
 counted_lines count found = line_of (decimal count ∷ []) ++ flat_map word_line found
-
-abbrev pub direction_name : Direction → List ℕ
-direction_name Across = codes "across"
-direction_name Down = codes "down"
 
 -- the letter, or a dot if there is none
 abbrev pub letter_or_dot : Option ℕ → ℕ

@@ -1,5 +1,5 @@
 -- What the commands `cells`, `counts` and `texts` report.
-use Rattle.std.specs.Prelude.{ℕ, List, [], ◌∷◌, ◌++◌, length, flat_map, codes, decimal, slice_index_or, if◌then◌else◌}
+use Rattle.std.specs.Prelude.{ℕ, List, [], ◌∷◌, ◌++◌, length, flat_map, decimal, slice_index_or, if◌then◌else◌}
 use Rattle.std.specs.List.{range_with_len}
 use Rattle.xw_grid.specs.declared.cell.Cell.{Cell}
 use Rattle.xw_grid.specs.declared.cell.LightName.{LightName}
@@ -12,8 +12,10 @@ use Rattle.xw_fill.specs.Position.{position_of}
 use Rattle.xw_fill.specs.FeasibleWords.{feasible_words}
 use Rattle.xw_fill.specs.FeasibleLetters.{feasible_letters}
 use Rattle.xw_grid.specs.Puzzle.{TextsShown, clue_of}
+use Rattle.xw_commands.specs.declared.command.TextField.TheVariants.{Title, Author, Copyright, Notes}
+use Rattle.xw_commands.specs.Names.{direction_name, field_name, clue_name}
 use Rattle.xw_session.specs.State.{State}
-use Rattle.xw_session.specs.Text.{line_of, change_line, direction_name}
+use Rattle.xw_session.specs.Text.{line_of, change_line}
 use Rattle.xw_session.specs.Escape.{escaped_text}
 
 -- an open cell with its feasible letters, in the form of the watch; nothing for a block
@@ -43,14 +45,14 @@ field_line name (byte ∷ bytes) = line_of (name ∷ escaped_text (byte ∷ byte
 
 abbrev pub clue_line : LightName → List ℕ → List ℕ
 clue_line name [] = []
-clue_line name (byte ∷ bytes) = line_of (codes "clue" ∷ decimal name.number ∷ direction_name name.direction ∷ escaped_text (byte ∷ bytes) ∷ [])
+clue_line name (byte ∷ bytes) = line_of (clue_name ∷ decimal name.number ∷ direction_name name.direction ∷ escaped_text (byte ∷ bytes) ∷ [])
 
 -- the four texts
 abbrev pub title_and_author : TextsShown → List ℕ
-title_and_author texts = field_line (codes "title") texts.title ++ field_line (codes "author") texts.author
+title_and_author texts = field_line (field_name Title) texts.title ++ field_line (field_name Author) texts.author
 
 abbrev pub copyright_and_notes : TextsShown → List ℕ
-copyright_and_notes texts = field_line (codes "copyright") texts.copyright ++ field_line (codes "notes") texts.notes
+copyright_and_notes texts = field_line (field_name Copyright) texts.copyright ++ field_line (field_name Notes) texts.notes
 
 abbrev pub field_lines : TextsShown → List ℕ
 field_lines texts = title_and_author texts ++ copyright_and_notes texts

@@ -3,38 +3,41 @@ ghost use Rattle.std.specs.Prelude.{◌≡◌, ◌<◌, [], ◌∷◌, length, d
 ghost use Rattle.xw_grid.specs.Light.{lights_of, no_light};
 ghost use Rattle.xw_grid.specs.Puzzle.{texts_view};
 ghost use Rattle.xw_lines.specs.Sends.{Sends};
-ghost use Rattle.xw_session.specs.Text.{line_of, direction_name as name_of_direction};
+ghost use Rattle.xw_commands.specs.Names.{direction_name, field_name};
+ghost use Rattle.xw_session.specs.Text.{line_of};
 ghost use Rattle.xw_session.specs.Escape.{escaped_text};
 ghost use Rattle.xw_session.specs.Told.{field_line, title_and_author, copyright_and_notes, field_lines, clue_line, clue_told, clue_lines};
 
 use crate::{escape, text};
+use xw_commands::command::TextField;
+use xw_commands::names::{CLUE, Named};
 use xw_grid::puzzle::Texts;
 use xw_grid::{Clues, Direction, Grid, LightName, Lights};
 use xw_lines::device::{Sink, WriteFailed};
 
 /// Writes the name of a text and the text. Writes nothing if the text is empty.
-fn write_field<W: Sink>(sink: &mut W, name: &[u8], text: &[u8]) -> Result<(), WriteFailed>
-    ensures { Sends W.transcript W.failures sink.old sink.new result (field_line name.now text.now) }
+fn write_field<W: Sink>(sink: &mut W, field: TextField, text: &[u8]) -> Result<(), WriteFailed>
+    ensures { Sends W.transcript W.failures sink.old sink.new result (field_line (field_name field) text.now) }
 {
     if text.is_empty() {
         return Ok(());
     }
-    text::write_spaced(sink, name)?;
+    text::write_spaced(sink, field.name().as_bytes())?;
     escape::write_line(sink, text)
 }
 
 fn write_title_and_author<W: Sink>(sink: &mut W, texts: &Texts) -> Result<(), WriteFailed>
     ensures { Sends W.transcript W.failures sink.old sink.new result (title_and_author (texts_view texts.now)) }
 {
-    write_field(sink, b"title", &texts.title)?;
-    write_field(sink, b"author", &texts.author)
+    write_field(sink, TextField::Title, &texts.title)?;
+    write_field(sink, TextField::Author, &texts.author)
 }
 
 fn write_copyright_and_notes<W: Sink>(sink: &mut W, texts: &Texts) -> Result<(), WriteFailed>
     ensures { Sends W.transcript W.failures sink.old sink.new result (copyright_and_notes (texts_view texts.now)) }
 {
-    write_field(sink, b"copyright", &texts.copyright)?;
-    write_field(sink, b"notes", &texts.notes)
+    write_field(sink, TextField::Copyright, &texts.copyright)?;
+    write_field(sink, TextField::Notes, &texts.notes)
 }
 
 /// Writes the texts that are not empty.
@@ -51,7 +54,7 @@ pub fn write_directed_text<W: Sink>(
     direction: Direction,
     text: &[u8],
 ) -> Result<(), WriteFailed>
-    ensures { Sends W.transcript W.failures sink.old sink.new result (line_of (name_of_direction direction ∷ escaped_text text.now ∷ [])) }
+    ensures { Sends W.transcript W.failures sink.old sink.new result (line_of (direction_name direction ∷ escaped_text text.now ∷ [])) }
 {
     text::write_direction_spaced(sink, direction)?;
     escape::write_line(sink, text)
@@ -63,7 +66,7 @@ fn write_light_and_text<W: Sink>(
     light: LightName,
     text: &[u8],
 ) -> Result<(), WriteFailed>
-    ensures { Sends W.transcript W.failures sink.old sink.new result (line_of (decimal light.number ∷ name_of_direction light.direction ∷ escaped_text text.now ∷ [])) }
+    ensures { Sends W.transcript W.failures sink.old sink.new result (line_of (decimal light.number ∷ direction_name light.direction ∷ escaped_text text.now ∷ [])) }
 {
     text::write_number_spaced(sink, light.number)?;
     write_directed_text(sink, light.direction, text)
@@ -76,7 +79,7 @@ fn write_clue<W: Sink>(sink: &mut W, light: LightName, text: &[u8]) -> Result<()
     if text.is_empty() {
         return Ok(());
     }
-    text::write_spaced(sink, b"clue")?;
+    text::write_spaced(sink, CLUE.as_bytes())?;
     write_light_and_text(sink, light, text)
 }
 

@@ -1,9 +1,12 @@
 //! Builds the line of a light for the command `lights`.
 ghost use Rattle.std.specs.Prelude.{◌≡◌, ◌+◌, ◌<◌, ◌≤◌, ◌^◌, ◌++◌, codes, decimal, length};
-ghost use Rattle.xw_session.specs.Text.{direction_name as name_of_direction, pattern as pattern_in, light_line};
+ghost use Rattle.xw_commands.specs.Names.{direction_name};
+ghost use Rattle.xw_session.specs.Text.{pattern as pattern_in, light_line};
 
 use crate::answer_line::AnswerLine;
-use crate::text::{Decimal, direction_name, letter_or_dot};
+use crate::text::letter_or_dot;
+use itoa::Buffer;
+use xw_commands::names::Named;
 use xw_grid::{Direction, Grid, Light};
 
 /// Appends a word and a space.
@@ -21,17 +24,17 @@ fn put_number(line: &mut AnswerLine, number: u64)
     ensures is { line.new ≡ line.old ++ decimal number ++ codes " " }
     ensures long { length line.new ≤ length line.old + 21 }
 {
-    let number = Decimal::new(number);
-    put_spaced(line, number.digits());
+    let mut digits = Buffer::new();
+    put_spaced(line, digits.format(number).as_bytes());
 }
 
 /// Appends a direction and a space.
 fn put_direction(line: &mut AnswerLine, direction: Direction)
     requires { length line.old + 7 ≤ 512 }
-    ensures is { line.new ≡ line.old ++ name_of_direction direction ++ codes " " }
+    ensures is { line.new ≡ line.old ++ direction_name direction ++ codes " " }
     ensures long { length line.new ≤ length line.old + 7 }
 {
-    put_spaced(line, direction_name(direction).as_bytes());
+    put_spaced(line, direction.name().as_bytes());
 }
 
 /// Appends the letters of a light, with a dot for each empty cell.

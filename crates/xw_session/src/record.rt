@@ -5,17 +5,17 @@ ghost use Rattle.xw_words.specs.Dictionary.{row as words_of, entry_at};
 ghost use Rattle.xw_grid.specs.Clue.{clue_at};
 ghost use Rattle.xw_grid.specs.Grid.{entry as entry_of};
 ghost use Rattle.xw_commands.specs.declared.command.Command.TheVariants as commands;
-ghost use Rattle.xw_commands.specs.declared.command.Name.TheVariants as names;
 ghost use Rattle.xw_lines.specs.Sends.{Sends};
 ghost use Rattle.xw_session.specs.Escape.{escaped_text};
-ghost use Rattle.xw_commands.specs.Name.{word_of};
-ghost use Rattle.xw_session.specs.Spelling.{symmetry_name as name_of_symmetry, side_name as name_of_side, field_name as name_of_field, at_spot, command_line};
-ghost use Rattle.xw_session.specs.Text.{line_of, direction_name as name_of_direction};
+ghost use Rattle.xw_commands.specs.Names.{direction_name, clue_name};
+ghost use Rattle.xw_session.specs.Spelling.{at_spot, command_line};
+ghost use Rattle.xw_session.specs.Text.{line_of};
 ghost use Rattle.xw_session.specs.Record.{command_lines, known_counts, add_command, strike_commands, row_commands, length_commands, word_commands, piece_at, further_pieces, more_command, text_commands, spot_of, circle_commands, bar_commands, block_commands, letter_commands, clue_commands, cell_commands, part_commands};
 
-use crate::text::{self, Decimal};
-use crate::{escape, fields};
+use crate::{escape, fields, text};
+use itoa::Buffer;
 use xw_commands::command::{CellArg, Field, TextField, TextMode};
+use xw_commands::names::{CLUE, Named};
 use xw_grid::{Cell, Circles, Clues, Direction, Grid, Side, Symmetry};
 use xw_letters::Letter;
 use xw_lines::device::{Sink, WriteFailed};
@@ -170,26 +170,6 @@ fn piece(text: &[u8], before: usize) -> &[u8]
     &rest[..rest.len().min(PIECE)]
 }
 
-fn field_name(field: TextField) -> &'static str
-    ensures { result.now ≡ name_of_field field }
-{
-    match field {
-        TextField::Title => "title",
-        TextField::Author => "author",
-        TextField::Copyright => "copyright",
-        TextField::Notes => "notes",
-    }
-}
-
-fn putting_name(putting: TextMode) -> &'static str
-    ensures { result.now ≡ word_of (names.Put putting) }
-{
-    match putting {
-        TextMode::Instead => "text",
-        TextMode::Behind => "more",
-    }
-}
-
 /// Writes the name of a field, a text with escapes, and an LF.
 fn write_named_text<W: Sink>(sink: &mut W, name: &[u8], text: &[u8]) -> Result<(), WriteFailed>
     ensures { Sends W.transcript W.failures sink.old sink.new result (line_of (name.now ∷ escaped_text text.now ∷ [])) }
@@ -202,10 +182,9 @@ fn write_named_text<W: Sink>(sink: &mut W, name: &[u8], text: &[u8]) -> Result<(
 fn write_spot_spaced<W: Sink>(sink: &mut W, spot: CellArg) -> Result<(), WriteFailed>
     ensures { Sends W.transcript W.failures sink.old sink.new result ((decimal spot.row ++ codes " ") ++ (decimal spot.col ++ codes " ")) }
 {
-    let row = Decimal::new(spot.row);
-    let col = Decimal::new(spot.col);
-    text::write_spaced(sink, row.digits())?;
-    text::write_spaced(sink, col.digits())
+    let mut digits = Buffer::new();
+    text::write_spaced(sink, digits.format(spot.row).as_bytes())?;
+    text::write_spaced(sink, digits.format(spot.col).as_bytes())
 }
 
 /// Writes a cell, a direction, a text with escapes, and an LF.
@@ -215,7 +194,7 @@ fn write_spot_text<W: Sink>(
     direction: Direction,
     text: &[u8],
 ) -> Result<(), WriteFailed>
-    ensures { Sends W.transcript W.failures sink.old sink.new result (line_of (at_spot spot (name_of_direction direction ∷ escaped_text text.now ∷ []))) }
+    ensures { Sends W.transcript W.failures sink.old sink.new result (line_of (at_spot spot (direction_name direction ∷ escaped_text text.now ∷ []))) }
 {
     write_spot_spaced(sink, spot)?;
     fields::write_directed_text(sink, direction, text)
@@ -227,9 +206,9 @@ fn write_clue_text<W: Sink>(
     direction: Direction,
     text: &[u8],
 ) -> Result<(), WriteFailed>
-    ensures { Sends W.transcript W.failures sink.old sink.new result (line_of (codes "clue" ∷ at_spot spot (name_of_direction direction ∷ escaped_text text.now ∷ []))) }
+    ensures { Sends W.transcript W.failures sink.old sink.new result (line_of (clue_name ∷ at_spot spot (direction_name direction ∷ escaped_text text.now ∷ []))) }
 {
-    text::write_spaced(sink, b"clue")?;
+    text::write_spaced(sink, CLUE.as_bytes())?;
     write_spot_text(sink, spot, direction, text)
 }
 
@@ -242,9 +221,9 @@ fn write_put<W: Sink>(
 ) -> Result<(), WriteFailed>
     ensures { Sends W.transcript W.failures sink.old sink.new result (command_line (commands.Put putting field (escaped_text text.now))) }
 {
-    text::write_spaced(sink, putting_name(putting).as_bytes())?;
+    text::write_spaced(sink, putting.name().as_bytes())?;
     match field {
-        Field::Text(name) => write_named_text(sink, field_name(name).as_bytes(), text),
+        Field::Text(field) => write_named_text(sink, field.name().as_bytes(), text),
         Field::Clue(spot, direction) => write_clue_text(sink, spot, direction, text),
     }
 }
@@ -274,34 +253,28 @@ pub fn write_text<W: Sink>(sink: &mut W, field: Field, text: &[u8]) -> Result<()
 pub fn write_size<W: Sink>(sink: &mut W, grid: &Grid) -> Result<(), WriteFailed>
     ensures { Sends W.transcript W.failures sink.old sink.new result (command_lines (commands.Size grid.now.width grid.now.height ∷ [])) }
 {
-    let width = Decimal::new(u64::from(grid.width()));
-    let height = Decimal::new(u64::from(grid.height()));
-    text::write_line(sink, &[b"size", width.digits(), height.digits()])
-}
-
-fn symmetry_name(kind: Symmetry) -> &'static str
-    ensures { result.now ≡ name_of_symmetry kind }
-{
-    match kind {
-        Symmetry::None => "none",
-        Symmetry::Half => "half",
-        Symmetry::Quarter => "quarter",
-        Symmetry::LeftRight => "leftright",
-        Symmetry::UpDown => "updown",
-    }
+    let mut width = Buffer::new();
+    let mut height = Buffer::new();
+    text::write_line(
+        sink,
+        &[
+            b"size",
+            width.format(grid.width()).as_bytes(),
+            height.format(grid.height()).as_bytes(),
+        ],
+    )
 }
 
 pub fn write_symmetry<W: Sink>(sink: &mut W, kind: Symmetry) -> Result<(), WriteFailed>
     ensures { Sends W.transcript W.failures sink.old sink.new result (command_lines (commands.Symmetry kind ∷ [])) }
 {
-    text::write_line(sink, &[b"sym", symmetry_name(kind).as_bytes()])
+    text::write_line(sink, &[b"sym", kind.name().as_bytes()])
 }
 
 pub fn write_watch<W: Sink>(sink: &mut W, is_on: bool) -> Result<(), WriteFailed>
     ensures { Sends W.transcript W.failures sink.old sink.new result (command_lines (commands.Watch is_on ∷ [])) }
 {
-    let switch = if is_on { b"on".as_slice() } else { b"off" };
-    text::write_line(sink, &[b"watch", switch])
+    text::write_line(sink, &[b"watch", is_on.name().as_bytes()])
 }
 
 /// Writes a command that takes a cell.
@@ -321,9 +294,17 @@ fn write_cell_and_word<W: Sink>(
 ) -> Result<(), WriteFailed>
     ensures { Sends W.transcript W.failures sink.old sink.new result (line_of (name.now ∷ at_spot (spot_of cell) (word.now ∷ []))) }
 {
-    let row = Decimal::new(u64::from(cell.row));
-    let col = Decimal::new(u64::from(cell.col));
-    text::write_line(sink, &[name, row.digits(), col.digits(), word])
+    let mut row = Buffer::new();
+    let mut col = Buffer::new();
+    text::write_line(
+        sink,
+        &[
+            name,
+            row.format(cell.row).as_bytes(),
+            col.format(cell.col).as_bytes(),
+            word,
+        ],
+    )
 }
 
 fn write_circle<W: Sink>(sink: &mut W, circles: &Circles, cell: Cell) -> Result<(), WriteFailed>
@@ -335,22 +316,13 @@ fn write_circle<W: Sink>(sink: &mut W, circles: &Circles, cell: Cell) -> Result<
     write_cell_command(sink, b"circle", cell)
 }
 
-fn side_name(side: Side) -> &'static str
-    ensures { result.now ≡ name_of_side side }
-{
-    match side {
-        Side::Right => "right",
-        Side::Below => "below",
-    }
-}
-
 fn write_bar<W: Sink>(sink: &mut W, grid: &Grid, side: Side, cell: Cell) -> Result<(), WriteFailed>
     ensures { Sends W.transcript W.failures sink.old sink.new result (command_lines (bar_commands grid.now side cell)) }
 {
     if !grid.is_barred(cell, side) {
         return Ok(());
     }
-    write_cell_and_word(sink, b"bar", cell, side_name(side).as_bytes())
+    write_cell_and_word(sink, b"bar", cell, side.name().as_bytes())
 }
 
 fn write_block<W: Sink>(sink: &mut W, grid: &Grid, cell: Cell) -> Result<(), WriteFailed>

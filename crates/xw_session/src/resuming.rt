@@ -1,6 +1,5 @@
 //! Replays the lines of a session file into a session.
-ghost use Rattle.std.specs.Prelude.{◌≡◌, ℕ, ◌<◌, ◌≤◌, List, ◌∷◌, length, IfOk, OnOk, OnErr, position, option_map};
-ghost use Rattle.xw_text.specs.Lines.{is_line_feed};
+ghost use Rattle.std.specs.Prelude.{◌≡◌, ℕ, ◌≤◌, List, IfOk, OnOk, OnErr, option_map};
 ghost use Rattle.xw_lines.specs.Cut.{lines_of};
 ghost use Rattle.xw_session.specs.Text.{refused, word_line, name_of};
 ghost use Rattle.xw_session.specs.declared.refusal.Refusal.{Refusal};
@@ -12,8 +11,9 @@ use crate::session::Session;
 use crate::vec_sink::VecSink;
 use std::alloc::{AllocError, Global};
 use xw_commands::command::{self, Command};
-use xw_feas::feasible::Feasible;
+use xw_feas::searchable::Searchable;
 use xw_lines::{Sink, Step, device};
+use xw_text::lines::first_line;
 
 /// The length of `no `, which precedes the name in the answer to a refused line.
 const BEFORE_NAME: usize = 3;
@@ -35,25 +35,6 @@ impl From<AllocError> for Stop {
 
     fn from(_error: AllocError) -> Stop {
         Stop::Memory
-    }
-}
-
-/// Returns the index of the first LF.
-fn line_end(text: &[u8]) -> Option<usize>
-    ensures { result ≡ position is_line_feed text.now }
-{
-    text.iter().position(|byte| *byte == b'\n')
-}
-
-/// Splits a text into its first line and what follows.
-fn first_line(text: &[u8]) -> (&[u8], &[u8])
-    requires { 0 < length text.now }
-    ensures lines { lines_of text.now ≡ result.0.now ∷ lines_of result.1.now }
-    ensures rest { length result.1.now < length text.now }
-{
-    match line_end(text) {
-        Some(end) => (&text[..end], &text[end + 1..]),
-        None => (text, &text[text.len()..]),
     }
 }
 
@@ -85,7 +66,7 @@ fn is_memory(answer: &[u8]) -> bool
 }
 
 /// Executes a line, and returns its answer if the line was refused.
-fn redo<F: Feasible>(
+fn redo<F: Searchable>(
     alloc: Global,
     session: &mut Session<F>,
     line: &[u8],
@@ -127,7 +108,7 @@ fn tell_refused<E: Sink>(
 
 /// Executes a line of a file, and reports it if the session refuses it. Returns 1 if it was refused, 0 otherwise. Fails
 /// with `NoCommand` if the line is not a command, and with `Memory` if an allocation fails.
-fn resume_line<F: Feasible, E: Sink>(
+fn resume_line<F: Searchable, E: Sink>(
     alloc: Global,
     session: &mut Session<F>,
     file: &str,
@@ -154,7 +135,7 @@ fn resume_line<F: Feasible, E: Sink>(
 /// Executes the lines of a session file without writing their answers. Reports each refused line on `errors`, in the
 /// form `xw: FILE: line N: NAME`. Returns the number of refused lines. Stops at the first line that is not a command,
 /// and if an allocation fails.
-pub fn resume<F: Feasible, E: Sink>(
+pub fn resume<F: Searchable, E: Sink>(
     alloc: Global,
     session: &mut Session<F>,
     file: &str,

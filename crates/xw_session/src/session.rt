@@ -1,18 +1,18 @@
 //! The session type, and the answering of lines.
 mod asking;
+mod autofilling;
 mod changing;
 mod putting;
 mod queries;
 mod recording;
+mod tallying;
 mod telling;
 
-ghost use Rattle.std.specs.Prelude.{◌≡◌, ℕ, ◌+◌, ◌-◌, ◌^◌, ◌≤◌, List, ◌++◌, length, IfOk, IfErr, IsTrue, IsOkUnless, true, false, []};
+ghost use Rattle.std.specs.Prelude.{◌≡◌, IfOk, IfErr, IsOkUnless, true, false, []};
 ghost use Rattle.xw_grid.specs.Grid.{is_inside};
 ghost use Rattle.xw_grid.specs.Clue.{no_clues};
 ghost use Rattle.xw_grid.specs.Puzzle.{texts_view, puzzle_view};
-ghost use Rattle.xw_lines.specs.Cut.{lines_of, ended_lines};
-ghost use Rattle.xw_lines.specs.Device.{saturated, HasFailed};
-ghost use Rattle.xw_lines.specs.Run.{Speaks, StopsIn, IfDone, OnReadFailed, OnWriteFailed, OnEndless, OnMemory, UnlessWriteFailed, read_failures_after};
+ghost use Rattle.xw_lines.specs.Run.{IsRun};
 ghost use Rattle.xw_lines.specs.Sends.{Sends};
 ghost use Rattle.xw_session.specs.State.{State};
 ghost use Rattle.xw_session.specs.Record.{known_counts};
@@ -27,6 +27,7 @@ use std::marker::Model;
 use xw_commands::command::{self, CellArg, Command, SyntaxFault};
 use xw_feas::edit::Refusal as EditRefusal;
 use xw_feas::feasible::Feasible;
+use xw_feas::searchable::Searchable;
 use xw_grid::puzzle::{Puzzle, Texts};
 use xw_grid::{Cell, Circles, Clues, GridFault};
 use xw_lines::device::{Sink, Source, WriteFailed};
@@ -188,6 +189,10 @@ impl<E: Feasible> Session<E> {
             col: spot.col as u32,
         })
     }
+}
+
+impl<E: Searchable> Session<E> {
+    ghost use Rattle.xw_commands.specs.declared.command.Command.TheVariants as commands;
 
     /// Executes a command and writes its answer.
     fn answer<W: Sink>(&mut self, command: Command<'_>, sink: &mut W) -> Result<Step, WriteFailed>
@@ -230,10 +235,14 @@ impl<E: Feasible> Session<E> {
             Command::Lights => self.answer_lights(sink),
             Command::Words(named, most) => self.answer_words(named, most, sink),
             Command::Letters(spot) => self.answer_letters(spot, sink),
+            Command::Tally(spot) => self.answer_tally(spot, sink),
             Command::Duplicates => self.answer_duplicates(sink),
             Command::Unlisted => self.answer_unlisted(sink),
             Command::Suggest => self.answer_suggestion(sink),
             Command::Fill(limit) => self.answer_fill(limit, sink),
+            Command::Autofill(limit, seed, lights) => {
+                self.answer_autofill(limit, seed, lights, sink)
+            }
             Command::Tell(telling) => self.tell(telling, sink),
             _ => unreachable!(),
         }
@@ -256,44 +265,15 @@ impl<E: Feasible> Session<E> {
     /// started. Stops early if the reader or the writer fails. Returns `Memory`, before the first read, if the line
     /// buffer cannot be allocated.
     pub fn run_lines<R: Source, W: Sink>(&mut self, source: &mut R, sink: &mut W) -> RunEnd
-        // The reader reached its end, and all lines are answered.
-        ensures done { IfDone result (λ refused. (text : List ℕ) × (R.transcript source.new ≡ R.transcript source.old ++ text)
-            × IsTrue (R.is_at_end source.new)
-            × (count : ℕ) × (refused ≡ saturated count)
-            × Speaks Answers self.old (lines_of text) count self.new (W.transcript sink.old) (W.transcript sink.new)) }
-
-        // The reader failed in this call. All complete lines before the failure are answered.
-        ensures read_failed { OnReadFailed result ((text : List ℕ) × (R.transcript source.new ≡ R.transcript source.old ++ text)
-            × HasFailed (R.failures source.old) (R.failures source.new)
-            × (count : ℕ)
-            × Speaks Answers self.old (ended_lines text) count self.new (W.transcript sink.old) (W.transcript sink.new)) }
-
-        // The writer failed in this call, or took no bytes.
-        ensures write_failed { OnWriteFailed result ((text : List ℕ) × (R.transcript source.new ≡ R.transcript source.old ++ text)
-            × HasFailed (W.failures sink.old) (W.failures sink.new)
-            × StopsIn Answers self.old text self.new (W.transcript sink.old) (W.transcript sink.new)) }
-
-        // At least `u64::MAX` bytes were read, and the reader did not end.
-        ensures endless { OnEndless result ((text : List ℕ) × (R.transcript source.new ≡ R.transcript source.old ++ text)
-            × (2 ^ 64 - 1 ≤ length text)
-            × (count : ℕ)
-            × Speaks Answers self.old (ended_lines text) count self.new (W.transcript sink.old) (W.transcript sink.new)) }
-
-        // Neither the reader nor the writer was called.
-        ensures memory { OnMemory result ((source.new ≡ source.old) × (sink.new ≡ sink.old) × (self.new ≡ self.old)) }
-
-        // The writer failed in no other case: after a failed write or flush the run stops.
-        ensures unfailed { UnlessWriteFailed result (W.failures sink.new ≡ W.failures sink.old) }
-
-        // The reader failed once if the end says so, and never otherwise: no failed read is ignored.
-        ensures reads { R.failures source.new ≡ read_failures_after result (R.failures source.old) }
+        ensures { IsRun Answers R.transcript R.is_at_end R.failures W.transcript W.failures result
+            self.old self.new source.old source.new sink.old sink.new }
     {
         let alloc = self.alloc;
         run::run_lines(alloc, self, source, sink)
     }
 }
 
-impl<E: Feasible> LineHandler for Session<E> {
+impl<E: Searchable> LineHandler for Session<E> {
     ghost use Rattle.xw_session.specs.Answer.{Answers};
 
     ghost answers = { Answers };

@@ -5,7 +5,8 @@ ghost use Rattle.xw_lines.specs.Sends.{Sends};
 ghost use Rattle.xw_session.specs.Text.{line_of};
 ghost use Rattle.xw_session.specs.Stats.{is_unchecked as is_unchecked_cell, is_counted as is_counted_cell, count_of, count_of_size, total_size, mean_hundredths, two_places, number_line, some_line, size_line, letter_line, mean_line, cells_line, bars_line, lights_line, cells_and_blocks, bars_and_entries, size_lines, lights_and_sizes, unchecked_and_mean, letter_lines, stat_lines};
 
-use crate::text::{self, Decimal};
+use crate::text;
+use itoa::Buffer;
 use xw_grid::{Cell, Grid, Lights, Side};
 use xw_lines::device::{self, Sink, WriteFailed};
 
@@ -125,8 +126,8 @@ fn hundredths(count: u64, total: u64) -> u64
 fn write_number<W: Sink>(sink: &mut W, name: &[u8], number: u64) -> Result<(), WriteFailed>
     ensures { Sends W.transcript W.failures sink.old sink.new result (number_line name.now number) }
 {
-    let number = Decimal::new(number);
-    text::write_line(sink, &[name, number.digits()])
+    let mut digits = Buffer::new();
+    text::write_line(sink, &[name, digits.format(number).as_bytes()])
 }
 
 /// Writes the count of a thing. Writes nothing if the count is 0.
@@ -141,8 +142,8 @@ fn write_some<W: Sink>(
     if count == 0 {
         return Ok(());
     }
-    let count = Decimal::new(count);
-    text::write_line(sink, &[name, thing, count.digits()])
+    let mut digits = Buffer::new();
+    text::write_line(sink, &[name, thing, digits.format(count).as_bytes()])
 }
 
 fn write_cells<W: Sink>(sink: &mut W, grid: &Grid) -> Result<(), WriteFailed>
@@ -214,8 +215,9 @@ fn write_size<W: Sink>(
     requires { lights.now ≡ lights_of grid.now }
     ensures { Sends W.transcript W.failures sink.old sink.new result (size_line grid.now size) }
 {
-    let length = Decimal::new(u64::from(size));
-    write_some(sink, b"light", length.digits(), count_size(lights, size))
+    let mut length = Buffer::new();
+    let length = length.format(size).as_bytes();
+    write_some(sink, b"light", length, count_size(lights, size))
 }
 
 fn write_sizes<W: Sink>(sink: &mut W, grid: &Grid, lights: &Lights) -> Result<(), WriteFailed>
@@ -243,8 +245,8 @@ fn write_lights_and_sizes<W: Sink>(
 fn write_digits<W: Sink>(sink: &mut W, number: u64) -> Result<(), WriteFailed>
     ensures { Sends W.transcript W.failures sink.old sink.new result (decimal number) }
 {
-    let number = Decimal::new(number);
-    device::write_all(sink, number.digits())
+    let mut digits = Buffer::new();
+    device::write_all(sink, digits.format(number).as_bytes())
 }
 
 /// Writes hundredths as a number with two decimals, and an LF.

@@ -5,60 +5,23 @@ ghost use Rattle.xw_grid.specs.Grid.{entry as entry_of};
 ghost use Rattle.xw_grid.specs.Light.{lights_of};
 ghost use Rattle.xw_feas.specs.Spelled.{spelling};
 ghost use Rattle.xw_lines.specs.Sends.{Sends, Gathers};
+ghost use Rattle.xw_commands.specs.Names.{direction_name};
 ghost use Rattle.xw_session.specs.Told.{numbered_line};
-ghost use Rattle.xw_session.specs.Text.{line_of, accepted, refused, direction_name as name_of_direction, letter_or_dot as byte_of_entry, pattern as pattern_in, pattern_of, light_of, cell_line, letters_or_dash, letters_line, change_line, duplicate_line, spelled_line};
+ghost use Rattle.xw_session.specs.Text.{line_of, accepted, refused, letter_or_dot as byte_of_entry, pattern as pattern_in, pattern_of, light_of, cell_line, letters_or_dash, letters_line, change_line, duplicate_line, spelled_line};
 
 use crate::answer_line::AnswerLine;
 use crate::lookup::light_named;
 use crate::refusal::{self, Refusal};
 use crate::spelling::{gather_letters_line, send_lines, write_letters_line};
+use itoa::Buffer;
 use std::marker::Model;
+use xw_commands::names::Named;
 use xw_feas::word_iter::{Entries, Spelled};
 use xw_fill::listing::Duplicate;
 use xw_grid::{Cell, Direction, Grid, Light, LightName, Lights};
 use xw_letters::{Letter, LetterSet};
 use xw_lines::device::{self, Sink, WriteFailed};
 use xw_words::word::LONGEST;
-
-/// The decimal digits of a number. Allocates nothing.
-#[derive(Drop)]
-pub struct Decimal {
-    digits: [u8; 20],
-    start: usize,
-}
-
-impl Model for Decimal {
-    ghost use Rattle.std.specs.Prelude.{ℕ, ◌≤◌, List, drop};
-
-    ghost Value = { List ℕ };
-
-    ghost view = { λ decimal. drop decimal.start decimal.digits };
-
-    ghost invariant = { λ decimal. decimal.start ≤ 20 };
-}
-
-impl Decimal {
-    pub fn new(number: u64) -> Decimal
-        ensures { result ≡ decimal number }
-    {
-        let mut digits = [0; 20];
-        let mut start = 19;
-        let mut rest = number;
-        while rest >= 10 {
-            digits[start] = b'0' + (rest % 10) as u8;
-            start -= 1;
-            rest /= 10;
-        }
-        digits[start] = b'0' + rest as u8;
-        Decimal { digits, start }
-    }
-
-    pub fn digits(&self) -> &[u8]
-        ensures { result.now ≡ self.now }
-    {
-        &self.digits[self.start..]
-    }
-}
 
 /// Writes a word and a space.
 pub fn write_spaced<W: Sink>(sink: &mut W, word: &[u8]) -> Result<(), WriteFailed>
@@ -72,8 +35,8 @@ pub fn write_spaced<W: Sink>(sink: &mut W, word: &[u8]) -> Result<(), WriteFaile
 pub fn write_number_spaced<W: Sink>(sink: &mut W, number: u16) -> Result<(), WriteFailed>
     ensures { Sends W.transcript W.failures sink.old sink.new result (decimal number ++ codes " ") }
 {
-    let number = Decimal::new(u64::from(number));
-    write_spaced(sink, number.digits())
+    let mut digits = Buffer::new();
+    write_spaced(sink, digits.format(number).as_bytes())
 }
 
 /// Writes a direction and a space.
@@ -81,9 +44,9 @@ pub fn write_direction_spaced<W: Sink>(
     sink: &mut W,
     direction: Direction,
 ) -> Result<(), WriteFailed>
-    ensures { Sends W.transcript W.failures sink.old sink.new result (name_of_direction direction ++ codes " ") }
+    ensures { Sends W.transcript W.failures sink.old sink.new result (direction_name direction ++ codes " ") }
 {
-    write_spaced(sink, direction_name(direction).as_bytes())
+    write_spaced(sink, direction.name().as_bytes())
 }
 
 /// Writes a direction, a word and an LF.
@@ -92,7 +55,7 @@ fn write_directed_word<W: Sink>(
     direction: Direction,
     word: &[Letter],
 ) -> Result<(), WriteFailed>
-    ensures { Sends W.transcript W.failures sink.old sink.new result (line_of (name_of_direction direction ∷ word.now ∷ [])) }
+    ensures { Sends W.transcript W.failures sink.old sink.new result (line_of (direction_name direction ∷ word.now ∷ [])) }
 {
     write_direction_spaced(sink, direction)?;
     write_word(sink, word)
@@ -104,7 +67,7 @@ fn write_light_and_word<W: Sink>(
     light: LightName,
     word: &[Letter],
 ) -> Result<(), WriteFailed>
-    ensures { Sends W.transcript W.failures sink.old sink.new result (line_of (decimal light.number ∷ name_of_direction light.direction ∷ word.now ∷ [])) }
+    ensures { Sends W.transcript W.failures sink.old sink.new result (line_of (decimal light.number ∷ direction_name light.direction ∷ word.now ∷ [])) }
 {
     write_number_spaced(sink, light.number)?;
     write_directed_word(sink, light.direction, word)
@@ -117,7 +80,7 @@ pub fn write_named_word<W: Sink>(
     light: LightName,
     word: &[Letter],
 ) -> Result<(), WriteFailed>
-    ensures { Sends W.transcript W.failures sink.old sink.new result (line_of (said.now ∷ decimal light.number ∷ name_of_direction light.direction ∷ word.now ∷ [])) }
+    ensures { Sends W.transcript W.failures sink.old sink.new result (line_of (said.now ∷ decimal light.number ∷ direction_name light.direction ∷ word.now ∷ [])) }
 {
     write_spaced(sink, said)?;
     write_light_and_word(sink, light, word)
@@ -125,18 +88,21 @@ pub fn write_named_word<W: Sink>(
 
 /// Writes a light's name and an LF.
 fn write_light_name<W: Sink>(sink: &mut W, light: LightName) -> Result<(), WriteFailed>
-    ensures { Sends W.transcript W.failures sink.old sink.new result (line_of (decimal light.number ∷ name_of_direction light.direction ∷ [])) }
+    ensures { Sends W.transcript W.failures sink.old sink.new result (line_of (decimal light.number ∷ direction_name light.direction ∷ [])) }
 {
-    let number = Decimal::new(u64::from(light.number));
+    let mut number = Buffer::new();
     write_line(
         sink,
-        &[number.digits(), direction_name(light.direction).as_bytes()],
+        &[
+            number.format(light.number).as_bytes(),
+            light.direction.name().as_bytes(),
+        ],
     )
 }
 
 /// Writes a key word, a light's name and an LF.
 pub fn write_named<W: Sink>(sink: &mut W, said: &[u8], light: LightName) -> Result<(), WriteFailed>
-    ensures { Sends W.transcript W.failures sink.old sink.new result (line_of (said.now ∷ decimal light.number ∷ name_of_direction light.direction ∷ [])) }
+    ensures { Sends W.transcript W.failures sink.old sink.new result (line_of (said.now ∷ decimal light.number ∷ direction_name light.direction ∷ [])) }
 {
     write_spaced(sink, said)?;
     write_light_name(sink, light)
@@ -190,15 +156,6 @@ pub fn write_refused<W: Sink>(sink: &mut W, refusal: Refusal) -> Result<(), Writ
     ensures { Sends W.transcript W.failures sink.old sink.new result (refused refusal) }
 {
     write_line(sink, &[b"no", refusal::name(refusal).as_bytes()])
-}
-
-pub fn direction_name(direction: Direction) -> &'static str
-    ensures { result.now ≡ name_of_direction direction }
-{
-    match direction {
-        Direction::Across => "across",
-        Direction::Down => "down",
-    }
 }
 
 /// Returns the letter of a cell, or a dot if it has none.
@@ -270,17 +227,23 @@ impl Pattern {
 pub fn write_cell<W: Sink>(sink: &mut W, cell: Cell) -> Result<(), WriteFailed>
     ensures { Sends W.transcript W.failures sink.old sink.new result (cell_line cell) }
 {
-    let row = Decimal::new(u64::from(cell.row));
-    let col = Decimal::new(u64::from(cell.col));
-    write_line(sink, &[row.digits(), col.digits()])
+    let mut row = Buffer::new();
+    let mut col = Buffer::new();
+    write_line(
+        sink,
+        &[
+            row.format(cell.row).as_bytes(),
+            col.format(cell.col).as_bytes(),
+        ],
+    )
 }
 
 /// Writes a number and an LF.
 pub fn write_number<W: Sink>(sink: &mut W, number: u64) -> Result<(), WriteFailed>
     ensures { Sends W.transcript W.failures sink.old sink.new result (line_of (decimal number ∷ [])) }
 {
-    let number = Decimal::new(number);
-    write_line(sink, &[number.digits()])
+    let mut digits = Buffer::new();
+    write_line(sink, &[digits.format(number).as_bytes()])
 }
 
 /// Writes a light's name, a number and an LF.
@@ -291,14 +254,14 @@ pub fn write_numbered<W: Sink>(
 ) -> Result<(), WriteFailed>
     ensures { Sends W.transcript W.failures sink.old sink.new result (numbered_line light number) }
 {
-    let name = Decimal::new(u64::from(light.number));
-    let number = Decimal::new(number);
+    let mut name = Buffer::new();
+    let mut digits = Buffer::new();
     write_line(
         sink,
         &[
-            name.digits(),
-            direction_name(light.direction).as_bytes(),
-            number.digits(),
+            name.format(light.number).as_bytes(),
+            light.direction.name().as_bytes(),
+            digits.format(number).as_bytes(),
         ],
     )
 }
@@ -374,12 +337,17 @@ pub fn write_change<W: Sink>(
 ) -> Result<(), WriteFailed>
     ensures { Sends W.transcript W.failures sink.old sink.new result (change_line (cell, letters_in letters)) }
 {
-    let row = Decimal::new(u64::from(cell.row));
-    let col = Decimal::new(u64::from(cell.col));
+    let mut row = Buffer::new();
+    let mut col = Buffer::new();
     let letters = LetterText::new(letters);
     write_line(
         sink,
-        &[b"cell", row.digits(), col.digits(), letters.letters()],
+        &[
+            b"cell",
+            row.format(cell.row).as_bytes(),
+            col.format(cell.col).as_bytes(),
+            letters.letters(),
+        ],
     )
 }
 
@@ -448,16 +416,16 @@ pub fn write_duplicate<W: Sink>(
     requires { lights.now ≡ lights_of grid.now }
     ensures { Sends W.transcript W.failures sink.old sink.new result (duplicate_line grid.now found.now) }
 {
-    let number = Decimal::new(u64::from(found.light.number));
-    let first = Decimal::new(u64::from(found.first.number));
+    let mut number = Buffer::new();
+    let mut first = Buffer::new();
     let word = Pattern::named(grid, lights, found.light);
     write_line(
         sink,
         &[
-            number.digits(),
-            direction_name(found.light.direction).as_bytes(),
-            first.digits(),
-            direction_name(found.first.direction).as_bytes(),
+            number.format(found.light.number).as_bytes(),
+            found.light.direction.name().as_bytes(),
+            first.format(found.first.number).as_bytes(),
+            found.first.direction.name().as_bytes(),
             word.bytes(),
         ],
     )
@@ -473,13 +441,13 @@ pub fn write_light_word<W: Sink>(
     requires { lights.now ≡ lights_of grid.now }
     ensures { Sends W.transcript W.failures sink.old sink.new result (spelled_line grid.now name) }
 {
-    let number = Decimal::new(u64::from(name.number));
+    let mut number = Buffer::new();
     let word = Pattern::named(grid, lights, name);
     write_line(
         sink,
         &[
-            number.digits(),
-            direction_name(name.direction).as_bytes(),
+            number.format(name.number).as_bytes(),
+            name.direction.name().as_bytes(),
             word.bytes(),
         ],
     )

@@ -1,8 +1,9 @@
 -- The lines of a record, as a session answers them.
-use Rattle.std.proofs.Common.{◌≡◌, ℕ, List, [], ◌∷◌, ◌++◌, Some, None, refl, sym, ◌∙◌, ap, inl, inr, arith}
+use Rattle.std.proofs.Common.{◌≡◌, ℕ, List, [], ◌∷◌, ◌++◌, Some, None, refl, sym, ◌∙◌, ap, subst, inl, inr, arith}
 use Rattle.std.specs.Prelude.{Option, Result, Ok, Err}
-use Rattle.std.specs.Option.{option_and_then}
+use Rattle.std.specs.Option.{option_and_then, unwrap_or}
 use Rattle.xw_commands.specs.declared.command.Command.{Command}
+use Rattle.xw_commands.specs.declared.command.Command.TheVariants as commands
 use Rattle.xw_commands.specs.declared.command.SyntaxFault.{SyntaxFault}
 use Rattle.xw_lines.specs.declared.outcome.Step.{Step}
 use Rattle.xw_lines.specs.declared.outcome.Step.TheVariants.{Silent, Refused}
@@ -10,28 +11,69 @@ use Rattle.xw_session.specs.declared.refusal.Refusal.{Refusal}
 use Rattle.xw_session.specs.State.{State}
 use Rattle.xw_commands.specs.Command.{command_of}
 use Rattle.xw_session.specs.Reply.{Reply, reply_to, want_of}
-use Rattle.xw_session.specs.Answer.{IsReply, Replies, text_of, step_of, state_after, AnswersParsed, Answers}
+use Rattle.xw_session.specs.Answer.{IsReply, IsDue, Replies, text_of, step_of, state_after, AnswersParsed, Answers}
 use Rattle.xw_lines.specs.Spoken.{Spoken, refusals}
 use Rattle.xw_session_laws.specs.Replay.{state_left, left_by_line, replayed_lines, WantsMemory}
+
+-- ---- a command that leaves one state
+
+-- the reply of a command that can be replayed is the only one due
+determined : (state : State) (command : Command) (due : Result Reply Refusal) (left : State) → state_left (reply_to state command) ≡ Some left → IsDue state command due → reply_to state command ≡ due
+determined state (commands.Size width height) due left e owed = owed
+determined state (commands.Symmetry kind) due left e owed = owed
+determined state (commands.Add word) due left e owed = owed
+determined state (commands.Strike word) due left e owed = owed
+determined state (commands.Match pattern) due left e owed = owed
+determined state (commands.Set spot letter) due left e owed = owed
+determined state (commands.Clear spot) due left e owed = owed
+determined state (commands.Place named word) due left e owed = owed
+determined state (commands.Block spot) due left e owed = owed
+determined state (commands.Bar spot side) due left e owed = owed
+determined state (commands.Clue named text) due left e owed = owed
+determined state (commands.Write field text) due left e owed = owed
+determined state (commands.Circle spot) due left e owed = owed
+determined state commands.Circles due left e owed = owed
+determined state commands.Show due left e owed = owed
+determined state commands.Lights due left e owed = owed
+determined state (commands.Words named most) due left e owed = owed
+determined state (commands.Letters spot) due left e owed = owed
+determined state (commands.Tally spot) due left e owed = owed
+determined state commands.Duplicates due left e owed = owed
+determined state commands.Unlisted due left e owed = owed
+determined state commands.Suggest due left e owed = owed
+determined state (commands.Fill limit) due left e owed = owed
+determined state (commands.Autofill limit seed lights) due left e owed = cc
+determined state (commands.Watch is_on) due left e owed = owed
+determined state (commands.Tell telling) due left e owed = owed
+determined state (commands.Put putting field spelling) due left e owed = owed
+
+some_left : {X : Type 0} (left : Option X) (f : X → Option State) (last : State) → option_and_then f left ≡ Some last → (next : X) × (left ≡ Some next)
+some_left None f last e = cc
+some_left (Some next) f last e = (next, refl)
 
 -- ---- no line is refused
 
 module _ (state next : State) where
-  reply_left : (command : Command) (reply : Result Reply Refusal) (outcome : Step) → Replies state command reply → outcome ≡ step_of reply → next ≡ state_after state reply → refusals outcome ≡ 0
-      → state_left (reply_to state command) ≡ Some next
-  reply_left command (Ok reply) outcome fits step after none = ap state_left fits ∙ ap Some (sym after)
-  reply_left command (Err refusal) outcome fits step after none = let bad : 1 ≡ 0 = sym (ap refusals step) ∙ none in absurd (omega (arith, bad))
+  reply_left : (command : Command) (reply : Result Reply Refusal) (outcome : Step) (left : State) → state_left (reply_to state command) ≡ Some left → Replies state command reply → outcome ≡ step_of reply → next ≡ state_after state reply → refusals outcome ≡ 0
+      → left ≡ next
+  reply_left command (Ok reply) outcome left e (due, owed, fits) step after none =
+      let is : Some left ≡ Some reply.state = sym e ∙ ap state_left (determined state command due left e owed ∙ fits) in
+      ap (λ found. unwrap_or found left) is ∙ sym after
+  reply_left command (Err refusal) outcome left e fits step after none = let bad : 1 ≡ 0 = sym (ap refusals step) ∙ none in absurd (omega (arith, bad))
 
-  line_left : (found : Result (Option Command) SyntaxFault) (outcome : Step) (answer : List ℕ) → AnswersParsed state found outcome answer next → refusals outcome ≡ 0 → left_by_line state found ≡ Some next
-  line_left (Ok None) outcome answer said none = ap Some (sym said.2)
-  line_left (Ok (Some command)) outcome answer said none = reply_left command said.0 outcome said.1 said.2 said.4 none
-  line_left (Err fault) outcome answer said none = let bad : 1 ≡ 0 = sym (ap refusals said.0) ∙ none in absurd (omega (arith, bad))
+  line_left : (found : Result (Option Command) SyntaxFault) (outcome : Step) (answer : List ℕ) (left : State) → left_by_line state found ≡ Some left → AnswersParsed state found outcome answer next → refusals outcome ≡ 0 → left ≡ next
+  line_left (Ok None) outcome answer left e said none = ap (λ found. unwrap_or found left) (sym e) ∙ sym said.2
+  line_left (Ok (Some command)) outcome answer left e said none = reply_left command said.0 outcome left e said.1 said.2 said.4 none
+  line_left (Err fault) outcome answer left e said none = cc
 
-pub spoken_left : (lines : List (List ℕ)) (state last : State) (out : List ℕ) (count : ℕ) → Spoken Answers state lines out count last → count ≡ 0 → replayed_lines state lines ≡ Some last
-spoken_left [] state last out count said none = ap Some (sym said.2)
-spoken_left (line ∷ lines) state last out count (outcome, answer, mid, others, more, said, rest, out-is, count-is) none =
-    ap (option_and_then (λ next. replayed_lines next lines)) (line_left state mid (command_of line) outcome answer said (omega (arith, count-is, none)))
-    ∙ spoken_left lines mid last others more rest (omega (arith, count-is, none))
+-- lines that can be replayed, and that a session does not refuse, leave the replayed state
+pub spoken_left : (lines : List (List ℕ)) (state last whole : State) (out : List ℕ) (count : ℕ) → replayed_lines state lines ≡ Some whole → Spoken Answers state lines out count last → count ≡ 0 → whole ≡ last
+spoken_left [] state last whole out count e said none = ap (λ found. unwrap_or found whole) (sym e) ∙ sym said.2
+spoken_left (line ∷ lines) state last whole out count e (outcome, answer, mid, others, more, said, rest, out-is, count-is) none =
+    let left = some_left (left_by_line state (command_of line)) (λ next. replayed_lines next lines) whole e in
+    let done : replayed_lines left.0 lines ≡ Some whole = sym (ap (option_and_then (λ next. replayed_lines next lines)) left.1) ∙ e in
+    let same : left.0 ≡ mid = line_left state mid (command_of line) outcome answer left.0 left.1 said (omega (arith, count-is, none)) in
+    spoken_left lines mid last whole others more (subst (λ (next : State). replayed_lines next lines ≡ Some whole) same done) rest (omega (arith, count-is, none))
 
 -- ---- a line is refused
 
@@ -45,10 +87,6 @@ both_replayed : (state : State) (front rest : List (List ℕ)) → replayed_line
 both_replayed state [] rest = refl
 both_replayed state (line ∷ front) rest = one_and_others (left_by_line state (command_of line)) front rest (λ next. both_replayed next front rest)
 
-some_left : (left : Option State) (f : State → Option State) (last : State) → option_and_then f left ≡ Some last → (next : State) × (left ≡ Some next)
-some_left None f last e = cc
-some_left (Some next) f last e = (next, refl)
-
 module _ (state last : State) (answer : List ℕ) where
   due_left : (command : Command) (due : Result Reply Refusal) (refusal : Refusal) (next : State) → state_left due ≡ Some next → IsReply due (want_of state command) (Err refusal) → want_of state command ≡ Some refusal
   due_left command (Ok reply) refusal next e (inl is) = cc
@@ -57,7 +95,8 @@ module _ (state last : State) (answer : List ℕ) where
 
   reply_wants : (command : Command) (reply : Result Reply Refusal) (next : State) → state_left (reply_to state command) ≡ Some next → Replies state command reply → Refused ≡ step_of reply → answer ≡ text_of reply → WantsMemory state (Ok (Some command)) answer
   reply_wants command (Ok reply) next e fits step is = cc
-  reply_wants command (Err refusal) next e fits step is = (refusal, due_left command (reply_to state command) refusal next e fits, is)
+  reply_wants command (Err refusal) next e (due, owed, fits) step is =
+      (refusal, due_left command due refusal next (ap state_left (sym (determined state command due next e owed)) ∙ e) fits, is)
 
   line_wants : (found : Result (Option Command) SyntaxFault) (next : State) → left_by_line state found ≡ Some next → AnswersParsed state found Refused answer last → WantsMemory state found answer
   line_wants (Ok None) next e said = let bad : Refused ≡ Silent = said.0 in cc
@@ -67,7 +106,9 @@ module _ (state last : State) (answer : List ℕ) where
 pub first_refused : (state mid last whole : State) (front rest : List (List ℕ)) (line out answer : List ℕ) → replayed_lines state (front ++ line ∷ rest) ≡ Some whole
     → Spoken Answers state front out 0 mid → Answers mid line Refused answer last → WantsMemory mid (command_of line) answer
 first_refused state mid last whole front rest line out answer done said refused =
-    let so_far = spoken_left front state mid out 0 said refl in
-    let others : replayed_lines mid (line ∷ rest) ≡ Some whole = sym (both_replayed state front (line ∷ rest) ∙ ap (option_and_then (λ mid. replayed_lines mid (line ∷ rest))) so_far) ∙ done in
+    let both : option_and_then (λ mid. replayed_lines mid (line ∷ rest)) (replayed_lines state front) ≡ Some whole = sym (both_replayed state front (line ∷ rest)) ∙ done in
+    let first = some_left (replayed_lines state front) (λ mid. replayed_lines mid (line ∷ rest)) whole both in
+    let so_far : replayed_lines state front ≡ Some mid = first.1 ∙ ap Some (spoken_left front state mid first.0 out 0 first.1 said refl) in
+    let others : replayed_lines mid (line ∷ rest) ≡ Some whole = sym (ap (option_and_then (λ mid. replayed_lines mid (line ∷ rest))) so_far) ∙ both in
     let left = some_left (left_by_line mid (command_of line)) (λ next. replayed_lines next rest) whole others in
     line_wants mid last answer (command_of line) left.0 left.1 refused

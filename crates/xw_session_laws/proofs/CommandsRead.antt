@@ -27,8 +27,9 @@ use Rattle.xw_lines.specs.Cut.{HasNoLf}
 use Rattle.xw_session.specs.Escape.{letter_for, escaped, is_end, spelled_at, escaped_text}
 use Rattle.xw_commands.specs.Line.{without_cr, first_word, trimmed_start, trimmed_end, trimmed}
 use Rattle.xw_commands.specs.Reading.{◌>>=◌, given, number, byte, word, text, side, direction, switch, symmetry, spot, text_name, field_named, field}
-use Rattle.xw_session.specs.Spelling.{symmetry_name, side_name, switch_name, field_name, in_field, command_words, command_line}
-use Rattle.xw_session.specs.Text.{line_of, direction_name}
+use Rattle.xw_commands.specs.Names.{direction_name, side_name, symmetry_name, switch_name, field_name, clue_name, text_fields}
+use Rattle.xw_session.specs.Spelling.{in_field, command_words, command_line}
+use Rattle.xw_session.specs.Text.{line_of}
 use Rattle.xw_session_laws.proofs.LinesRead.{spaced, line_parts, first_read, reads_word, then_read, is_high, each_weaker, IsHigh, high_word, short_number, high_number, reads_number, reads_spot, reads_byte, reads_key, reads_side, reads_direction, reads_switch, reads_symmetry, space_first, both, list_all_both}
 use Rattle.xw_commands.proofs.Passing.{each_passes}
 use Rattle.xw_session_laws.proofs.SpelledLines.{IsInked, inked, starts_inked, spelled_trimmed}
@@ -165,23 +166,23 @@ text_fit piece short =
 -- ---- names
 
 direction_fit : (way : Direction) (m : ℕ) (ws : List (List ℕ)) → Fit m ws → Fit (1 + 6 + m) (direction_name way ∷ ws)
-direction_fit Across m ws fit = more_fit 6 m (codes "across") ws refl (omega arith) fit
-direction_fit Down m ws fit = more_fit 6 m (codes "down") ws refl (omega arith) fit
+direction_fit Across m ws fit = more_fit 6 m (direction_name Across) ws refl (omega arith) fit
+direction_fit Down m ws fit = more_fit 6 m (direction_name Down) ws refl (omega arith) fit
 
 side_fit : (which : Side) → Fit (1 + 5 + 0) (side_name which ∷ [])
-side_fit Right = more_fit 5 0 (codes "right") [] refl (omega arith) none_fit
-side_fit Below = more_fit 5 0 (codes "below") [] refl (omega arith) none_fit
+side_fit Right = more_fit 5 0 (side_name Right) [] refl (omega arith) none_fit
+side_fit Below = more_fit 5 0 (side_name Below) [] refl (omega arith) none_fit
 
 switch_fit : (is_on : Bool) → Fit (1 + 3 + 0) (switch_name is_on ∷ [])
-switch_fit true = more_fit 3 0 (codes "on") [] refl (omega arith) none_fit
-switch_fit false = more_fit 3 0 (codes "off") [] refl (omega arith) none_fit
+switch_fit true = more_fit 3 0 (switch_name true) [] refl (omega arith) none_fit
+switch_fit false = more_fit 3 0 (switch_name false) [] refl (omega arith) none_fit
 
 symmetry_fit : (kind : Symmetry) → Fit (1 + 9 + 0) (symmetry_name kind ∷ [])
-symmetry_fit kinds.None = more_fit 9 0 (codes "none") [] refl (omega arith) none_fit
-symmetry_fit kinds.Half = more_fit 9 0 (codes "half") [] refl (omega arith) none_fit
-symmetry_fit kinds.Quarter = more_fit 9 0 (codes "quarter") [] refl (omega arith) none_fit
-symmetry_fit kinds.LeftRight = more_fit 9 0 (codes "leftright") [] refl (omega arith) none_fit
-symmetry_fit kinds.UpDown = more_fit 9 0 (codes "updown") [] refl (omega arith) none_fit
+symmetry_fit kinds.None = more_fit 9 0 (symmetry_name kinds.None) [] refl (omega arith) none_fit
+symmetry_fit kinds.Half = more_fit 9 0 (symmetry_name kinds.Half) [] refl (omega arith) none_fit
+symmetry_fit kinds.Quarter = more_fit 9 0 (symmetry_name kinds.Quarter) [] refl (omega arith) none_fit
+symmetry_fit kinds.LeftRight = more_fit 9 0 (symmetry_name kinds.LeftRight) [] refl (omega arith) none_fit
+symmetry_fit kinds.UpDown = more_fit 9 0 (symmetry_name kinds.UpDown) [] refl (omega arith) none_fit
 
 -- ---- fields of texts
 
@@ -196,29 +197,26 @@ spot_fit : (at : CellArg) (m : ℕ) (ws : List (List ℕ)) → IsSmallSpot at �
 spot_fit at m ws small fit = number_fit at.row (1 + 3 + m) (decimal at.col ∷ ws) small.0 (number_fit at.col m ws small.1 fit)
 
 field_fit : (where_put : Field) (ws : List (List ℕ)) → IsSmallField where_put → Fit 4001 ws → Fit 4030 (in_field where_put ws)
-field_fit (fields.Text Title) ws small fit = let is = more_fit 9 4001 (codes "title") ws refl (omega arith) fit in (is.0, omega (arith, is.1))
-field_fit (fields.Text Author) ws small fit = let is = more_fit 9 4001 (codes "author") ws refl (omega arith) fit in (is.0, omega (arith, is.1))
-field_fit (fields.Text Copyright) ws small fit = let is = more_fit 9 4001 (codes "copyright") ws refl (omega arith) fit in (is.0, omega (arith, is.1))
-field_fit (fields.Text Notes) ws small fit = let is = more_fit 9 4001 (codes "notes") ws refl (omega arith) fit in (is.0, omega (arith, is.1))
+field_fit (fields.Text Title) ws small fit = let is = more_fit 9 4001 (field_name Title) ws refl (omega arith) fit in (is.0, omega (arith, is.1))
+field_fit (fields.Text Author) ws small fit = let is = more_fit 9 4001 (field_name Author) ws refl (omega arith) fit in (is.0, omega (arith, is.1))
+field_fit (fields.Text Copyright) ws small fit = let is = more_fit 9 4001 (field_name Copyright) ws refl (omega arith) fit in (is.0, omega (arith, is.1))
+field_fit (fields.Text Notes) ws small fit = let is = more_fit 9 4001 (field_name Notes) ws refl (omega arith) fit in (is.0, omega (arith, is.1))
 field_fit (fields.Clue at way) ws small fit =
-    let is = more_fit 4 (1 + 3 + (1 + 3 + (1 + 6 + 4001))) (codes "clue") (decimal at.row ∷ decimal at.col ∷ direction_name way ∷ ws) refl (omega arith)
+    let is = more_fit 4 (1 + 3 + (1 + 3 + (1 + 6 + 4001))) clue_name (decimal at.row ∷ decimal at.col ∷ direction_name way ∷ ws) refl (omega arith)
     (spot_fit at (1 + 6 + 4001) (direction_name way ∷ ws) small (direction_fit way 4001 ws fit)) in
     (is.0, omega (arith, is.1))
 
-abbrev text_words : List (List ℕ × Option TextField)
-text_words = (codes "title", Some Title) ∷ (codes "author", Some Author) ∷ (codes "copyright", Some Copyright) ∷ (codes "notes", Some Notes) ∷ (codes "clue", None) ∷ []
-
 reads_name : (name : TextField) (ws : List (List ℕ)) → text_name (spaced (field_name name ∷ ws)) ≡ Ok (Some name, spaced ws)
-reads_name Title ws = reads_key text_words (codes "title") (Some Title) ws refl refl
-reads_name Author ws = reads_key text_words (codes "author") (Some Author) ws refl refl
-reads_name Copyright ws = reads_key text_words (codes "copyright") (Some Copyright) ws refl refl
-reads_name Notes ws = reads_key text_words (codes "notes") (Some Notes) ws refl refl
+reads_name Title ws = reads_key text_fields (field_name Title) (Some Title) ws refl refl
+reads_name Author ws = reads_key text_fields (field_name Author) (Some Author) ws refl refl
+reads_name Copyright ws = reads_key text_fields (field_name Copyright) (Some Copyright) ws refl refl
+reads_name Notes ws = reads_key text_fields (field_name Notes) (Some Notes) ws refl refl
 
 reads_field : (where_put : Field) (ws : List (List ℕ)) → IsSmallField where_put → field (spaced (in_field where_put ws)) ≡ Ok (where_put, spaced ws)
 reads_field (fields.Text name) ws small = then_read text_name field_named (spaced (field_name name ∷ ws)) (spaced ws) (Some name) (reads_name name ws)
 reads_field (fields.Clue at way) ws small =
     let place = decimal at.row ∷ decimal at.col ∷ direction_name way ∷ ws in
-    then_read text_name field_named (spaced (codes "clue" ∷ place)) (spaced place) None (reads_key text_words (codes "clue") None place refl refl)
+    then_read text_name field_named (spaced (clue_name ∷ place)) (spaced place) None (reads_key text_fields clue_name None place refl refl)
     ∙ then_read spot (λ start. direction >>= (λ way. given (fields.Clue start way))) (spaced place) (spaced (direction_name way ∷ ws)) at (reads_spot at (direction_name way ∷ ws) small.0 small.1)
     ∙ then_read direction (λ way. given (fields.Clue at way)) (spaced (direction_name way ∷ ws)) (spaced ws) way (reads_direction way ws)
 
@@ -246,10 +244,12 @@ IsRecorded commands.Show = ⊥
 IsRecorded commands.Lights = ⊥
 IsRecorded (commands.Words named most) = ⊥
 IsRecorded (commands.Letters at) = ⊥
+IsRecorded (commands.Tally at) = ⊥
 IsRecorded commands.Duplicates = ⊥
 IsRecorded commands.Unlisted = ⊥
 IsRecorded commands.Suggest = ⊥
 IsRecorded (commands.Fill limit) = ⊥
+IsRecorded (commands.Autofill limit seed lights) = ⊥
 IsRecorded (commands.Watch is_on) = Unit {0}
 IsRecorded (commands.Tell telling) = ⊥
 IsRecorded (commands.Put putting where_put spelling) = IsSmallField where_put × (piece : List ℕ) × (spelling ≡ escaped_text piece) × (length piece ≤ 2000)
@@ -350,8 +350,10 @@ read_again commands.Show is = absurd is
 read_again commands.Lights is = absurd is
 read_again (commands.Words named most) is = absurd is
 read_again (commands.Letters at) is = absurd is
+read_again (commands.Tally at) is = absurd is
 read_again commands.Duplicates is = absurd is
 read_again commands.Unlisted is = absurd is
 read_again commands.Suggest is = absurd is
 read_again (commands.Fill limit) is = absurd is
+read_again (commands.Autofill limit seed lights) is = absurd is
 read_again (commands.Tell telling) is = absurd is

@@ -1,5 +1,5 @@
 -- Lines of commands, read word by word.
-use Rattle.std.proofs.Common.{◌≡◌, ℕ, zero, suc, ◌^◌, ◌<◌, ◌≤◌, Bool, true, false, not, ◌&&◌, ◌||◌, le-leb, List, [], ◌∷◌, ◌++◌, length, take, drop, get_or, codes, Some, None, refl, sym, ◌∙◌, ap, inl, inr, append-nil, append_assoc, lit<, arith}
+use Rattle.std.proofs.Common.{◌≡◌, ℕ, zero, suc, ◌^◌, ◌<◌, ◌≤◌, Bool, true, false, not, ◌&&◌, ◌||◌, le-leb, List, [], ◌∷◌, ◌++◌, length, take, drop, get_or, Some, None, refl, sym, ◌∙◌, ap, inl, inr, append-nil, append_assoc, lit<, arith}
 use Rattle.std.specs.Prelude.{Option, Result, Ok, Err, decimal, position, unwrap_or, nat_le, nat_eq, if◌then◌else◌}
 use Rattle.std.specs.List.{list_all}
 use Rattle.std.specs.Str.Parse.{AllDigits, digits_value}
@@ -21,8 +21,8 @@ use Rattle.xw_commands.specs.declared.command.SyntaxFault.TheVariants as faults
 use Rattle.xw_commands.specs.Line.{is_blank, is_ink, is_digit, number_in, byte_in, first_place, trimmed_start, parted, first_word}
 use Rattle.xw_commands.specs.declared.command.CellArg.{CellArg}
 use Rattle.xw_commands.specs.Reading.{Reading, ◌>>=◌, given, wanted, word, number, byte, lookup, key_word, direction, side, symmetry, switch, spot}
-use Rattle.xw_session.specs.Spelling.{symmetry_name, side_name, switch_name}
-use Rattle.xw_session.specs.Text.{line_of, direction_name}
+use Rattle.xw_commands.specs.Names.{direction_name, side_name, symmetry_name, switch_name, directions, sides, symmetries, switches}
+use Rattle.xw_session.specs.Text.{line_of}
 
 -- ---- words with a space between them
 
@@ -236,33 +236,21 @@ module _ {A : Type 0} (table : List (List ℕ × A)) (name : List ℕ) (value : 
       then_read word (λ w. wanted (lookup table w)) (spaced (name ∷ ws)) (spaced ws) name (reads_word name ws is)
       ∙ ap (λ found. wanted found (spaced ws)) stands
 
-abbrev side_words : List (List ℕ × Side)
-side_words = (codes "right", Right) ∷ (codes "below", Below) ∷ []
-
 pub reads_side : (which : Side) (ws : List (List ℕ)) → side (spaced (side_name which ∷ ws)) ≡ Ok (which, spaced ws)
-reads_side Right ws = reads_key side_words (codes "right") Right ws refl refl
-reads_side Below ws = reads_key side_words (codes "below") Below ws refl refl
-
-abbrev direction_words : List (List ℕ × Direction)
-direction_words = (codes "across", Across) ∷ (codes "down", Down) ∷ []
+reads_side Right ws = reads_key sides (side_name Right) Right ws refl refl
+reads_side Below ws = reads_key sides (side_name Below) Below ws refl refl
 
 pub reads_direction : (way : Direction) (ws : List (List ℕ)) → direction (spaced (direction_name way ∷ ws)) ≡ Ok (way, spaced ws)
-reads_direction Across ws = reads_key direction_words (codes "across") Across ws refl refl
-reads_direction Down ws = reads_key direction_words (codes "down") Down ws refl refl
-
-abbrev switch_words : List (List ℕ × Bool)
-switch_words = (codes "on", true) ∷ (codes "off", false) ∷ []
+reads_direction Across ws = reads_key directions (direction_name Across) Across ws refl refl
+reads_direction Down ws = reads_key directions (direction_name Down) Down ws refl refl
 
 pub reads_switch : (is_on : Bool) (ws : List (List ℕ)) → switch (spaced (switch_name is_on ∷ ws)) ≡ Ok (is_on, spaced ws)
-reads_switch true ws = reads_key switch_words (codes "on") true ws refl refl
-reads_switch false ws = reads_key switch_words (codes "off") false ws refl refl
-
-abbrev symmetry_words : List (List ℕ × Symmetry)
-symmetry_words = (codes "none", kinds.None) ∷ (codes "half", kinds.Half) ∷ (codes "quarter", kinds.Quarter) ∷ (codes "leftright", kinds.LeftRight) ∷ (codes "updown", kinds.UpDown) ∷ []
+reads_switch true ws = reads_key switches (switch_name true) true ws refl refl
+reads_switch false ws = reads_key switches (switch_name false) false ws refl refl
 
 pub reads_symmetry : (kind : Symmetry) (ws : List (List ℕ)) → symmetry (spaced (symmetry_name kind ∷ ws)) ≡ Ok (kind, spaced ws)
-reads_symmetry kinds.None ws = reads_key symmetry_words (codes "none") kinds.None ws refl refl
-reads_symmetry kinds.Half ws = reads_key symmetry_words (codes "half") kinds.Half ws refl refl
-reads_symmetry kinds.Quarter ws = reads_key symmetry_words (codes "quarter") kinds.Quarter ws refl refl
-reads_symmetry kinds.LeftRight ws = reads_key symmetry_words (codes "leftright") kinds.LeftRight ws refl refl
-reads_symmetry kinds.UpDown ws = reads_key symmetry_words (codes "updown") kinds.UpDown ws refl refl
+reads_symmetry kinds.None ws = reads_key symmetries (symmetry_name kinds.None) kinds.None ws refl refl
+reads_symmetry kinds.Half ws = reads_key symmetries (symmetry_name kinds.Half) kinds.Half ws refl refl
+reads_symmetry kinds.Quarter ws = reads_key symmetries (symmetry_name kinds.Quarter) kinds.Quarter ws refl refl
+reads_symmetry kinds.LeftRight ws = reads_key symmetries (symmetry_name kinds.LeftRight) kinds.LeftRight ws refl refl
+reads_symmetry kinds.UpDown ws = reads_key symmetries (symmetry_name kinds.UpDown) kinds.UpDown ws refl refl

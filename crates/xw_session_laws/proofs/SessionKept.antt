@@ -29,7 +29,9 @@ use Rattle.xw_fill.specs.FeasibleWords.{feasible_words}
 use Rattle.xw_fill.specs.Listing.{duplicates_of, unlisted_of}
 use Rattle.xw_fill.specs.Search.{found, due, end}
 use Rattle.xw_fill.specs.Suggesting.{suggestion}
+use Rattle.xw_fill.specs.declared.search.Filling.{Filling}
 use Rattle.xw_fill.specs.declared.search.Filling.TheVariants as fillings
+use Rattle.xw_autofill.specs.NamedFill.{IsAutofilled, is_named}
 use Rattle.xw_grid.specs.Puzzle.{TextsShown}
 use Rattle.xw_commands.specs.declared.command.Command.{Command}
 use Rattle.xw_commands.specs.declared.command.Command.TheVariants as commands
@@ -46,13 +48,15 @@ use Rattle.xw_session.specs.declared.refusal.Refusal.TheVariants as refusals
 use Rattle.xw_session.specs.declared.session.putting.Place.{Place}
 use Rattle.xw_session.specs.declared.session.putting.Place.TheVariants as places
 use Rattle.xw_session.specs.Refusal.{refusal_of}
-use Rattle.xw_session.specs.Answer.{Replies, state_after, AnswersParsed}
+use Rattle.xw_session.specs.Autofill.{names_of}
+use Rattle.xw_session.specs.Tally.{tally_lines}
+use Rattle.xw_session.specs.Answer.{IsDue, Replies, state_after, AnswersParsed}
 use Rattle.xw_session.specs.Escape.{text_spelled}
 use Rattle.xw_session.specs.State.{State, with_text_in, cell_of}
 use Rattle.xw_session.specs.Put.{place_of, has_place, text_of_field, text_at, with_text_at, with_piece}
 use Rattle.xw_session.specs.Show.{show_lines}
 use Rattle.xw_session.specs.Text.{word_line, light_lines, circle_lines, letters_line, counted_lines, duplicate_line, spelled_line, suggestion_line}
-use Rattle.xw_session.specs.Reply.{Reply, reply_to, edited, shown, moved, watch_lines, with_letter, resized, matched, with_clue_of, has_nul, written, circle_toggled, worded, lettered, put, light_named, name_of_light, told_lines, first_words, filling_name}
+use Rattle.xw_session.specs.Reply.{Reply, edited, shown, moved, watch_lines, with_letter, resized, matched, with_clue_of, has_nul, written, circle_toggled, worded, lettered, tallied, put, light_named, name_of_light, told_lines, first_words, filling_name}
 use Rattle.xw_session_laws.specs.Replay.{BarsAreOnEdges, AreFrom, AreTextsFrom, clues_of, BeganWith, SessionsBegin}
 use Rattle.xw_session_laws.proofs.InOrder.{plain_at}
 use Rattle.xw_session_laws.proofs.KeptInOrder.{circle_kept, clue_kept, cells_there, texts_there}
@@ -347,6 +351,24 @@ module _ (words : Dictionary) (state : State) (is : BeganWith words state) where
         (λ good. with_position (filled_in state.position entries) (record { grid = framed state.position.grid _ (refl, refl, refl, refl) is.bars; first = is.first }) good) e
     by_fill false false limit filled none entries e = when_shown none e
 
+    by_tally : (cell : Cell) → tallied state cell ≡ Ok reply → Kept
+    by_tally cell e =
+        let lines = tally_lines state.position cell in
+        by_test (not (is_inside state.position.grid cell)) (Err (refusals.Grid grids.OutOfGrid)) (if is_block state.position.grid cell then Err (refusals.Grid grids.OnBlock) else shown state lines) (λ _ e. not_refused (refusals.Grid grids.OutOfGrid) e)
+        (λ _ e. by_test (is_block state.position.grid cell) (Err (refusals.Grid grids.OnBlock)) (shown state lines) (λ _ e. not_refused (refusals.Grid grids.OnBlock) e) (λ _ e. when_shown lines e) e) e
+
+    -- the reply has a state with this position
+    by_filling : (filling : Filling) (position next : Position) → reply ≡ record { lines = word_line (filling_name filling); state = record state { position = position } } → position ≡ next
+        → ◌≡◌ {A = Result Reply Refusal} (Ok (record { lines = word_line (filling_name filling); state = record state { position = next } })) (Ok reply)
+    by_filling filling position next is same = ap Ok (ap (λ (p : Position). record { lines = word_line (filling_name filling); state = record state { position = p } }) (sym same) ∙ sym is)
+
+    by_end : (named : ℕ → Bool) (filling : Filling) (position : Position) → reply ≡ record { lines = word_line (filling_name filling); state = record state { position = position } } → IsAutofilled named state.position position filling → Kept
+    by_end named fillings.Filled position told (entries, fill, same) =
+        left_at (record { lines = word_line (filling_name fillings.Filled); state = record state { position = filled_in state.position entries } })
+        (λ good. with_position (filled_in state.position entries) (record { grid = framed state.position.grid _ (refl, refl, refl, refl) is.bars; first = is.first }) good) (by_filling fillings.Filled position (filled_in state.position entries) told same)
+    by_end named fillings.NoFill position told (none, same) = when_shown (word_line (filling_name fillings.NoFill)) (by_filling fillings.NoFill position state.position told same)
+    by_end named fillings.Limit position told same = when_shown (word_line (filling_name fillings.Limit)) (by_filling fillings.Limit position state.position told same)
+
     by_put : (putting : TextMode) (field : Field) (spelling : Option (List ℕ)) → put state putting field spelling ≡ Ok reply → Kept
     by_put putting field None e = not_refused refusals.Escape e
     by_put putting field (Some text) e =
@@ -356,7 +378,7 @@ module _ (words : Dictionary) (state : State) (is : BeganWith words state) where
         (λ placed e. by_test (has_nul text) (Err refusals.NulByte) next (λ _ e. not_refused refusals.NulByte e)
         (λ plain e. when_edited (with_piece state putting place text) (piece_kept putting place text (not_not (has_place state.position.grid place) placed) plain) e) e) e
 
-    pub reply_kept : (command : Command) → reply_to state command ≡ Ok reply → Kept
+    pub reply_kept : (command : Command) → IsDue state command (Ok reply) → Kept
     reply_kept (commands.Size width height) e = by_size (new_grid width height) (λ grid made. size_bars width height grid ((nat_le 1 width && nat_le width 255) && (nat_le 1 height && nat_le height 255)) made) e
     reply_kept (commands.Symmetry kind) e = by_edit (symmetry_chosen kind) e
     reply_kept (commands.Add word) e = by_edit (word_added word) e
@@ -376,12 +398,14 @@ module _ (words : Dictionary) (state : State) (is : BeganWith words state) where
     reply_kept commands.Lights e = when_shown (light_lines state.position.grid) e
     reply_kept (commands.Words named most) e = by_words_of (place_named (lights_of state.position.grid) (name_of_light named)) most e
     reply_kept (commands.Letters at) e = by_letters (cell_of at) e
+    reply_kept (commands.Tally at) e = by_tally (cell_of at) e
     reply_kept commands.Duplicates e = when_shown (flat_map (duplicate_line state.position.grid) (duplicates_of state.position)) e
     reply_kept commands.Unlisted e = when_shown (flat_map (spelled_line state.position.grid) (unlisted_of state.position)) e
     reply_kept commands.Suggest e = when_shown (suggestion_line state.position (suggestion state.position)) e
     reply_kept (commands.Fill limit) e =
         by_fill (nat_lt limit (due (position_of state.position))) (found (position_of state.position)) (word_line (filling_name fillings.Limit)) (word_line (filling_name fillings.Filled)) (word_line (filling_name fillings.NoFill))
         (end (position_of state.position)).board.entries e
+    reply_kept (commands.Autofill limit seed lights) e = by_end (is_named state.position (names_of lights)) e.filling e.position e.is e.done
     reply_kept (commands.Watch is_on) e = when_edited (record state { is_watched = is_on }) (with_watch is_on) e
     reply_kept (commands.Tell telling) e = when_shown (told_lines state telling) e
     reply_kept (commands.Put putting field spelling) e = by_put putting field (text_spelled spelling) e
@@ -390,8 +414,8 @@ module _ (words : Dictionary) (state : State) (is : BeganWith words state) where
 
   module _ (next : State) (formed : IsWellFormed next.position) where
     after_reply : (command : Command) (reply : Result Reply Refusal) → Replies state command reply → next ≡ state_after state reply → BeganWith words next
-    after_reply command (Ok reply) fits same =
-        subst (BeganWith words) (sym same) (reply_kept reply (subst (λ (s : State). IsWellFormed s.position) same formed) command fits)
+    after_reply command (Ok reply) (due, owed, fits) same =
+        subst (BeganWith words) (sym same) (reply_kept reply (subst (λ (s : State). IsWellFormed s.position) same formed) command (subst (IsDue state command) fits owed))
     after_reply command (Err refusal) fits same = subst (BeganWith words) (sym same) is
 
     pub answer_kept : (parsed : Result (Option Command) SyntaxFault) (outcome : Step) (answer : List ℕ) → AnswersParsed state parsed outcome answer next → BeganWith words next

@@ -192,7 +192,7 @@ fn pass(rt: &(impl Abort + AllocGlobal), engine: &mut Plain, steps: &[Step], nam
     for (place, step) in steps.iter().enumerate() {
         assert!(rt;
             goes(rt.alloc(), engine, *step) == Ok(true),
-            "{name}, at step {place}"
+            "{name}: step {place} failed"
         );
     }
 }
@@ -212,6 +212,9 @@ fn pass_case(rt: &(impl Abort + AllocGlobal), case: &Case) -> Result<(), Refusal
 fn pass_each(rt: &(impl Abort + AllocGlobal), cases: &[Case]) {
     for case in cases {
         let name = case.name;
-        assert!(rt; pass_case(rt, case) == Ok(()), "{name}, at its start");
+        assert!(rt;
+            pass_case(rt, case) == Ok(()),
+            "{name}: an allocation failed"
+        );
     }
 }

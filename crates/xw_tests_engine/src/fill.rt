@@ -92,7 +92,7 @@ fn pass(rt: &(impl Abort + AllocGlobal), engine: &mut Plain, case: &Case) {
     for (place, step) in case.steps.iter().enumerate() {
         assert!(rt;
             goes(rt.alloc(), engine, *step) == Ok(true),
-            "{name}, at step {place}"
+            "{name}: step {place} failed"
         );
     }
 }
@@ -161,7 +161,7 @@ const NOTHING_TO_ENTER: &[Step] = &[
     Step::Squares(b"."),
 ];
 
-const LIMIT_NOUGHT: &[Step] = &[
+const LIMIT_ZERO: &[Step] = &[
     Step::Fill(0, Filling::Limit),
     Step::Done(Do::Set(1, 1, b'X')),
     Step::Fill(0, Filling::NoFill),
@@ -240,9 +240,9 @@ const CASES: &[Case] = &[
         steps: NOTHING_TO_ENTER,
     },
     Case {
-        name: "fill_with_limit_nought",
+        name: "fill_with_limit_zero",
         start: SQUARE,
-        steps: LIMIT_NOUGHT,
+        steps: LIMIT_ZERO,
     },
     Case {
         name: "square_emptied_and_proposed",
@@ -265,6 +265,9 @@ const CASES: &[Case] = &[
 fn fills(rt: HostRuntime) {
     for case in CASES {
         let name = case.name;
-        assert!(rt; pass_case(&rt, case) == Ok(()), "{name}, at its start");
+        assert!(rt;
+            pass_case(&rt, case) == Ok(()),
+            "{name}: an allocation failed"
+        );
     }
 }

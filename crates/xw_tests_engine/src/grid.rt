@@ -109,7 +109,7 @@ fn goes(grid: &mut Grid, step: Step) -> bool {
 /// Makes the edits of a table and asks its questions, in order.
 fn pass(rt: &impl Abort, grid: &mut Grid, steps: &[Step], name: &str) {
     for (place, step) in steps.iter().enumerate() {
-        assert!(rt; goes(grid, *step), "{name}, at step {place}");
+        assert!(rt; goes(grid, *step), "{name}: step {place} failed");
     }
 }
 
@@ -150,7 +150,10 @@ fn answers(lights: &Lights, ask: Ask) -> bool {
 /// Asks each question of a table.
 fn ask_each(rt: &impl Abort, lights: &Lights, table: &[Ask], name: &str) {
     for (place, ask) in table.iter().enumerate() {
-        assert!(rt; answers(lights, *ask), "{name}, at question {place}");
+        assert!(rt;
+            answers(lights, *ask),
+            "{name}: wrong answer to question {place}"
+        );
     }
 }
 
@@ -299,7 +302,7 @@ fn find_each(rt: &impl Abort, lights: &Lights, others: &Lights, table: &[Same], 
     for (light, place) in table {
         assert!(rt;
             lights.same(*light, others) == *place,
-            "{name}, of light {light}"
+            "{name}: wrong match of light {light}"
         );
     }
 }
@@ -330,7 +333,7 @@ fn grids_reshaped(rt: HostRuntime) {
         let name = case.name;
         assert!(rt;
             pass_reshaping(&rt, case) == Ok(()),
-            "{name}, for want of memory"
+            "{name}: an allocation failed"
         );
     }
 }
@@ -453,7 +456,7 @@ fn grids(rt: HostRuntime) {
         let name = case.name;
         assert!(rt;
             pass_case(&rt, case) == Ok(()),
-            "{name}, for want of memory"
+            "{name}: an allocation failed"
         );
     }
 }
@@ -464,7 +467,7 @@ fn sizes_of_no_grid(rt: HostRuntime) {
         let fault = Grid::new(rt.alloc(), *width, *height).err();
         assert!(rt;
             fault == Some(GridFault::Size),
-            "smallest_and_largest, of {width} by {height}"
+            "smallest_and_largest: a grid of {width} by {height} was not refused"
         );
     }
 }

@@ -10,4 +10,6 @@ mod fill;
 #[cfg(test)]
 mod grid;
 #[cfg(test)]
+mod searching;
+#[cfg(test)]
 mod words;

@@ -69,7 +69,7 @@ fn goes(bank: &mut Bank, call: Call) -> bool {
 /// Makes the calls of a table and checks their answers.
 fn pass(rt: &impl Abort, bank: &mut Bank, calls: &[Call], name: &str) {
     for (place, call) in calls.iter().enumerate() {
-        assert!(rt; goes(bank, *call), "{name}, at call {place}");
+        assert!(rt; goes(bank, *call), "{name}: call {place} failed");
     }
 }
 
@@ -116,7 +116,7 @@ const LISTS: &[List] = &[
         calls: NO_SINGLE_LETTERS,
     },
     List {
-        name: "lists_of_odd_lines, with a nought and a digit",
+        name: "lists_of_odd_lines, with a NUL and a digit",
         text: b"a\x00t\r\nT1o2\n",
         added: 2,
         skipped: 0,
@@ -148,10 +148,13 @@ const LISTS: &[List] = &[
 fn load(rt: &(impl Abort + AllocGlobal), list: &List) -> Result<(), WordFault> {
     let name = list.name;
     let (mut bank, loaded) = Bank::load_list(rt.alloc(), list.text)?;
-    assert!(rt; loaded.added == list.added, "{name}, how many are added");
+    assert!(rt;
+        loaded.added == list.added,
+        "{name}: wrong number of words added"
+    );
     assert!(rt;
         loaded.skipped == list.skipped,
-        "{name}, how many are skipped"
+        "{name}: wrong number of lines skipped"
     );
     pass(rt, &mut bank, list.calls, name);
     Ok(())
@@ -161,7 +164,7 @@ fn load(rt: &(impl Abort + AllocGlobal), list: &List) -> Result<(), WordFault> {
 fn lists(rt: HostRuntime) {
     for list in LISTS {
         let name = list.name;
-        assert!(rt; load(&rt, list) == Ok(()), "{name}, for want of memory");
+        assert!(rt; load(&rt, list) == Ok(()), "{name}: an allocation failed");
     }
 }
 
@@ -200,7 +203,10 @@ fn pair(place: usize, turned: bool) -> [u8; 2] {
 fn add_pairs(rt: &impl Abort, bank: &mut Bank, count: usize, turned: bool) {
     for place in 0..count {
         let added = bank.add(&pair(place, turned));
-        assert!(rt; added == Ok(Added::New(place)), "at {place} of {count}");
+        assert!(rt;
+            added == Ok(Added::New(place)),
+            "word {place} of {count} was not added"
+        );
     }
 }
 
@@ -232,7 +238,10 @@ fn reads(rows: &mut Counted<'_>, letter: Letter, read: Read) -> bool {
 fn read_each(rt: &impl Abort, bank: &Bank, letter: Letter, table: &[Read]) {
     let mut rows = Counted::new(bank, 0);
     for (place, read) in table.iter().enumerate() {
-        assert!(rt; reads(&mut rows, letter, *read), "at read {place}");
+        assert!(rt;
+            reads(&mut rows, letter, *read),
+            "wrong answer to read {place}"
+        );
     }
     assert!(rt; rows.spent() == table.len() as u64);
 }
@@ -306,11 +315,11 @@ fn rows_at_chunk_borders(rt: HostRuntime) -> Result<(), WordFault> {
     for bits in BORDERS {
         assert!(rt;
             has_even(&narrow(&rt, bits, true)?, bits, true),
-            "with threes of {bits}"
+            "wrong bits kept of {bits}"
         );
         assert!(rt;
             has_even(&narrow(&rt, bits, false)?, bits, false),
-            "without threes of {bits}"
+            "wrong bits struck of {bits}"
         );
     }
     Ok(())
@@ -337,10 +346,13 @@ fn read_column(rt: &impl Abort, bank: &Bank, letter: Letter, words: usize) {
         let bits = rows.column(2, 1, letter, chunk);
         assert!(rt;
             is_chunk(bits, chunk.saturating_mul(64), words),
-            "at {chunk} of {words}"
+            "wrong chunk {chunk} of {words} words"
         );
     }
-    assert!(rt; rows.spent() == chunks as u64, "of {words}");
+    assert!(rt;
+        rows.spent() == chunks as u64,
+        "wrong number of ticks for {words} words"
+    );
 }
 
 #[test]
@@ -371,7 +383,7 @@ fn add_by(rt: &impl Abort, bank: &mut Bank, step: usize) {
         let word = three_letters(turn.wrapping_mul(step) % 1500);
         assert!(rt;
             bank.add(&word) == Ok(Added::New(turn)),
-            "at {turn} by {step}"
+            "word {turn} in steps of {step} was not added"
         );
     }
 }
@@ -379,7 +391,10 @@ fn add_by(rt: &impl Abort, bank: &mut Bank, step: usize) {
 fn strike_by(rt: &impl Abort, bank: &mut Bank, step: usize) {
     for turn in 0..1500usize {
         let word = three_letters(turn.wrapping_mul(step) % 1500);
-        assert!(rt; bank.strike(&word) == Ok(turn), "at {turn} by {step}");
+        assert!(rt;
+            bank.strike(&word) == Ok(turn),
+            "word {turn} in steps of {step} was not struck"
+        );
     }
 }
 
@@ -429,6 +444,9 @@ fn letters_of_a_set(rt: HostRuntime) {
     assert!(rt; set.len() == 3 && lists_letters(set, b"AQZ"));
     assert!(rt; LetterSet::all().len() == 26);
     for byte in NO_LETTERS {
-        assert!(rt; Letter::of(byte).is_none(), "at {byte}");
+        assert!(rt;
+            Letter::of(byte).is_none(),
+            "byte {byte} is read as a letter"
+        );
     }
 }

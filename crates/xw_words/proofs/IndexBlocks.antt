@@ -49,17 +49,17 @@ start_last blocks some =
 -- ---- binary search
 
 -- each block of a sorted index is sorted
-pub part_of : (count : ℕ) (letters : List ℕ) (blocks : List (List ℕ)) (block : ℕ) → block < length blocks → IsPart count letters (concat blocks) → IsPart count letters (block_at blocks block)
-part_of count letters blocks block lt part =
+pub part_of : (len : ℕ) (letters : List ℕ) (blocks : List (List ℕ)) (block : ℕ) → block < length blocks → IsPart len letters (concat blocks) → IsPart len letters (block_at blocks block)
+part_of len letters blocks block lt part =
     let next = start_next blocks block lt in
     let inside = start_within blocks (suc block) in
     let b = block_at blocks block in
     record {
       within = λ i here.
-          let P : ℕ → Type 0 = λ place. place * count + count ≤ length letters in
+          let P : ℕ → Type 0 = λ place. place * len + len ≤ length letters in
           subst P (get_placed blocks block i here) (part.within (start blocks block + i) (omega arith));
       sorted = λ i j order here.
-          let P : ℕ → ℕ → Type 0 = λ one two. is_before (word_in count letters one) (word_in count letters two) ≡ true in
+          let P : ℕ → ℕ → Type 0 = λ one two. is_before (word_in len letters one) (word_in len letters two) ≡ true in
           let first : P (get_or b i 0) (get_or (concat blocks) (start blocks block + j) 0) =
           subst (λ one. P one (get_or (concat blocks) (start blocks block + j) 0)) (get_placed blocks block i (omega arith))
           (part.sorted (start blocks block + i) (start blocks block + j) (omega arith) (omega arith)) in
@@ -137,10 +137,6 @@ placed_last blocks place = joined blocks ∙ sym (insert_end (concat blocks) pla
     joined : (bs : List (List ℕ)) → concat (bs ++ (place ∷ []) ∷ []) ≡ concat bs ++ place ∷ []
     joined [] = refl
     joined (b ∷ bs) = ap (λ l. b ++ l) (joined bs) ∙ sym (append_assoc b (concat bs) (place ∷ []))
-
-pub filled_after : (blocks : List (List ℕ)) (block at place : ℕ) → at ≤ length (block_at blocks block) → All IsFilled blocks → All IsFilled (set blocks block (insert (block_at blocks block) at place))
-filled_after blocks block at place le filled =
-    All-set IsFilled blocks block (insert (block_at blocks block) at place) (let long = length-insert (block_at blocks block) at place le in let some : 0 < length (insert (block_at blocks block) at place) = omega arith in some) filled
 
 -- ---- splitting a block
 

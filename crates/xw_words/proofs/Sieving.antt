@@ -105,10 +105,3 @@ in_chunk P at each i low high =
 -- a clear bit stays clear
 pub none_stays : (new old other : Bool) → new ≡ old → old ≡ false → new ≡ (old && other)
 none_stays new old other same none = same ∙ none ∙ sym (ap (λ b. b && other) none)
-
--- a property of the indices below a middle, and of those from it on
-pub in_parts : (P : ℕ → Type 0) (middle end : ℕ) → ((i : ℕ) → i < middle → P i) → ((i : ℕ) → middle ≤ i → i < end → P i) → (i : ℕ) → i < end → P i
-in_parts P middle end first second i lt = elim (cases_lt i middle) [
-  | inl early ↦ first i early
-  | inr from ↦ second i from lt
-]

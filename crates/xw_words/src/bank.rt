@@ -34,8 +34,8 @@ fn make_rows(alloc: Global, rows: &mut Vec<Row>) -> Result<(), AllocError>
     ensures empty { OnOk result (map (λ row. row.entries) rows.new.items ≡ replicate 256 []) }
     ensures kept { OnOk result (IsKept rows.new.items) }
 {
-    for count in 0..LENGTHS {
-        rows.push(Row::new(alloc, count))?;
+    for len in 0..LENGTHS {
+        rows.push(Row::new(alloc, len))?;
     }
     Ok(())
 }
@@ -70,34 +70,34 @@ impl Bank {
         Ok(Bank { alloc, rows })
     }
 
-    /// The number of known words of length `count`, including struck ones.
-    pub fn known(&self, count: usize) -> usize
-        ensures words { result ≡ length (words_of self.now.words count) }
+    /// The number of known words of length `len`, including struck ones.
+    pub fn known(&self, len: usize) -> usize
+        ensures words { result ≡ length (words_of self.now.words len) }
         ensures dictionary { IsDictionary self.now.words }
     {
-        match self.rows.get(count) {
+        match self.rows.get(len) {
             Some(row) => row.len(),
             None => 0,
         }
     }
 
-    /// Whether word `place` of length `count` is active; false if there is no such word.
-    pub fn is_active(&self, count: usize, place: usize) -> bool
-        ensures { result ≡ (entry_at (words_of self.now.words count) place).active }
+    /// Whether word `place` of length `len` is active; false if there is no such word.
+    pub fn is_active(&self, len: usize, place: usize) -> bool
+        ensures { result ≡ (entry_at (words_of self.now.words len) place).active }
     {
-        match self.rows.get(count) {
+        match self.rows.get(len) {
             Some(row) => row.is_active(place),
             None => false,
         }
     }
 
-    /// The letters of word `place` of length `count`.
-    pub fn word(&self, count: usize, place: usize) -> &[Letter]
-        requires { place < length (words_of self.now.words count) }
-        ensures word { result.now ≡ (entry_at (words_of self.now.words count) place).word }
-        ensures long { length result.now ≡ count }
+    /// The letters of word `place` of length `len`.
+    pub fn word(&self, len: usize, place: usize) -> &[Letter]
+        requires { place < length (words_of self.now.words len) }
+        ensures word { result.now ≡ (entry_at (words_of self.now.words len) place).word }
+        ensures long { length result.now ≡ len }
     {
-        self.rows[count].word(place)
+        self.rows[len].word(place)
     }
 
     /// The index of a word among the known words of its length, including struck ones.
@@ -107,26 +107,26 @@ impl Bank {
         self.rows.get(word.len())?.find(word)
     }
 
-    /// The column of a letter at a position, for the words of length `count`. Returns `None` only
+    /// The column of a letter at a position, for the words of length `len`. Returns `None` only
     /// if `position` is out of range or no word of this length is known.
-    pub(crate) fn column_of(&self, count: usize, position: usize, letter: Letter) -> Option<&BitRow>
-        ensures some { IfSome result (λ column. IsColumn (words_of self.now.words count) position letter column.now.bits) }
-        ensures none { IfNone result ((place : ℕ) → has_letter (words_of self.now.words count) position letter place ≡ false) }
-        ensures within { position < count → IfNone result (length (words_of self.now.words count) ≡ 0) }
+    pub(crate) fn column_of(&self, len: usize, position: usize, letter: Letter) -> Option<&BitRow>
+        ensures some { IfSome result (λ column. IsColumn (words_of self.now.words len) position letter column.now.bits) }
+        ensures none { IfNone result ((place : ℕ) → has_letter (words_of self.now.words len) position letter place ≡ false) }
+        ensures within { position < len → IfNone result (length (words_of self.now.words len) ≡ 0) }
     {
-        match self.rows.get(count) {
+        match self.rows.get(len) {
             Some(row) => row.column_of(position, letter),
             None => None,
         }
     }
 
-    /// The 26 columns at a position, for the words of length `count`. If it returns `None`, no
+    /// The 26 columns at a position, for the words of length `len`. If it returns `None`, no
     /// known word has a letter there.
-    pub(crate) fn columns_of(&self, count: usize, position: usize) -> Option<&[BitRow]>
-        ensures some { IfSome result (λ columns. AreColumns (words_of self.now.words count) position columns.now) }
-        ensures none { IfNone result ((place letters : ℕ) → has_one_of (words_of self.now.words count) position letters place ≡ false) }
+    pub(crate) fn columns_of(&self, len: usize, position: usize) -> Option<&[BitRow]>
+        ensures some { IfSome result (λ columns. AreColumns (words_of self.now.words len) position columns.now) }
+        ensures none { IfNone result ((place letters : ℕ) → has_one_of (words_of self.now.words len) position letters place ≡ false) }
     {
-        match self.rows.get(count) {
+        match self.rows.get(len) {
             Some(row) => row.columns_of(position),
             None => None,
         }
@@ -134,10 +134,10 @@ impl Bank {
 
     /// A bit for each of the 64 words from `64 * chunk` on: whether it has `letter` at `position`.
     /// The first word is the lowest bit.
-    pub(crate) fn column(&self, count: usize, position: usize, letter: Letter, chunk: usize) -> u64
-        ensures { (k : ℕ) → k < 64 → has_bit result k ≡ has_letter (words_of self.now.words count) position letter (64 * chunk + k) }
+    pub(crate) fn column(&self, len: usize, position: usize, letter: Letter, chunk: usize) -> u64
+        ensures { (k : ℕ) → k < 64 → has_bit result k ≡ has_letter (words_of self.now.words len) position letter (64 * chunk + k) }
     {
-        match self.rows.get(count) {
+        match self.rows.get(len) {
             Some(row) => row.column_chunk(position, letter, chunk),
             None => 0,
         }
@@ -145,10 +145,10 @@ impl Bank {
 
     /// A bit for each of the 64 words from `64 * chunk` on: whether it is active. The first word is
     /// the lowest bit.
-    pub(crate) fn active(&self, count: usize, chunk: usize) -> u64
-        ensures { (k : ℕ) → k < 64 → has_bit result k ≡ word_is_active (words_of self.now.words count) (64 * chunk + k) }
+    pub(crate) fn active(&self, len: usize, chunk: usize) -> u64
+        ensures { (k : ℕ) → k < 64 → has_bit result k ≡ word_is_active (words_of self.now.words len) (64 * chunk + k) }
     {
-        match self.rows.get(count) {
+        match self.rows.get(len) {
             Some(row) => row.active_chunk(chunk),
             None => 0,
         }
@@ -206,29 +206,29 @@ impl Bank {
         Ok(Matching::new(&self.rows[pattern.len()], pattern))
     }
 
-    /// Reserves room for one more word of length `count`. Returns `Length` for a length outside 2
+    /// Reserves room for one more word of length `len`. Returns `Length` for a length outside 2
     /// to 255, `Full` if `MOST_WORDS` words of this length are known, and `Memory` if an allocation
     /// fails.
-    pub fn reserve(&mut self, count: usize) -> Result<(), WordFault>
+    pub fn reserve(&mut self, len: usize) -> Result<(), WordFault>
         ensures words { self.new.words ≡ self.old.words }
-        ensures room { OnOk result (has_room self.new count ≡ true) }
+        ensures room { OnOk result (has_room self.new len ≡ true) }
         ensures kept { KeepsRoom self.old self.new }
-        ensures answer { result ≢ Err WordFault.Memory → result ≡ reserve_answer self.old.words count }
-        ensures memory { result ≡ Err WordFault.Memory → IsOk (reserve_answer self.old.words count) }
+        ensures answer { result ≢ Err WordFault.Memory → result ≡ reserve_answer self.old.words len }
+        ensures memory { result ≡ Err WordFault.Memory → IsOk (reserve_answer self.old.words len) }
     {
-        self.make_room(count, 0)
+        self.make_room(len, 0)
     }
 
     /// Like `reserve`, but if the row has to grow, it grows to at least `expected` words in total.
-    pub(crate) fn make_room(&mut self, count: usize, expected: usize) -> Result<(), WordFault>
+    pub(crate) fn make_room(&mut self, len: usize, expected: usize) -> Result<(), WordFault>
         ensures words { self.new.words ≡ self.old.words }
-        ensures room { OnOk result (has_room self.new count ≡ true) }
+        ensures room { OnOk result (has_room self.new len ≡ true) }
         ensures kept { KeepsRoom self.old self.new }
-        ensures answer { result ≢ Err WordFault.Memory → result ≡ reserve_answer self.old.words count }
-        ensures memory { result ≡ Err WordFault.Memory → IsOk (reserve_answer self.old.words count) }
+        ensures answer { result ≢ Err WordFault.Memory → result ≡ reserve_answer self.old.words len }
+        ensures memory { result ≡ Err WordFault.Memory → IsOk (reserve_answer self.old.words len) }
     {
-        judge_length(count)?;
-        let row = &mut self.rows[count];
+        judge_length(len)?;
+        let row = &mut self.rows[len];
         if row.len() >= MOST_WORDS {
             return Err(WordFault::Full);
         }

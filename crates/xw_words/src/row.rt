@@ -38,23 +38,23 @@ fn grown(known: usize, expected: usize) -> usize
 fn reserve_words(
     active: &mut BitRow,
     letters: &mut Vec<Letter>,
-    count: usize,
+    word_len: usize,
     words: usize,
 ) -> Result<(), AllocError>
     requires more { length active.old.bits ≤ words }
     requires few { words ≤ most_words }
-    requires short { count ≤ 255 }
-    requires letters { length letters.old.items ≡ length active.old.bits * count }
+    requires short { word_len ≤ 255 }
+    requires letters { length letters.old.items ≡ length active.old.bits * word_len }
     ensures bits { active.new.bits ≡ active.old.bits }
     ensures room_stays { active.old.room ≤ active.new.room }
     ensures items { letters.new.items ≡ letters.old.items }
     ensures capacity { vec_capacity letters.old ≤ vec_capacity letters.new }
     ensures room { OnOk result (words ≤ active.new.room) }
-    ensures letters_room { OnOk result (words * count ≤ vec_capacity letters.new) }
+    ensures letters_room { OnOk result (words * word_len ≤ vec_capacity letters.new) }
 {
     let more = words - active.len();
     active.reserve(words)?;
-    letters.reserve_exact(more * count)?;
+    letters.reserve_exact(more * word_len)?;
     Ok(())
 }
 
@@ -70,7 +70,7 @@ fn append(letters: &mut Vec<Letter>, word: &[Letter])
 /// The known words of one length, in the order they were first added.
 #[derive(Drop)]
 pub struct Row {
-    count: usize,
+    word_len: usize,
     letters: Vec<Letter>,
     index: Index,
     active: BitRow,
@@ -92,15 +92,15 @@ impl Model for Row {
 
 #[tactic(auto, using(crate::proofs::RowLemmas::row_steps))]
 impl Row {
-    /// An empty row for the words of length `count`.
-    pub fn new(alloc: Global, count: usize) -> Row
-        requires { count ≤ 255 }
-        ensures count { result.count ≡ count }
+    /// An empty row for the words of length `word_len`.
+    pub fn new(alloc: Global, word_len: usize) -> Row
+        requires { word_len ≤ 255 }
+        ensures word_len { result.word_len ≡ word_len }
         ensures entries { result.entries ≡ [] }
         ensures room { result.room ≡ false }
     {
         Row {
-            count,
+            word_len,
             letters: Vec::new(alloc),
             index: Index::new(alloc),
             active: BitRow::new(alloc),
@@ -129,14 +129,14 @@ impl Row {
         requires { place < length self.now.entries }
         ensures { result.now ≡ (entry_at self.now.entries place).word }
     {
-        &self.letters[place * self.count..(place + 1) * self.count]
+        &self.letters[place * self.word_len..(place + 1) * self.word_len]
     }
 
     /// Makes word `place` active or struck.
     pub fn mark(&mut self, place: usize, active: bool)
         requires { place < length self.old.entries }
         ensures entries { self.new.entries ≡ marked self.old.entries place active }
-        ensures count { self.new.count ≡ self.old.count }
+        ensures word_len { self.new.word_len ≡ self.old.word_len }
         ensures room { self.new.room ≡ self.old.room }
     {
         self.active.put(place, active);
@@ -146,7 +146,7 @@ impl Row {
     pub fn find(&self, word: &[Letter]) -> Option<usize>
         ensures { result ≡ place_in self.now.entries word.now }
     {
-        if word.len() != self.count {
+        if word.len() != self.word_len {
             return None;
         }
         self.index.find(&self.letters, word)
@@ -168,9 +168,9 @@ impl Row {
     pub fn column_of(&self, position: usize, letter: Letter) -> Option<&BitRow>
         ensures some { IfSome result (λ column. IsColumn self.now.entries position letter column.now.bits) }
         ensures none { IfNone result ((place : ℕ) → has_letter self.now.entries position letter place ≡ false) }
-        ensures within { position < self.now.count → IfNone result (length self.now.entries ≡ 0) }
+        ensures within { position < self.now.word_len → IfNone result (length self.now.entries ≡ 0) }
     {
-        if position >= self.count {
+        if position >= self.word_len {
             return None;
         }
         self.columns
@@ -182,10 +182,10 @@ impl Row {
         ensures some { IfSome result (λ columns. AreColumns self.now.entries position columns.now) }
         ensures none { IfNone result ((place letters : ℕ) → has_one_of self.now.entries position letters place ≡ false) }
     {
-        if position >= self.count {
+        if position >= self.word_len {
             return None;
         }
-        if self.columns.len() < LETTERS * self.count {
+        if self.columns.len() < LETTERS * self.word_len {
             return None;
         }
         Some(&self.columns[LETTERS * position..LETTERS * (position + 1)])
@@ -196,7 +196,7 @@ impl Row {
     pub fn column_chunk(&self, position: usize, letter: Letter, chunk: usize) -> u64
         ensures { (k : ℕ) → k < 64 → has_bit result k ≡ has_letter self.now.entries position letter (64 * chunk + k) }
     {
-        if position >= self.count {
+        if position >= self.word_len {
             return 0;
         }
         if chunk >= self.active.len().div_ceil(64) {
@@ -221,11 +221,11 @@ impl Row {
     /// A bit for each of the 64 words of a chunk: whether it is active and matches the pattern. The
     /// first word is the lowest bit.
     pub fn fits_chunk(&self, pattern: &[u8], chunk: usize) -> u64
-        requires length { length pattern.now ≡ self.now.count }
+        requires length { length pattern.now ≡ self.now.word_len }
         requires good { position is_bad_in_pattern pattern.now ≡ None }
         ensures { AreFits (map folded pattern.now) self.now.entries chunk result }
     {
-        let _ = &self.count;
+        let _ = &self.word_len;
         let mut fits = self.active_chunk(chunk);
         for place in 0..pattern.len() {
             if fits == 0 {
@@ -239,9 +239,9 @@ impl Row {
     /// Adds the word that the bytes spell: appends a new one, or makes a struck one active again.
     pub fn add(&mut self, alloc: Global, bytes: &[u8]) -> Result<Added, WordFault>
         requires letters { position is_bad_letter bytes.now ≡ None }
-        requires length { length bytes.now ≡ self.old.count }
-        requires long { 2 ≤ self.old.count }
-        ensures count { self.new.count ≡ self.old.count }
+        requires length { length bytes.now ≡ self.old.word_len }
+        requires long { 2 ≤ self.old.word_len }
+        ensures word_len { self.new.word_len ≡ self.old.word_len }
         ensures answer { result ≢ Err WordFault.Memory → result ≡ add_to self.old.entries (map folded bytes.now) }
         ensures memory { result ≡ Err WordFault.Memory → IsNew (add_to self.old.entries (map folded bytes.now)) }
         ensures ok { IfOk result (λ added. self.new.entries ≡ with_added self.old.entries (map folded bytes.now) added) }
@@ -249,7 +249,7 @@ impl Row {
         ensures room_at_err { OnErr result (self.new.room ≡ self.old.room) }
         ensures room_at_return { (place : ℕ) → result ≡ Ok (Added.Returned place) → self.new.room ≡ self.old.room }
     {
-        let _ = &self.count;
+        let _ = &self.word_len;
         let mut letters = [Letter::first(); LONGEST];
         spell(&mut letters, bytes);
         let word = &letters[..bytes.len()];
@@ -262,7 +262,7 @@ impl Row {
     /// Makes a struck word active again; refuses an active one.
     fn add_again(&mut self, place: usize) -> Result<Added, WordFault>
         requires { place < length self.old.entries }
-        ensures count { self.new.count ≡ self.old.count }
+        ensures word_len { self.new.word_len ≡ self.old.word_len }
         ensures answer { result ≡ added_at self.old.entries (Some place) }
         ensures ok { OnOk result (self.new.entries ≡ marked self.old.entries place true) }
         ensures err { OnErr result (self.new.entries ≡ self.old.entries) }
@@ -277,10 +277,10 @@ impl Row {
 
     /// Appends a word that is not known.
     fn add_new(&mut self, alloc: Global, word: &[Letter]) -> Result<Added, WordFault>
-        requires length { length word.now ≡ self.old.count }
-        requires long { 2 ≤ self.old.count }
+        requires length { length word.now ≡ self.old.word_len }
+        requires long { 2 ≤ self.old.word_len }
         requires unknown { place_in self.old.entries word.now ≡ None }
-        ensures count { self.new.count ≡ self.old.count }
+        ensures word_len { self.new.word_len ≡ self.old.word_len }
         ensures answer { result ≢ Err WordFault.Memory → result ≡ added_at self.old.entries None }
         ensures memory { result ≡ Err WordFault.Memory → IsNew (added_at self.old.entries None) }
         ensures ok { OnOk result (self.new.entries ≡ self.old.entries ++ record { word = word.now; active = true } ∷ []) }
@@ -300,10 +300,10 @@ impl Row {
     /// What `add` would return if no allocation failed.
     pub fn judge_add(&self, bytes: &[u8]) -> Result<Added, WordFault>
         requires letters { position is_bad_letter bytes.now ≡ None }
-        requires length { length bytes.now ≡ self.now.count }
+        requires length { length bytes.now ≡ self.now.word_len }
         ensures { result ≡ add_to self.now.entries (map folded bytes.now) }
     {
-        let _ = &self.count;
+        let _ = &self.word_len;
         let mut letters = [Letter::first(); LONGEST];
         spell(&mut letters, bytes);
         match self.find(&letters[..bytes.len()]) {
@@ -317,14 +317,14 @@ impl Row {
     /// Strikes the word that the bytes spell and returns its index.
     pub fn strike(&mut self, bytes: &[u8]) -> Result<usize, WordFault>
         requires letters { position is_bad_letter bytes.now ≡ None }
-        requires length { length bytes.now ≡ self.old.count }
-        ensures count { self.new.count ≡ self.old.count }
+        requires length { length bytes.now ≡ self.old.word_len }
+        ensures word_len { self.new.word_len ≡ self.old.word_len }
         ensures answer { result ≡ strike_from self.old.entries (map folded bytes.now) }
         ensures ok { IfOk result (λ place. self.new.entries ≡ marked self.old.entries place false) }
         ensures err { OnErr result (self.new.entries ≡ self.old.entries) }
         ensures room { self.new.room ≡ self.old.room }
     {
-        let _ = &self.count;
+        let _ = &self.word_len;
         let mut letters = [Letter::first(); LONGEST];
         spell(&mut letters, bytes);
         match self.find(&letters[..bytes.len()]) {
@@ -340,8 +340,8 @@ impl Row {
     /// words in total.
     pub fn reserve(&mut self, alloc: Global, expected: usize) -> Result<(), WordFault>
         requires few { length self.old.entries < most_words }
-        requires long { 2 ≤ self.old.count }
-        ensures count { self.new.count ≡ self.old.count }
+        requires long { 2 ≤ self.old.word_len }
+        ensures word_len { self.new.word_len ≡ self.old.word_len }
         ensures entries { self.new.entries ≡ self.old.entries }
         ensures ok { OnOk result (self.new.room ≡ true) }
         ensures refused { IfErr result (λ fault. fault ≡ WordFault.Memory) }
@@ -353,18 +353,18 @@ impl Row {
             return Ok(());
         }
         let words = grown(known, expected);
-        grow_columns(alloc, &mut self.columns, LETTERS * self.count, words)?;
-        reserve_words(&mut self.active, &mut self.letters, self.count, words)?;
+        grow_columns(alloc, &mut self.columns, LETTERS * self.word_len, words)?;
+        reserve_words(&mut self.active, &mut self.letters, self.word_len, words)?;
         self.reserved = words;
         Ok(())
     }
 
     /// Appends a word that is not known, in reserved room.
     pub fn add_reserved(&mut self, word: &[Letter])
-        requires length { length word.now ≡ self.old.count }
+        requires length { length word.now ≡ self.old.word_len }
         requires room { self.old.room ≡ true }
         requires unknown { place_in self.old.entries word.now ≡ None }
-        ensures count { self.new.count ≡ self.old.count }
+        ensures word_len { self.new.word_len ≡ self.old.word_len }
         ensures entries { self.new.entries ≡ self.old.entries ++ record { word = word.now; active = true } ∷ [] }
         ensures few { length self.old.entries < most_words }
         ensures long { 2 ≤ length word.now }

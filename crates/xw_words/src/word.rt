@@ -36,21 +36,21 @@ fn bad_in_pattern(bytes: &[u8]) -> Option<usize>
 }
 
 /// Returns `BadLetter` if there is a bad byte, and otherwise checks the length.
-fn judge(bad: Option<usize>, count: usize) -> Result<(), WordFault>
-    requires { IfSome bad (λ place. place < count) }
-    ensures { result ≡ judged bad count tt }
+fn judge(bad: Option<usize>, len: usize) -> Result<(), WordFault>
+    requires { IfSome bad (λ place. place < len) }
+    ensures { result ≡ judged bad len tt }
 {
     match bad {
         Some(place) => Err(WordFault::BadLetter(place + 1)),
-        None => judge_length(count),
+        None => judge_length(len),
     }
 }
 
 /// Returns `Length` if no word has this length.
-pub(crate) fn judge_length(count: usize) -> Result<(), WordFault>
-    ensures { result ≡ judged None count tt }
+pub(crate) fn judge_length(len: usize) -> Result<(), WordFault>
+    ensures { result ≡ judged None len tt }
 {
-    if (SHORTEST..=LONGEST).contains(&count) {
+    if (SHORTEST..=LONGEST).contains(&len) {
         Ok(())
     } else {
         Err(WordFault::Length)

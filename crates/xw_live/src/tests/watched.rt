@@ -86,14 +86,14 @@ pub fn watch(
     let sizes = sizes_of(&watched.engine);
     assert!(rt;
         does(&mut watched.engine, edit, wanted.cells),
-        "{name}, {list} {at}: the cells told"
+        "{name}, {list} {at}: wrong changed cells"
     );
     assert!(rt;
         is_recounted(watched, edit, spent, wanted),
-        "{name}, {list} {at}: the ticks"
+        "{name}, {list} {at}: wrong number of ticks"
     );
     assert!(rt;
         is_small(&watched.engine, sizes, edit),
-        "{name}, {list} {at}: what there is after it"
+        "{name}, {list} {at}: lists longer than their bounds"
     );
 }

@@ -125,11 +125,11 @@ fn have_same_words(one: &Live, other: &Live) -> bool {
 fn compare(rt: &impl Abort, one: &Live, other: &Live, name: &str, at: usize) {
     assert!(rt;
         have_same_cells(one, other),
-        "{name}, the cells after list {at}"
+        "{name}: the engines have other letters after list {at}"
     );
     assert!(rt;
         have_same_words(one, other),
-        "{name}, the words after list {at}"
+        "{name}: the engines have other words after list {at}"
     );
 }
 
@@ -140,7 +140,7 @@ fn pass_lists(rt: &(impl Abort + AllocGlobal), one: &mut Watched, other: &mut Li
         let place = Place { name, list, at };
         assert!(rt;
             write_twice(rt, one, other, *listed, place) == Ok(true),
-            "{name}, list {at}"
+            "{name}: list {at} failed"
         );
         compare(rt, &one.engine, other, name, at);
     }
@@ -221,7 +221,7 @@ fn lists_of_cells(rt: HostRuntime) {
         let name = case.name;
         assert!(rt;
             pass_case(&rt, case) == Ok(()),
-            "{name}, for want of memory"
+            "{name}: an allocation failed"
         );
     }
 }

@@ -7,7 +7,7 @@ ghost use Rattle.xw_fill.specs.Position.{position_of};
 ghost use Rattle.xw_fill.specs.FeasibleWords.{feasible_words};
 ghost use Rattle.xw_fill.specs.FeasibleLetters.{feasible_letters};
 ghost use Rattle.xw_lines.specs.Sends.{Sends};
-ghost use Rattle.xw_session.specs.Text.{word_line, line_of, counted_lines, direction_name as name_of_direction, suggestion_line, letters_line, word_at as known_word_at};
+ghost use Rattle.xw_session.specs.Text.{word_line, line_of, counted_lines, suggestion_line, letters_line, word_at as known_word_at};
 ghost use Rattle.xw_session.specs.Reply.{first_words, name_of_light, filling_name as name_of_filling, cell_of, lettered, shown};
 ghost use Rattle.xw_session.specs.Answer.{AnswersTo, fill_reply, text_of, step_of};
 ghost use Rattle.xw_session.specs.State.{State};
@@ -19,6 +19,7 @@ use crate::{lists, show, text};
 use xw_commands::command::{CellArg, LightArg};
 use xw_feas::edit::Refusal as EditRefusal;
 use xw_feas::feasible::Feasible;
+use xw_feas::searchable::Searchable;
 use xw_feas::word_iter::{WordIter, words};
 use xw_fill::listing::{duplicates, unlisted};
 use xw_fill::search::{Filling, fill};
@@ -95,7 +96,7 @@ fn write_filling<W: Sink>(sink: &mut W, filling: Filling) -> Result<(), WriteFai
 }
 
 /// Answers a search for a fill.
-fn end_filling<W: Sink>(
+pub(crate) fn end_filling<W: Sink>(
     sink: &mut W,
     filled: Result<Filling, EditRefusal>,
 ) -> Result<Step, WriteFailed>
@@ -261,6 +262,10 @@ impl<E: Feasible> Session<E> {
         write_suggestion(sink, &self.engine, suggestion)?;
         end_answer(sink, Ok(()))
     }
+}
+
+impl<E: Searchable> Session<E> {
+    ghost use Rattle.xw_commands.specs.declared.command.Command.TheVariants as commands;
 
     /// Answers `fill`: fills the grid with at most `limit` placements, if possible.
     pub(crate) fn answer_fill<W: Sink>(

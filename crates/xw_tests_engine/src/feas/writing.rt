@@ -112,11 +112,11 @@ fn have_same_words(one: &Plain, other: &Plain) -> bool {
 fn compare(rt: &impl Abort, one: &Plain, other: &Plain, name: &str, place: usize) {
     assert!(rt;
         have_same_cells(one, other),
-        "{name}, the cells after list {place}"
+        "{name}: the engines have other letters after list {place}"
     );
     assert!(rt;
         have_same_words(one, other),
-        "{name}, the words after list {place}"
+        "{name}: the engines have other words after list {place}"
     );
 }
 
@@ -126,7 +126,7 @@ fn pass_lists(rt: &(impl Abort + AllocGlobal), one: &mut Plain, other: &mut Plai
     for (place, listed) in case.lists.iter().enumerate() {
         assert!(rt;
             goes(rt.alloc(), one, other, *listed) == Ok(true),
-            "{name}, at list {place}"
+            "{name}: list {place} failed"
         );
         compare(rt, one, other, name, place);
     }
@@ -185,6 +185,9 @@ fn pass_case(rt: &(impl Abort + AllocGlobal), case: &Case) -> Result<(), Refusal
 fn lists_of_cells(rt: HostRuntime) {
     for case in CASES {
         let name = case.name;
-        assert!(rt; pass_case(&rt, case) == Ok(()), "{name}, at its start");
+        assert!(rt;
+            pass_case(&rt, case) == Ok(()),
+            "{name}: an allocation failed"
+        );
     }
 }

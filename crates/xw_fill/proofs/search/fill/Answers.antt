@@ -14,6 +14,9 @@ use Rattle.xw_fill.proofs.Searching.{IsSearching, IsSound-formed, searching-star
 use Rattle.std.specs.Option.{option_to_list}
 use Rattle.xw_fill.specs.Noted.{noted, AreEntered, StayNoted}
 use Rattle.xw_fill.specs.Search.{light_count}
+use Rattle.xw_fill.specs.Marks.{held_of, room_of}
+use Rattle.xw_fill.proofs.MarksLemmas.{AreTwins-then, IsTwin-entries}
+use Rattle.xw_fill.proofs.MarkedTries.{AreHeld, held-start, held-more, held-marked, held-fewer}
 use Rattle.xw_fill.proofs.search.fill.Goals as goal
 
 pub search-init : goal.search-init
@@ -28,6 +31,8 @@ search-init g c =
     record {
       searching = rw (items, c.in_ok-next.ensures.next) (searching-start start);
       entries = DiffersInEntries-itself before;
+      marked = rw (items, c.in_ok-marks.ensures.held) (held-start before);
+      twins = c.in_ok-marks.ensures.twins;
       room = omega (arith, capacity, c.light_count-count.ensures);
       few = omega arith;
       noted = rw (items, with_items_is c.in_ok-since.since c.begin.new.since (omega (arith, c.begin.ensures.long, ap length c.as_mut_slice.ensures.value, ok))) c.begin.ensures.entered;
@@ -73,13 +78,31 @@ returns-in-None-clause-fill g c =
     let searching = searching-empty start current c.search.tries.items c.pop.new.self.items c.pop.result c.search.used c.search.next c.search.invariant.searching c.in-Spent.is c.pop.ensures.items c.in-None.is long in
     filling-fill c.args.limit before now NoFill formed (outcome_filling c.args.limit before now NoFill c.search.invariant.entries (searching-none start current c.search.used c.args.limit searching c.search.invariant.few))
 
-pub take_back-requires : goal.take_back-requires
-take_back-requires g c =
+pub go_back-requires-clause-light : goal.go_back-requires-clause-light
+go_back-requires-clause-light g c =
     let before = g.E.Feasible.state c.args.engine.now in
     let start = position_of before in
     let now = g.E.Feasible.state c.search.engine in
     let current = position_of now in
     last-light start current c.pop.new.self.items c.in-Some.tried c.search.used (searching-popped start current c.search.tries.items c.pop.new.self.items c.pop.result c.in-Some.tried c.search.used c.search.next c.search.invariant.searching c.in-Spent.is c.pop.ensures.items c.in-Some.is)
+
+pub go_back-requires-clause-twins : goal.go_back-requires-clause-twins
+go_back-requires-clause-twins g c = c.search.invariant.twins
+
+pub go_back-requires-clause-marked : goal.go_back-requires-clause-marked
+go_back-requires-clause-marked g c =
+    let before = g.E.Feasible.state c.args.engine.now in
+    let start = position_of before in
+    let now = g.E.Feasible.state c.search.engine in
+    let current = position_of now in
+    let sound = IsSound-formed before (g.met.E.Feasible.well_formed c.args.engine.now) in
+    let held = held_of g.E.Searchable.saved c.search.marks in
+    let popped = searching-popped start current c.search.tries.items c.pop.new.self.items c.pop.result c.in-Some.tried c.search.used c.search.next c.search.invariant.searching c.in-Spent.is c.pop.ensures.items c.in-Some.is in
+    let marked = subst (λ tries. AreHeld before tries held) (c.pop.ensures.items ∙ ap (λ o. c.pop.new.self.items ++ option_to_list o) c.in-Some.is) c.search.invariant.marked in
+    held-marked before now c.pop.new.self.items c.in-Some.tried held c.search.used sound popped c.search.invariant.entries marked
+
+pub mark-requires : goal.mark-requires
+mark-requires g c = record { twins = c.search.invariant.twins }
 
 pub overflow_add-next : goal.overflow_add-next
 overflow_add-next g c =
@@ -98,12 +121,17 @@ search-preserved-in-Some g c =
     let now = g.E.Feasible.state c.search.engine in
     let current = position_of now in
     let sound = IsSound-formed before (g.met.E.Feasible.well_formed c.args.engine.now) in
+    let held = held_of g.E.Searchable.saved c.search.marks in
     let popped = searching-popped start current c.search.tries.items c.pop.new.self.items c.pop.result c.in-Some.tried c.search.used c.search.next c.search.invariant.searching c.in-Spent.is c.pop.ensures.items c.in-Some.is in
+    let items : c.search.tries.items ≡ c.pop.new.self.items ++ c.in-Some.tried ∷ [] = c.pop.ensures.items ∙ ap (λ o. c.pop.new.self.items ++ option_to_list o) c.in-Some.is in
+    let marked = subst (λ tries. AreHeld before tries held) items c.search.invariant.marked in
     record {
-      entries = DiffersInEntries-then before now (g.E.Feasible.state c.take_back.new.engine) c.search.invariant.entries c.take_back.ensures.entries;
+      entries = DiffersInEntries-then before now (g.E.Feasible.state c.go_back.new.engine) c.search.invariant.entries c.go_back.ensures.entries;
+      marked = rw c.go_back.ensures.held (held-fewer before now c.pop.new.self.items c.in-Some.tried held c.search.used sound popped marked);
+      twins = c.go_back.ensures.twins;
       long = c.search.invariant.long;
-      noted = noted-back c.pop.new.self.items start c.in-Some.tried c.search.since.items 0 (subst (λ tries. AreNotedAlong start tries c.search.since.items 0) (c.pop.ensures.items ∙ ap (λ o. c.pop.new.self.items ++ option_to_list o) c.in-Some.is) c.search.invariant.noted);
-      searching = rw c.take_back.ensures.back (searching-back start current c.pop.new.self.items c.in-Some.tried c.search.used sound popped);
+      noted = noted-back c.pop.new.self.items start c.in-Some.tried c.search.since.items 0 (subst (λ tries. AreNotedAlong start tries c.search.since.items 0) items c.search.invariant.noted);
+      searching = rw c.go_back.ensures.back (searching-back start current c.pop.new.self.items c.in-Some.tried c.search.used sound popped);
       room = rw c.pop.ensures.capacity c.search.invariant.room;
       few = c.search.invariant.few;
     }
@@ -211,6 +239,8 @@ search-preserved-in-None-next_place g c =
     let sound = IsSound-formed before (g.met.E.Feasible.well_formed c.args.engine.now) in
     record {
       entries = c.search.invariant.entries;
+      marked = c.search.invariant.marked;
+      twins = c.search.invariant.twins;
       long = c.search.invariant.long;
       noted = c.search.invariant.noted;
       searching = searching-spent start current c.search.tries.items c.search.used c.in-Words.light c.in-Words.from sound searching c.in-None-next_place.ensures;
@@ -250,6 +280,8 @@ search-preserved g c =
     record {
       searching = rw (items, c.try_word-next.ensures.next, there) placed_now;
       entries = DiffersInEntries-then before now after c.search.invariant.entries c.try_word-next.ensures.entries;
+      marked = rw (items, c.mark.ensures.held) (held-more before now c.search.tries.items tried (held_of g.E.Searchable.saved c.search.marks) (room_of c.search.marks) c.search.used c.search.next c.search.invariant.searching c.search.invariant.entries c.search.invariant.marked);
+      twins = AreTwins-then g.E.Searchable.saved c.mark.new.self now after (IsTwin-entries now after c.try_word-next.ensures.entries) c.mark.ensures.twins;
       room = omega (arith, c.push.ensures.capacity, c.search.invariant.room);
       few = omega (arith, c.if-used-limit.false, c.search.invariant.few);
       noted = rw (items, with_items_is c.search.since c.try_word-next.new.since (omega (arith, c.try_word-next.ensures.long, value, ok_since))) (noted-more c.search.tries.items _ start _ _ current tried c.search.since.items c.try_word-next.new.since 0 c.search.invariant.searching.trail c.search.invariant.noted stay last);

@@ -4,8 +4,10 @@ use Rattle.xw_fill.specs.Position.{position_of, DiffersInEntries}
 use Rattle.xw_fill.specs.declared.search.Next.{Next}
 use Rattle.xw_fill.specs.declared.search.Next.TheVariants.{Done, Spent, Words}
 use Rattle.xw_fill.specs.Search.{light_count}
+use Rattle.xw_fill.specs.Marks.{held_of, AreTwins}
 use Rattle.xw_fill.proofs.Trail.{AreNotedAlong}
 use Rattle.xw_fill.proofs.Searching.{IsSearching}
+use Rattle.xw_fill.proofs.MarkedTries.{AreHeld}
 use Rattle.xw_fill.proofs.search.fill.Given as goal
 
 abbrev pub invariant-search : goal.invariant-search
@@ -15,6 +17,8 @@ invariant-search g l =
     record {
       searching : IsSearching (position_of start) l.tries.items l.used (position_of now) l.next;
       entries : DiffersInEntries start now;
+      marked : AreHeld start l.tries.items (held_of g.E.Searchable.saved l.marks);
+      twins : AreTwins g.E.Searchable.saved l.marks now;
       room : light_count (position_of start) ≤ vec_capacity l.tries;
       few : l.used ≤ l.limit;
       long : length l.since.items ≡ light_count (position_of start);

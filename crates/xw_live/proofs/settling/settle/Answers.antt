@@ -25,7 +25,7 @@ returns-clause-kept c before action change known =
     let now : State = record { grid = c.args.grid.now; words = c.args.bank.now.words } in
     let net = c.settle.new.self in
     kept_from now net
-    (∥∥₁_elim known ∥∥₁_prop (λ settled. ∣ c.settle.ensures.settled before now.words action (λ count. ap (λ (words : Dictionary). row words count) c.new-rows.ensures.words) change settled ∣₁))
+    (∥∥₁_elim known ∥∥₁_prop (λ settled. ∣ c.settle.ensures.settled before now.words action (λ len. ap (λ (words : Dictionary). row words len) c.new-rows.ensures.words) change settled ∣₁))
     (ap is_some c.settle.ensures.spare)
     change.formed_now
 
@@ -33,5 +33,5 @@ pub returns-clause-cost : goal.returns-clause-cost
 returns-clause-cost c before action change known member region =
     let now : State = record { grid = c.args.grid.now; words = c.args.bank.now.words } in
     ∥∥₁_elim known le_prop (λ settled.
-    let rise = c.settle.ensures.cost before now.words action member (λ count. ap (λ (words : Dictionary). row words count) c.new-rows.ensures.words) change settled region in
+    let rise = c.settle.ensures.cost before now.words action member (λ len. ap (λ (words : Dictionary). row words len) c.new-rows.ensures.words) change settled region in
     omega (arith, rise, c.spent.ensures, c.new-rows.ensures.spent))

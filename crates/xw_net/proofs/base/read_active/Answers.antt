@@ -10,7 +10,7 @@ loop-chunk-preserved g c =
     let inv = c.loop-chunk.invariant in
     let chunk = c.loop-chunk.chunk in
     let new = c.set_chunk.new.self.bits in
-    let entries = g.R.Rows.entries c.args.rows.now c.args.count in
+    let entries = g.R.Rows.entries c.args.rows.now c.args.len in
     record {
       same = c.active-words.ensures.entries ∙ inv.same;
       risen = omega (arith, inv.risen, c.active-words.ensures.risen);
@@ -24,8 +24,8 @@ loop-chunk-preserved g c =
               let at : 64 * chunk + (i - 64 * chunk) ≡ i = omega arith in
               ap (λ n. get_or new n false) (sym at) ∙ c.set_chunk.ensures.inside (i - 64 * chunk) (omega arith) (omega arith)
               ∙ c.active-words.ensures.bits (i - 64 * chunk) (omega arith)
-              ∙ ap (is_active (g.R.Rows.entries c.loop-chunk.rows c.args.count)) at
-              ∙ ap (λ d. is_active (d c.args.count) i) inv.same
+              ∙ ap (is_active (g.R.Rows.entries c.loop-chunk.rows c.args.len)) at
+              ∙ ap (λ d. is_active (d c.args.len) i) inv.same
           | inr past ↦ get_or_past new i false (omega (arith, c.set_chunk.ensures.len)) ∙ sym (inactive entries i (omega (arith, past, inv.long, c.requires)))
         ]
       ];
@@ -37,5 +37,5 @@ returns-clause-bits g c i =
       | inl lt ↦ c.loop-chunk.invariant.below i lt
       | inr past ↦
           get_or_past c.loop-chunk.row.bits i false (omega (arith, c.len.ensures.value, c.loop-chunk-test.false, c.loop-chunk.invariant.long))
-          ∙ sym (inactive (g.R.Rows.entries c.args.rows.now c.args.count) i (omega (arith, c.len.ensures.value, c.loop-chunk-test.false, c.requires)))
+          ∙ sym (inactive (g.R.Rows.entries c.args.rows.now c.args.len) i (omega (arith, c.len.ensures.value, c.loop-chunk-test.false, c.requires)))
     ]

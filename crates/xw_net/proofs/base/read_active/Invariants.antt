@@ -8,6 +8,6 @@ invariant-loop-chunk g l = record {
   risen : g.R.Rows.ticks l.fn.rows ≤ g.R.Rows.ticks l.rows;
   spent : g.R.Rows.ticks l.rows ≤ g.R.Rows.ticks l.fn.rows + l.chunk;
   long : length l.row.bits ≡ length l.fn.row.bits;
-  below : (i : ℕ) → i < 64 * l.chunk → get_or l.row.bits i false ≡ is_active (g.R.Rows.entries l.fn.rows l.count) i;
+  below : (i : ℕ) → i < 64 * l.chunk → get_or l.row.bits i false ≡ is_active (g.R.Rows.entries l.fn.rows l.len) i;
   room : l.row.room ≡ l.fn.row.room;
 }

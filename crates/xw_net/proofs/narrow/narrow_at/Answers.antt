@@ -7,11 +7,11 @@ use Rattle.xw_net.proofs.Narrowed.{chunk_narrowed}
 use Rattle.xw_net.proofs.narrow.narrow_at.Goals as goal
 
 pub returns-clause-narrowed : goal.returns-clause-narrowed
-returns-clause-narrowed c count =
+returns-clause-narrowed c len =
     let bits = c.args.row.now.bits in
     let base = c.args.base.now.bits in
     let chunk = c.args.place / 64 in
-    chunk_narrowed count c.args.place bits base c.set_chunk.new.self.bits c.set_chunk.ensures.len
+    chunk_narrowed len c.args.place bits base c.set_chunk.new.self.bits c.set_chunk.ensures.len
     (λ k here.
     let at : 64 * chunk + k % 64 ≡ k = omega arith in
     elim (cases_lt k (length bits)) [

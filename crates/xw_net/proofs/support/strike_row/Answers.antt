@@ -9,7 +9,7 @@ use Rattle.xw_net.proofs.support.strike_row.Goals as goal
 
 pub returns-then-len-clause-strikes : goal.returns-then-len-clause-strikes
 returns-then-len-clause-strikes g c apart =
-    kept_alive (g.R.Rows.entries c.args.rows.now c.args.count) c.args.position c.args.pending c.args.alive (λ word. get_or c.args.row.now.bits word false) (λ word. get_or c.keep_columns.new.row.bits word false) apart c.keep_columns.ensures.bits
+    kept_alive (g.R.Rows.entries c.args.rows.now c.args.len) c.args.position c.args.pending c.args.alive (λ word. get_or c.args.row.now.bits word false) (λ word. get_or c.keep_columns.new.row.bits word false) apart c.keep_columns.ensures.bits
 
 pub returns-then-len-clause-cost : goal.returns-then-len-clause-cost
 returns-then-len-clause-cost g c =
@@ -22,7 +22,7 @@ returns-then-len-clause-cost g c =
 
 pub returns-else-len-clause-strikes : goal.returns-else-len-clause-strikes
 returns-else-len-clause-strikes g c apart =
-    pending_gone (g.R.Rows.entries c.args.rows.now c.args.count) c.args.position c.args.pending c.args.alive (λ word. get_or c.args.row.now.bits word false) (λ word. get_or c.strike_columns.new.row.bits word false) apart c.strike_columns.ensures.bits
+    pending_gone (g.R.Rows.entries c.args.rows.now c.args.len) c.args.position c.args.pending c.args.alive (λ word. get_or c.args.row.now.bits word false) (λ word. get_or c.strike_columns.new.row.bits word false) apart c.strike_columns.ensures.bits
 
 pub returns-else-len-clause-cost : goal.returns-else-len-clause-cost
 returns-else-len-clause-cost g c =

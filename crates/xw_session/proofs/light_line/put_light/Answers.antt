@@ -1,5 +1,6 @@
 use Rattle.std.proofs.Common.{◌≡◌, ◌++◌, ℕ, List, codes, decimal, length, ap, ◌∙◌, append_assoc, arith}
-use Rattle.xw_session.specs.Text.{direction_name, pattern}
+use Rattle.xw_commands.specs.Names.{direction_name}
+use Rattle.xw_session.specs.Text.{pattern}
 use Rattle.xw_session.proofs.light_line.put_light.Goals as goal
 
 joined : (a b c d e f : List ℕ) → ((((a ++ b) ++ c) ++ d) ++ e) ++ f ≡ a ++ (b ++ (c ++ (d ++ (e ++ f))))

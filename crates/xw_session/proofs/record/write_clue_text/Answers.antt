@@ -5,7 +5,7 @@ use Rattle.xw_session.proofs.record.write_clue_text.Goals as goal
 pub returns-in_err-write_spaced : goal.returns-in_err-write_spaced
 returns-in_err-write_spaced g c =
     let e = err_from_is_err_and c.from_residual.result c.from_residual.ensures.1 in
-    rw e.1 (stops-within g.W.Sink.transcript g.W.Sink.failures _ _ _ _ c.in_err-write_spaced.ensures)
+    rw e.1 (stops-within g.W.Sink.transcript g.W.Sink.failures _ _ _ _ (rw c.as_bytes.ensures.value at c.in_err-write_spaced.ensures))
 
 pub returns : goal.returns
-returns g c = sends-then g.W.Sink.transcript g.W.Sink.failures _ _ _ _ _ _ c.in_ok-write_spaced.ensures c.write_spot_text.ensures
+returns g c = sends-then g.W.Sink.transcript g.W.Sink.failures _ _ _ _ _ _ (rw c.as_bytes.ensures.value at c.in_ok-write_spaced.ensures) c.write_spot_text.ensures

@@ -5,8 +5,8 @@ use Rattle.xw_session.proofs.record.write_spot_spaced.Goals as goal
 pub returns-in_err-write_spaced : goal.returns-in_err-write_spaced
 returns-in_err-write_spaced g c =
     let e = err_from_is_err_and c.from_residual.result c.from_residual.ensures.1 in
-    rw (e.1, ← c.new-row.ensures, ← c.digits.ensures) (stops-within g.W.Sink.transcript g.W.Sink.failures _ _ _ _ c.in_err-write_spaced.ensures)
+    rw (e.1, ← c.format.ensures.text, ← c.as_bytes.ensures.value) (stops-within g.W.Sink.transcript g.W.Sink.failures _ _ _ _ c.in_err-write_spaced.ensures)
 
 pub returns : goal.returns
 returns g c =
-    rw (← c.new-row.ensures, ← c.digits.ensures, ← c.new-col.ensures, ← c.digits-2.ensures) (sends-then g.W.Sink.transcript g.W.Sink.failures _ _ _ _ _ _ c.in_ok-write_spaced.ensures c.write_spaced-2.ensures)
+    rw (← c.format.ensures.text, ← c.as_bytes.ensures.value, ← c.format-2.ensures.text, ← c.as_bytes-2.ensures.value) (sends-then g.W.Sink.transcript g.W.Sink.failures _ _ _ _ _ _ c.in_ok-write_spaced.ensures c.write_spaced-2.ensures)

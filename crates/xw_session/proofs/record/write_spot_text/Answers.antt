@@ -3,7 +3,8 @@ use Rattle.std.proofs.lemmas.Result.{err_from_is_err_and}
 use Rattle.xw_lines.proofs.SendsLemmas.{sends-then, stops-within}
 use Rattle.xw_session.proofs.Recording.{spot_parts, sends_as, stops_as}
 use Rattle.xw_session.specs.Escape.{escaped_text}
-use Rattle.xw_session.specs.Text.{line_of, direction_name}
+use Rattle.xw_commands.specs.Names.{direction_name}
+use Rattle.xw_session.specs.Text.{line_of}
 use Rattle.xw_session.proofs.record.write_spot_text.Goals as goal
 
 pub returns-in_err-write_spot_spaced : goal.returns-in_err-write_spot_spaced

@@ -1,7 +1,7 @@
 use Rattle.std.proofs.Common.{◌≡◌, length, arith}
 use Rattle.std.proofs.lemmas.Bool.Decides.{nat_tests}
 use Rattle.std.proofs.lemmas.Result.{err_from_is_err_and}
-use Rattle.xw_session.proofs.Resumed.{goes-begun, goes-on, goes-stop, goes-end}
+use Rattle.xw_session.proofs.Resumed.{first_of_both, goes-begun, goes-on, goes-stop, goes-end}
 use Rattle.xw_session.proofs.resuming.resume.Goals as goal
 
 pub loop-rest-init : goal.loop-rest-init
@@ -15,13 +15,13 @@ pub loop-rest-preserved : goal.loop-rest-preserved
 loop-rest-preserved g c = record {
   numbered = omega arith;
   counted = omega (arith, c.in_ok-refused.ensures.once);
-  goes = goes-on g.E.Sink.transcript g.E.Sink.failures _ _ _ _ _ _ _ _ _ _ _ _ _ _ c.first_line.ensures.lines c.in_ok-refused.ensures.done c.loop-rest.invariant.goes;
+  goes = goes-on g.E.Sink.transcript g.E.Sink.failures _ _ _ _ _ _ _ _ _ _ _ _ _ _ (first_of_both c.loop-rest.rest.now c.first_line.result.0.now c.first_line.result.1.now c.first_line.ensures.lines) c.in_ok-refused.ensures.done c.loop-rest.invariant.goes;
 }
 
 pub returns-in_err-refused : goal.returns-in_err-refused
 returns-in_err-refused g c =
     let e = err_from_is_err_and c.from_residual.result c.from_residual.ensures.1 in
-    rw (e.1, e.2) (goes-stop g.E.Sink.transcript g.E.Sink.failures _ _ _ _ _ _ c.first_line.result.1.now _ _ _ _ _ _ _ c.first_line.ensures.lines c.in_err-refused.ensures.done c.loop-rest.invariant.goes)
+    rw (e.1, e.2) (goes-stop g.E.Sink.transcript g.E.Sink.failures _ _ _ _ _ _ c.first_line.result.1.now _ _ _ _ _ _ _ (first_of_both c.loop-rest.rest.now c.first_line.result.0.now c.first_line.result.1.now c.first_line.ensures.lines) c.in_err-refused.ensures.done c.loop-rest.invariant.goes)
 
 pub returns : goal.returns
 returns g c =

@@ -2,5 +2,5 @@ use Rattle.std.proofs.Common.{◌≡◌}
 use Rattle.xw_words.proofs.word_list.expect_words.Given as goal
 
 -- the words stay
-abbrev pub invariant-loop-count : goal.invariant-loop-count
-invariant-loop-count l = l.bank.words ≡ l.initial.bank.words
+abbrev pub invariant-loop-len : goal.invariant-loop-len
+invariant-loop-len l = l.bank.words ≡ l.initial.bank.words

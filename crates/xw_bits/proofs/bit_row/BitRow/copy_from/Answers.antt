@@ -1,4 +1,5 @@
-use Rattle.std.proofs.Common.{ap, ◌∙◌, arith}
+use Rattle.std.proofs.Common.{◌≡◌, Bool, List, count_by, sym, ap, subst, ◌∙◌, arith}
+use Rattle.std.specs.Prelude.{IfSome}
 use Rattle.std.proofs.lemmas.List.{with_items_is}
 use Rattle.xw_bits.specs.Bits.{bits_of, words_have}
 use Rattle.xw_bits.proofs.BitRowLemmas.{same_len, same_words, view_bits}
@@ -19,7 +20,9 @@ invariant_of-self c =
       nothing_past = λ i le.
           ap (λ ws. words_have ws i) (with_items_is r.words c.copy_from_slice.new.self (omega (arith, c.copy_from_slice.ensures.len, c.as_mut_slice.ensures.len)) ∙ c.copy_from_slice.ensures.after ∙ c.deref.ensures.value)
           ∙ c.other.invariant.nothing_past i (omega (arith, le, same));
-      counted = tt;
+      counted = subst (λ (bits : List Bool). IfSome c.other.inside.counted (λ count. count ≡ count_by (λ bit. bit) bits))
+          (sym (ap (λ ws. bits_of ws c.self.inside.len) (with_items_is r.words c.copy_from_slice.new.self (omega (arith, c.copy_from_slice.ensures.len, c.as_mut_slice.ensures.len)) ∙ c.copy_from_slice.ensures.after ∙ c.deref.ensures.value)
+          ∙ ap (bits_of c.other.inside.words.items) same)) c.other.invariant.counted;
     }
 
 pub returns-clause-bits : goal.returns-clause-bits

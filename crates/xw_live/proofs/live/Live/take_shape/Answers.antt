@@ -40,7 +40,7 @@ settle-self-requires-clause-inside c =
 pub settle-self-requires-clause-stood : goal.settle-self-requires-clause-stood
 settle-self-requires-clause-stood c =
     let old = c.args.self.now in
-    stood_same (state_of old) c.reserve.new.self old.lights old.light_list (settled_alike (state_of old) old.net c.reserve.new.self c.reserve.ensures.same old.kept.settled) old.bank.words (λ count. refl)
+    stood_same (state_of old) c.reserve.new.self old.lights old.light_list (settled_alike (state_of old) old.net c.reserve.new.self c.reserve.ensures.same old.kept.settled) old.bank.words (λ len. refl)
 
 pub settle-self-requires-clause-room : goal.settle-self-requires-clause-room
 settle-self-requires-clause-room c =

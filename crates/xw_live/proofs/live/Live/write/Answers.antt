@@ -36,7 +36,7 @@ settle-self-requires-clause-inside c =
 pub settle-self-requires-clause-stood : goal.settle-self-requires-clause-stood
 settle-self-requires-clause-stood c =
     let old = c.args.self.now in
-    stood_same (state_of old) old.net old.lights old.light_list old.kept.settled old.bank.words (λ count. refl)
+    stood_same (state_of old) old.net old.lights old.light_list old.kept.settled old.bank.words (λ len. refl)
 
 pub settle-self-requires-clause-room : goal.settle-self-requires-clause-room
 settle-self-requires-clause-room c =

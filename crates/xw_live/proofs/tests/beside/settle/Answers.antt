@@ -24,6 +24,6 @@ returns c before action change known =
     let now : State = record { grid = c.args.grid.now; words = c.args.bank.now.words } in
     let net = c.settle.new.self in
     kept_from now net
-    (∥∥₁_elim known ∥∥₁_prop (λ settled. ∣ c.settle.ensures.settled before now.words action (λ count. ap (λ (words : Dictionary). row words count) c.new-rows.ensures.words) change settled ∣₁))
+    (∥∥₁_elim known ∥∥₁_prop (λ settled. ∣ c.settle.ensures.settled before now.words action (λ len. ap (λ (words : Dictionary). row words len) c.new-rows.ensures.words) change settled ∣₁))
     (ap is_some c.settle.ensures.spare)
     change.formed_now

@@ -86,7 +86,7 @@ returns-clause-pending g c slot letter gone =
 
 pub returns-clause-opened : goal.returns-clause-opened
 returns-clause-opened g c before words action settled read is filled moved =
-    let entries : g.R.Rows.entries c.args.rows.now ≡ row words = λ t. λ count. read count t in
+    let entries : g.R.Rows.entries c.args.rows.now ≡ row words = λ t. λ len. read len t in
     let rows = with_items_is c.args.self.now.rows c.begin.new.words (omega (arith, c.begin.auto.words, c.deref_mut-4.ensures.len)) in
     let base = with_items_is c.args.self.now.base c.begin.new.base (omega (arith, c.begin.auto.base, c.deref_mut-3.ensures.len)) in
     let letters = with_items_is c.args.self.now.letters c.begin.new.letters (omega (arith, c.begin.auto.letters, c.deref_mut-5.ensures.len)) in

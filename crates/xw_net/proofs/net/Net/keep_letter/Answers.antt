@@ -51,9 +51,9 @@ returns-else-not-find_support-clause-held g c dictionary position alive =
     let after : Held = record { places = new.held.items; restart = new.restart.items } in
     let no_entry : get_or old.entered.items i false ≡ false = c.requires.open in
     let spent = g.R.Rows.ticks k.new.rows - g.R.Rows.ticks c.args.rows.now in
-    let outcome = finds_at c.index-row.result.now.bits (bits_for old i) (entries c.args.here.count) (entries (length (light_at board i))) q b c.args.here.slot (slot_at board i q) spent k.result
+    let outcome = finds_at c.index-row.result.now.bits (bits_for old i) (entries c.args.here.len) (entries (length (light_at board i))) q b c.args.here.slot (slot_at board i q) spent k.result
     (record { places = c.deref_mut.result.now; restart = c.deref_mut-2.result.now }) before (record { places = k.new.held; restart = k.new.restart }) after
-    (sym (ap bits_at row_is)) (ap entries there.count) there.slot (λ t. record { places = c.deref_mut.ensures.value t; restart = c.deref_mut-2.ensures.value t }) (λ t. record { places = sym held_is t; restart = sym restart_is t }) k.ensures.finds in
+    (sym (ap bits_at row_is)) (ap entries there.len) there.slot (λ t. record { places = c.deref_mut.ensures.value t; restart = c.deref_mut-2.ensures.value t }) (λ t. record { places = sym held_is t; restart = sym restart_is t }) k.ensures.finds in
     let in_held : 26 * slot_at board i q + (b - 65) < length old.held.items = omega (arith, there.slot, there.in_slots, shaped.held, c.requires.letter) in
     found_held board entries dictionary position old new c.requires.bits i q b there.place c.requires.letter (λ j k. refl) (λ x d. refl) (λ s d. refl) (λ j. refl) in_held spent k.result no_entry outcome c.if-not-find_support.false
 
@@ -78,9 +78,9 @@ returns-else-not-find_support-clause-stays g c dictionary position r d here stoo
     let after : Held = record { places = new.held.items; restart = new.restart.items } in
     let no_entry : get_or old.entered.items i false ≡ false = c.requires.open in
     let spent = g.R.Rows.ticks k.new.rows - g.R.Rows.ticks c.args.rows.now in
-    let outcome = finds_at c.index-row.result.now.bits (bits_for old i) (entries c.args.here.count) (entries (length (light_at board i))) q b c.args.here.slot (slot_at board i q) spent k.result
+    let outcome = finds_at c.index-row.result.now.bits (bits_for old i) (entries c.args.here.len) (entries (length (light_at board i))) q b c.args.here.slot (slot_at board i q) spent k.result
     (record { places = c.deref_mut.result.now; restart = c.deref_mut-2.result.now }) before (record { places = k.new.held; restart = k.new.restart }) after
-    (sym (ap bits_at row_is)) (ap entries there.count) there.slot (λ t. record { places = c.deref_mut.ensures.value t; restart = c.deref_mut-2.ensures.value t }) (λ t. record { places = sym held_is t; restart = sym restart_is t }) k.ensures.finds in
+    (sym (ap bits_at row_is)) (ap entries there.len) there.slot (λ t. record { places = c.deref_mut.ensures.value t; restart = c.deref_mut-2.ensures.value t }) (λ t. record { places = sym held_is t; restart = sym restart_is t }) k.ensures.finds in
     let in_held : 26 * slot_at board i q + (b - 65) < length old.held.items = omega (arith, there.slot, there.in_slots, shaped.held, c.requires.letter) in
     found_stays board entries dictionary position old new c.requires.bits i q b there.place c.requires.letter (λ j k. refl) (λ x d. refl) (λ s d. refl) (λ j. refl) in_held spent k.result no_entry outcome c.if-not-find_support.false
     i r d here (set_letter (get_or old.letters.items (cell_at board i r) 0) d alive) (stood alive)
@@ -106,9 +106,9 @@ returns-else-not-find_support-clause-kept g c dictionary measure position in_set
     let after : Held = record { places = new.held.items; restart = new.restart.items } in
     let no_entry : get_or old.entered.items i false ≡ false = c.requires.open in
     let spent = g.R.Rows.ticks k.new.rows - g.R.Rows.ticks c.args.rows.now in
-    let outcome = finds_at c.index-row.result.now.bits (bits_for old i) (entries c.args.here.count) (entries (length (light_at board i))) q b c.args.here.slot (slot_at board i q) spent k.result
+    let outcome = finds_at c.index-row.result.now.bits (bits_for old i) (entries c.args.here.len) (entries (length (light_at board i))) q b c.args.here.slot (slot_at board i q) spent k.result
     (record { places = c.deref_mut.result.now; restart = c.deref_mut-2.result.now }) before (record { places = k.new.held; restart = k.new.restart }) after
-    (sym (ap bits_at row_is)) (ap entries there.count) there.slot (λ t. record { places = c.deref_mut.ensures.value t; restart = c.deref_mut-2.ensures.value t }) (λ t. record { places = sym held_is t; restart = sym restart_is t }) k.ensures.finds in
+    (sym (ap bits_at row_is)) (ap entries there.len) there.slot (λ t. record { places = c.deref_mut.ensures.value t; restart = c.deref_mut-2.ensures.value t }) (λ t. record { places = sym held_is t; restart = sym restart_is t }) k.ensures.finds in
     let in_held : 26 * slot_at board i q + (b - 65) < length old.held.items = omega (arith, there.slot, there.in_slots, shaped.held, c.requires.letter) in
     let stood : letter_stands old (cell_at board i q) b ≡ true = ap (λ x. has (get_or old.letters.items x 0) b) (sym there.cell) ∙ c.requires.stands in
     found_kept board entries dictionary position old new c.requires.bits i q b there.place c.requires.letter (λ j k. refl) (λ x d. refl) (λ s d. refl) (λ j. refl) in_held spent k.result no_entry
@@ -136,9 +136,9 @@ returns-then-not-find_support-clause-stays g c dictionary position r d here stoo
     let after : Held = record { places = new.held.items; restart = new.restart.items } in
     let no_entry : get_or old.entered.items i false ≡ false = c.requires.open in
     let spent = g.R.Rows.ticks k.new.rows - g.R.Rows.ticks c.args.rows.now in
-    let outcome = finds_at c.index-row.result.now.bits (bits_for old i) (entries c.args.here.count) (entries (length (light_at board i))) q b c.args.here.slot (slot_at board i q) spent k.result
+    let outcome = finds_at c.index-row.result.now.bits (bits_for old i) (entries c.args.here.len) (entries (length (light_at board i))) q b c.args.here.slot (slot_at board i q) spent k.result
     (record { places = c.deref_mut.result.now; restart = c.deref_mut-2.result.now }) before (record { places = k.new.held; restart = k.new.restart }) after
-    (sym (ap bits_at row_is)) (ap entries there.count) there.slot (λ t. record { places = c.deref_mut.ensures.value t; restart = c.deref_mut-2.ensures.value t }) (λ t. record { places = sym held_is t; restart = sym restart_is t }) k.ensures.finds in
+    (sym (ap bits_at row_is)) (ap entries there.len) there.slot (λ t. record { places = c.deref_mut.ensures.value t; restart = c.deref_mut-2.ensures.value t }) (λ t. record { places = sym held_is t; restart = sym restart_is t }) k.ensures.finds in
     let in_held : 26 * slot_at board i q + (b - 65) < length old.held.items = omega (arith, there.slot, there.in_slots, shaped.held, c.requires.letter) in
     let alive_before : letter_stands old (cell_at board i r) d ≡ true =
     (and_parts (letter_stands old (cell_at board i r) d) (not (eqb (cell_at board i r) (cell_at board i q) && eqb d b)) (sym (c.drop_letter.ensures.drops.letters (cell_at board i r) d) ∙ alive)).0 in
@@ -167,9 +167,9 @@ returns-then-not-find_support-clause-kept g c dictionary measure position in_set
     let after : Held = record { places = new.held.items; restart = new.restart.items } in
     let no_entry : get_or old.entered.items i false ≡ false = c.requires.open in
     let spent = g.R.Rows.ticks k.new.rows - g.R.Rows.ticks c.args.rows.now in
-    let outcome = finds_at c.index-row.result.now.bits (bits_for old i) (entries c.args.here.count) (entries (length (light_at board i))) q b c.args.here.slot (slot_at board i q) spent k.result
+    let outcome = finds_at c.index-row.result.now.bits (bits_for old i) (entries c.args.here.len) (entries (length (light_at board i))) q b c.args.here.slot (slot_at board i q) spent k.result
     (record { places = c.deref_mut.result.now; restart = c.deref_mut-2.result.now }) before (record { places = k.new.held; restart = k.new.restart }) after
-    (sym (ap bits_at row_is)) (ap entries there.count) there.slot (λ t. record { places = c.deref_mut.ensures.value t; restart = c.deref_mut-2.ensures.value t }) (λ t. record { places = sym held_is t; restart = sym restart_is t }) k.ensures.finds in
+    (sym (ap bits_at row_is)) (ap entries there.len) there.slot (λ t. record { places = c.deref_mut.ensures.value t; restart = c.deref_mut-2.ensures.value t }) (λ t. record { places = sym held_is t; restart = sym restart_is t }) k.ensures.finds in
     let in_held : 26 * slot_at board i q + (b - 65) < length old.held.items = omega (arith, there.slot, there.in_slots, shaped.held, c.requires.letter) in
     let stood : letter_stands old (cell_at board i q) b ≡ true = ap (λ x. has (get_or old.letters.items x 0) b) (sym there.cell) ∙ c.requires.stands in
     none_kept board entries dictionary position old new c.requires.bits i q b there.place c.requires.letter (λ j k. refl) (λ x d. refl) (λ s d. refl) (λ j. refl) in_held spent k.result no_entry
@@ -197,9 +197,9 @@ returns-else-not-find_support-clause-holding g c dictionary position holding =
     let after : Held = record { places = new.held.items; restart = new.restart.items } in
     let no_entry : get_or old.entered.items i false ≡ false = c.requires.open in
     let spent = g.R.Rows.ticks k.new.rows - g.R.Rows.ticks c.args.rows.now in
-    let outcome = finds_at c.index-row.result.now.bits (bits_for old i) (entries c.args.here.count) (entries (length (light_at board i))) q b c.args.here.slot (slot_at board i q) spent k.result
+    let outcome = finds_at c.index-row.result.now.bits (bits_for old i) (entries c.args.here.len) (entries (length (light_at board i))) q b c.args.here.slot (slot_at board i q) spent k.result
     (record { places = c.deref_mut.result.now; restart = c.deref_mut-2.result.now }) before (record { places = k.new.held; restart = k.new.restart }) after
-    (sym (ap bits_at row_is)) (ap entries there.count) there.slot (λ t. record { places = c.deref_mut.ensures.value t; restart = c.deref_mut-2.ensures.value t }) (λ t. record { places = sym held_is t; restart = sym restart_is t }) k.ensures.finds in
+    (sym (ap bits_at row_is)) (ap entries there.len) there.slot (λ t. record { places = c.deref_mut.ensures.value t; restart = c.deref_mut-2.ensures.value t }) (λ t. record { places = sym held_is t; restart = sym restart_is t }) k.ensures.finds in
     let in_held : 26 * slot_at board i q + (b - 65) < length old.held.items = omega (arith, there.slot, there.in_slots, shaped.held, c.requires.letter) in
     found_holding board entries dictionary position old new c.requires.bits i q b there.place c.requires.letter (λ j k. refl) (λ x d. refl) (λ s d. refl) (λ j. refl) in_held spent k.result no_entry outcome holding
 
@@ -224,9 +224,9 @@ returns-then-not-find_support-clause-holding g c dictionary position holding =
     let after : Held = record { places = new.held.items; restart = new.restart.items } in
     let no_entry : get_or old.entered.items i false ≡ false = c.requires.open in
     let spent = g.R.Rows.ticks k.new.rows - g.R.Rows.ticks c.args.rows.now in
-    let outcome = finds_at c.index-row.result.now.bits (bits_for old i) (entries c.args.here.count) (entries (length (light_at board i))) q b c.args.here.slot (slot_at board i q) spent k.result
+    let outcome = finds_at c.index-row.result.now.bits (bits_for old i) (entries c.args.here.len) (entries (length (light_at board i))) q b c.args.here.slot (slot_at board i q) spent k.result
     (record { places = c.deref_mut.result.now; restart = c.deref_mut-2.result.now }) before (record { places = k.new.held; restart = k.new.restart }) after
-    (sym (ap bits_at row_is)) (ap entries there.count) there.slot (λ t. record { places = c.deref_mut.ensures.value t; restart = c.deref_mut-2.ensures.value t }) (λ t. record { places = sym held_is t; restart = sym restart_is t }) k.ensures.finds in
+    (sym (ap bits_at row_is)) (ap entries there.len) there.slot (λ t. record { places = c.deref_mut.ensures.value t; restart = c.deref_mut-2.ensures.value t }) (λ t. record { places = sym held_is t; restart = sym restart_is t }) k.ensures.finds in
     let in_held : 26 * slot_at board i q + (b - 65) < length old.held.items = omega (arith, there.slot, there.in_slots, shaped.held, c.requires.letter) in
     same_holding board dictionary (marks_of new) (marks_of c.drop_letter.new.self) (λ s d. ap (λ (net : Net). held_in net s d) c.drop_letter.ensures.same)
     (found_holding board entries dictionary position old new c.requires.bits i q b there.place c.requires.letter (λ j k. refl) (λ x d. refl) (λ s d. refl) (λ j. refl) in_held spent k.result no_entry outcome holding)

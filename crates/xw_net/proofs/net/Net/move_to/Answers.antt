@@ -23,7 +23,7 @@ others_of lights lights' old old' new new' l o n is light past =
 
 pub returns-clause-moved : goal.returns-clause-moved
 returns-clause-moved g c was now before lights read filled =
-    let entries : g.R.Rows.entries c.args.words.now ≡ row now.words = λ t. λ count. read count t in
+    let entries : g.R.Rows.entries c.args.words.now ≡ row now.words = λ t. λ len. read len t in
     let rows = with_items_is c.turn_to.new.self.rows c.fit_rows.new.rows (omega (arith, c.fit_rows.auto.rows, c.deref_mut.ensures.len)) in
     let base = with_items_is c.turn_to.new.self.base c.fit_rows-2.new.rows (omega (arith, c.fit_rows-2.auto.rows, c.deref_mut-2.ensures.len)) in
     let rest = c.turn_to.ensures.rest in

@@ -32,7 +32,7 @@ returns-clause-settled c =
       laid_out = laid_out grid c.well_formed-2.ensures letters;
       apart = slots_apart grid;
       words = c.known_distinct.ensures;
-      read = λ count. ap (λ (d : Dictionary). row d count) c.new-rows.ensures.words;
+      read = λ len. ap (λ (d : Dictionary). row d len) c.new-rows.ensures.words;
     } in
     filled_settled grid c.args.bank.now.words c.fill.new.self (subst (λ (b : Board). IsFilled b c.args.bank.now.words c.fill.new.self) c.new.ensures
     (c.fill.ensures.filled c.args.bank.now.words (subst (λ (b : Board). IsPosition b (row c.new-rows.result.words) c.args.bank.now.words) (sym c.new.ensures) position)))

@@ -96,7 +96,7 @@ returns-clause-revived g c before words action settled read is filled moved room
 pub returns-clause-cost : goal.returns-clause-cost
 returns-clause-cost g c before words action settled member read is filled moved region =
     let opened = c.begin.ensures.opened before words action settled read is filled moved in
-    let entries : g.R.Rows.entries c.args.rows.now ≡ row words = λ t. λ count. read count t in
+    let entries : g.R.Rows.entries c.args.rows.now ≡ row words = λ t. λ len. read len t in
     let read_within : (light : ℕ) → light < length c.args.board.now.lights → is_read c.args.board.now c.args.change.now.word (is_marked c.begin.new.self.is_queued.items) light ≡ true → member (light_at c.args.board.now light) ≡ true =
     λ light in_board is_in. elim (or_cases (is_marked c.begin.new.self.is_queued.items light) (is_long c.args.change.now.word (length (light_at c.args.board.now light))) is_in) [
       | inl on ↦ ap (λ b. member (light_at b light)) c.requires.board ∙ opened.queued_within member region light on

@@ -48,7 +48,7 @@ returns-clause-kept g c dictionary measure position queued in_set under =
     let new : Net = record old { rows = with_item old.rows i second; entered = with_item old.entered i flag; pending = with_item old.pending here.slot c.new.result } in
     let slot : here.slot ≡ slot_at board i q = there.slot ∙ ap (λ n. slot_at board n here.place) c.place_of-here.ensures.light ∙ ap (slot_at board i) c.place_of-here.ensures.place in
     let cell : here.cell ≡ cell_at board i q = there.cell ∙ ap (λ n. cell_at board n here.place) c.place_of-here.ensures.light ∙ ap (cell_at board i) c.place_of-here.ensures.place in
-    let count : here.count ≡ length (light_at board i) = there.count ∙ ap (λ n. length (light_at board n)) c.place_of-here.ensures.light in
+    let len : here.len ≡ length (light_at board i) = there.len ∙ ap (λ n. length (light_at board n)) c.place_of-here.ensures.light in
     let in_slots : here.slot < length old.pending.items = omega (arith, there.in_slots, c.requires.shaped.pending) in
     let in_cells : here.cell < length old.letters.items = omega (arith, there.in_board, c.requires.shaped.letters) in
     let in_entered : i < length old.entered.items = omega (arith, c.requires.place.0, c.requires.shaped.entered) in
@@ -62,7 +62,7 @@ returns-clause-kept g c dictionary measure position queued in_set under =
     ap (λ b. b && not c.has.result) (c.index_mut-3.ensures.value ∙ get_or_default old.entered.items i c.index_mut-3.result.now false in_entered)
     ∙ ap (λ b. get_or old.entered.items i false && not b) (c.has.ensures ∙ ap (has pending) (c.letter.ensures ∙ ap (λ x. unwrap_or (entry board x) 65) cell)) in
     let strikes : AreApart pending alive → Strikes (g.R.Rows.entries c.args.rows.now (length (light_at board i))) q pending alive (λ w. get_or first.bits w false) (λ w. get_or second.bits w false) =
-    subst (λ n. AreApart pending alive → Strikes (g.R.Rows.entries c.args.rows.now n) q pending alive (λ w. get_or first.bits w false) (λ w. get_or second.bits w false)) count c.strike_row.ensures.strikes in
+    subst (λ n. AreApart pending alive → Strikes (g.R.Rows.entries c.args.rows.now n) q pending alive (λ w. get_or first.bits w false) (λ w. get_or second.bits w false)) len c.strike_row.ensures.strikes in
     let pending_are : set old.pending.items here.slot c.new.result ≡ set old.pending.items (slot_at board i q) 0 =
     ap (λ s. set old.pending.items s c.new.result) slot ∙ ap (set old.pending.items (slot_at board i q)) c.new.ensures in
     let sound = under.kept.sound in

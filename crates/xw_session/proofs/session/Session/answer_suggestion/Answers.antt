@@ -5,6 +5,7 @@ use Rattle.xw_feas.specs.State.{State as Position}
 use Rattle.xw_fill.specs.Suggesting.{suggestion}
 use Rattle.xw_session.specs.State.{State}
 use Rattle.xw_session.specs.Text.{suggestion_line}
+use Rattle.xw_session.specs.Reply.{shown}
 use Rattle.xw_lines.specs.Device.{Begins, HasFailed}
 use Rattle.xw_session.proofs.Answering.{reply_answers, reply_stops}
 use Rattle.xw_session.proofs.session.Session.answer_suggestion.Goals as goal
@@ -19,7 +20,7 @@ returns-in_err-write_suggestion g c =
     ap (λ (p : Position). suggestion_line p c.suggest-suggestion.result) f.unchanged ∙ ap (suggestion_line start.position) f.suggestion in
     let wrote : Begins (g.W.Sink.transcript c.args.sink.now) (g.W.Sink.transcript c.write_suggestion.new.sink) (suggestion_line start.position (suggestion start.position)) × HasFailed (g.W.Sink.failures c.args.sink.now) (g.W.Sink.failures c.write_suggestion.new.sink) =
     (subst (λ (xs : List ℕ). Begins (g.W.Sink.transcript c.args.sink.now) (g.W.Sink.transcript c.write_suggestion.new.sink) xs) lines c.in_err-write_suggestion.ensures.0, c.in_err-write_suggestion.ensures.1) in
-    rw (e.1, f.unchanged, ← c.self.view_is) (reply_stops g.W.Sink.transcript g.W.Sink.failures start _ _ (record { lines = suggestion_line start.position (suggestion start.position); state = start }) _ _ _ refl wrote)
+    rw (e.1, f.unchanged, ← c.self.view_is) (shown start (suggestion_line start.position (suggestion start.position)), refl, reply_stops g.W.Sink.transcript g.W.Sink.failures start _ _ (record { lines = suggestion_line start.position (suggestion start.position); state = start }) _ _ _ refl wrote)
 
 pub returns : goal.returns
 returns g c =
@@ -30,4 +31,4 @@ returns g c =
     ap (λ (p : Position). suggestion_line p c.suggest-suggestion.result) f.unchanged ∙ ap (suggestion_line start.position) f.suggestion in
     let wrote : (g.W.Sink.transcript c.write_suggestion.new.sink ≡ g.W.Sink.transcript c.args.sink.now ++ suggestion_line start.position (suggestion start.position)) × (g.W.Sink.failures c.write_suggestion.new.sink ≡ g.W.Sink.failures c.args.sink.now) =
     (subst (λ (xs : List ℕ). g.W.Sink.transcript c.write_suggestion.new.sink ≡ g.W.Sink.transcript c.args.sink.now ++ xs) lines c.in_ok-write_suggestion.ensures.0, c.in_ok-write_suggestion.ensures.1) in
-    rw (f.unchanged, ← c.self.view_is) (reply_answers g.W.Sink.transcript g.W.Sink.failures start _ _ (record { lines = suggestion_line start.position (suggestion start.position); state = start }) _ _ _ _ refl wrote c.end_answer.ensures.sends c.end_answer.ensures.step)
+    rw (f.unchanged, ← c.self.view_is) (shown start (suggestion_line start.position (suggestion start.position)), refl, reply_answers g.W.Sink.transcript g.W.Sink.failures start _ _ (record { lines = suggestion_line start.position (suggestion start.position); state = start }) _ _ _ _ refl wrote c.end_answer.ensures.sends c.end_answer.ensures.step)

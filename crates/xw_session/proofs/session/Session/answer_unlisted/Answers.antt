@@ -36,4 +36,4 @@ returns-in_ok-write_unlisted-in-Ok g c =
 
 pub returns-in-Err : goal.returns-in-Err
 returns-in-Err g c =
-    refused_answers g.W.Sink.transcript g.W.Sink.failures c.args.self.now _ _ c.from.result _ _ _ (inr (refl, ap Some (sym (c.from.ensures ∙ ap refusal_of c.in-Err.ensures.memory)))) c.end_answer-in-Err.ensures.sends c.end_answer-in-Err.ensures.step
+    (_, refl, refused_answers g.W.Sink.transcript g.W.Sink.failures c.args.self.now _ _ c.from.result _ _ _ (inr (refl, ap Some (sym (c.from.ensures ∙ ap refusal_of c.in-Err.ensures.memory)))) c.end_answer-in-Err.ensures.sends c.end_answer-in-Err.ensures.step)

@@ -29,7 +29,7 @@ returns-in-Ok-Some-clause-answer g c =
     line_answers g.W.Sink.transcript g.W.Sink.failures _ _ _ _ _ _ _ (rw c.in-Ok-Some.field-0-is at c.in-Ok-Some.ensures) c.answer.ensures
 
 pub returns-in-Ok-Some-clause-silent : goal.returns-in-Ok-Some-clause-silent
-returns-in-Ok-Some-clause-silent g c = not_silent _ c.answer.ensures.reply c.answer.result c.answer.ensures.step
+returns-in-Ok-Some-clause-silent g c = not_silent _ c.answer.ensures.2.reply c.answer.result c.answer.ensures.2.step
 
 pub returns-in-Err-clause-answer : goal.returns-in-Err-clause-answer
 returns-in-Err-clause-answer g c =

@@ -7,43 +7,43 @@ use Rattle.xw_words.proofs.bank.Bank.add_reserved.Goals as goal
 
 pub add_reserved-requires-clause-length : goal.add_reserved-requires-clause-length
 add_reserved-requires-clause-length c =
-    let count = length c.args.word.now in
-    let small = room_within c.self.inside.rows.items count c.self.invariant (ap (λ bank. slice_index_or bank.room count false) c.self.view_is ∙ c.requires.room) in
-    let at = row_kept c.self.inside.rows.items count c.index_mut-row.result.now c.self.invariant small c.index_mut-row.ensures.value in
-    sym at.count_is
+    let len = length c.args.word.now in
+    let small = room_within c.self.inside.rows.items len c.self.invariant (ap (λ bank. slice_index_or bank.room len false) c.self.view_is ∙ c.requires.room) in
+    let at = row_kept c.self.inside.rows.items len c.index_mut-row.result.now c.self.invariant small c.index_mut-row.ensures.value in
+    sym at.len_is
 
 pub invariant_of-self : goal.invariant_of-self
 invariant_of-self c =
     let rows = c.self.inside.rows.items in
     let old = c.index_mut-row.result.now in
     let word = c.args.word.now in
-    let count = length word in
-    let small = room_within rows count c.self.invariant (ap (λ bank. slice_index_or bank.room count false) c.self.view_is ∙ c.requires.room) in
-    let at = row_kept rows count old c.self.invariant small c.index_mut-row.ensures.value in
-    let was : row c.args.self.now.words count ≡ old.entries = ap (λ bank. row bank.words count) (sym c.self.view_is) ∙ row-entries_in rows count old at.within c.index_mut-row.ensures.value in
+    let len = length word in
+    let small = room_within rows len c.self.invariant (ap (λ bank. slice_index_or bank.room len false) c.self.view_is ∙ c.requires.room) in
+    let at = row_kept rows len old c.self.invariant small c.index_mut-row.ensures.value in
+    let was : row c.args.self.now.words len ≡ old.entries = ap (λ bank. row bank.words len) (sym c.self.view_is) ∙ row-entries_in rows len old at.within c.index_mut-row.ensures.value in
     let unknown : place_in old.entries word ≡ None = ap (λ es. place_in es word) (sym was) ∙ c.requires.unknown in
     let few : length old.entries < most_words = c.add_reserved.ensures.few in
-    IsKept-set rows count c.add_reserved.new.self c.self.invariant c.add_reserved.ensures.long (c.add_reserved.ensures.count ∙ at.count_is)
-    (rw c.add_reserved.ensures.entries (AreWords-push count old.entries word at.words refl c.are_letters.ensures unknown few))
+    IsKept-set rows len c.add_reserved.new.self c.self.invariant c.add_reserved.ensures.long (c.add_reserved.ensures.word_len ∙ at.len_is)
+    (rw c.add_reserved.ensures.entries (AreWords-push len old.entries word at.words refl c.are_letters.ensures unknown few))
 
 pub returns-clause-place : goal.returns-clause-place
 returns-clause-place c =
     let rows = c.self.inside.rows.items in
     let old = c.index_mut-row.result.now in
-    let count = length c.args.word.now in
-    let small = room_within rows count c.self.invariant (ap (λ bank. slice_index_or bank.room count false) c.self.view_is ∙ c.requires.room) in
-    let at = row_kept rows count old c.self.invariant small c.index_mut-row.ensures.value in
-    let was : row c.args.self.now.words count ≡ old.entries = ap (λ bank. row bank.words count) (sym c.self.view_is) ∙ row-entries_in rows count old at.within c.index_mut-row.ensures.value in
+    let len = length c.args.word.now in
+    let small = room_within rows len c.self.invariant (ap (λ bank. slice_index_or bank.room len false) c.self.view_is ∙ c.requires.room) in
+    let at = row_kept rows len old c.self.invariant small c.index_mut-row.ensures.value in
+    let was : row c.args.self.now.words len ≡ old.entries = ap (λ bank. row bank.words len) (sym c.self.view_is) ∙ row-entries_in rows len old at.within c.index_mut-row.ensures.value in
     c.len-place.ensures.value ∙ ap (λ entries. length entries) (sym was)
 
 pub returns-clause-words : goal.returns-clause-words
 returns-clause-words c =
     let rows = c.self.inside.rows.items in
     let old = c.index_mut-row.result.now in
-    let count = length c.args.word.now in
-    let small = room_within rows count c.self.invariant (ap (λ bank. slice_index_or bank.room count false) c.self.view_is ∙ c.requires.room) in
-    let at = row_kept rows count old c.self.invariant small c.index_mut-row.ensures.value in
-    rw (← c.self.view_is) (entries_in-set rows count old c.add_reserved.new.self (λ entries. entries ++ record { word = c.args.word.now; active = true } ∷ []) at.within c.index_mut-row.ensures.value c.add_reserved.ensures.entries)
+    let len = length c.args.word.now in
+    let small = room_within rows len c.self.invariant (ap (λ bank. slice_index_or bank.room len false) c.self.view_is ∙ c.requires.room) in
+    let at = row_kept rows len old c.self.invariant small c.index_mut-row.ensures.value in
+    rw (← c.self.view_is) (entries_in-set rows len old c.add_reserved.new.self (λ entries. entries ++ record { word = c.args.word.now; active = true } ∷ []) at.within c.index_mut-row.ensures.value c.add_reserved.ensures.entries)
 
 pub returns-clause-room : goal.returns-clause-room
 returns-clause-room c =

@@ -10,14 +10,14 @@ pub returns-in-None-clause-none : goal.returns-in-None-clause-none
 returns-in-None-clause-none c = λ place.
     let rows = c.self.inside.rows.items in
     let dictionary = map (λ (r : Row). r.entries) rows in
-    let past : length rows ≤ c.args.count = omega (arith, c.in-None.ensures.lookup.3, c.deref.ensures.len) in
-    let none : row dictionary c.args.count ≡ [] = get_or_past dictionary c.args.count [] (omega (arith, length-map rows (λ (r : Row). r.entries))) in
+    let past : length rows ≤ c.args.len = omega (arith, c.in-None.ensures.lookup.3, c.deref.ensures.len) in
+    let none : row dictionary c.args.len ≡ [] = get_or_past dictionary c.args.len [] (omega (arith, length-map rows (λ (r : Row). r.entries))) in
     rw (← c.self.view_is) (ap (λ es. has_letter es c.args.position c.args.letter place) none ∙ no_letter [] c.args.position c.args.letter place (omega arith))
 
 pub returns-in-None-clause-within : goal.returns-in-None-clause-within
 returns-in-None-clause-within c = λ _.
     let rows = c.self.inside.rows.items in
     let dictionary = map (λ (r : Row). r.entries) rows in
-    let past : length rows ≤ c.args.count = omega (arith, c.in-None.ensures.lookup.3, c.deref.ensures.len) in
-    let none : row dictionary c.args.count ≡ [] = get_or_past dictionary c.args.count [] (omega (arith, length-map rows (λ (r : Row). r.entries))) in
+    let past : length rows ≤ c.args.len = omega (arith, c.in-None.ensures.lookup.3, c.deref.ensures.len) in
+    let none : row dictionary c.args.len ≡ [] = get_or_past dictionary c.args.len [] (omega (arith, length-map rows (λ (r : Row). r.entries))) in
     rw (← c.self.view_is) (ap length none)

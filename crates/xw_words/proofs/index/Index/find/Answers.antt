@@ -14,17 +14,17 @@ word_at-requires c =
     let index = concat blocks in
     let block = c.in-Some.spot.block in
     let at = c.in-Some.spot.at in
-    let count = length c.args.word.now in
-    let words = word_in count c.args.letters.now in
+    let len = length c.args.word.now in
+    let words = word_in len c.args.letters.now in
     let is : IsIndex words (length index) index = subst (λ (value : Index). IsIndex words (length value.places) value.places) (sym c.self.view_is) c.requires.index in
-    let long : length c.args.letters.now ≡ length index * count = subst (λ (value : Index). length c.args.letters.now ≡ length value.places * count) (sym c.self.view_is) c.requires.letters in
+    let long : length c.args.letters.now ≡ length index * len = subst (λ (value : Index). length c.args.letters.now ≡ length value.places * len) (sym c.self.view_is) c.requires.letters in
     let old = c.deref.ensures.value in
     let lt : block < length blocks = subst (λ (bs : List (List ℕ)). block < length bs) old c.in-Some.ensures.block in
     let within : at < length (block_at blocks block) = subst (λ (bs : List (List ℕ)). at < length (block_at bs block)) old c.in-Some.ensures.at in
     let read : c.index.result.now ≡ block_at blocks block = get_or_read blocks block c.index.result.now lt c.index.ensures [] in
     let placed : get_or index (start blocks block + at) 0 ≡ get_or c.places.result.now at 0 = get_placed blocks block at within ∙ ap (λ (b : List ℕ). get_or b at 0) (sym (c.places.ensures.value ∙ read)) in
-    subst (λ place. place * count + count ≤ length c.args.letters.now) placed
-    (word_room (get_or index (start blocks block + at) 0) (length index) count (length c.args.letters.now) (is.within (start blocks block + at) (inside_all blocks block at lt within)) long)
+    subst (λ place. place * len + len ≤ length c.args.letters.now) placed
+    (word_room (get_or index (start blocks block + at) 0) (length index) len (length c.args.letters.now) (is.within (start blocks block + at) (inside_all blocks block at lt within)) long)
 
 pub returns-then-eq : goal.returns-then-eq
 returns-then-eq c =

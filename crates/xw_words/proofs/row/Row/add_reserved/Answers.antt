@@ -20,7 +20,7 @@ push_word-requires-clause-room c =
     let known : (n : ℕ) → n ≡ length r.active.bits → ((i : ℕ) → i < length r.columns.items → length r.active.bits < (column_at r.columns.items i).room) → (i : ℕ) → i < length r.columns.items → n < (column_at r.columns.items i).room =
     λ n e all i lt. omega (arith, e, all i lt) in
     subst P (sym c.deref_mut.ensures.value) (known c.len-place.result c.len-place.ensures.value
-    (column_room r.count r.reserved r.letters.items r.active.bits r.columns.items (record { few = kept.column_count; all = kept.all_columns; bits = kept.columns; room = kept.columns_room }) some))
+    (column_room r.word_len r.reserved r.letters.items r.active.bits r.columns.items (record { few = kept.column_count; all = kept.all_columns; bits = kept.columns; room = kept.columns_room }) some))
 
 pub push_word-requires-clause-long : goal.push_word-requires-clause-long
 push_word-requires-clause-long c =
@@ -28,7 +28,7 @@ push_word-requires-clause-long c =
     let kept = c.self.invariant in
     let P : List RowOfBits → Type 0 = λ columns. (i : ℕ) → i < length columns → length (column_at columns i).bits ≡ 64 * ((c.len-place.result + 63) / 64) in
     subst P (sym c.deref_mut.ensures.value) (λ i lt.
-    column_long r.count r.reserved r.letters.items r.active.bits r.columns.items (record { few = kept.column_count; all = kept.all_columns; bits = kept.columns; room = kept.columns_room }) i lt
+    column_long r.word_len r.reserved r.letters.items r.active.bits r.columns.items (record { few = kept.column_count; all = kept.all_columns; bits = kept.columns; room = kept.columns_room }) i lt
     ∙ ap (λ n. 64 * ((n + 63) / 64)) (sym c.len-place.ensures.value))
 
 pub push_word-requires-clause-clear : goal.push_word-requires-clause-clear
@@ -38,7 +38,7 @@ push_word-requires-clause-clear c =
     let P : List RowOfBits → Type 0 = λ columns. (i : ℕ) → i < length columns → get_or (column_at columns i).bits c.len-place.result false ≡ false in
     subst P (sym c.deref_mut.ensures.value) (λ i lt.
     ap (λ n. get_or (column_at r.columns.items i).bits n false) c.len-place.ensures.value
-    ∙ column_clear r.count r.reserved r.letters.items r.active.bits r.columns.items (record { few = kept.column_count; all = kept.all_columns; bits = kept.columns; room = kept.columns_room }) i lt)
+    ∙ column_clear r.word_len r.reserved r.letters.items r.active.bits r.columns.items (record { few = kept.column_count; all = kept.all_columns; bits = kept.columns; room = kept.columns_room }) i lt)
 
 pub invariant_of-self : goal.invariant_of-self
 invariant_of-self c =
@@ -47,23 +47,23 @@ invariant_of-self c =
     let word = c.args.word.now in
     let flags = r.active.bits in
     let some = room_is (length flags) r.reserved r.index.room c.args.self.now.room (ap (λ (row : Row). row.room) c.self.view_is) c.requires.room in
-    let fits : length word ≡ r.count = c.requires.length ∙ sym (ap (λ (row : Row). row.count) c.self.view_is) in
-    let long_entries = length-entries_of r.count r.letters.items flags in
+    let fits : length word ≡ r.word_len = c.requires.length ∙ sym (ap (λ (row : Row). row.word_len) c.self.view_is) in
+    let long_entries = length-entries_of r.word_len r.letters.items flags in
     let known : length flags < 1048576 = omega (arith, some, kept.reserved_few) in
-    let unknown : place_in (entries_of r.count r.letters.items flags) word ≡ None = ap (λ (row : Row). place_in row.entries word) c.self.view_is ∙ c.requires.unknown in
-    let B : ℕ → List ℕ → ℕ → Type 0 = λ count letters place. IsInserted (word_in count letters) r.index.places word place c.insert.new.self.places in
-    let counted : B r.count c.deref.result.now c.len-place.result = subst (λ n. B n c.deref.result.now c.len-place.result) fits c.insert.ensures in
-    let lettered : B r.count r.letters.items c.len-place.result = subst (λ ls. B r.count ls c.len-place.result) c.deref.ensures.value counted in
-    let put : B r.count r.letters.items (length flags) = subst (B r.count r.letters.items) c.len-place.ensures.value lettered in
+    let unknown : place_in (entries_of r.word_len r.letters.items flags) word ≡ None = ap (λ (row : Row). place_in row.entries word) c.self.view_is ∙ c.requires.unknown in
+    let B : ℕ → List ℕ → ℕ → Type 0 = λ len letters place. IsInserted (word_in len letters) r.index.places word place c.insert.new.self.places in
+    let counted : B r.word_len c.deref.result.now c.len-place.result = subst (λ n. B n c.deref.result.now c.len-place.result) fits c.insert.ensures in
+    let lettered : B r.word_len r.letters.items c.len-place.result = subst (λ ls. B r.word_len ls c.len-place.result) c.deref.ensures.value counted in
+    let put : B r.word_len r.letters.items (length flags) = subst (B r.word_len r.letters.items) c.len-place.ensures.value lettered in
     let grown = length_push flags true in
     let longer : length c.push.new.self.bits ≡ length flags + 1 = ap length c.push.ensures.bits ∙ grown in
-    let indexed = index_pushed r.count r.letters.items word flags r.index.places c.insert.new.self.places kept.index put kept.letters fits unknown in
-    let I : List ℕ → ℕ → List ℕ → Type 0 = λ letters n index. IsIndex (word_in r.count letters) n index in
-    let C : List ℕ → List Bool → List RowOfBits → Type 0 = λ letters bits columns. AreColumns r.count r.reserved (entries_of r.count letters bits) columns in
+    let indexed = index_pushed r.word_len r.letters.items word flags r.index.places c.insert.new.self.places kept.index put kept.letters fits unknown in
+    let I : List ℕ → ℕ → List ℕ → Type 0 = λ letters n index. IsIndex (word_in r.word_len letters) n index in
+    let C : List ℕ → List Bool → List RowOfBits → Type 0 = λ letters bits columns. AreColumns r.word_len r.reserved (entries_of r.word_len letters bits) columns in
     let new = c.push_word.new.columns in
     let old_is = c.deref_mut.ensures.value in
     let same : length new ≡ length r.columns.items = c.push_word.auto.columns ∙ ap length old_is in
-    let pushed = columns_pushed r.count r.reserved r.letters.items word flags r.columns.items new (record { few = kept.column_count; all = kept.all_columns; bits = kept.columns; room = kept.columns_room }) same kept.letters fits
+    let pushed = columns_pushed r.word_len r.reserved r.letters.items word flags r.columns.items new (record { few = kept.column_count; all = kept.all_columns; bits = kept.columns; room = kept.columns_room }) same kept.letters fits
     (let P : List RowOfBits → ℕ → Type 0 = λ old place. (i : ℕ) → i < length old → length (column_at new i).bits ≡ 64 * ((place + 64) / 64) in subst (λ old. P old (length r.active.bits)) old_is (subst (P c.deref_mut.result.now) c.len-place.ensures.value c.push_word.ensures.long))
     (let P : List RowOfBits → ℕ → Type 0 = λ old place. (i other : ℕ) → i < length old → get_or (column_at new i).bits other false ≡ cond (eqb other place) (bit_in word i) (get_or (column_at old i).bits other false) in
     subst (λ old. P old (length r.active.bits)) old_is (subst (P c.deref_mut.result.now) c.len-place.ensures.value c.push_word.ensures.bits))
@@ -75,7 +75,7 @@ invariant_of-self c =
     record {
       short = kept.short;
       long = kept.long;
-      letters = ap length c.append.ensures.items ∙ length-append r.letters.items word ∙ (let e : length r.letters.items + length word ≡ (length flags + 1) * r.count = omega (arith, kept.letters, fits) in e) ∙ ap (λ n. n * r.count) (sym longer);
+      letters = ap length c.append.ensures.items ∙ length-append r.letters.items word ∙ (let e : length r.letters.items + length word ≡ (length flags + 1) * r.word_len = omega (arith, kept.letters, fits) in e) ∙ ap (λ n. n * r.word_len) (sym longer);
       few = omega (arith, longer, known);
       within = omega (arith, longer, some);
       reserved_few = kept.reserved_few;
@@ -94,10 +94,10 @@ returns-clause-few c =
     let kept = c.self.invariant in
     let flags = r.active.bits in
     let some = room_is (length flags) r.reserved r.index.room c.args.self.now.room (ap (λ (row : Row). row.room) c.self.view_is) c.requires.room in
-    omega (arith, some, kept.reserved_few, length-entries_of r.count r.letters.items flags, ap (λ (row : Row). length row.entries) c.self.view_is)
+    omega (arith, some, kept.reserved_few, length-entries_of r.word_len r.letters.items flags, ap (λ (row : Row). length row.entries) c.self.view_is)
 
 pub returns-clause-long : goal.returns-clause-long
 returns-clause-long c =
     let r = c.self.inside in
     let some = room_is (length r.active.bits) r.reserved r.index.room c.args.self.now.room (ap (λ (row : Row). row.room) c.self.view_is) c.requires.room in
-    omega (arith, c.self.invariant.long (omega (arith, some)), c.requires.length, ap (λ (row : Row). row.count) c.self.view_is)
+    omega (arith, c.self.invariant.long (omega (arith, some)), c.requires.length, ap (λ (row : Row). row.word_len) c.self.view_is)

@@ -8,39 +8,39 @@ use Rattle.xw_words.proofs.KeptRowLemmas.{AreColumns, columns_made, columns_kept
 use Rattle.xw_words.proofs.row.Row.reserve.Goals as goal
 
 -- a row with the same words, and room for as many as are reserved
-module _ (r s : Inside) (kept : IsKeptRow r) (count : s.count ≡ r.count) (letters : s.letters.items ≡ r.letters.items) (bits : s.active.bits ≡ r.active.bits) (places : s.index.places ≡ r.index.places) where
-  same_index : IsIndex (word_in s.count s.letters.items) (length s.active.bits) s.index.places
+module _ (r s : Inside) (kept : IsKeptRow r) (len : s.word_len ≡ r.word_len) (letters : s.letters.items ≡ r.letters.items) (bits : s.active.bits ≡ r.active.bits) (places : s.index.places ≡ r.index.places) where
+  same_index : IsIndex (word_in s.word_len s.letters.items) (length s.active.bits) s.index.places
   same_index =
-      subst (λ n. IsIndex (word_in n s.letters.items) (length s.active.bits) s.index.places) (sym count)
-      (subst (λ ls. IsIndex (word_in r.count ls) (length s.active.bits) s.index.places) (sym letters)
-      (subst (λ fs. IsIndex (word_in r.count r.letters.items) (length fs) s.index.places) (sym bits)
-      (subst (IsIndex (word_in r.count r.letters.items) (length r.active.bits)) (sym places) kept.index)))
+      subst (λ n. IsIndex (word_in n s.letters.items) (length s.active.bits) s.index.places) (sym len)
+      (subst (λ ls. IsIndex (word_in r.word_len ls) (length s.active.bits) s.index.places) (sym letters)
+      (subst (λ fs. IsIndex (word_in r.word_len r.letters.items) (length fs) s.index.places) (sym bits)
+      (subst (IsIndex (word_in r.word_len r.letters.items) (length r.active.bits)) (sym places) kept.index)))
 
-  same_words : AreColumns r.count s.reserved (entries_of r.count r.letters.items r.active.bits) s.columns.items → AreColumns s.count s.reserved (entries_of s.count s.letters.items s.active.bits) s.columns.items
+  same_words : AreColumns r.word_len s.reserved (entries_of r.word_len r.letters.items r.active.bits) s.columns.items → AreColumns s.word_len s.reserved (entries_of s.word_len s.letters.items s.active.bits) s.columns.items
   same_words are =
-      subst (λ n. AreColumns n s.reserved (entries_of n s.letters.items s.active.bits) s.columns.items) (sym count)
-      (subst (λ ls. AreColumns r.count s.reserved (entries_of r.count ls s.active.bits) s.columns.items) (sym letters)
-      (subst (λ fs. AreColumns r.count s.reserved (entries_of r.count r.letters.items fs) s.columns.items) (sym bits) are))
+      subst (λ n. AreColumns n s.reserved (entries_of n s.letters.items s.active.bits) s.columns.items) (sym len)
+      (subst (λ ls. AreColumns r.word_len s.reserved (entries_of r.word_len ls s.active.bits) s.columns.items) (sym letters)
+      (subst (λ fs. AreColumns r.word_len s.reserved (entries_of r.word_len r.letters.items fs) s.columns.items) (sym bits) are))
 
-  still_kept : AreColumns r.count s.reserved (entries_of r.count r.letters.items r.active.bits) s.columns.items → (0 < s.reserved → 2 ≤ r.count) → length r.active.bits ≤ s.reserved → s.reserved ≤ 1048576
-      → s.reserved * r.count ≤ vec_capacity s.letters → s.reserved ≤ s.active.room → IsKeptRow s
+  still_kept : AreColumns r.word_len s.reserved (entries_of r.word_len r.letters.items r.active.bits) s.columns.items → (0 < s.reserved → 2 ≤ r.word_len) → length r.active.bits ≤ s.reserved → s.reserved ≤ 1048576
+      → s.reserved * r.word_len ≤ vec_capacity s.letters → s.reserved ≤ s.active.room → IsKeptRow s
   still_kept are long within reserved_few letters_room active_room = record {
-    short = omega (arith, kept.short, count);
-    letters = ap length letters ∙ kept.letters ∙ ap (λ n. length r.active.bits * n) (sym count) ∙ ap (λ fs. length fs * s.count) (sym bits);
+    short = omega (arith, kept.short, len);
+    letters = ap length letters ∙ kept.letters ∙ ap (λ n. length r.active.bits * n) (sym len) ∙ ap (λ fs. length fs * s.word_len) (sym bits);
     few = omega (arith, kept.few, ap length bits);
     within = omega (arith, within, ap length bits);
     reserved_few = reserved_few;
-    long = λ some. let e = long some in omega (arith, e, count);
+    long = λ some. let e = long some in omega (arith, e, len);
     index = same_index;
     column_count = (same_words are).few;
     all_columns = (same_words are).all;
     columns = (same_words are).bits;
-    letters_room = omega (arith, letters_room, ap (λ n. s.reserved * n) count);
+    letters_room = omega (arith, letters_room, ap (λ n. s.reserved * n) len);
     active_room = active_room;
     columns_room = (same_words are).room;
   }
 
-columns_of : (r : Inside) → IsKeptRow r → AreColumns r.count r.reserved (entries_of r.count r.letters.items r.active.bits) r.columns.items
+columns_of : (r : Inside) → IsKeptRow r → AreColumns r.word_len r.reserved (entries_of r.word_len r.letters.items r.active.bits) r.columns.items
 columns_of r kept = record { few = kept.column_count; all = kept.all_columns; bits = kept.columns; room = kept.columns_room }
 
 -- if an allocation failed, the columns are still those of the known words
@@ -49,8 +49,8 @@ invariant_of-self-in_err-grow_columns c =
     let r = c.self.inside in
     let kept = c.self.invariant in
     still_kept r _ kept refl refl refl c.reserve.ensures.places
-    (columns_kept r.count r.reserved (entries_of r.count r.letters.items r.active.bits) r.columns.items c.grow_columns.new.columns.items (columns_of r kept) (omega (arith, c.grow_columns.ensures.more))
-    (omega (arith, length-entries_of r.count r.letters.items r.active.bits, kept.within)) c.grow_columns.ensures.bits (omega (arith, c.grow_columns.ensures.few)) c.grow_columns.ensures.room_stays)
+    (columns_kept r.word_len r.reserved (entries_of r.word_len r.letters.items r.active.bits) r.columns.items c.grow_columns.new.columns.items (columns_of r kept) (omega (arith, c.grow_columns.ensures.more))
+    (omega (arith, length-entries_of r.word_len r.letters.items r.active.bits, kept.within)) c.grow_columns.ensures.bits (omega (arith, c.grow_columns.ensures.few)) c.grow_columns.ensures.room_stays)
     kept.long kept.within kept.reserved_few kept.letters_room kept.active_room
 
 pub invariant_of-self-in_err-reserve_words : goal.invariant_of-self-in_err-reserve_words
@@ -58,8 +58,8 @@ invariant_of-self-in_err-reserve_words c =
     let r = c.self.inside in
     let kept = c.self.invariant in
     still_kept r _ kept refl c.reserve_words.ensures.items c.reserve_words.ensures.bits c.reserve.ensures.places
-    (columns_kept r.count r.reserved (entries_of r.count r.letters.items r.active.bits) r.columns.items c.grow_columns.new.columns.items (columns_of r kept) (omega (arith, c.grow_columns.ensures.more))
-    (omega (arith, length-entries_of r.count r.letters.items r.active.bits, kept.within)) c.grow_columns.ensures.bits (omega (arith, c.grow_columns.ensures.few)) c.grow_columns.ensures.room_stays)
+    (columns_kept r.word_len r.reserved (entries_of r.word_len r.letters.items r.active.bits) r.columns.items c.grow_columns.new.columns.items (columns_of r kept) (omega (arith, c.grow_columns.ensures.more))
+    (omega (arith, length-entries_of r.word_len r.letters.items r.active.bits, kept.within)) c.grow_columns.ensures.bits (omega (arith, c.grow_columns.ensures.few)) c.grow_columns.ensures.room_stays)
     kept.long kept.within kept.reserved_few (omega (arith, kept.letters_room, c.reserve_words.ensures.capacity)) (omega (arith, kept.active_room, c.reserve_words.ensures.room_stays))
 
 pub invariant_of-self-2 : goal.invariant_of-self-2
@@ -68,12 +68,12 @@ invariant_of-self-2 c =
     let kept = c.self.invariant in
     let words = c.grown-words.result in
     let new = c.grow_columns.new.columns in
-    let entries_long = length-entries_of r.count r.letters.items r.active.bits in
+    let entries_long = length-entries_of r.word_len r.letters.items r.active.bits in
     let new_long : length new.items ≡ vec_len new = omega arith in
     still_kept r _ kept refl c.reserve_words.ensures.items c.reserve_words.ensures.bits c.reserve.ensures.places
-    (columns_made r.count r.reserved (entries_of r.count r.letters.items r.active.bits) r.columns.items new.items (columns_of r kept) (omega (arith, c.grow_columns.ensures.more))
+    (columns_made r.word_len r.reserved (entries_of r.word_len r.letters.items r.active.bits) r.columns.items new.items (columns_of r kept) (omega (arith, c.grow_columns.ensures.more))
     (omega (arith, entries_long, kept.within)) c.grow_columns.ensures.bits (new_long ∙ c.in_ok-grow_columns.ensures.all) words (λ i lt. c.in_ok-grow_columns.ensures.room i (omega (arith, new_long, lt))))
-    (λ _. omega (arith, c.requires.long, ap (λ (row : Row). row.count) c.self.view_is)) (omega (arith, c.len-known.ensures.value, c.grown-words.ensures.more)) c.grown-words.ensures.few
+    (λ _. omega (arith, c.requires.long, ap (λ (row : Row). row.word_len) c.self.view_is)) (omega (arith, c.len-known.ensures.value, c.grown-words.ensures.more)) c.grown-words.ensures.few
     c.in_ok-reserve_words.ensures.letters_room c.in_ok-reserve_words.ensures.room
 
 pub returns-clause-ok : goal.returns-clause-ok

@@ -29,7 +29,7 @@ settle-requires-clause-inside c =
 pub settle-requires-clause-stood : goal.settle-requires-clause-stood
 settle-requires-clause-stood c =
     let old = c.args.self.now in
-    stood_same (record { grid = old.grid; words = old.bank.words }) old.net old.lights old.light_list old.kept.settled old.bank.words (λ count. refl)
+    stood_same (record { grid = old.grid; words = old.bank.words }) old.net old.lights old.light_list old.kept.settled old.bank.words (λ len. refl)
 
 pub settle-requires-clause-room : goal.settle-requires-clause-room
 settle-requires-clause-room c =

@@ -37,7 +37,7 @@ settle-ticks-requires-clause-inside c =
 pub settle-ticks-requires-clause-stood : goal.settle-ticks-requires-clause-stood
 settle-ticks-requires-clause-stood c =
     let old = c.args.self.now in
-    stood_same (record { grid = old.grid; words = old.bank.words }) c.reserve.new.self old.lights old.light_list (settled_alike (record { grid = old.grid; words = old.bank.words }) old.net c.reserve.new.self c.reserve.ensures.same old.kept.settled) old.bank.words (λ count. refl)
+    stood_same (record { grid = old.grid; words = old.bank.words }) c.reserve.new.self old.lights old.light_list (settled_alike (record { grid = old.grid; words = old.bank.words }) old.net c.reserve.new.self c.reserve.ensures.same old.kept.settled) old.bank.words (λ len. refl)
 
 pub settle-ticks-requires-clause-room : goal.settle-ticks-requires-clause-room
 settle-ticks-requires-clause-room c =

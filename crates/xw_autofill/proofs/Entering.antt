@@ -1,0 +1,60 @@
+-- What entering a letter in a cell, or emptying it, does to a state.
+use Rattle.std.proofs.Common.{◌≡◌, ℕ, ◌<◌, ◌*◌, Bool, true, false, cond, not, List, [], ◌∷◌, zero, suc, length, get_or, set, Option, Some, None, refl, sym, ◌∙◌, ap, subst, arith}
+use Rattle.std.specs.Prelude.{Result, Ok, Err}
+use Rattle.std.proofs.lemmas.Bool.{false≢true}
+use Rattle.xw_grid.specs.declared.cell.Square.{Square}
+use Rattle.xw_grid.specs.declared.cell.Square.TheVariants.{Block, Open}
+use Rattle.xw_grid.specs.declared.cell.Cell.{Cell}
+use Rattle.xw_grid.specs.declared.fault.GridFault.{GridFault}
+use Rattle.xw_grid.specs.declared.fault.GridFault.TheVariants.{OutOfGrid, OnBlock}
+use Rattle.xw_grid.specs.Grid.{Grid, IsGrid, is_block, is_block_square, is_open, is_open_square, square_at, cell_at, index_of}
+use Rattle.xw_grid.specs.Edit.{set_entry, with_entry}
+use Rattle.xw_grid.proofs.GridLemmas.{index_of-cell_at}
+use Rattle.xw_grid.proofs.LightLemmas.{inside_from_open}
+use Rattle.xw_feas.specs.Board.{board_of, is_open as is_open_at}
+use Rattle.xw_feas.specs.Engine.{IsEdited}
+use Rattle.xw_feas.specs.Feasible.{Answers}
+use Rattle.xw_feas.specs.State.{State, Action, after, want_of, with_grid, by_fault}
+use Rattle.xw_feas.specs.declared.edit.Refusal.{Refusal}
+use Rattle.xw_feas.specs.declared.changed.Changed.{Changed}
+use Rattle.xw_feas.proofs.BoardLemmas.{length-open_cells}
+use Rattle.xw_feas.proofs.ChangesLemmas.{open_place}
+use Rattle.xw_fill.specs.Position.{DiffersInEntries}
+use Rattle.xw_fill.proofs.StateLemmas.{edit_done, entry_board, differs_in_squares}
+use Rattle.xw_autofill.specs.Progress.{entries_of}
+
+pub open_below : (flags : List Bool) (k : ℕ) → get_or flags k false ≡ true → k < length flags
+open_below [] k h = absurd (false≢true h)
+open_below (flag ∷ flags) zero h = omega arith
+open_below (flag ∷ flags) (suc k) h = let below = open_below flags k h in omega arith
+
+-- an open cell is on the board
+pub open_within : (grid : Grid) (cell : ℕ) → IsGrid grid → is_open_at (board_of grid) cell ≡ true → cell < grid.width * grid.height
+open_within grid cell is opens = let below = open_below (board_of grid).open_cells cell opens in omega (arith, length-open_cells grid, is.squares, below)
+
+open_not_block : (grid : Grid) (cell : Cell) → is_open grid cell ≡ true → is_block grid cell ≡ false
+open_not_block grid cell h = split (square_at grid cell) h where
+  split : (o : Option Square) → is_open_square o ≡ true → is_block_square o ≡ false
+  split None e = absurd (false≢true e)
+  split (Some Block) e = absurd (false≢true e)
+  split (Some (Open letter)) e = refl
+
+-- an open cell takes a letter, or is emptied
+pub entered : (before now : State) (answers answers_now : Answers) (cell : ℕ) (place : Cell) (letter : Option ℕ) (action : Action) (result : Result Changed Refusal) → IsGrid before.grid → is_open_at (board_of before.grid) cell ≡ true → place ≡ cell_at before.grid cell
+    → after before action ≡ with_grid before (by_fault (set_entry before.grid place letter)) → want_of before action ≡ None
+    → IsEdited before answers action result now answers_now
+    → (entries_of now ≡ set (entries_of before) cell letter) × DiffersInEntries before now
+entered before now answers answers_now cell place letter action result is opens place_is action_is none edited =
+    let grid = before.grid in
+    let within = open_within grid cell is opens in
+    let open_cell : is_open grid place ≡ true = ap (is_open grid) place_is ∙ open_place grid cell is within ∙ opens in
+    let inside = inside_from_open grid place open_cell in
+    let index : index_of grid place ≡ cell = ap (index_of grid) place_is ∙ index_of-cell_at grid cell in
+    let accepted : set_entry grid place letter ≡ Ok (with_entry grid place letter) =
+    ap (λ b. cond {A = Result Grid GridFault} (not b) (Err OutOfGrid) (cond (is_block grid place) (Err OnBlock) (Ok (with_entry grid place letter)))) inside
+    ∙ ap (λ b. cond {A = Result Grid GridFault} b (Err OnBlock) (Ok (with_entry grid place letter))) (open_not_block grid place open_cell) in
+    let done = edit_done before now (record before { grid = with_entry grid place letter }) answers answers_now action result (action_is ∙ ap (λ r. with_grid before (by_fault r)) accepted) none edited in
+    let board = entry_board grid place letter is open_cell in (
+      ap (λ (s : State). entries_of s) done ∙ ap (λ b. b.entries) board ∙ ap (λ k. set (entries_of before) k letter) index,
+      subst (DiffersInEntries before) (sym done) (differs_in_squares before (with_entry grid place letter) refl (ap (λ b. b.open_cells) board)),
+    )

@@ -1,0 +1,2 @@
+pub mod NamedFill
+pub mod Progress

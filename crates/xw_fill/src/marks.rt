@@ -1,0 +1,106 @@
+//! Saved states of an engine, to which a search returns.
+ghost use Rattle.std.specs.Prelude.{◌≡◌, ◌-◌, ◌<◌, ◌≤◌, [], ◌∷◌, ◌++◌, true, false, IfOk, IfErr};
+ghost use Rattle.xw_feas.specs.State.{State};
+ghost use Rattle.xw_fill.specs.Marks.{held_of, room_of, latest, but_last, AreTwins};
+
+use std::alloc::Global;
+use xw_feas::edit::Refusal;
+use xw_feas::searchable::Searchable;
+use xw_grid::fault::GridFault;
+
+/// The latest marks of an engine: saved states, with room for a fixed number. A mark that finds no room left takes the
+/// place of the oldest one. The first `held` snapshots are the marks, the oldest first; the others are free.
+#[derive(Drop)]
+pub struct Marks<E: Searchable> {
+    snapshots: Vec<E::Snapshot>,
+    held: usize,
+}
+
+impl<E: Searchable> Marks<E> {
+    /// Creates room for `room` marks of an engine, and holds none. It is refused only if an allocation fails.
+    pub fn new(alloc: Global, engine: &E, room: usize) -> Result<Marks<E>, Refusal>
+        ensures held { IfOk result (λ marks. held_of E.saved marks ≡ []) }
+        ensures room { IfOk result (λ marks. room_of marks ≡ room) }
+        ensures twins { IfOk result (λ marks. AreTwins E.saved marks (E.state engine.now)) }
+        ensures memory { IfErr result (λ refusal. refusal ≡ Refusal.Grid GridFault.Memory) }
+    {
+        let mut snapshots = Vec::with_capacity(alloc, room).map_err(|_| Refusal::Grid(
+            GridFault::Memory,
+        ))?;
+        for _made in 0..room {
+            let snapshot = engine.snapshot()?;
+            snapshots
+                .push(snapshot)
+                .map_err(|_| Refusal::Grid(GridFault::Memory))?;
+        }
+        Ok(Marks { snapshots, held: 0 })
+    }
+
+    /// Forgets the oldest mark if no room is left.
+    fn make_room(&mut self)
+        requires room { 0 < room_of self.old }
+        requires within { self.old.held ≤ room_of self.old }
+        ensures held { held_of E.saved self.new ≡ latest (room_of self.old - 1) (held_of E.saved self.old) }
+        ensures room { room_of self.new ≡ room_of self.old }
+        ensures free { self.new.held < room_of self.old }
+        ensures twins { (state : State) → AreTwins E.saved self.old state → AreTwins E.saved self.new state }
+    {
+        if self.held == self.snapshots.len() {
+            self.snapshots.rotate_left(1);
+            self.held -= 1;
+        }
+    }
+
+    /// Marks the present state. If no room is left, the oldest mark is forgotten.
+    pub fn mark(&mut self, engine: &E)
+        requires twins { AreTwins E.saved self.old (E.state engine.now) }
+        ensures held { held_of E.saved self.new ≡ latest (room_of self.old) (held_of E.saved self.old ++ E.state engine.now ∷ []) }
+        ensures room { room_of self.new ≡ room_of self.old }
+        ensures twins { AreTwins E.saved self.new (E.state engine.now) }
+    {
+        if self.snapshots.is_empty() {
+            return;
+        }
+        self.make_room();
+        let free = &mut self.snapshots[self.held];
+        engine.save(free);
+        self.held += 1;
+    }
+
+    /// Returns to the last mark and forgets it. Returns whether there was one; if not, nothing changes.
+    pub fn back(&mut self, engine: &mut E) -> bool
+        requires twins { AreTwins E.saved self.old (E.state engine.old) }
+        ensures back { result ≡ true → held_of E.saved self.old ≡ held_of E.saved self.new ++ E.state engine.new ∷ [] }
+        ensures none { result ≡ false → held_of E.saved self.old ≡ [] }
+        ensures marks_same { result ≡ false → self.new ≡ self.old }
+        ensures engine_same { result ≡ false → engine.new ≡ engine.old }
+        ensures room { room_of self.new ≡ room_of self.old }
+        ensures twins { AreTwins E.saved self.new (E.state engine.new) }
+    {
+        if self.held == 0 {
+            return false;
+        }
+        self.held -= 1;
+        let last = &mut self.snapshots[self.held];
+        engine.exchange(last);
+        true
+    }
+
+    /// Forgets the last mark, if there is one.
+    pub fn forget(&mut self)
+        ensures held { (state : State) → AreTwins E.saved self.old state → held_of E.saved self.new ≡ but_last (held_of E.saved self.old) }
+        ensures room { room_of self.new ≡ room_of self.old }
+        ensures twins { (state : State) → AreTwins E.saved self.old state → AreTwins E.saved self.new state }
+    {
+        self.held = self.held.saturating_sub(1);
+    }
+
+    /// Forgets all marks.
+    pub fn clear(&mut self)
+        ensures held { held_of E.saved self.new ≡ [] }
+        ensures room { room_of self.new ≡ room_of self.old }
+        ensures twins { (state : State) → AreTwins E.saved self.old state → AreTwins E.saved self.new state }
+    {
+        self.held = 0;
+    }
+}

@@ -1,0 +1,105 @@
+-- The replies of autofill.
+use Rattle.std.proofs.Common.{◌≡◌, zero, suc, Bool, true, false, [], ◌∷◌, ◌++◌, Some, None, is_ok, is_err, IfSome, IfNone, append_assoc, refl, sym, ◌∙◌, ap, subst, inl, inr, arith}
+use Rattle.std.specs.Prelude.{List, All, Option, is_some, if◌then◌else◌, Result, Ok, Err, IfOk, IfErr, OnErr}
+use Rattle.std.proofs.lemmas.Bool.{false≢true}
+use Rattle.xw_grid.specs.declared.cell.LightName.{LightName}
+use Rattle.xw_grid.specs.Light.{lights_of, place_named}
+use Rattle.xw_commands.specs.declared.command.LightArg.{LightArg}
+use Rattle.xw_feas.specs.State.{State as Position}
+use Rattle.xw_feas.specs.declared.edit.Refusal.{Refusal as EditRefusal}
+use Rattle.xw_fill.specs.declared.search.Filling.{Filling}
+use Rattle.xw_fill.specs.declared.search.Filling.TheVariants as fillings
+use Rattle.xw_autofill.specs.NamedFill.{IsAutofilled, is_named, AreLights, IsRefusal}
+use Rattle.xw_session.specs.declared.refusal.Refusal.{Refusal}
+use Rattle.xw_session.specs.Refusal.{refusal_of}
+use Rattle.xw_session.specs.State.{State}
+use Rattle.xw_session.specs.Text.{word_line}
+use Rattle.xw_session.specs.Reply.{Reply, name_of_light, filling_name, grid_memory}
+use Rattle.xw_session.specs.Autofill.{names_of, IsAutofillDue}
+use Rattle.xw_session.specs.Answer.{IsReply, fill_reply, state_after}
+
+-- ---- which lights there are
+
+module _ {X : Type 0} (P : X → Type 0) (x : X) (xs : List X) where
+  head_of : All P (x ∷ xs) → P x
+  head_of all = all 0 x (omega arith)
+
+  tail_of : All P (x ∷ xs) → All P xs
+  tail_of all = λ k d below. all (suc k) d (omega (arith, below))
+
+  with_head : P x → All P xs → All P (x ∷ xs)
+  with_head head tail zero d below = head
+  with_head head tail (suc k) d below = tail k d (omega (arith, below))
+
+module _ (position : Position) where
+  -- the light of a command is in the grid
+  abbrev is_there : LightArg → Bool
+  is_there named = is_some (place_named (lights_of position.grid) (name_of_light named))
+
+  -- all these lights are in the grid if the remaining ones are
+  pub record AreLeft (lights left : List LightArg) : Type 0 where
+    pub all : AreLights position (names_of left) → AreLights position (names_of lights)
+    pub some : AreLights position (names_of lights) → AreLights position (names_of left)
+
+  pub all_left : (lights : List LightArg) → AreLeft lights lights
+  all_left lights = record { all = λ are. are; some = λ are. are }
+
+  abbrev IsLight : LightName → Type 0
+  IsLight name = is_some (place_named (lights_of position.grid) name) ≡ true
+
+  pub one_known : (lights left rest : List LightArg) (named : LightArg) → AreLeft lights left → left ≡ named ∷ rest → is_there named ≡ true → AreLeft lights rest
+  one_known lights left rest named are is there = record {
+    all = λ known. are.all (subst (λ ls. AreLights position (names_of ls)) (sym is) (with_head IsLight (name_of_light named) (names_of rest) there known));
+    some = λ known. tail_of IsLight (name_of_light named) (names_of rest) (subst (λ ls. AreLights position (names_of ls)) is (are.some known));
+  }
+
+  pub one_unknown : (lights left rest : List LightArg) (named : LightArg) → AreLeft lights left → left ≡ named ∷ rest → is_there named ≡ false → AreLights position (names_of lights) → ⊥
+  one_unknown lights left rest named are is missing known =
+      let there = head_of IsLight (name_of_light named) (names_of rest) (subst (λ ls. AreLights position (names_of ls)) is (are.some known)) in
+      absurd (false≢true (sym missing ∙ there))
+
+  pub all_known : (lights left : List LightArg) → AreLeft lights left → left ≡ [] → AreLights position (names_of lights)
+  all_known lights left are none = are.all (subst (λ ls. AreLights position (names_of ls)) (sym none) (λ k d below. absurd (omega (arith, below))))
+
+-- ---- results of calls
+
+pub when_none : {X : Type 0} {P : Type 0} (result : Option X) → P → IfNone result P
+when_none None p = p
+when_none (Some x) p = tt
+
+pub if_none : {X : Type 0} {P : Type 0} (result : Option X) → is_some result ≡ false → IfNone result P → P
+if_none None is p = p
+if_none (Some x) is p = cc
+
+pub if_some : {P : Type 0} (name : LightName) (result : Option LightName) → is_some result ≡ true → IfSome result (λ found. (found ≡ name) × P) → P
+if_some name None is p = cc
+if_some name (Some found) is p = p.1
+
+pub if_pushed : {X Y Z : Type 0} (result : Result X Y) (now more less : Z) → is_err result ≡ false → now ≡ (if is_ok result then more else less) → now ≡ more
+if_pushed (Ok x) now more less is e = e
+if_pushed (Err y) now more less is e = cc
+
+-- the names so far and those that are left
+pub one_named : (lights left rest : List LightArg) (named : LightArg) (name : LightName) (names : List LightName) → names_of lights ≡ names ++ names_of left → left ≡ named ∷ rest → name ≡ name_of_light named
+    → names_of lights ≡ (names ++ name ∷ []) ++ names_of rest
+one_named lights left rest named name names so_far is same =
+    so_far ∙ ap (λ ls. names ++ names_of ls) is ∙ ap (λ n. names ++ n ∷ names_of rest) (sym same) ∙ sym (append_assoc names (name ∷ []) (names_of rest))
+
+-- ---- replies
+
+module _ (state : State) (names : List LightName) (there : AreLights state.position names) (now : Position) where
+  -- a search for a fill gives an allowed reply
+  pub autofill_fits : (result : Result Filling EditRefusal) → IfOk result (IsAutofilled (is_named state.position names) state.position now) → IfErr result (IsRefusal state.position names)
+      → (due : Result Reply Refusal) × IsAutofillDue state names due × IsReply due (Some grid_memory) (fill_reply result (record state { position = now }))
+  autofill_fits (Ok filling) done refusal =
+      (Ok (record { lines = word_line (filling_name filling); state = record state { position = now } }), record { lights = there; filling = filling; position = now; done = done; is = refl }, refl)
+  autofill_fits (Err refusal) done (inl none) = absurd (none.1 there)
+  autofill_fits (Err refusal) done (inr memory) = (
+    Ok (record { lines = word_line (filling_name fillings.Limit); state = state }),
+    record { lights = there; filling = fillings.Limit; position = state.position; done = refl; is = refl },
+    inr (refl, ap (λ r. Some (refusal_of r)) (sym memory)),
+  )
+
+  pub autofill_effect : (result : Result Filling EditRefusal) → OnErr result (now ≡ state.position) → record state { position = now } ≡ state_after state (fill_reply result (record state { position = now }))
+  autofill_effect (Ok filling) same = refl
+  autofill_effect (Err refusal) same = ap (λ (p : Position). record state { position = p }) same

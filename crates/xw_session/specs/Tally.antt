@@ -1,0 +1,43 @@
+-- The lines of tally: for each feasible letter of a cell how many feasible words of its lights have it there.
+use Rattle.std.specs.Prelude.{ℕ, ◌-◌, ◌==◌, List, [], ◌∷◌, flat_map, codes, decimal, count_by, slice_index, slice_index_or, option_map, Option, Some, None}
+use Rattle.xw_grid.specs.declared.cell.Cell.{Cell}
+use Rattle.xw_grid.specs.declared.cell.Direction.{Direction}
+use Rattle.xw_grid.specs.declared.cell.Direction.TheVariants.{Across, Down}
+use Rattle.xw_grid.specs.Grid.{Grid, index_of}
+use Rattle.xw_grid.specs.Light.{lights_of, no_light, place_through}
+use Rattle.xw_feas.specs.State.{State as Position}
+use Rattle.xw_fill.specs.Position.{position_of}
+use Rattle.xw_fill.specs.FeasibleWords.{feasible_words}
+use Rattle.xw_fill.specs.FeasibleLetters.{feasible_letters}
+use Rattle.xw_session.specs.Text.{line_of}
+
+-- how far a cell of a light is from the first cell of the light
+abbrev pub distance : Direction → Cell → Cell → ℕ
+distance Across first cell = cell.col - first.col
+distance Down first cell = cell.row - first.row
+
+-- the first cell of a light
+abbrev pub start_of : Grid → ℕ → Cell
+start_of grid light = (slice_index_or (lights_of grid) light no_light).start
+
+-- the number of feasible words of a light in a direction that have the letter in a cell
+abbrev pub words_with : Position → Direction → Cell → ℕ → ℕ → ℕ
+words_with position direction cell letter light =
+    count_by (λ word. slice_index word (distance direction (start_of position.grid light) cell) == letter) (feasible_words (position_of position) light)
+
+-- the same for the light through the cell; None if there is no light
+abbrev pub tally_at : Position → Direction → Cell → ℕ → Option ℕ
+tally_at position direction cell letter = option_map (words_with position direction cell letter) (place_through (lights_of position.grid) direction cell)
+
+abbrev pub number_or_dash : Option ℕ → List ℕ
+number_or_dash None = codes "-"
+number_or_dash (Some number) = decimal number
+
+-- a letter with the counts of the across light and of the down light
+abbrev pub tally_line : Position → Cell → ℕ → List ℕ
+tally_line position cell letter =
+    line_of ((letter ∷ []) ∷ number_or_dash (tally_at position Across cell letter) ∷ number_or_dash (tally_at position Down cell letter) ∷ [])
+
+-- a line for each feasible letter of the cell
+abbrev pub tally_lines : Position → Cell → List ℕ
+tally_lines position cell = flat_map (tally_line position cell) (feasible_letters (position_of position) (index_of position.grid cell))

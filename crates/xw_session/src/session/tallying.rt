@@ -1,0 +1,162 @@
+//! Answers `tally`.
+ghost use Rattle.std.specs.Prelude.{◌≡◌, Some, Err, IfOk, IfErr, flat_map, [], ◌∷◌};
+ghost use Rattle.xw_letters.specs.LetterSet.{letters_in};
+ghost use Rattle.xw_grid.specs.Light.{lights_of, place_through};
+ghost use Rattle.xw_lines.specs.Sends.{Sends};
+ghost use Rattle.xw_session.specs.Text.{line_of};
+ghost use Rattle.xw_session.specs.Tally.{distance as distance_of, words_with as count_of_words_with, tally_at as tally_in, number_or_dash as number_or_a_dash, tally_line};
+ghost use Rattle.xw_session.specs.Reply.{cell_of, tallied as tallied_so, shown};
+ghost use Rattle.xw_session.specs.Answer.{AnswersTo};
+
+use crate::refusal::Refusal;
+use crate::session::{Session, end_answer};
+use crate::text;
+use itoa::Buffer;
+use xw_commands::command::CellArg;
+use xw_feas::searchable::Searchable;
+use xw_grid::{Cell, Direction, Lights};
+use xw_letters::{Letter, LetterSet};
+use xw_lines::device::{Sink, WriteFailed};
+use xw_lines::outcome::Step;
+
+/// Returns the index of the light through a cell in a direction.
+fn light_through(lights: &Lights, direction: Direction, cell: Cell) -> Option<usize>
+    ensures { result ≡ place_through lights.now direction cell }
+{
+    match direction {
+        Direction::Across => lights.across_at(cell),
+        Direction::Down => lights.down_at(cell),
+    }
+}
+
+/// Returns how far a cell of a light is from the first cell of the light.
+fn distance(direction: Direction, first: Cell, cell: Cell) -> u32
+    ensures { result ≡ distance_of direction first cell }
+{
+    match direction {
+        Direction::Across => cell.col.saturating_sub(first.col),
+        Direction::Down => cell.row.saturating_sub(first.row),
+    }
+}
+
+/// Returns the number of feasible words of the light at an index that have the letter in a cell.
+fn words_with<E: Searchable>(
+    engine: &E,
+    direction: Direction,
+    cell: Cell,
+    letter: Letter,
+    light: usize,
+) -> usize
+    requires { place_through (lights_of (E.state engine.now).grid) direction cell ≡ Some light }
+    ensures { result ≡ count_of_words_with (E.state engine.now) direction cell letter light }
+{
+    match engine.lights().get(light) {
+        Some(found) => {
+            let position = distance(direction, found.start, cell);
+            engine.tally(light, position as usize, letter)
+        }
+        None => unreachable!(),
+    }
+}
+
+/// Returns the number of feasible words of the light through a cell that have the letter there, or `None` if no light in
+/// this direction goes through it.
+fn tally_at<E: Searchable>(
+    engine: &E,
+    direction: Direction,
+    cell: Cell,
+    letter: Letter,
+) -> Option<usize>
+    ensures { result ≡ tally_in (E.state engine.now) direction cell letter }
+{
+    match light_through(engine.lights(), direction, cell) {
+        Some(light) => Some(words_with(engine, direction, cell, letter, light)),
+        None => None,
+    }
+}
+
+/// Returns the digits of a number, or a dash if there is none.
+fn number_or_dash(digits: &mut Buffer, number: Option<usize>) -> &[u8]
+    ensures { result.now ≡ number_or_a_dash number }
+{
+    match number {
+        Some(number) => digits.format(number as u64).as_bytes(),
+        None => b"-",
+    }
+}
+
+/// Writes a letter and two counts on a line.
+fn write_counts<W: Sink>(
+    sink: &mut W,
+    letter: Letter,
+    across: Option<usize>,
+    down: Option<usize>,
+) -> Result<(), WriteFailed>
+    ensures { Sends W.transcript W.failures sink.old sink.new result (line_of ((letter ∷ []) ∷ number_or_a_dash across ∷ number_or_a_dash down ∷ [])) }
+{
+    let mut first = Buffer::new();
+    let mut second = Buffer::new();
+    let across = number_or_dash(&mut first, across);
+    let down = number_or_dash(&mut second, down);
+    text::write_line(sink, &[&[letter.byte()], across, down])
+}
+
+/// Writes a letter with the counts of the lights through a cell on a line.
+fn write_tally<E: Searchable, W: Sink>(
+    sink: &mut W,
+    engine: &E,
+    cell: Cell,
+    letter: Letter,
+) -> Result<(), WriteFailed>
+    ensures { Sends W.transcript W.failures sink.old sink.new result (tally_line (E.state engine.now) cell letter) }
+{
+    let across = tally_at(engine, Direction::Across, cell, letter);
+    let down = tally_at(engine, Direction::Down, cell, letter);
+    write_counts(sink, letter, across, down)
+}
+
+/// Writes the line of each of these letters.
+fn write_tallies<E: Searchable, W: Sink>(
+    sink: &mut W,
+    engine: &E,
+    cell: Cell,
+    letters: LetterSet,
+) -> Result<(), WriteFailed>
+    ensures { Sends W.transcript W.failures sink.old sink.new result (flat_map (tally_line (E.state engine.now) cell) (letters_in letters)) }
+{
+    for letter in letters.iter() {
+        write_tally(sink, engine, cell, letter)?;
+    }
+    Ok(())
+}
+
+impl<E: Searchable> Session<E> {
+    ghost use Rattle.xw_commands.specs.declared.command.Command.TheVariants as commands;
+
+    /// Returns a cell with its feasible letters. Returns `OutOfGrid` or `OnBlock` if it has none.
+    fn tallied(&self, spot: CellArg) -> Result<(Cell, LetterSet), Refusal>
+        ensures ok { IfOk result (λ found. tallied_so self.now (cell_of spot) ≡ shown self.now (flat_map (tally_line self.now.position found.0) (letters_in found.1))) }
+        ensures refused { IfErr result (λ refusal. tallied_so self.now (cell_of spot) ≡ Err refusal) }
+    {
+        let cell = self.cell(spot)?;
+        let letters = self.engine.letters(cell)?;
+        Ok((cell, letters))
+    }
+
+    /// Answers `tally`: how many feasible words of the lights through a cell have each of its letters there.
+    pub(crate) fn answer_tally<W: Sink>(
+        &self,
+        spot: CellArg,
+        sink: &mut W,
+    ) -> Result<Step, WriteFailed>
+        ensures { AnswersTo W.transcript W.failures self.now (commands.Tally spot) result self.now sink.old sink.new }
+    {
+        match self.tallied(spot) {
+            Ok(found) => {
+                write_tallies(sink, &self.engine, found.0, found.1)?;
+                end_answer(sink, Ok(()))
+            }
+            Err(refusal) => end_answer(sink, Err(refusal)),
+        }
+    }
+}

@@ -1,0 +1,141 @@
+//! Worked examples of saved states, and of words counted by letter, for both engines.
+ghost use Rattle.xw_feas.specs.Snapshot.{IsTwin};
+
+use crate::edits::{ACROSS_1, Start, at};
+use std::alloc::Global;
+use xw_feas::board::Board;
+use xw_feas::edit::{Edit, Refusal};
+use xw_feas::searchable::Searchable;
+use xw_grid::grid::Grid;
+use xw_letters::letter::Letter;
+use xw_live::live::Live;
+use xw_plain::plain::Plain;
+use xw_words::bank::Bank;
+
+/// A light by its index, a position, a letter, and how many feasible words of the light have the
+/// letter there.
+type Tally = (usize, usize, u8, usize);
+
+const THREE_BY_THREE: Start = Start {
+    width: 3,
+    height: 3,
+    words: "CAT ARE TEN COT ORE BAT",
+};
+
+/// Of the empty grid. Across 1 and down 1 may be CAT, COT or BAT, down 2 and across 4 may be ARE or
+/// ORE, and the others are TEN.
+const EMPTY: &[Tally] = &[
+    (0, 0, b'C', 2),
+    (0, 0, b'B', 1),
+    (0, 0, b'A', 0),
+    (0, 1, b'A', 2),
+    (1, 1, b'O', 1),
+    (1, 2, b'T', 3),
+    (2, 0, b'O', 1),
+    (4, 2, b'E', 2),
+    (5, 0, b'T', 1),
+];
+
+/// With O in the second cell: across 1 is COT, down 1 may be CAT or COT, and down 2 is ORE.
+const WITH_O: &[Tally] = &[
+    (0, 0, b'C', 1),
+    (0, 0, b'B', 0),
+    (0, 1, b'O', 1),
+    (1, 1, b'A', 1),
+    (1, 0, b'B', 0),
+    (2, 0, b'O', 1),
+    (2, 0, b'A', 0),
+];
+
+/// With CAT entered in across 1.
+const WITH_CAT: &[Tally] = &[
+    (0, 0, b'C', 1),
+    (0, 1, b'A', 1),
+    (0, 1, b'O', 0),
+    (1, 1, b'A', 1),
+    (1, 1, b'O', 1),
+    (2, 0, b'A', 1),
+    (2, 0, b'O', 0),
+];
+
+/// Opens an engine with an empty grid, and adds the words.
+fn opened<E: Searchable>(alloc: Global) -> Result<E, Refusal> {
+    let grid = Grid::new(alloc, THREE_BY_THREE.width, THREE_BY_THREE.height)?;
+    let mut engine = E::open(alloc, grid, Bank::new(alloc)?)?;
+    for word in THREE_BY_THREE.words.split_ascii_whitespace() {
+        let _ = engine.edit(&Edit::Add(word.as_bytes()))?;
+    }
+    Ok(engine)
+}
+
+/// Whether an engine counts so many words.
+fn counts<E: Searchable>(engine: &E, tally: Tally) -> bool {
+    let (light, position, byte, count) = tally;
+    let board = Board::new(engine.grid(), engine.lights());
+    if light >= board.light_count() || position >= board.light(light).len() {
+        return false;
+    }
+    match Letter::of(byte) {
+        Some(letter) => engine.tally(light, position, letter) == count,
+        None => false,
+    }
+}
+
+fn counts_all<E: Searchable>(engine: &E, tallies: &[Tally]) -> bool {
+    for tally in tallies {
+        if !counts(engine, *tally) {
+            return false;
+        }
+    }
+    true
+}
+
+/// Enters O in the second cell.
+fn enter_o<E: Searchable>(engine: &mut E)
+    ensures { IsTwin (E.state engine.old) (E.state engine.new) }
+{
+    let _ = engine.edit(&Edit::Set(at(1, 2), Letter::capital(b'O')));
+}
+
+/// Whether an engine goes back to the empty grid and forth again.
+fn goes_back<E: Searchable>(alloc: Global) -> Result<bool, Refusal> {
+    let mut engine: E = opened(alloc)?;
+    let mut kept = engine.snapshot()?;
+    let mut passes = counts_all(&engine, EMPTY);
+    enter_o(&mut engine);
+    passes &= counts_all(&engine, WITH_O);
+    engine.exchange(&mut kept);
+    passes &= counts_all(&engine, EMPTY);
+    engine.exchange(&mut kept);
+    passes &= counts_all(&engine, WITH_O);
+    engine.save(&mut kept);
+    engine.exchange(&mut kept);
+    Ok(passes && counts_all(&engine, WITH_O))
+}
+
+/// Whether an engine counts the word that a light's letters spell.
+fn counts_entered<E: Searchable>(alloc: Global) -> Result<bool, Refusal> {
+    let mut engine: E = opened(alloc)?;
+    let _ = engine.edit(&Edit::Place(ACROSS_1, b"CAT"))?;
+    Ok(counts_all(&engine, WITH_CAT))
+}
+
+#[test]
+fn plain_goes_back(rt: HostRuntime) {
+    assert!(rt; goes_back::<Plain>(rt.alloc()) == Ok(true));
+}
+
+#[test]
+fn live_goes_back(rt: HostRuntime) {
+    assert!(rt; goes_back::<Live>(rt.alloc()) == Ok(true));
+}
+
+#[test]
+fn plain_counts_entered(rt: HostRuntime) {
+    assert!(rt; counts_entered::<Plain>(rt.alloc()) == Ok(true));
+}
+
+#[test]
+fn live_counts_entered(rt: HostRuntime) {
+    assert!(rt; counts_entered::<Live>(rt.alloc()) == Ok(true));
+}
