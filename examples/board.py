@@ -32,7 +32,7 @@ TOP = pathlib.Path(__file__).resolve().parent.parent
 ARROWS = {"up": ("down", -1), "down": ("down", 1), "left": ("across", -1), "right": ("across", 1)}
 TERMINAL_KEYS = {"KEY_UP": "up", "KEY_DOWN": "down", "KEY_LEFT": "left", "KEY_RIGHT": "right", "^I": "tab", "^J": "enter",
                  " ": "space", "KEY_BACKSPACE": "backspace", "^?": "backspace", "^H": "backspace"}
-REFUSALS = {"OnBlock": "a block is here", "Occupied": "a letter stands where a block would", "Memory": "memory is wanting"}
+REFUSALS = {"OnBlock": "a block is here", "Occupied": "a letter stands where a block would", "Memory": "out of memory"}
 FILLS = {"filled": "filled", "nofill": "there is no fill", "limit": "no fill was found"}
 PROPOSALS = {"done": "every light is entered", "try": "{2}? enter places it", "dead": "no word fits here",
              "noword": "no word here leaves every light a word"}

@@ -281,7 +281,7 @@ class Call:
             self.has_refused(what, *found)
 
     def refused_lines(self, what, output):
-        """The places of the lines that were refused for want of memory."""
+        """The indices of the lines that were refused with `Memory`."""
         places = frozenset(place for place, answer in enumerate(answers_of(output)) if answer == REFUSAL)
         for place in places:
             assert may_be_refused(self.lines[place]), f"{what}no Memory to {self.lines[place]!r}"
@@ -297,7 +297,7 @@ class Call:
         compare(what + "status", status, REFUSED if places and ample[0] == ACCEPTED else ample[0])
 
     def has_ended(self, what, status, output, errors, left):
-        """The run ended for want of memory: before it answered any line, or after it answered all of them."""
+        """The run ended because an allocation failed: before it answered any line, or after it answered all of them."""
         places = self.refused_lines(what, output) if output else frozenset(range(len(self.lines)))
         ample = self.wanted(places)
         compare(what + "status", status, FAILED)

@@ -48,6 +48,11 @@ def goes_on_as_saved(room, program):
         compare("goes.xw", (room / "goes.xw").read_bytes(), saved)
 
 
+def word_list_resumed(words, typed=b""):
+    """Resumes a word list by mistake, which ends the run at its first line."""
+    return run(f"edit {words}", typed, errors=b"xw: words.txt: line 1: Command\n", status=FORMAT)
+
+
 # Lines of the file get no answers. Refused lines are reported with their numbers.
 CASES = {
     # The last line has no LF.
@@ -85,22 +90,12 @@ CASES = {
     # A word list that is resumed by mistake stays.
     "word_list_resumed": [
         write("words.txt", b"CAT\nCOT\n"),
-        run(
-            "edit --resume words.txt --save words.txt",
-            b"add DOG\n",
-            errors=b"xw: words.txt: line 1: Command\n",
-            status=FORMAT,
-        ),
+        word_list_resumed("--resume words.txt --save words.txt", b"add DOG\n"),
         holds("words.txt", b"CAT\nCOT\n"),
         # The same with its place, which is told already.
-        run(
-            "edit --explain --resume words.txt --save words.txt",
-            b"add DOG\n",
-            errors=b"xw: words.txt: line 1: Command\n",
-            status=FORMAT,
-        ),
+        word_list_resumed("--explain --resume words.txt --save words.txt", b"add DOG\n"),
         holds("words.txt", b"CAT\nCOT\n"),
-        run("edit --resume words.txt --save new.xw", errors=b"xw: words.txt: line 1: Command\n", status=FORMAT),
+        word_list_resumed("--resume words.txt --save new.xw"),
         absent("new.xw"),
     ],
     "session_goes_on": [BEGUN, goes_on_as_saved],
