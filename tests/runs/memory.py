@@ -73,6 +73,7 @@ letters 2 2
 tally 2 2
 tally 1 1
 tally 9 9
+erase 99 down
 show
 lights
 stats
@@ -88,6 +89,7 @@ autofill 0 1 2 down 1 across
 autofill 100 0 99 down
 strike SEVEN
 record
+erase 1 across
 watch off
 bar 3 3 below
 sym leftright

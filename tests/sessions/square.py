@@ -506,6 +506,90 @@ no Arguments
 no Arguments
 > tallies 1 1
 no Command
+@ words_erased: A light is emptied, but for the letters of complete crossing words; if nothing else is entered, these go too.
+> place 1 across AS
+ok
+> erase 1 across
+ok
+> show
+- -
+- -
+ok
+> place 1 across AS
+ok
+> place 1 down AT
+ok
+> erase 1 across
+ok
+> show
+A -
+T -
+ok
+> erase 1 across
+ok
+> show
+- -
+T -
+ok
+> erase 1 across
+ok
+> show
+- -
+T -
+ok
+> place 1 across AS
+ok
+> place 3 across TO
+ok
+> erase 3 across
+ok
+> show
+A S
+- -
+ok
+@ words_erased_on_the_watch
+> place 1 across AS
+ok
+> watch on
+ok
+> erase 1 across
+cell 1 2 ST
+ok
+> erase 1 across
+ok
+> place 1 down AS
+cell 2 1 S
+ok
+> erase 1 down
+cell 2 1 ST
+ok
+@ lights_alone_erased
+> size 3 1
+ok
+> place 1 across CAT
+ok
+> clear 1 2
+ok
+> erase 1 across
+ok
+> show
+- - -
+ok
+@ erase_refused
+> erase 2 across
+no NoLight
+> erase 65537 across
+no NoLight
+> erase 0 down
+no NoLight
+> erase 1
+no Arguments
+> erase 1 across A
+no Arguments
+> erase x across
+no Arguments
+> erases 1 across
+no Command
 @ square_filled_anyhow
 > set 1 2 S
 ok

@@ -1,7 +1,7 @@
 -- The command of a line.
 use Rattle.std.specs.Prelude.{ℕ, ◌==◌, nat_lt, List, [], ◌∷◌, length, codes, slice_index, Option, Some, None, Result, Ok, Err, if◌then◌else◌}
 use Rattle.xw_commands.specs.declared.command.Command.{Command}
-use Rattle.xw_commands.specs.declared.command.Command.TheVariants.{Size, Symmetry, Add, Strike, Match, Set, Clear, Place, Block, Bar, Clue, Write, Circle, Circles, Show, Lights, Words, Letters, Tally, Duplicates, Unlisted, Suggest, Fill, Autofill, Watch, Tell, Put}
+use Rattle.xw_commands.specs.declared.command.Command.TheVariants.{Size, Symmetry, Add, Strike, Match, Set, Clear, Place, Erase, Block, Bar, Clue, Write, Circle, Circles, Show, Lights, Words, Letters, Tally, Duplicates, Unlisted, Suggest, Fill, Autofill, Watch, Tell, Put}
 use Rattle.xw_commands.specs.declared.command.TextField.TheVariants.{Title, Author, Copyright, Notes}
 use Rattle.xw_commands.specs.declared.command.Report.TheVariants.{Cells, Counts, Texts, Stats, Record}
 use Rattle.xw_commands.specs.declared.command.TextMode.TheVariants.{Instead, Behind}
@@ -22,6 +22,7 @@ commands =
     ∷ (codes "set", do given (Set (← spot) (← byte)))
     ∷ (codes "clear", do given (Clear (← spot)))
     ∷ (codes "place", do given (Place (← named) (← word)))
+    ∷ (codes "erase", do given (Erase (← named)))
     ∷ (codes "block", do given (Block (← spot)))
     ∷ (codes "bar", do given (Bar (← spot) (← side)))
     ∷ (clue_name, do given (Clue (← named) (← text)))

@@ -4,7 +4,7 @@ use Rattle.xw_commands.specs.declared.command.Name.{Name}
 use Rattle.xw_commands.specs.declared.command.Name.TheVariants.{Size, Symmetry, Word, Cell, Light, Text, Circles, Show, Lights, Duplicates, Unlisted, Suggest, Fill, Autofill, Watch, Tell, Put}
 use Rattle.xw_commands.specs.declared.command.WithWord.TheVariants.{Add, Strike, Match}
 use Rattle.xw_commands.specs.declared.command.WithCell.TheVariants.{Set, Clear, Block, Bar, Circle, Letters, Tally}
-use Rattle.xw_commands.specs.declared.command.WithLight.TheVariants.{Place, Clue, Words}
+use Rattle.xw_commands.specs.declared.command.WithLight.TheVariants.{Place, Erase, Clue, Words}
 use Rattle.xw_commands.specs.Names.{field_name, clue_name}
 use Rattle.xw_commands.specs.declared.command.Report.TheVariants.{Cells, Counts, Texts, Stats, Record}
 use Rattle.xw_commands.specs.declared.command.TextMode.TheVariants.{Instead, Behind}
@@ -19,6 +19,7 @@ word_of (Word Match) = codes "match"
 word_of (Cell Set) = codes "set"
 word_of (Cell Clear) = codes "clear"
 word_of (Light Place) = codes "place"
+word_of (Light Erase) = codes "erase"
 word_of (Cell Block) = codes "block"
 word_of (Cell Bar) = codes "bar"
 word_of (Light Clue) = clue_name

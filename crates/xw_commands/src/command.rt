@@ -105,6 +105,7 @@ pub enum Command<'a> {
     Set(CellArg, u8),
     Clear(CellArg),
     Place(LightArg, Text<'a>),
+    Erase(LightArg),
     Block(CellArg),
     Bar(CellArg, Side),
     Clue(LightArg, Text<'a>),
@@ -150,6 +151,7 @@ pub enum WithCell {
 #[derive(Clone, Copy)]
 pub enum WithLight {
     Place,
+    Erase,
     Clue,
     Words,
 }
@@ -177,7 +179,7 @@ pub enum Name {
 }
 
 /// Every command word with its name.
-const NAMES: [(&str, Name); 35] = [
+const NAMES: [(&str, Name); 36] = [
     ("size", Name::Size),
     ("sym", Name::Symmetry),
     ("add", Name::Word(WithWord::Add)),
@@ -186,6 +188,7 @@ const NAMES: [(&str, Name); 35] = [
     ("set", Name::Cell(WithCell::Set)),
     ("clear", Name::Cell(WithCell::Clear)),
     ("place", Name::Light(WithLight::Place)),
+    ("erase", Name::Light(WithLight::Erase)),
     ("block", Name::Cell(WithCell::Block)),
     ("bar", Name::Cell(WithCell::Bar)),
     ("clue", Name::Light(WithLight::Clue)),
@@ -250,6 +253,7 @@ fn with_light<'a>(name: WithLight, words: &mut Words<'a>) -> Result<Command<'a>,
     let light = words.named()?;
     match name {
         WithLight::Place => Ok(Command::Place(light, words.word()?)),
+        WithLight::Erase => Ok(Command::Erase(light)),
         WithLight::Clue => Ok(Command::Clue(light, words.text())),
         WithLight::Words => Ok(Command::Words(light, words.number_if_any()?)),
     }

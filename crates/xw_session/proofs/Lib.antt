@@ -3,6 +3,7 @@ pub mod Answering
 pub mod Engine
 pub mod Autofilling
 pub mod Tallying
+pub mod Erasing
 pub mod Sending
 pub mod Bars
 pub mod LetterTexts

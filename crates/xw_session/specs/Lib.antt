@@ -5,6 +5,7 @@ pub mod Text
 pub mod Show
 pub mod Told
 pub mod Tally
+pub mod Erase
 pub mod Stats
 pub mod Put
 pub mod Spelling

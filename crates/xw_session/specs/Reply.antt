@@ -15,7 +15,7 @@ use Rattle.xw_grid.specs.Edit.{new_grid}
 use Rattle.xw_grid.specs.Light.{lights_of, place_named}
 use Rattle.xw_grid.specs.Clue.{no_clues, with_clue, is_circled, with_circle}
 use Rattle.xw_feas.specs.declared.edit.Refusal.{Refusal as EditRefusal}
-use Rattle.xw_feas.specs.State.{State as Position, Action, after, want_of as want_of_edit, letter_set, cell_cleared, word_placed, block_toggled, bar_toggled, symmetry_chosen, word_added, word_struck}
+use Rattle.xw_feas.specs.State.{State as Position, Action, after, want_of as want_of_edit, letter_set, cell_cleared, word_placed, list_written, block_toggled, bar_toggled, symmetry_chosen, word_added, word_struck}
 use Rattle.xw_feas.specs.Changes.{cells_that_differ}
 use Rattle.xw_fill.specs.Position.{position_of, filled_in}
 use Rattle.xw_fill.specs.FeasibleWords.{feasible_words}
@@ -41,6 +41,7 @@ use Rattle.xw_session.specs.State.{State, with_text_in}
 pub use Rattle.xw_session.specs.State.{cell_of}
 use Rattle.xw_session.specs.Escape.{text_spelled}
 use Rattle.xw_session.specs.Tally.{tally_lines}
+use Rattle.xw_session.specs.Erase.{erased_cells, emptied}
 use Rattle.xw_session.specs.Told.{cell_lines, count_lines, text_lines}
 use Rattle.xw_session.specs.Stats.{stat_lines}
 use Rattle.xw_session.specs.Record.{record_lines}
@@ -98,6 +99,11 @@ matched state (Err fault) = Err (refusals.Word fault)
 -- the light that a command names
 abbrev pub light_named : Grid → LightArg → Option Light
 light_named grid named = light_of grid (name_of_light named)
+
+-- the cells of the light are emptied in one edit
+abbrev pub erased : State → Option Light → Result Reply Refusal
+erased state None = Err refusals.NoLight
+erased state (Some light) = moved state (after state.position (list_written (emptied (erased_cells state.position light))))
 
 abbrev pub has_nul : List ℕ → Bool
 has_nul text = list_any (nat_eq 0) text
@@ -186,6 +192,7 @@ reply_to state (commands.Match pattern) = matched state (matching_answer state.p
 reply_to state (commands.Set spot letter) = with_letter state spot (letter_of letter)
 reply_to state (commands.Clear spot) = moved state (after state.position (cell_cleared (cell_of spot)))
 reply_to state (commands.Place named word) = moved state (after state.position (word_placed (name_of_light named) word))
+reply_to state (commands.Erase named) = erased state (light_named state.position.grid named)
 reply_to state (commands.Block spot) = moved state (after state.position (block_toggled (cell_of spot)))
 reply_to state (commands.Bar spot side) = moved state (after state.position (bar_toggled (cell_of spot) side))
 reply_to state (commands.Clue named text) = with_clue_of state (light_named state.position.grid named) text
@@ -246,6 +253,7 @@ want_of state (commands.Match pattern) = None
 want_of state (commands.Set spot letter) = None
 want_of state (commands.Clear spot) = None
 want_of state (commands.Place named word) = None
+want_of state (commands.Erase named) = None
 want_of state (commands.Block spot) = Some grid_memory
 want_of state (commands.Bar spot side) = Some grid_memory
 want_of state (commands.Clue named text) = want_of_text text

@@ -43,6 +43,7 @@ command_words (commands.Match pattern) = word_of (names.Word with_word.Match) �
 command_words (commands.Set spot letter) = word_of (names.Cell with_cell.Set) ∷ at_spot spot ((letter ∷ []) ∷ [])
 command_words (commands.Clear spot) = word_of (names.Cell with_cell.Clear) ∷ at_spot spot []
 command_words (commands.Place named word) = word_of (names.Light with_light.Place) ∷ at_light named (word ∷ [])
+command_words (commands.Erase named) = word_of (names.Light with_light.Erase) ∷ at_light named []
 command_words (commands.Block spot) = word_of (names.Cell with_cell.Block) ∷ at_spot spot []
 command_words (commands.Bar spot side) = word_of (names.Cell with_cell.Bar) ∷ at_spot spot (side_name side ∷ [])
 command_words (commands.Clue named text) = word_of (names.Light with_light.Clue) ∷ at_light named (text ∷ [])

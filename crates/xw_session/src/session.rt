@@ -2,6 +2,7 @@
 mod asking;
 mod autofilling;
 mod changing;
+mod erasing;
 mod putting;
 mod queries;
 mod recording;
@@ -206,6 +207,7 @@ impl<E: Searchable> Session<E> {
             Command::Set(spot, letter) => self.edit(&self.set(spot, letter), sink),
             Command::Clear(spot) => self.edit(&self.clear(spot), sink),
             Command::Place(named, word) => self.edit(&self.place(named, word.bytes()), sink),
+            Command::Erase(named) => self.answer_erase(named, sink),
             Command::Block(spot) => self.edit(&self.block(spot), sink),
             Command::Bar(spot, side) => self.edit(&self.bar(spot, side), sink),
             Command::Clue(named, text) => end_answer(sink, self.set_clue(named, text.bytes())),

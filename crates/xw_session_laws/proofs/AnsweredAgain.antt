@@ -27,6 +27,7 @@ determined state (commands.Match pattern) due left e owed = owed
 determined state (commands.Set spot letter) due left e owed = owed
 determined state (commands.Clear spot) due left e owed = owed
 determined state (commands.Place named word) due left e owed = owed
+determined state (commands.Erase named) due left e owed = owed
 determined state (commands.Block spot) due left e owed = owed
 determined state (commands.Bar spot side) due left e owed = owed
 determined state (commands.Clue named text) due left e owed = owed

@@ -50,13 +50,14 @@ use Rattle.xw_session.specs.declared.session.putting.Place.TheVariants as places
 use Rattle.xw_session.specs.Refusal.{refusal_of}
 use Rattle.xw_session.specs.Autofill.{names_of}
 use Rattle.xw_session.specs.Tally.{tally_lines}
+use Rattle.xw_session.specs.Erase.{erased_cells, emptied}
 use Rattle.xw_session.specs.Answer.{IsDue, Replies, state_after, AnswersParsed}
 use Rattle.xw_session.specs.Escape.{text_spelled}
 use Rattle.xw_session.specs.State.{State, with_text_in, cell_of}
 use Rattle.xw_session.specs.Put.{place_of, has_place, text_of_field, text_at, with_text_at, with_piece}
 use Rattle.xw_session.specs.Show.{show_lines}
 use Rattle.xw_session.specs.Text.{word_line, light_lines, circle_lines, letters_line, counted_lines, duplicate_line, spelled_line, suggestion_line}
-use Rattle.xw_session.specs.Reply.{Reply, edited, shown, moved, watch_lines, with_letter, resized, matched, with_clue_of, has_nul, written, circle_toggled, worded, lettered, tallied, put, light_named, name_of_light, told_lines, first_words, filling_name}
+use Rattle.xw_session.specs.Reply.{Reply, edited, shown, moved, watch_lines, with_letter, resized, matched, with_clue_of, erased, has_nul, written, circle_toggled, worded, lettered, tallied, put, light_named, name_of_light, told_lines, first_words, filling_name}
 use Rattle.xw_session_laws.specs.Replay.{BarsAreOnEdges, AreFrom, AreTextsFrom, clues_of, BeganWith, SessionsBegin}
 use Rattle.xw_session_laws.proofs.InOrder.{plain_at}
 use Rattle.xw_session_laws.proofs.KeptInOrder.{circle_kept, clue_kept, cells_there, texts_there}
@@ -301,6 +302,10 @@ module _ (words : Dictionary) (state : State) (is : BeganWith words state) where
     by_letter at None e = not_refused (refusals.Word (faults.BadLetter 1)) e
     by_letter at (Some letter) e = by_edit (letter_set (cell_of at) letter) e
 
+    by_erase : (light_found : Option Light) → erased state light_found ≡ Ok reply → Kept
+    by_erase None e = not_refused refusals.NoLight e
+    by_erase (Some light) e = by_edit (list_written (emptied (erased_cells state.position light))) e
+
     by_size : (result : Result Grid GridFault) → ((grid : Grid) → result ≡ Ok grid → BarsAreOnEdges grid) → resized state result ≡ Ok reply → Kept
     by_size (Ok grid) only e =
         left_at (record { lines = []; state = record state { position = record { grid = grid; words = state.position.words }; clues = no_clues; circles = [] } }) (λ good. with_size grid (only grid refl) good) e
@@ -387,6 +392,7 @@ module _ (words : Dictionary) (state : State) (is : BeganWith words state) where
     reply_kept (commands.Set at letter) e = by_letter at (letter_of letter) e
     reply_kept (commands.Clear at) e = by_edit (cell_cleared (cell_of at)) e
     reply_kept (commands.Place named word) e = by_edit (word_placed (name_of_light named) word) e
+    reply_kept (commands.Erase named) e = by_erase (light_named state.position.grid named) e
     reply_kept (commands.Block at) e = by_edit (block_toggled (cell_of at)) e
     reply_kept (commands.Bar at side) e = by_edit (bar_toggled (cell_of at) side) e
     reply_kept (commands.Clue named text) e =

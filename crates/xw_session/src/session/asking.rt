@@ -75,7 +75,11 @@ impl<E: Feasible> Session<E> {
     }
 
     /// Applies an edit and answers it.
-    fn answer_edit<W: Sink>(&mut self, edit: &Edit<'_>, sink: &mut W) -> Result<Step, WriteFailed>
+    pub(crate) fn answer_edit<W: Sink>(
+        &mut self,
+        edit: &Edit<'_>,
+        sink: &mut W,
+    ) -> Result<Step, WriteFailed>
         ensures { AnswersBy W.transcript W.failures self.old (moved self.old (after self.old.position (action_of edit.now))) (want_of_action self.old (action_of edit.now)) result self.new sink.old sink.new }
     {
         let is_watched = self.is_watched;

@@ -48,7 +48,7 @@ impl<E: Feasible> Session<E> {
         Ok(())
     }
 
-    fn light(&self, named: LightArg) -> Option<Light>
+    pub(crate) fn light(&self, named: LightArg) -> Option<Light>
         ensures { result ≡ light_named_so self.now.position.grid named }
     {
         self.engine.grid().well_formed();

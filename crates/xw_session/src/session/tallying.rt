@@ -20,7 +20,7 @@ use xw_lines::device::{Sink, WriteFailed};
 use xw_lines::outcome::Step;
 
 /// Returns the index of the light through a cell in a direction.
-fn light_through(lights: &Lights, direction: Direction, cell: Cell) -> Option<usize>
+pub(crate) fn light_through(lights: &Lights, direction: Direction, cell: Cell) -> Option<usize>
     ensures { result ≡ place_through lights.now direction cell }
 {
     match direction {
