@@ -81,6 +81,7 @@ cells
 counts
 dups
 unlisted
+unmatched
 suggest
 fill 100
 fill 0

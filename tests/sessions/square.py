@@ -590,6 +590,76 @@ no Arguments
 no Arguments
 > erases 1 across
 no Command
+@ lights_unmatched: Lights that no active word matches, by their entries alone. A wholly entered light is not among them.
+> unmatched
+ok
+> set 1 1 X
+ok
+> unmatched
+1 across X.
+1 down X.
+ok
+> set 1 2 T
+ok
+> unmatched
+1 down X.
+ok
+> strike TO
+ok
+> unmatched
+1 down X.
+2 down T.
+ok
+> add TO
+ok
+> clear 1 1
+ok
+> unmatched
+ok
+@ dead_square_with_words_for_each_light: No word is feasible, though each light has words that agree with its entries.
+> set 1 1 T
+ok
+> counts
+1 across 0
+1 down 0
+2 down 0
+3 across 0
+ok
+> unmatched
+ok
+@ lights_unmatched_without_entries: No word is as long as the light, or each is struck.
+> size 3 2
+ok
+> unmatched
+1 across ...
+4 across ...
+ok
+> size 2 1
+ok
+> unmatched
+ok
+> strike AS
+ok
+> strike AT
+ok
+> strike SO
+ok
+> strike TO
+ok
+> strike IN
+ok
+> unmatched
+1 across ..
+ok
+> size 1 1
+ok
+> unmatched
+ok
+@ unmatched_refused
+> unmatched 1
+no Arguments
+> Unmatched
+no Command
 @ square_filled_anyhow
 > set 1 2 S
 ok

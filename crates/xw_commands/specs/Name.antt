@@ -1,7 +1,7 @@
 -- The words of the commands.
 use Rattle.std.specs.Prelude.{ℕ, List, codes}
 use Rattle.xw_commands.specs.declared.command.Name.{Name}
-use Rattle.xw_commands.specs.declared.command.Name.TheVariants.{Size, Symmetry, Word, Cell, Light, Text, Circles, Show, Lights, Duplicates, Unlisted, Suggest, Fill, Autofill, Watch, Tell, Put}
+use Rattle.xw_commands.specs.declared.command.Name.TheVariants.{Size, Symmetry, Word, Cell, Light, Text, Circles, Show, Lights, Duplicates, Unlisted, Unmatched, Suggest, Fill, Autofill, Watch, Tell, Put}
 use Rattle.xw_commands.specs.declared.command.WithWord.TheVariants.{Add, Strike, Match}
 use Rattle.xw_commands.specs.declared.command.WithCell.TheVariants.{Set, Clear, Block, Bar, Circle, Letters, Tally}
 use Rattle.xw_commands.specs.declared.command.WithLight.TheVariants.{Place, Erase, Clue, Words}
@@ -33,6 +33,7 @@ word_of (Cell Letters) = codes "letters"
 word_of (Cell Tally) = codes "tally"
 word_of Duplicates = codes "dups"
 word_of Unlisted = codes "unlisted"
+word_of Unmatched = codes "unmatched"
 word_of Suggest = codes "suggest"
 word_of Fill = codes "fill"
 word_of Autofill = codes "autofill"

@@ -119,6 +119,7 @@ pub enum Command<'a> {
     Tally(CellArg),
     Duplicates,
     Unlisted,
+    Unmatched,
     Suggest,
     Fill(u64),
     Autofill(u64, u64, LightArgs<'a>),
@@ -170,6 +171,7 @@ pub enum Name {
     Lights,
     Duplicates,
     Unlisted,
+    Unmatched,
     Suggest,
     Fill,
     Autofill,
@@ -179,7 +181,7 @@ pub enum Name {
 }
 
 /// Every command word with its name.
-const NAMES: [(&str, Name); 36] = [
+const NAMES: [(&str, Name); 37] = [
     ("size", Name::Size),
     ("sym", Name::Symmetry),
     ("add", Name::Word(WithWord::Add)),
@@ -205,6 +207,7 @@ const NAMES: [(&str, Name); 36] = [
     ("tally", Name::Cell(WithCell::Tally)),
     ("dups", Name::Duplicates),
     ("unlisted", Name::Unlisted),
+    ("unmatched", Name::Unmatched),
     ("suggest", Name::Suggest),
     ("fill", Name::Fill),
     ("autofill", Name::Autofill),
@@ -275,6 +278,7 @@ fn arguments<'a>(name: Name, words: &mut Words<'a>) -> Result<Command<'a>, Synta
         Name::Lights => Ok(Command::Lights),
         Name::Duplicates => Ok(Command::Duplicates),
         Name::Unlisted => Ok(Command::Unlisted),
+        Name::Unmatched => Ok(Command::Unmatched),
         Name::Suggest => Ok(Command::Suggest),
         Name::Fill => Ok(Command::Fill(words.number()?)),
         Name::Autofill => Ok(Command::Autofill(

@@ -4,6 +4,7 @@ pub mod Engine
 pub mod Autofilling
 pub mod Tallying
 pub mod Erasing
+pub mod BaseWords
 pub mod Sending
 pub mod Bars
 pub mod LetterTexts

@@ -6,6 +6,7 @@ pub mod Show
 pub mod Told
 pub mod Tally
 pub mod Erase
+pub mod Unmatched
 pub mod Stats
 pub mod Put
 pub mod Spelling

@@ -42,6 +42,7 @@ pub use Rattle.xw_session.specs.State.{cell_of}
 use Rattle.xw_session.specs.Escape.{text_spelled}
 use Rattle.xw_session.specs.Tally.{tally_lines}
 use Rattle.xw_session.specs.Erase.{erased_cells, emptied}
+use Rattle.xw_session.specs.Unmatched.{unmatched_lines}
 use Rattle.xw_session.specs.Told.{cell_lines, count_lines, text_lines}
 use Rattle.xw_session.specs.Stats.{stat_lines}
 use Rattle.xw_session.specs.Record.{record_lines}
@@ -206,6 +207,7 @@ reply_to state (commands.Letters spot) = lettered state (cell_of spot)
 reply_to state (commands.Tally spot) = tallied state (cell_of spot)
 reply_to state commands.Duplicates = shown state (flat_map (duplicate_line state.position.grid) (duplicates_of state.position))
 reply_to state commands.Unlisted = shown state (flat_map (spelled_line state.position.grid) (unlisted_of state.position))
+reply_to state commands.Unmatched = shown state (unmatched_lines state.position)
 reply_to state commands.Suggest = shown state (suggestion_line state.position (suggestion state.position))
 reply_to state (commands.Fill limit) = fill_tried state limit
 reply_to state (commands.Autofill limit seed lights) = not_determined
@@ -224,6 +226,7 @@ has_lines (commands.Letters spot) = true
 has_lines (commands.Tally spot) = true
 has_lines commands.Duplicates = true
 has_lines commands.Unlisted = true
+has_lines commands.Unmatched = true
 has_lines commands.Suggest = true
 has_lines (commands.Fill limit) = true
 has_lines (commands.Autofill limit seed lights) = true
@@ -267,6 +270,7 @@ want_of state (commands.Letters spot) = None
 want_of state (commands.Tally spot) = None
 want_of state commands.Duplicates = Some grid_memory
 want_of state commands.Unlisted = Some grid_memory
+want_of state commands.Unmatched = None
 want_of state commands.Suggest = None
 want_of state (commands.Fill limit) = Some grid_memory
 want_of state (commands.Autofill limit seed lights) = Some grid_memory

@@ -57,6 +57,7 @@ command_words (commands.Letters spot) = word_of (names.Cell with_cell.Letters) �
 command_words (commands.Tally spot) = word_of (names.Cell with_cell.Tally) ∷ at_spot spot []
 command_words commands.Duplicates = word_of names.Duplicates ∷ []
 command_words commands.Unlisted = word_of names.Unlisted ∷ []
+command_words commands.Unmatched = word_of names.Unmatched ∷ []
 command_words commands.Suggest = word_of names.Suggest ∷ []
 command_words (commands.Fill limit) = word_of names.Fill ∷ decimal limit ∷ []
 command_words (commands.Autofill limit seed lights) = word_of names.Autofill ∷ decimal limit ∷ decimal seed ∷ at_lights lights

@@ -3,6 +3,7 @@ mod asking;
 mod autofilling;
 mod changing;
 mod erasing;
+mod matching;
 mod putting;
 mod queries;
 mod recording;
@@ -240,6 +241,7 @@ impl<E: Searchable> Session<E> {
             Command::Tally(spot) => self.answer_tally(spot, sink),
             Command::Duplicates => self.answer_duplicates(sink),
             Command::Unlisted => self.answer_unlisted(sink),
+            Command::Unmatched => self.answer_unmatched(sink),
             Command::Suggest => self.answer_suggestion(sink),
             Command::Fill(limit) => self.answer_fill(limit, sink),
             Command::Autofill(limit, seed, lights) => {

@@ -170,7 +170,7 @@ pub fn letter_or_dot(grid: &Grid, cell: Cell) -> u8
 
 /// The letters of a light, with a dot for each empty cell. Allocates nothing.
 #[derive(Drop)]
-struct Pattern {
+pub struct Pattern {
     bytes: [u8; LONGEST],
     count: usize,
 }
@@ -202,7 +202,7 @@ impl Pattern {
     }
 
     /// Returns the letters of the light with this name, or no letters if there is no such light.
-    fn named(grid: &Grid, lights: &Lights, name: LightName) -> Pattern
+    pub fn named(grid: &Grid, lights: &Lights, name: LightName) -> Pattern
         requires { lights.now ≡ lights_of grid.now }
         ensures { result ≡ pattern_of grid.now (light_of grid.now name) }
     {
@@ -216,7 +216,7 @@ impl Pattern {
         }
     }
 
-    fn bytes(&self) -> &[u8]
+    pub fn bytes(&self) -> &[u8]
         ensures { result.now ≡ self.now }
     {
         &self.bytes[..self.count]

@@ -41,6 +41,7 @@ determined state (commands.Letters spot) due left e owed = owed
 determined state (commands.Tally spot) due left e owed = owed
 determined state commands.Duplicates due left e owed = owed
 determined state commands.Unlisted due left e owed = owed
+determined state commands.Unmatched due left e owed = owed
 determined state commands.Suggest due left e owed = owed
 determined state (commands.Fill limit) due left e owed = owed
 determined state (commands.Autofill limit seed lights) due left e owed = cc

@@ -51,6 +51,7 @@ use Rattle.xw_session.specs.Refusal.{refusal_of}
 use Rattle.xw_session.specs.Autofill.{names_of}
 use Rattle.xw_session.specs.Tally.{tally_lines}
 use Rattle.xw_session.specs.Erase.{erased_cells, emptied}
+use Rattle.xw_session.specs.Unmatched.{unmatched_lines}
 use Rattle.xw_session.specs.Answer.{IsDue, Replies, state_after, AnswersParsed}
 use Rattle.xw_session.specs.Escape.{text_spelled}
 use Rattle.xw_session.specs.State.{State, with_text_in, cell_of}
@@ -407,6 +408,7 @@ module _ (words : Dictionary) (state : State) (is : BeganWith words state) where
     reply_kept (commands.Tally at) e = by_tally (cell_of at) e
     reply_kept commands.Duplicates e = when_shown (flat_map (duplicate_line state.position.grid) (duplicates_of state.position)) e
     reply_kept commands.Unlisted e = when_shown (flat_map (spelled_line state.position.grid) (unlisted_of state.position)) e
+    reply_kept commands.Unmatched e = when_shown (unmatched_lines state.position) e
     reply_kept commands.Suggest e = when_shown (suggestion_line state.position (suggestion state.position)) e
     reply_kept (commands.Fill limit) e =
         by_fill (nat_lt limit (due (position_of state.position))) (found (position_of state.position)) (word_line (filling_name fillings.Limit)) (word_line (filling_name fillings.Filled)) (word_line (filling_name fillings.NoFill))

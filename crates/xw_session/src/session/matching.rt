@@ -1,0 +1,76 @@
+//! Answers `unmatched`.
+ghost use Rattle.std.specs.Prelude.{◌≡◌, ◌<◌, true, false, length};
+ghost use Rattle.xw_feas.specs.Board.{board_of};
+ghost use Rattle.xw_feas.specs.Feasible.{base_words_at};
+ghost use Rattle.xw_fill.specs.Position.{position_of};
+ghost use Rattle.xw_fill.specs.Search.{light_count, is_entered as is_entered_light};
+ghost use Rattle.xw_lines.specs.Sends.{Sends};
+ghost use Rattle.xw_session.specs.Unmatched.{is_unmatched as is_unmatched_light, unmatched_line, unmatched_lines};
+ghost use Rattle.xw_session.specs.Answer.{AnswersTo};
+
+use crate::session::{Session, end_answer};
+use crate::text::{self, Pattern};
+use xw_feas::feasible::Feasible;
+use xw_fill::scan::{is_entered, name_at};
+use xw_lines::device::{Sink, WriteFailed};
+use xw_lines::outcome::Step;
+
+/// Returns whether an active word agrees with the letters of a light that is not wholly entered.
+fn has_base_word<E: Feasible>(engine: &E, light: usize) -> bool
+    requires light { light < light_count (position_of (E.state engine.now)) }
+    requires not_entered { is_entered_light (position_of (E.state engine.now)) light ≡ false }
+    ensures yes { result ≡ true → 0 < length (base_words_at (board_of (E.state engine.now).grid) (E.state engine.now).words light) }
+    ensures no { result ≡ false → length (base_words_at (board_of (E.state engine.now).grid) (E.state engine.now).words light) ≡ 0 }
+{
+    let pattern = Pattern::named(engine.grid(), engine.lights(), name_at(engine, light));
+    match engine.bank().matching(pattern.bytes()) {
+        Ok(mut words) => words.next().is_some(),
+        Err(_) => unreachable!(),
+    }
+}
+
+/// Returns whether a light is not wholly entered and no active word agrees with its letters.
+fn is_unmatched<E: Feasible>(engine: &E, light: usize) -> bool
+    requires { light < light_count (position_of (E.state engine.now)) }
+    ensures { result ≡ is_unmatched_light (E.state engine.now) light }
+{
+    !is_entered(engine, light) && !has_base_word(engine, light)
+}
+
+/// Writes a light with its letters if no word matches them.
+fn write_if_unmatched<E: Feasible, W: Sink>(
+    sink: &mut W,
+    engine: &E,
+    light: usize,
+) -> Result<(), WriteFailed>
+    requires { light < light_count (position_of (E.state engine.now)) }
+    ensures { Sends W.transcript W.failures sink.old sink.new result (unmatched_line (E.state engine.now) light) }
+{
+    if is_unmatched(engine, light) {
+        text::write_light_word(sink, engine.grid(), engine.lights(), name_at(engine, light))
+    } else {
+        Ok(())
+    }
+}
+
+/// Writes each light that no word matches.
+fn write_unmatched<E: Feasible, W: Sink>(sink: &mut W, engine: &E) -> Result<(), WriteFailed>
+    ensures { Sends W.transcript W.failures sink.old sink.new result (unmatched_lines (E.state engine.now)) }
+{
+    for light in 0..engine.lights().len() {
+        write_if_unmatched(sink, engine, light)?;
+    }
+    Ok(())
+}
+
+impl<E: Feasible> Session<E> {
+    ghost use Rattle.xw_commands.specs.declared.command.Command.TheVariants as commands;
+
+    /// Answers `unmatched`: the lights that no word matches.
+    pub(crate) fn answer_unmatched<W: Sink>(&self, sink: &mut W) -> Result<Step, WriteFailed>
+        ensures { AnswersTo W.transcript W.failures self.now commands.Unmatched result self.now sink.old sink.new }
+    {
+        write_unmatched(sink, &self.engine)?;
+        end_answer(sink, Ok(()))
+    }
+}
