@@ -69,6 +69,9 @@ clear 6 1
 words 1 across
 words 2 down 1
 words 99 down
+choices 1 across 2
+choices 2 down 9
+choices 99 down 1
 letters 2 2
 tally 2 2
 tally 1 1

@@ -660,6 +660,155 @@ ok
 no Arguments
 > Unmatched
 no Command
+@ choices_of_the_square: Each word with the fewest words that it leaves to a light that is not wholly entered.
+> choices 1 across 9
+AS 1
+AT 1
+ok
+> choices 1 across 1
+AS 1
+ok
+> choices 1 across 0
+ok
+> set 2 1 T
+ok
+> choices 3 across 5
+TO 1
+ok
+> place 1 across AS
+ok
+> choices 3 across 999999999999999999
+TO done
+ok
+> show
+A S
+T -
+ok
+> place 3 across TO
+ok
+> choices 3 across 5
+TO done
+ok
+> choices 3 across 0
+ok
+> clear 2 2
+ok
+> choices 1 across 5
+AS 1
+ok
+> clear 2 1
+ok
+> place 1 across XT
+ok
+> choices 1 across 5
+ok
+> choices 3 across 5
+ok
+@ choices_change_nothing
+> watch on
+ok
+> choices 1 across 2
+AS 1
+AT 1
+ok
+> choices 2 down 2
+SO 1
+TO 1
+ok
+> cells
+cell 1 1 A
+cell 1 2 ST
+cell 2 1 ST
+cell 2 2 O
+ok
+> counts
+1 across 2
+1 down 2
+2 down 2
+3 across 2
+ok
+@ entered_lights_do_not_count: The light of the word has one word left; the other light has all five.
+> size 2 3
+ok
+> block 2 1
+ok
+> block 2 2
+ok
+> choices 1 across 2
+AS 5
+AT 5
+ok
+> place 1 across XX
+ok
+> choices 1 across 2
+XX 5
+ok
+> choices 2 across 2
+AS done
+AT done
+ok
+@ a_choice_that_is_a_dead_end: ABA is feasible, but no word goes below it: AD and BE ask for DED.
+> size 3 2
+ok
+> strike AS
+ok
+> strike AT
+ok
+> strike SO
+ok
+> strike TO
+ok
+> strike IN
+ok
+> add AAA
+ok
+> add ABA
+ok
+> add BBB
+ok
+> add DDD
+ok
+> add EEE
+ok
+> add AD
+ok
+> add BE
+ok
+> words 1 across
+3
+AAA
+ABA
+BBB
+ok
+> choices 1 across 5
+AAA 1
+ABA 0
+BBB 1
+ok
+> choices 1 across 2
+AAA 1
+ABA 0
+ok
+> counts
+1 across 3
+1 down 2
+2 down 2
+3 down 2
+4 across 2
+ok
+@ choices_refused
+> choices 2 across 1
+no NoLight
+> choices 65537 across 1
+no NoLight
+> choices 1 across
+no Arguments
+> choices 1 across x
+no Arguments
+> choices 1 across 1 1
+no Arguments
+> choice 1 across 1
+no Command
 @ square_filled_anyhow
 > set 1 2 S
 ok

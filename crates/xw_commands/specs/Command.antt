@@ -1,7 +1,7 @@
 -- The command of a line.
 use Rattle.std.specs.Prelude.{ℕ, ◌==◌, nat_lt, List, [], ◌∷◌, length, codes, slice_index, Option, Some, None, Result, Ok, Err, if◌then◌else◌}
 use Rattle.xw_commands.specs.declared.command.Command.{Command}
-use Rattle.xw_commands.specs.declared.command.Command.TheVariants.{Size, Symmetry, Add, Strike, Match, Set, Clear, Place, Erase, Block, Bar, Clue, Write, Circle, Circles, Show, Lights, Words, Letters, Tally, Duplicates, Unlisted, Unmatched, Suggest, Fill, Autofill, Watch, Tell, Put}
+use Rattle.xw_commands.specs.declared.command.Command.TheVariants.{Size, Symmetry, Add, Strike, Match, Set, Clear, Place, Erase, Block, Bar, Clue, Write, Circle, Circles, Show, Lights, Words, Choices, Letters, Tally, Duplicates, Unlisted, Unmatched, Suggest, Fill, Autofill, Watch, Tell, Put}
 use Rattle.xw_commands.specs.declared.command.TextField.TheVariants.{Title, Author, Copyright, Notes}
 use Rattle.xw_commands.specs.declared.command.Report.TheVariants.{Cells, Counts, Texts, Stats, Record}
 use Rattle.xw_commands.specs.declared.command.TextMode.TheVariants.{Instead, Behind}
@@ -35,6 +35,7 @@ commands =
     ∷ (codes "show", given Show)
     ∷ (codes "lights", given Lights)
     ∷ (codes "words", do given (Words (← named) (← number_if_any)))
+    ∷ (codes "choices", do given (Choices (← named) (← number)))
     ∷ (codes "letters", do given (Letters (← spot)))
     ∷ (codes "tally", do given (Tally (← spot)))
     ∷ (codes "dups", given Duplicates)

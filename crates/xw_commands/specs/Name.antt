@@ -4,7 +4,7 @@ use Rattle.xw_commands.specs.declared.command.Name.{Name}
 use Rattle.xw_commands.specs.declared.command.Name.TheVariants.{Size, Symmetry, Word, Cell, Light, Text, Circles, Show, Lights, Duplicates, Unlisted, Unmatched, Suggest, Fill, Autofill, Watch, Tell, Put}
 use Rattle.xw_commands.specs.declared.command.WithWord.TheVariants.{Add, Strike, Match}
 use Rattle.xw_commands.specs.declared.command.WithCell.TheVariants.{Set, Clear, Block, Bar, Circle, Letters, Tally}
-use Rattle.xw_commands.specs.declared.command.WithLight.TheVariants.{Place, Erase, Clue, Words}
+use Rattle.xw_commands.specs.declared.command.WithLight.TheVariants.{Place, Erase, Clue, Words, Choices}
 use Rattle.xw_commands.specs.Names.{field_name, clue_name}
 use Rattle.xw_commands.specs.declared.command.Report.TheVariants.{Cells, Counts, Texts, Stats, Record}
 use Rattle.xw_commands.specs.declared.command.TextMode.TheVariants.{Instead, Behind}
@@ -29,6 +29,7 @@ word_of Circles = codes "circles"
 word_of Show = codes "show"
 word_of Lights = codes "lights"
 word_of (Light Words) = codes "words"
+word_of (Light Choices) = codes "choices"
 word_of (Cell Letters) = codes "letters"
 word_of (Cell Tally) = codes "tally"
 word_of Duplicates = codes "dups"

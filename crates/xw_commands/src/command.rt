@@ -115,6 +115,7 @@ pub enum Command<'a> {
     Show,
     Lights,
     Words(LightArg, Option<u64>),
+    Choices(LightArg, u64),
     Letters(CellArg),
     Tally(CellArg),
     Duplicates,
@@ -155,6 +156,7 @@ pub enum WithLight {
     Erase,
     Clue,
     Words,
+    Choices,
 }
 
 /// The name of a command, grouped by the form of its arguments.
@@ -181,7 +183,7 @@ pub enum Name {
 }
 
 /// Every command word with its name.
-const NAMES: [(&str, Name); 37] = [
+const NAMES: [(&str, Name); 38] = [
     ("size", Name::Size),
     ("sym", Name::Symmetry),
     ("add", Name::Word(WithWord::Add)),
@@ -203,6 +205,7 @@ const NAMES: [(&str, Name); 37] = [
     ("show", Name::Show),
     ("lights", Name::Lights),
     ("words", Name::Light(WithLight::Words)),
+    ("choices", Name::Light(WithLight::Choices)),
     ("letters", Name::Cell(WithCell::Letters)),
     ("tally", Name::Cell(WithCell::Tally)),
     ("dups", Name::Duplicates),
@@ -259,6 +262,7 @@ fn with_light<'a>(name: WithLight, words: &mut Words<'a>) -> Result<Command<'a>,
         WithLight::Erase => Ok(Command::Erase(light)),
         WithLight::Clue => Ok(Command::Clue(light, words.text())),
         WithLight::Words => Ok(Command::Words(light, words.number_if_any()?)),
+        WithLight::Choices => Ok(Command::Choices(light, words.number()?)),
     }
 }
 

@@ -16,5 +16,6 @@ pub mod Trail
 pub mod Searching
 pub mod MarkedTries
 pub mod SuggestingLemmas
+pub mod ChoiceLemmas
 pub mod ListingLemmas
 pub mod LawLemmas

@@ -236,6 +236,20 @@ placing before now answers_before answers_now light word result is in_grid lette
       subst (DiffersInEntries before) (sym done) (differs_in_squares before new (letters_squares grid (cells_of found) word) (ap (λ b. b.open_cells) board)),
     )
 
+-- the state after placing a word of letters in a light
+pub place_leads : (state : State) (light : ℕ) (word : List ℕ) → IsGrid state.grid → light < length (lights_of state.grid) → All IsLetter word → length word ≡ (get_or (lights_of state.grid) light no_light).size
+    → (next : State) × (after state (word_placed (name_at state light) word) ≡ Ok next) × (position_of next ≡ placed (position_of state) light word)
+place_leads state light word is in_grid letters long =
+    let grid = state.grid in
+    let found = get_or (lights_of grid) light no_light in
+    let new = grid_with_letters grid (cells_of found) word in
+    let board = letters_board grid (cells_of found) word found.start letters is (light_open grid light found.start in_grid) in
+    let cells : map (index_of grid) (cells_of found) ≡ light_at (board_of grid) light = sym (light_at-board grid light no_light in_grid) in (
+      record state { grid = new },
+      place_accepted state light word in_grid letters long,
+      ap (λ b. record { board = b; words = state.words }) board ∙ ap (λ cs. holding (position_of state) (entries_with (board_of grid).entries cs word)) cells,
+    )
+
 -- the length of a light
 pub light_size : (grid : Grid) (light : ℕ) (found : Light) → light < length (lights_of grid) → found ≡ get_or (lights_of grid) light no_light → length (light_at (board_of grid) light) ≡ found.size
 light_size grid light found in_grid is =

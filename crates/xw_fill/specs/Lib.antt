@@ -11,5 +11,6 @@ pub mod Marks
 pub mod Filling
 pub mod Words
 pub mod Suggesting
+pub mod Choices
 pub mod Listing
 pub mod Laws

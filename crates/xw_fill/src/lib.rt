@@ -2,6 +2,7 @@
 //! `Feasible`; filling needs one that implements `Searchable`.
 #![tactic(auto)]
 
+pub mod choices;
 pub mod laws;
 pub mod listing;
 pub mod marks;
@@ -12,6 +13,7 @@ pub mod search;
 pub mod suggesting;
 mod tries;
 
+pub use choices::{fewest_after, fewest_words};
 pub use listing::{Duplicate, duplicates, unlisted};
 pub use marks::Marks;
 pub use search::{Filling, fill};

@@ -1,12 +1,12 @@
 -- The words that match the pattern of a light are its base words.
-use Rattle.std.proofs.Common.{◌≡◌, ℕ, suc, ◌-◌, ◌<◌, ◌≤◌, Bool, true, false, cond, not, ◌&&◌, ◌||◌, leb, le-leb, List, [], ◌∷◌, map, length, get_or, Some, None, refl, sym, ◌∙◌, ap, subst, arith}
-use Rattle.std.specs.Prelude.{Option, Ok, Err, filter, nat_le, ◌==◌, slice_get, position, if◌then◌else◌}
-use Rattle.std.proofs.lemmas.Bool.{ne_eqb, leb-true}
+use Rattle.std.proofs.Common.{◌≡◌, ℕ, suc, ◌-◌, ◌<◌, ◌≤◌, Bool, true, false, cond, not, ◌&&◌, ◌||◌, le-leb, List, [], ◌∷◌, map, length, get_or, Some, None, refl, sym, ◌∙◌, ap, subst, arith}
+use Rattle.std.specs.Prelude.{Option, Ok, Err, is_some, unwrap_or, filter, nat_le, ◌==◌, slice_get, position, if◌then◌else◌}
+use Rattle.std.proofs.lemmas.Bool.{ne_eqb, leb-true, and_parts}
 use Rattle.std.proofs.lemmas.List.{length-map, get_or-map}
 use Rattle.std.specs.Option.{option_and_then}
 use Rattle.std.proofs.lemmas.Option.{slice_get_within, slice_get-get_or, get_or_from_slice_get}
 use Rattle.xw_text.proofs.Position.{position_is_none}
-use Rattle.xw_letters.specs.Letter.{IsLetter, folded, is_letter}
+use Rattle.xw_letters.specs.Letter.{IsLetter, folded}
 use Rattle.xw_words.specs.declared.fault.WordFault.TheVariants.{Length}
 use Rattle.xw_words.specs.Word.{fits, is_stand_in, is_bad_in_pattern, is_word_length, judged}
 use Rattle.xw_words.specs.Dictionary.{Dictionary, Entry, row, answer_on, matches, matching_in, matching_answer}
@@ -54,6 +54,10 @@ square_letter (Some Block) letter good e = cc
 square_letter (Some (Open None)) letter good e = cc
 square_letter (Some (Open (Some x))) letter good e = let same : x ≡ letter = cc in subst IsLetter same (good (Open (Some x)) refl)
 
+letter_there : (e : Option ℕ) → is_some e ≡ true → letter_or_dot e ≡ unwrap_or e 65
+letter_there None some = cc
+letter_there (Some x) some = refl
+
 module _ (grid : Grid) (is : IsGrid grid) where
   abbrev byte : Cell → ℕ
   byte cell = letter_or_dot (entry grid cell)
@@ -82,6 +86,16 @@ module _ (grid : Grid) (is : IsGrid grid) where
       ap (λ b. b && fits (map folded (map byte cells)) word) (byte_stands cell (inside 0 cell (omega arith)) letter)
       ∙ ap (λ b. allows (entry_at (board_of grid) (index_of grid cell)) letter && b) (pattern_fits cells word (λ k d below. inside (suc k) d (omega arith)))
 
+  -- the pattern of cells that all have letters
+  pattern_spells : (cells : List Cell) → ((k : ℕ) (d : Cell) → k < length cells → is_inside grid (get_or cells k d) ≡ true) → is_wholly_entered (board_of grid) (map (index_of grid) cells) ≡ true
+      → map byte cells ≡ spelled (board_of grid) (map (index_of grid) cells)
+  pattern_spells [] inside entered = refl
+  pattern_spells (cell ∷ cells) inside entered =
+      let e = entry_at (board_of grid) (index_of grid cell) in
+      let both = and_parts (is_some e) (is_wholly_entered (board_of grid) (map (index_of grid) cells)) entered in
+      let here : byte cell ≡ letter_or_dot e = ap letter_or_dot (at_index cell (inside 0 cell (omega arith)) ∙ sym (entry-square grid (index_of grid cell))) in
+      rw (here ∙ letter_there e both.0, pattern_spells cells (λ k d below. inside (suc k) d (omega arith)) both.1) refl
+
   module _ (light : ℕ) (within : light < length (lights_of grid)) where
     abbrev found : Light
     found = get_or (lights_of grid) light no_light
@@ -104,6 +118,12 @@ module _ (grid : Grid) (is : IsGrid grid) where
         let several = size_of_light grid light no_light within in
         let short = (light_short grid light is within).0 in
         ap is_word_length long ∙ ap (λ b. b && nat_le found.size 255) (le-leb 2 found.size several) ∙ le-leb found.size 255 short
+
+    -- the pattern of a wholly entered light is its word
+    pub entered_pattern : is_wholly_entered (board_of grid) (light_at (board_of grid) light) ≡ true → pattern grid found ≡ spelled (board_of grid) (light_at (board_of grid) light)
+    entered_pattern entered =
+        let cells : light_at (board_of grid) light ≡ map (index_of grid) (cells_of found) = light_at-board grid light no_light within in
+        pattern_spells (cells_of found) cells_inside (ap (is_wholly_entered (board_of grid)) (sym cells) ∙ entered) ∙ ap (spelled (board_of grid)) (sym cells)
 
     pub base_words_match : (words : Dictionary) → is_wholly_entered (board_of grid) (light_at (board_of grid) light) ≡ false
         → matching_answer words (pattern grid found) ≡ Ok (base_words_at (board_of grid) words light)

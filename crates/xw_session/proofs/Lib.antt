@@ -5,6 +5,7 @@ pub mod Autofilling
 pub mod Tallying
 pub mod Erasing
 pub mod BaseWords
+pub mod Choosing
 pub mod Sending
 pub mod Bars
 pub mod LetterTexts

@@ -7,6 +7,7 @@ pub mod Told
 pub mod Tally
 pub mod Erase
 pub mod Unmatched
+pub mod Choices
 pub mod Stats
 pub mod Put
 pub mod Spelling

@@ -43,6 +43,7 @@ use Rattle.xw_session.specs.Escape.{text_spelled}
 use Rattle.xw_session.specs.Tally.{tally_lines}
 use Rattle.xw_session.specs.Erase.{erased_cells, emptied}
 use Rattle.xw_session.specs.Unmatched.{unmatched_lines}
+use Rattle.xw_session.specs.Choices.{choice_lines}
 use Rattle.xw_session.specs.Told.{cell_lines, count_lines, text_lines}
 use Rattle.xw_session.specs.Stats.{stat_lines}
 use Rattle.xw_session.specs.Record.{record_lines}
@@ -152,6 +153,11 @@ worded state None most = Err refusals.NoLight
 worded state (Some light) most =
     shown state (counted_lines (length (feasible_words (position_of state.position) light)) (first_words most (feasible_words (position_of state.position) light)))
 
+-- the first feasible words of a light with what each leaves
+abbrev pub weighed : State → Option ℕ → ℕ → Result Reply Refusal
+weighed state None most = Err refusals.NoLight
+weighed state (Some light) most = shown state (choice_lines state.position light most)
+
 -- the feasible letters of an open cell
 abbrev pub lettered : State → Cell → Result Reply Refusal
 lettered state cell =
@@ -203,6 +209,7 @@ reply_to state commands.Circles = shown state (circle_lines state.position.grid 
 reply_to state commands.Show = shown state (show_lines state.position.grid)
 reply_to state commands.Lights = shown state (light_lines state.position.grid)
 reply_to state (commands.Words named most) = worded state (place_named (lights_of state.position.grid) (name_of_light named)) most
+reply_to state (commands.Choices named most) = weighed state (place_named (lights_of state.position.grid) (name_of_light named)) most
 reply_to state (commands.Letters spot) = lettered state (cell_of spot)
 reply_to state (commands.Tally spot) = tallied state (cell_of spot)
 reply_to state commands.Duplicates = shown state (flat_map (duplicate_line state.position.grid) (duplicates_of state.position))
@@ -222,6 +229,7 @@ has_lines commands.Circles = true
 has_lines commands.Show = true
 has_lines commands.Lights = true
 has_lines (commands.Words named most) = true
+has_lines (commands.Choices named most) = true
 has_lines (commands.Letters spot) = true
 has_lines (commands.Tally spot) = true
 has_lines commands.Duplicates = true
@@ -266,6 +274,7 @@ want_of state commands.Circles = None
 want_of state commands.Show = None
 want_of state commands.Lights = None
 want_of state (commands.Words named most) = None
+want_of state (commands.Choices named most) = None
 want_of state (commands.Letters spot) = None
 want_of state (commands.Tally spot) = None
 want_of state commands.Duplicates = Some grid_memory

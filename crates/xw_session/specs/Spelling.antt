@@ -53,6 +53,7 @@ command_words commands.Circles = word_of names.Circles ∷ []
 command_words commands.Show = word_of names.Show ∷ []
 command_words commands.Lights = word_of names.Lights ∷ []
 command_words (commands.Words named most) = word_of (names.Light with_light.Words) ∷ at_light named (number_if_any most)
+command_words (commands.Choices named most) = word_of (names.Light with_light.Choices) ∷ at_light named (decimal most ∷ [])
 command_words (commands.Letters spot) = word_of (names.Cell with_cell.Letters) ∷ at_spot spot []
 command_words (commands.Tally spot) = word_of (names.Cell with_cell.Tally) ∷ at_spot spot []
 command_words commands.Duplicates = word_of names.Duplicates ∷ []

@@ -2,6 +2,7 @@
 mod asking;
 mod autofilling;
 mod changing;
+mod choosing;
 mod erasing;
 mod matching;
 mod putting;
@@ -237,6 +238,7 @@ impl<E: Searchable> Session<E> {
             Command::Show => self.answer_show(sink),
             Command::Lights => self.answer_lights(sink),
             Command::Words(named, most) => self.answer_words(named, most, sink),
+            Command::Choices(named, most) => self.answer_choices(named, most, sink),
             Command::Letters(spot) => self.answer_letters(spot, sink),
             Command::Tally(spot) => self.answer_tally(spot, sink),
             Command::Duplicates => self.answer_duplicates(sink),

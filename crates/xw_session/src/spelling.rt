@@ -47,7 +47,7 @@ pub fn write_letters_line<W: Sink>(sink: &mut W, letters: &[Letter]) -> Result<(
 }
 
 /// Writes letters chunk by chunk.
-fn write_letters<W: Sink>(sink: &mut W, letters: &[Letter]) -> Result<(), WriteFailed>
+pub fn write_letters<W: Sink>(sink: &mut W, letters: &[Letter]) -> Result<(), WriteFailed>
     ensures { Sends W.transcript W.failures sink.old sink.new result letters.now }
 {
     let mut bytes = [0; TOGETHER];

@@ -37,6 +37,7 @@ determined state commands.Circles due left e owed = owed
 determined state commands.Show due left e owed = owed
 determined state commands.Lights due left e owed = owed
 determined state (commands.Words named most) due left e owed = owed
+determined state (commands.Choices named most) due left e owed = owed
 determined state (commands.Letters spot) due left e owed = owed
 determined state (commands.Tally spot) due left e owed = owed
 determined state commands.Duplicates due left e owed = owed

@@ -52,13 +52,14 @@ use Rattle.xw_session.specs.Autofill.{names_of}
 use Rattle.xw_session.specs.Tally.{tally_lines}
 use Rattle.xw_session.specs.Erase.{erased_cells, emptied}
 use Rattle.xw_session.specs.Unmatched.{unmatched_lines}
+use Rattle.xw_session.specs.Choices.{choice_lines}
 use Rattle.xw_session.specs.Answer.{IsDue, Replies, state_after, AnswersParsed}
 use Rattle.xw_session.specs.Escape.{text_spelled}
 use Rattle.xw_session.specs.State.{State, with_text_in, cell_of}
 use Rattle.xw_session.specs.Put.{place_of, has_place, text_of_field, text_at, with_text_at, with_piece}
 use Rattle.xw_session.specs.Show.{show_lines}
 use Rattle.xw_session.specs.Text.{word_line, light_lines, circle_lines, letters_line, counted_lines, duplicate_line, spelled_line, suggestion_line}
-use Rattle.xw_session.specs.Reply.{Reply, edited, shown, moved, watch_lines, with_letter, resized, matched, with_clue_of, erased, has_nul, written, circle_toggled, worded, lettered, tallied, put, light_named, name_of_light, told_lines, first_words, filling_name}
+use Rattle.xw_session.specs.Reply.{Reply, edited, shown, moved, watch_lines, with_letter, resized, matched, with_clue_of, erased, has_nul, written, circle_toggled, worded, weighed, lettered, tallied, put, light_named, name_of_light, told_lines, first_words, filling_name}
 use Rattle.xw_session_laws.specs.Replay.{BarsAreOnEdges, AreFrom, AreTextsFrom, clues_of, BeganWith, SessionsBegin}
 use Rattle.xw_session_laws.proofs.InOrder.{plain_at}
 use Rattle.xw_session_laws.proofs.KeptInOrder.{circle_kept, clue_kept, cells_there, texts_there}
@@ -343,6 +344,10 @@ module _ (words : Dictionary) (state : State) (is : BeganWith words state) where
     by_words_of (Some light) most e =
         when_shown (counted_lines (length (feasible_words (position_of state.position) light)) (first_words most (feasible_words (position_of state.position) light))) e
 
+    by_choices : (light : Option ℕ) (most : ℕ) → weighed state light most ≡ Ok reply → Kept
+    by_choices None most e = not_refused refusals.NoLight e
+    by_choices (Some light) most e = when_shown (choice_lines state.position light most) e
+
     by_letters : (cell : Cell) → lettered state cell ≡ Ok reply → Kept
     by_letters cell e =
         let letters = letters_line (feasible_letters (position_of state.position) (index_of state.position.grid cell)) in
@@ -404,6 +409,7 @@ module _ (words : Dictionary) (state : State) (is : BeganWith words state) where
     reply_kept commands.Show e = when_shown (show_lines state.position.grid) e
     reply_kept commands.Lights e = when_shown (light_lines state.position.grid) e
     reply_kept (commands.Words named most) e = by_words_of (place_named (lights_of state.position.grid) (name_of_light named)) most e
+    reply_kept (commands.Choices named most) e = by_choices (place_named (lights_of state.position.grid) (name_of_light named)) most e
     reply_kept (commands.Letters at) e = by_letters (cell_of at) e
     reply_kept (commands.Tally at) e = by_tally (cell_of at) e
     reply_kept commands.Duplicates e = when_shown (flat_map (duplicate_line state.position.grid) (duplicates_of state.position)) e

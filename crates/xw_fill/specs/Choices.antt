@@ -1,0 +1,21 @@
+-- What the choice of a word leaves.
+use Rattle.std.specs.Prelude.{ℕ, List, length, Option, None, Result, Ok, Err, option_map}
+use Rattle.xw_feas.specs.declared.edit.Refusal.{Refusal}
+use Rattle.xw_feas.specs.State.{State, after, word_placed}
+use Rattle.xw_fill.specs.Position.{Position, position_of, name_at}
+use Rattle.xw_fill.specs.FeasibleWords.{feasible_words}
+use Rattle.xw_fill.specs.Search.{chosen}
+
+-- the least number of feasible words of a light that is not wholly entered, which the chosen light has; None if all
+-- lights are wholly entered
+abbrev pub fewest_words : Position → Option ℕ
+fewest_words position = option_map (λ light. length (feasible_words position light)) (chosen position)
+
+-- the same after an edit
+abbrev pub fewest_in : Result State Refusal → Option ℕ
+fewest_in (Ok state) = fewest_words (position_of state)
+fewest_in (Err refusal) = None
+
+-- the same after the word is placed in the light at an index
+abbrev pub fewest_after : State → ℕ → List ℕ → Option ℕ
+fewest_after state light word = fewest_in (after state (word_placed (name_at state light) word))

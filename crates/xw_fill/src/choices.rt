@@ -1,0 +1,34 @@
+//! What the choice of a word leaves.
+ghost use Rattle.std.specs.Prelude.{◌≡◌, slice_index_or, []};
+ghost use Rattle.xw_fill.specs.Position.{position_of};
+ghost use Rattle.xw_fill.specs.Choices.{fewest_words as fewest_words_of, fewest_after as fewest_words_after};
+ghost use Rattle.xw_fill.specs.Suggesting.{IsTriedAt};
+ghost use Rattle.xw_fill.specs.Words.{spellings_at};
+
+use crate::scan::{chosen, word_count};
+use crate::tries::{make_try, place_word, take_back};
+use xw_feas::feasible::Feasible;
+
+/// Returns the least number of feasible words of a light that is not wholly entered, or `None` if all lights are.
+pub fn fewest_words<E: Feasible>(engine: &E) -> Option<usize>
+    ensures { result ≡ fewest_words_of (position_of (E.state engine.now)) }
+{
+    match chosen(engine) {
+        Some(light) => Some(word_count(engine, light)),
+        None => None,
+    }
+}
+
+/// Returns the same number for the state after a feasible word is placed. Allocates no memory, and leaves the engine's
+/// state as it was.
+pub fn fewest_after<E: Feasible>(engine: &mut E, light: usize, place: usize) -> Option<usize>
+    requires tried { IsTriedAt (position_of (E.state engine.old)) light place }
+    ensures fewest { result ≡ fewest_words_after (E.state engine.old) light (slice_index_or (spellings_at (position_of (E.state engine.old)) light) place []) }
+    ensures unchanged { E.state engine.new ≡ E.state engine.old }
+{
+    let tried = make_try(engine, light, place);
+    place_word(engine, light, place);
+    let fewest = fewest_words(engine);
+    take_back(engine, &tried);
+    fewest
+}

@@ -1,0 +1,76 @@
+-- The lines of choices.
+use Rattle.std.proofs.Common.{◌≡◌, ℕ, zero, suc, ◌+◌, ◌-◌, ◌<◌, ◌≤◌, Bool, true, false, cond, ◌&&◌, List, [], ◌∷◌, ◌++◌, map, length, get_or, take, drop, refl, sym, ◌∙◌, ap, arith, append_assoc, append-nil, drop-cons}
+use Rattle.std.specs.Prelude.{filter, flat_map}
+use Rattle.std.proofs.lemmas.List.{get_or-drop, length-drop, get_or-map}
+use Rattle.xw_words.specs.Dictionary.{Entry, row}
+use Rattle.xw_feas.specs.Board.{light_at, agrees}
+use Rattle.xw_feas.specs.Feasible.{base_words, base_words_at}
+use Rattle.xw_fill.specs.Position.{Position}
+use Rattle.xw_fill.specs.FeasibleWords.{is_feasible_word, feasible_words}
+use Rattle.xw_fill.specs.Search.{light_count, is_entered, spelling}
+use Rattle.xw_fill.specs.Words.{spellings_at, words_left, IsNextWord, HasNoMore}
+
+-- ---- the words from an index on
+
+-- the first element that passes, and the others
+rest_from : (p : List ℕ → Bool) (xs : List (List ℕ)) (k from place : ℕ) → place ≡ from + k → place < length xs → ((j : ℕ) → from ≤ j → j < place → p (get_or xs j []) ≡ false) → p (get_or xs place []) ≡ true
+    → filter p (drop from xs) ≡ get_or xs place [] ∷ filter p (drop (place + 1) xs)
+rest_from p xs zero from place is within none passes =
+    let same : from ≡ place = omega (arith, is) in
+    let one : suc place ≡ place + 1 = omega arith in
+    let x = get_or xs place [] in
+    ap (λ n. filter p (drop n xs)) same
+    ∙ ap (filter p) (drop-cons xs place [] within)
+    ∙ ap (λ b. cond b (x ∷ filter p (drop (suc place) xs)) (filter p (drop (suc place) xs))) passes
+    ∙ ap (λ n. x ∷ filter p (drop n xs)) one
+rest_from p xs (suc k) from place is within none passes =
+    let below : from < place = omega (arith, is) in
+    let x = get_or xs from [] in
+    ap (filter p) (drop-cons xs from [] (omega (arith, below, within)))
+    ∙ ap (λ b. cond b (x ∷ filter p (drop (suc from) xs)) (filter p (drop (suc from) xs))) (none from (omega arith) below)
+    ∙ rest_from p xs k (suc from) place (omega (arith, is)) within (λ j above under. none j (omega (arith, above)) under) passes
+
+none_pass : (p : List ℕ → Bool) (xs : List (List ℕ)) → ((k : ℕ) → k < length xs → p (get_or xs k []) ≡ false) → filter p xs ≡ []
+none_pass p [] h = refl
+none_pass p (x ∷ xs) h = rw (h 0 (omega arith)) (none_pass p xs (λ k below. h (suc k) (omega arith)))
+
+pub next_left : (position : Position) (light from place : ℕ) → IsNextWord position light from place → words_left position light from ≡ get_or (spellings_at position light) place [] ∷ words_left position light (place + 1)
+next_left position light from place next =
+    rest_from (is_feasible_word position light) (spellings_at position light) (place - from) from place (omega (arith, next.above)) next.within next.first next.feasible
+
+pub none_left : (position : Position) (light from : ℕ) → HasNoMore position light from → words_left position light from ≡ []
+none_left position light from none =
+    let sp = spellings_at position light in
+    none_pass (is_feasible_word position light) (drop from sp) (λ k below. ap (is_feasible_word position light) (get_or-drop from sp k []) ∙ none (from + k) (omega arith) (omega (arith, below, length-drop from sp)))
+
+-- ---- the first words
+
+pub take_next : (n : ℕ) (x : List ℕ) (xs : List (List ℕ)) → 0 < n → take n (x ∷ xs) ≡ x ∷ take (n - 1) xs
+take_next zero x xs some = absurd (omega (arith, some))
+take_next (suc n) x xs some = let back : n ≡ suc n - 1 = omega arith in ap (λ m. x ∷ take m xs) back
+
+-- the text of one more word
+pub one_more : (text : List ℕ → List ℕ) (whole sent : List ℕ) (left rest : List (List ℕ)) (word : List ℕ) → whole ≡ sent ++ flat_map text left → left ≡ word ∷ rest → whole ≡ (sent ++ text word) ++ flat_map text rest
+one_more text whole sent left rest word w l = w ∙ ap (λ words. sent ++ flat_map text words) l ∙ sym (append_assoc sent (text word) (flat_map text rest))
+
+-- no more words
+pub no_more : (text : List ℕ → List ℕ) (whole sent : List ℕ) (left : List (List ℕ)) → whole ≡ sent ++ flat_map text left → left ≡ [] → whole ≡ sent
+no_more text whole sent left w l = w ∙ ap (λ words. sent ++ flat_map text words) l ∙ append-nil sent
+
+pub take_none : (n : ℕ) (xs : List (List ℕ)) → xs ≡ [] → take n xs ≡ []
+take_none zero xs e = refl
+take_none (suc n) xs e = ap (take (suc n)) e
+
+-- ---- the word of a wholly entered light
+
+pub one_word : (position : Position) (light : ℕ) → light < light_count position → is_entered position light ≡ true → 0 < length (feasible_words position light) → feasible_words position light ≡ spelling position light ∷ []
+unfolding feasible_words
+one_word position light below entered some =
+    let test = is_feasible_word position light in
+    let word = spelling position light in
+    let base : base_words_at position.board position.words light ≡ word ∷ [] =
+    get_or-map (base_words position.board position.words) position.board.lights light [] [] below ∙ ap (λ b. cond b (word ∷ []) (map (λ (entry : Entry). entry.word) (filter (λ (entry : Entry). entry.active && agrees position.board (light_at position.board light) entry.word) (row position.words (length (light_at position.board light)))))) entered in
+    ap (filter test) base ∙ by_test (test word) (omega (arith, some, ap (λ words. length (filter test words)) base)) where
+      by_test : (b : Bool) → 0 < length (cond b (spelling position light ∷ []) []) → cond b (spelling position light ∷ []) [] ≡ spelling position light ∷ []
+      by_test true h = refl
+      by_test false h = absurd (omega (arith, h))

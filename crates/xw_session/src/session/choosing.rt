@@ -1,0 +1,179 @@
+//! Answers `choices`.
+ghost use Rattle.std.specs.Prelude.{◌≡◌, ◌<◌, true, false, length, slice_index_or, [], ◌∷◌, ◌++◌, codes};
+ghost use Rattle.xw_grid.specs.Light.{lights_of, place_named};
+ghost use Rattle.xw_fill.specs.Position.{position_of};
+ghost use Rattle.xw_fill.specs.Search.{light_count, is_entered as is_entered_light};
+ghost use Rattle.xw_fill.specs.Suggesting.{IsTriedAt};
+ghost use Rattle.xw_fill.specs.Words.{spellings_at};
+ghost use Rattle.xw_lines.specs.Sends.{Sends};
+ghost use Rattle.xw_session.specs.Text.{line_of};
+ghost use Rattle.xw_session.specs.Choices.{number_or_done as number_or_a_done, choice_line, choice_lines};
+ghost use Rattle.xw_session.specs.Reply.{name_of_light};
+ghost use Rattle.xw_session.specs.Answer.{AnswersTo};
+
+use crate::lookup::light_name;
+use crate::refusal::Refusal;
+use crate::session::{Session, end_answer};
+use crate::spelling::write_letters;
+use crate::text::{self, Pattern};
+use itoa::Buffer;
+use xw_commands::command::LightArg;
+use xw_feas::feasible::Feasible;
+use xw_fill::choices::{fewest_after, fewest_words};
+use xw_fill::scan::{is_entered, light_at, name_at, next_place, word_count};
+use xw_letters::Letter;
+use xw_lines::device::{self, Sink, WriteFailed};
+use xw_lines::outcome::Step;
+
+/// Returns the digits of a number, or `done` if there is none.
+fn number_or_done(digits: &mut Buffer, number: Option<usize>) -> &[u8]
+    ensures { result.now ≡ number_or_a_done number }
+{
+    match number {
+        Some(number) => digits.format(number as u64).as_bytes(),
+        None => b"done",
+    }
+}
+
+/// Writes letters and a space.
+fn write_letters_spaced<W: Sink>(sink: &mut W, word: &[Letter]) -> Result<(), WriteFailed>
+    ensures { Sends W.transcript W.failures sink.old sink.new result (word.now ++ codes " ") }
+{
+    write_letters(sink, word)?;
+    device::write_all(sink, b" ")
+}
+
+/// Writes a word, and a number or `done`.
+fn write_choice<W: Sink>(
+    sink: &mut W,
+    word: &[Letter],
+    fewest: Option<usize>,
+) -> Result<(), WriteFailed>
+    ensures { Sends W.transcript W.failures sink.old sink.new result (line_of (word.now ∷ number_or_a_done fewest ∷ [])) }
+{
+    write_letters_spaced(sink, word)?;
+    let mut digits = Buffer::new();
+    text::write_line(sink, &[number_or_done(&mut digits, fewest)])
+}
+
+/// Returns the known word at an index among those of a light's length.
+fn known_word<E: Feasible>(engine: &E, light: usize, place: usize) -> &[Letter]
+    requires light { light < light_count (position_of (E.state engine.now)) }
+    requires place { place < length (spellings_at (position_of (E.state engine.now)) light) }
+    ensures { result.now ≡ slice_index_or (spellings_at (position_of (E.state engine.now)) light) place [] }
+{
+    let size = light_at(engine, light).size as usize;
+    engine.bank().word(size, place)
+}
+
+/// Writes a feasible word with what it leaves. The word is placed and taken back before anything is written.
+fn write_choice_at<E: Feasible, W: Sink>(
+    sink: &mut W,
+    engine: &mut E,
+    light: usize,
+    place: usize,
+) -> Result<(), WriteFailed>
+    requires tried { IsTriedAt (position_of (E.state engine.old)) light place }
+    ensures sends { Sends W.transcript W.failures sink.old sink.new result (choice_line (E.state engine.old) light (slice_index_or (spellings_at (position_of (E.state engine.old)) light) place [])) }
+    ensures unchanged { E.state engine.new ≡ E.state engine.old }
+{
+    let fewest = fewest_after(engine, light, place);
+    write_choice(sink, known_word(engine, light, place), fewest)
+}
+
+/// Writes the first feasible words, at most `most`, of a light that is not wholly entered. Leaves the engine's state as
+/// it was.
+fn write_choices<E: Feasible, W: Sink>(
+    sink: &mut W,
+    engine: &mut E,
+    light: usize,
+    most: u64,
+) -> Result<(), WriteFailed>
+    requires light { light < light_count (position_of (E.state engine.old)) }
+    requires not_entered { is_entered_light (position_of (E.state engine.old)) light ≡ false }
+    ensures sends { Sends W.transcript W.failures sink.old sink.new result (choice_lines (E.state engine.old) light most) }
+    ensures unchanged { E.state engine.new ≡ E.state engine.old }
+{
+    let mut from = 0;
+    let mut left = most;
+    while left > 0 {
+        let Some(place) = next_place(engine, light, from) else {
+            return Ok(());
+        };
+        write_choice_at(sink, engine, light, place)?;
+        from = place + 1;
+        left -= 1;
+    }
+    Ok(())
+}
+
+/// Writes the word of a wholly entered light, if it is feasible and at least one word is asked for.
+fn write_entered<E: Feasible, W: Sink>(
+    sink: &mut W,
+    engine: &E,
+    light: usize,
+    most: u64,
+) -> Result<(), WriteFailed>
+    requires light { light < light_count (position_of (E.state engine.now)) }
+    requires entered { is_entered_light (position_of (E.state engine.now)) light ≡ true }
+    ensures { Sends W.transcript W.failures sink.old sink.new result (choice_lines (E.state engine.now) light most) }
+{
+    if most == 0 || word_count(engine, light) == 0 {
+        return Ok(());
+    }
+    let word = Pattern::named(engine.grid(), engine.lights(), name_at(engine, light));
+    let mut digits = Buffer::new();
+    let fewest = number_or_done(&mut digits, fewest_words(engine));
+    text::write_line(sink, &[word.bytes(), fewest])
+}
+
+/// Writes the first feasible words of a light, at most `most`, with what each leaves. Leaves the engine's state as it was.
+fn write_weighed<E: Feasible, W: Sink>(
+    sink: &mut W,
+    engine: &mut E,
+    light: usize,
+    most: u64,
+) -> Result<(), WriteFailed>
+    requires light { light < light_count (position_of (E.state engine.old)) }
+    ensures sends { Sends W.transcript W.failures sink.old sink.new result (choice_lines (E.state engine.old) light most) }
+    ensures unchanged { E.state engine.new ≡ E.state engine.old }
+{
+    if is_entered(engine, light) {
+        write_entered(sink, engine, light, most)
+    } else {
+        write_choices(sink, engine, light, most)
+    }
+}
+
+impl<E: Feasible> Session<E> {
+    ghost use Rattle.xw_commands.specs.declared.command.Command.TheVariants as commands;
+
+    /// Returns the index of the light that a command names.
+    fn light_index(&self, named: LightArg) -> Option<usize>
+        ensures { result ≡ place_named (lights_of self.now.position.grid) (name_of_light named) }
+    {
+        self.engine.grid().well_formed();
+        match light_name(named) {
+            Some(name) => self.engine.lights().index(name),
+            None => None,
+        }
+    }
+
+    /// Answers `choices`: the first feasible words of a light, each with the fewest words that it leaves to a light.
+    pub(crate) fn answer_choices<W: Sink>(
+        &mut self,
+        named: LightArg,
+        most: u64,
+        sink: &mut W,
+    ) -> Result<Step, WriteFailed>
+        ensures { AnswersTo W.transcript W.failures self.old (commands.Choices named most) result self.new sink.old sink.new }
+    {
+        match self.light_index(named) {
+            Some(light) => {
+                write_weighed(sink, &mut self.engine, light, most)?;
+                end_answer(sink, Ok(()))
+            }
+            None => end_answer(sink, Err(Refusal::NoLight)),
+        }
+    }
+}
