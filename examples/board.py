@@ -9,6 +9,7 @@
     #            toggles a block, with its images under the symmetry
     ?            proposes a word, and moves to its light
     enter        places the proposed word
+    !            marks the letters that leave no word, about the cell that was edited last
     ^F           searches for the first fill in the order of the word list
     ^A           searches for any fill; pressed again, in another order
     ^Z           undoes the last edit
@@ -16,7 +17,8 @@
     ^Q, ^C       saves the log and quits; quits without saving
 
 A capital is an entry. A small letter is the only feasible one of its cell, `!` is a cell without a feasible letter, `-` any other
-empty cell, `#` a block. `>` or `v` marks the cell under the cursor, `.` the other cells of its light. Bars are not drawn.
+empty cell, `#` a block. `>` or `v` marks the cell under the cursor, `.` the other cells of its light, `*` a letter that leaves no
+word. Bars are not drawn.
 
 The log has the commands that make this grid, with a fill as the letters that it entered: `xw edit --dict WORDS <LOG` makes the
 grid again. If the log exists at the start, the board begins with its commands.
@@ -86,9 +88,10 @@ class Board:
         self.log = [first]  # the commands that the board began with, then those of each edit
         self.grid, self.lights, self.letters = {}, {}, {}
         self.cursor, self.direction = (1, 1), "across"
+        self.edited, self.reason = (1, 1), []
         self.open, self.message, self.seed = True, "", 0
-        self.actions = {"tab": self.turn, "?": self.suggest, "enter": self.accept, "^F": self.fill, "^A": self.autofill, "^Z": self.undo,
-                        "^S": self.save, "^Q": self.quit}
+        self.actions = {"tab": self.turn, "?": self.suggest, "enter": self.accept, "!": self.explain, "^F": self.fill,
+                        "^A": self.autofill, "^Z": self.undo, "^S": self.save, "^Q": self.quit}
 
     def begin(self):
         """Runs the whole log on the grid that the program starts with."""
@@ -111,7 +114,7 @@ class Board:
         self.letters = {cell: letters for cell, letters in self.letters.items() if self.grid[cell] != "#"}
 
     def press(self, key):
-        self.message = ""
+        self.message, self.reason = "", []
         try:
             self.act(key)
         except Refused as refusal:
@@ -138,6 +141,7 @@ class Board:
     def edit(self, command):
         cells = self.session.ask(command)
         self.log.append([command])
+        self.edited = self.cursor
         self.look(cells)
 
     def step(self, cells):
@@ -159,6 +163,21 @@ class Board:
         what, *rest = self.session.ask("suggest")[0].split()
         if what == "try":
             self.edit("place {} {} {}".format(*rest))
+
+    def explain(self):
+        """Marks the shortest reason why a light through the cell that was edited last has no feasible word."""
+        reasons = [self.reason_for(name) for name, cells in self.lights.items() if self.edited in cells]
+        dead = [reason for reason in reasons if reason is not None]
+        self.reason = min(dead, key=len, default=[])
+        self.message = "these letters leave no word" if self.reason else "the words and blocks leave none" if dead else "each light here has a word"
+
+    def reason_for(self, light):
+        """The cells of a reason why a light has no feasible word, or None if it has one."""
+        try:
+            lines = self.session.ask(f"why {light}")
+        except Refused:
+            return None
+        return [tuple(map(int, line.split()[1:3])) for line in lines]
 
     def fill(self):
         self.search(f"fill {MOST_PLACED}")
@@ -207,6 +226,7 @@ class Board:
         """The grid, with a mark, a number and a face for each cell, and then the panel."""
         marks = dict.fromkeys(self.lights.get(self.light(), []), ".")
         marks[self.cursor] = "v" if self.direction == "down" else ">"
+        marks.update(dict.fromkeys(self.reason, "*"))
         numbers = {cells[0]: name.split()[0] for name, cells in self.lights.items()}
         digits = max(map(len, numbers.values()), default=1)
         rows = {}

@@ -134,6 +134,8 @@ without a word: none
 """),
     ("a light without words is gone to", LATTICE + "X down down ?",
      DEAD.replace(".1X> !", ">1X. !") + "no word fits here\n"),
+    ("the letter that leaves no word is marked", LATTICE + "X !", DEAD.replace(".1X>", "*1X>") + "these letters leave no word\n"),
+    ("with words in all lights none is", LATTICE + "!", FIRST + "each light here has a word\n"),
     ("and there is no fill", LATTICE + "X ^F", DEAD + "there is no fill\n"),
     ("a fill takes the words in their order, and none twice", LATTICE + "^F", FILLED + "filled\n"),
     ("after it every light is entered", LATTICE + "^F ?", FILLED + "every light is entered\n"),

@@ -86,6 +86,8 @@ dups
 unlisted
 unmatched
 suggest
+why 1 across
+why 2 down
 fill 100
 fill 0
 autofill 100
@@ -113,7 +115,7 @@ fill 1"""
 
 # The square of AS, AT, SO, TO and IN, with each answer of `suggest` and of `fill`.
 SQUARE = ["size 2 2", "add AS", "add AT", "add SO", "add TO", "add IN"]
-FILLS = [*SQUARE, "watch on", "fill 3", "suggest", "fill 4", "suggest", "clear 1 1", "set 1 1 X", "suggest", "fill 9", "clear 1 1", "strike SO", "fill 100", "dups", "autofill 100", "clear 1 2", "clear 2 1", "add SO", "autofill 100 3 1 across", "tally 2 1"]
+FILLS = [*SQUARE, "watch on", "fill 3", "suggest", "fill 4", "suggest", "clear 1 1", "set 1 1 X", "suggest", "why 3 across", "fill 9", "clear 1 1", "strike SO", "fill 100", "dups", "autofill 100", "clear 1 2", "clear 2 1", "add SO", "autofill 100 3 1 across", "tally 2 1"]
 
 # One word more than a chunk of 64 holds, on lights of that length.
 CHUNK = ["size 3 2", *(f"add A{chr(65 + number // 26)}{chr(65 + number % 26)}" for number in range(65))]

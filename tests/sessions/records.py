@@ -50,6 +50,7 @@ CASES = {
         b"size 3 3\nblock 1 2\nset 3 3 q\nset 1 1 a\nsym quarter\nwatch on\nbar 2 1 right\n"
     ),
     "sessions_made_again: a light that was filled": is_made_again(b"size 2 2\nset 1 2 s\nautofill 1000 0 1 across\n"),
+    "sessions_made_again: a light that was explained": is_made_again(b"size 2 2\nset 1 2 x\nwhy 1 across\n"),
     "sessions_made_again: one cell": is_made_again(
         b"size 1 1\ncircle 1 1\nblock 1 1\nsym updown\ntext notes \\sone\\n\\ntwo\\t\n"
     ),

@@ -892,6 +892,63 @@ ok
 X S
 - -
 ok
+@ reasons_in_the_square
+> why 1 across
+no Alive
+> set 1 1 X
+ok
+> set 2 2 O
+ok
+> why 1 across
+cell 1 1 X
+ok
+> why 3 across
+cell 1 1 X
+ok
+> watch on
+ok
+> why 2 down
+cell 1 1 X
+ok
+> show
+X -
+- O
+ok
+> clear 1 1
+cell 1 1 A
+cell 1 2 ST
+cell 2 1 ST
+cell 2 2 O
+ok
+> why 2 down
+no Alive
+@ reasons_refused
+> why 9 across
+no NoLight
+> why 2 across
+no NoLight
+> why 65537 across
+no NoLight
+> why 999999999999999999 down
+no NoLight
+> why
+no Arguments
+> why 1
+no Arguments
+> why x across
+no Arguments
+> why 1 ACROSS
+no Arguments
+> why 1 across 1
+no Arguments
+> why 1 across 1 down
+no Arguments
+> whys 1 across
+no Command
+> show
+- -
+- -
+ok
 @ autofills_refused
 > autofill 1000 0 9 across
 no NoLight

@@ -1,7 +1,7 @@
 -- The command of a line.
 use Rattle.std.specs.Prelude.{ℕ, ◌==◌, nat_lt, List, [], ◌∷◌, length, codes, slice_index, Option, Some, None, Result, Ok, Err, if◌then◌else◌}
 use Rattle.xw_commands.specs.declared.command.Command.{Command}
-use Rattle.xw_commands.specs.declared.command.Command.TheVariants.{Size, Symmetry, Add, Strike, Match, Set, Clear, Place, Erase, Block, Bar, Clue, Write, Circle, Circles, Show, Lights, Words, Choices, Letters, Tally, Duplicates, Unlisted, Unmatched, Suggest, Fill, Autofill, Watch, Tell, Put}
+use Rattle.xw_commands.specs.declared.command.Command.TheVariants.{Size, Symmetry, Add, Strike, Match, Set, Clear, Place, Erase, Block, Bar, Clue, Write, Circle, Circles, Show, Lights, Words, Choices, Letters, Tally, Duplicates, Unlisted, Unmatched, Suggest, Why, Fill, Autofill, Watch, Tell, Put}
 use Rattle.xw_commands.specs.declared.command.TextField.TheVariants.{Title, Author, Copyright, Notes}
 use Rattle.xw_commands.specs.declared.command.Report.TheVariants.{Cells, Counts, Texts, Stats, Record}
 use Rattle.xw_commands.specs.declared.command.TextMode.TheVariants.{Instead, Behind}
@@ -42,6 +42,7 @@ commands =
     ∷ (codes "unlisted", given Unlisted)
     ∷ (codes "unmatched", given Unmatched)
     ∷ (codes "suggest", given Suggest)
+    ∷ (codes "why", do given (Why (← named)))
     ∷ (codes "fill", do given (Fill (← number)))
     ∷ (codes "autofill", do given (Autofill (← number) (← number_or_zero) (← lights)))
     ∷ (codes "watch", do given (Watch (← switch)))

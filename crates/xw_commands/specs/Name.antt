@@ -4,7 +4,7 @@ use Rattle.xw_commands.specs.declared.command.Name.{Name}
 use Rattle.xw_commands.specs.declared.command.Name.TheVariants.{Size, Symmetry, Word, Cell, Light, Text, Circles, Show, Lights, Duplicates, Unlisted, Unmatched, Suggest, Fill, Autofill, Watch, Tell, Put}
 use Rattle.xw_commands.specs.declared.command.WithWord.TheVariants.{Add, Strike, Match}
 use Rattle.xw_commands.specs.declared.command.WithCell.TheVariants.{Set, Clear, Block, Bar, Circle, Letters, Tally}
-use Rattle.xw_commands.specs.declared.command.WithLight.TheVariants.{Place, Erase, Clue, Words, Choices}
+use Rattle.xw_commands.specs.declared.command.WithLight.TheVariants.{Place, Erase, Clue, Words, Choices, Why}
 use Rattle.xw_commands.specs.Names.{field_name, clue_name}
 use Rattle.xw_commands.specs.declared.command.Report.TheVariants.{Cells, Counts, Texts, Stats, Record}
 use Rattle.xw_commands.specs.declared.command.TextMode.TheVariants.{Instead, Behind}
@@ -36,6 +36,7 @@ word_of Duplicates = codes "dups"
 word_of Unlisted = codes "unlisted"
 word_of Unmatched = codes "unmatched"
 word_of Suggest = codes "suggest"
+word_of (Light Why) = codes "why"
 word_of Fill = codes "fill"
 word_of Autofill = codes "autofill"
 word_of Watch = codes "watch"

@@ -122,6 +122,7 @@ pub enum Command<'a> {
     Unlisted,
     Unmatched,
     Suggest,
+    Why(LightArg),
     Fill(u64),
     Autofill(u64, u64, LightArgs<'a>),
     Watch(bool),
@@ -157,6 +158,7 @@ pub enum WithLight {
     Clue,
     Words,
     Choices,
+    Why,
 }
 
 /// The name of a command, grouped by the form of its arguments.
@@ -183,7 +185,7 @@ pub enum Name {
 }
 
 /// Every command word with its name.
-const NAMES: [(&str, Name); 38] = [
+const NAMES: [(&str, Name); 39] = [
     ("size", Name::Size),
     ("sym", Name::Symmetry),
     ("add", Name::Word(WithWord::Add)),
@@ -212,6 +214,7 @@ const NAMES: [(&str, Name); 38] = [
     ("unlisted", Name::Unlisted),
     ("unmatched", Name::Unmatched),
     ("suggest", Name::Suggest),
+    ("why", Name::Light(WithLight::Why)),
     ("fill", Name::Fill),
     ("autofill", Name::Autofill),
     ("watch", Name::Watch),
@@ -263,6 +266,7 @@ fn with_light<'a>(name: WithLight, words: &mut Words<'a>) -> Result<Command<'a>,
         WithLight::Clue => Ok(Command::Clue(light, words.text())),
         WithLight::Words => Ok(Command::Words(light, words.number_if_any()?)),
         WithLight::Choices => Ok(Command::Choices(light, words.number()?)),
+        WithLight::Why => Ok(Command::Why(light)),
     }
 }
 

@@ -2,6 +2,7 @@ pub mod Gathering
 pub mod Answering
 pub mod Engine
 pub mod Autofilling
+pub mod Reasoning
 pub mod Tallying
 pub mod Erasing
 pub mod BaseWords

@@ -1,5 +1,7 @@
 -- The answers that a command or line may get, and the state that they leave.
-use Rattle.std.specs.Prelude.{◌≡◌, ◌⊎◌, ℕ, Bool, List, [], ◌++◌, flat_map, Option, Some, None, Result, Ok, Err, IsOk, IfOk, if◌then◌else◌}
+use Rattle.std.specs.declared.alloc.Global.{Global}
+use Rattle.std.specs.Prelude.{Vec, ◌≡◌, ◌⊎◌, ℕ, Bool, List, [], ◌++◌, flat_map, Option, Some, None, Result, Ok, Err, IsOk, IfOk, if◌then◌else◌}
+use Rattle.xw_grid.specs.Grid.{Grid}
 use Rattle.xw_feas.specs.declared.edit.Edit.{Edit}
 use Rattle.xw_feas.specs.declared.edit.Refusal.{Refusal as EditRefusal}
 use Rattle.xw_feas.specs.declared.changed.Changed.{Changed}
@@ -15,9 +17,11 @@ use Rattle.xw_commands.specs.declared.command.SyntaxFault.{SyntaxFault}
 use Rattle.xw_session.specs.declared.refusal.Refusal.{Refusal}
 use Rattle.xw_session.specs.declared.refusal.Refusal.TheVariants as refusals
 use Rattle.xw_commands.specs.Command.{command_of}
-use Rattle.xw_session.specs.Refusal.{refusal_of}
-use Rattle.xw_session.specs.Reply.{Reply, reply_to, want_of, want_of_action, moved, filling_name}
+use Rattle.xw_reason.specs.declared.why.NoReason.{NoReason}
+use Rattle.xw_session.specs.Refusal.{refusal_of, refusal_without_reason}
+use Rattle.xw_session.specs.Reply.{Reply, reply_to, want_of, want_of_action, name_of_light, moved, filling_name}
 use Rattle.xw_session.specs.Autofill.{names_of, IsAutofillDue}
+use Rattle.xw_session.specs.Why.{IsWhyDue, entry_lines}
 use Rattle.xw_lines.specs.Sends.{Sends}
 use Rattle.xw_session.specs.State.{State}
 use Rattle.xw_session.specs.Text.{accepted, refused, word_line, change_line}
@@ -27,9 +31,10 @@ abbrev pub IsReply : Result Reply Refusal → Option Refusal → Result Reply Re
 IsReply due want (Ok reply) = due ≡ Ok reply
 IsReply due want (Err refusal) = (due ≡ Err refusal) ⊎ (IsOk due × (want ≡ Some refusal))
 
--- a reply that the command may get if no allocation fails: more than one for autofill, and one for any other command
+-- a reply that the command may get if no allocation fails: more than one for autofill and why, and one for any other command
 abbrev pub IsDue : State → Command → Result Reply Refusal → Type 0
 IsDue state (commands.Autofill limit seed lights) due = IsAutofillDue state (names_of lights) due
+IsDue state (commands.Why named) due = IsWhyDue state (name_of_light named) due
 IsDue state other due = reply_to state other ≡ due
 
 -- a reply that the command may get
@@ -83,6 +88,11 @@ edit_reply is_watched (Err refusal) state = Err (refusal_of refusal)
 abbrev pub fill_reply : Result Filling EditRefusal → State → Result Reply Refusal
 fill_reply (Ok filling) state = Ok (record { lines = word_line (filling_name filling); state = state })
 fill_reply (Err refusal) state = Err (refusal_of refusal)
+
+-- the result of a search for a reason, as a reply with its entries
+abbrev pub why_reply : Grid → Result (Vec (Option ℕ) Global) NoReason → State → Result Reply Refusal
+why_reply grid (Ok entries) state = Ok (record { lines = entry_lines grid entries.items; state = state })
+why_reply grid (Err refusal) state = Err (refusal_without_reason refusal)
 
 -- the command, which has one allowed reply, was executed or refused, and the state is the one that its reply leaves
 abbrev pub Edits : {T : Type 0} → State → Command → Result T Refusal → State → Type 0

@@ -14,5 +14,6 @@ pub mod Spelling
 pub mod Record
 pub mod Reply
 pub mod Autofill
+pub mod Why
 pub mod Answer
 pub mod Resuming

@@ -186,7 +186,7 @@ fill_tried state limit =
 
 -- ---- the reply to each command if no allocation fails
 
--- autofill has more than one allowed reply, which IsDue of Answer.antt defines; no command is replayed as this one
+-- autofill and why have more than one allowed reply, which IsDue of Answer.antt defines; no command is replayed as one of these
 abbrev pub not_determined : Result Reply Refusal
 not_determined = Err refusals.NoLight
 
@@ -216,6 +216,7 @@ reply_to state commands.Duplicates = shown state (flat_map (duplicate_line state
 reply_to state commands.Unlisted = shown state (flat_map (spelled_line state.position.grid) (unlisted_of state.position))
 reply_to state commands.Unmatched = shown state (unmatched_lines state.position)
 reply_to state commands.Suggest = shown state (suggestion_line state.position (suggestion state.position))
+reply_to state (commands.Why named) = not_determined
 reply_to state (commands.Fill limit) = fill_tried state limit
 reply_to state (commands.Autofill limit seed lights) = not_determined
 reply_to state (commands.Watch is_on) = edited (record state { is_watched = is_on })
@@ -236,6 +237,7 @@ has_lines commands.Duplicates = true
 has_lines commands.Unlisted = true
 has_lines commands.Unmatched = true
 has_lines commands.Suggest = true
+has_lines (commands.Why named) = true
 has_lines (commands.Fill limit) = true
 has_lines (commands.Autofill limit seed lights) = true
 has_lines (commands.Tell telling) = true
@@ -281,6 +283,7 @@ want_of state commands.Duplicates = Some grid_memory
 want_of state commands.Unlisted = Some grid_memory
 want_of state commands.Unmatched = None
 want_of state commands.Suggest = None
+want_of state (commands.Why named) = Some grid_memory
 want_of state (commands.Fill limit) = Some grid_memory
 want_of state (commands.Autofill limit seed lights) = Some grid_memory
 want_of state (commands.Watch is_on) = None

@@ -60,6 +60,7 @@ command_words commands.Duplicates = word_of names.Duplicates ∷ []
 command_words commands.Unlisted = word_of names.Unlisted ∷ []
 command_words commands.Unmatched = word_of names.Unmatched ∷ []
 command_words commands.Suggest = word_of names.Suggest ∷ []
+command_words (commands.Why named) = word_of (names.Light with_light.Why) ∷ at_light named []
 command_words (commands.Fill limit) = word_of names.Fill ∷ decimal limit ∷ []
 command_words (commands.Autofill limit seed lights) = word_of names.Autofill ∷ decimal limit ∷ decimal seed ∷ at_lights lights
 command_words (commands.Watch is_on) = word_of names.Watch ∷ switch_name is_on ∷ []

@@ -68,6 +68,7 @@ name_of refusals.NoLight = codes "NoLight"
 name_of refusals.PlaceLength = codes "PlaceLength"
 name_of refusals.NulByte = codes "NulByte"
 name_of refusals.Escape = codes "Escape"
+name_of refusals.Alive = codes "Alive"
 
 abbrev pub refused : Refusal → List ℕ
 refused refusal = line_of (codes "no" ∷ name_of refusal ∷ [])
@@ -86,6 +87,11 @@ letters_line letters = line_of (letters_or_dash letters ∷ [])
 -- a cell with its new feasible letters
 abbrev pub change_line : Cell × List ℕ → List ℕ
 change_line change = line_of (codes "cell" ∷ decimal change.0.row ∷ decimal change.0.col ∷ letters_or_dash change.1 ∷ [])
+
+-- a cell with its entry; nothing for a cell without one
+abbrev pub entry_line : Cell → Option ℕ → List ℕ
+entry_line cell None = []
+entry_line cell (Some letter) = line_of (codes "cell" ∷ decimal cell.row ∷ decimal cell.col ∷ (letter ∷ []) ∷ [])
 
 -- the number of words, and then the words
 abbrev pub counted_lines : ℕ → List (List ℕ) → List ℕ

@@ -5,6 +5,7 @@ ghost use Rattle.xw_session.specs.Text.{word_fault, grid_fault, syntax_fault, na
 use xw_commands::command::SyntaxFault;
 use xw_feas::edit::Refusal as EditRefusal;
 use xw_grid::GridFault;
+use xw_reason::NoReason;
 use xw_words::WordFault;
 
 /// Why a command was refused.
@@ -17,6 +18,7 @@ pub enum Refusal {
     PlaceLength,
     NulByte,
     Escape,
+    Alive,
 }
 
 /// Returns the name of a refusal. The name does not include the place of the fault.
@@ -31,6 +33,7 @@ pub fn name(refusal: Refusal) -> &'static str
         Refusal::PlaceLength => "PlaceLength",
         Refusal::NulByte => "NulByte",
         Refusal::Escape => "Escape",
+        Refusal::Alive => "Alive",
     }
 }
 
@@ -83,6 +86,21 @@ impl From<EditRefusal> for Refusal {
             EditRefusal::Grid(fault) => Refusal::Grid(fault),
             EditRefusal::NoLight => Refusal::NoLight,
             EditRefusal::PlaceLength => Refusal::PlaceLength,
+        }
+    }
+}
+
+impl From<NoReason> for Refusal {
+    ghost use Rattle.std.specs.Prelude.{◌≡◌};
+    ghost use Rattle.xw_session.specs.Refusal.{refusal_without_reason};
+
+    ghost from_gives = { λ none refusal. refusal ≡ refusal_without_reason none };
+
+    fn from(refusal: NoReason) -> Refusal {
+        match refusal {
+            NoReason::NoLight => Refusal::NoLight,
+            NoReason::Alive => Refusal::Alive,
+            NoReason::Memory => Refusal::Grid(GridFault::Memory),
         }
     }
 }

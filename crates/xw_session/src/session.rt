@@ -7,6 +7,7 @@ mod erasing;
 mod matching;
 mod putting;
 mod queries;
+mod reasoning;
 mod recording;
 mod tallying;
 mod telling;
@@ -245,6 +246,7 @@ impl<E: Searchable> Session<E> {
             Command::Unlisted => self.answer_unlisted(sink),
             Command::Unmatched => self.answer_unmatched(sink),
             Command::Suggest => self.answer_suggestion(sink),
+            Command::Why(named) => self.answer_why(named, sink),
             Command::Fill(limit) => self.answer_fill(limit, sink),
             Command::Autofill(limit, seed, lights) => {
                 self.answer_autofill(limit, seed, lights, sink)

@@ -7,7 +7,7 @@ ghost use Rattle.xw_feas.specs.Spelled.{spelling};
 ghost use Rattle.xw_lines.specs.Sends.{Sends, Gathers};
 ghost use Rattle.xw_commands.specs.Names.{direction_name};
 ghost use Rattle.xw_session.specs.Told.{numbered_line};
-ghost use Rattle.xw_session.specs.Text.{line_of, accepted, refused, letter_or_dot as byte_of_entry, pattern as pattern_in, pattern_of, light_of, cell_line, letters_or_dash, letters_line, change_line, duplicate_line, spelled_line};
+ghost use Rattle.xw_session.specs.Text.{line_of, accepted, refused, letter_or_dot as byte_of_entry, pattern as pattern_in, pattern_of, light_of, cell_line, letters_or_dash, letters_line, change_line, entry_line, duplicate_line, spelled_line};
 
 use crate::answer_line::AnswerLine;
 use crate::lookup::light_named;
@@ -347,6 +347,23 @@ pub fn write_change<W: Sink>(
             row.format(cell.row).as_bytes(),
             col.format(cell.col).as_bytes(),
             letters.letters(),
+        ],
+    )
+}
+
+/// Writes the line of a cell with its entry.
+pub fn write_entered<W: Sink>(sink: &mut W, cell: Cell, letter: Letter) -> Result<(), WriteFailed>
+    ensures { Sends W.transcript W.failures sink.old sink.new result (entry_line cell (Some letter)) }
+{
+    let mut row = Buffer::new();
+    let mut col = Buffer::new();
+    write_line(
+        sink,
+        &[
+            b"cell",
+            row.format(cell.row).as_bytes(),
+            col.format(cell.col).as_bytes(),
+            &[letter.byte()],
         ],
     )
 }

@@ -44,6 +44,7 @@ determined state commands.Duplicates due left e owed = owed
 determined state commands.Unlisted due left e owed = owed
 determined state commands.Unmatched due left e owed = owed
 determined state commands.Suggest due left e owed = owed
+determined state (commands.Why named) due left e owed = cc
 determined state (commands.Fill limit) due left e owed = owed
 determined state (commands.Autofill limit seed lights) due left e owed = cc
 determined state (commands.Watch is_on) due left e owed = owed

@@ -49,6 +49,7 @@ use Rattle.xw_session.specs.declared.session.putting.Place.{Place}
 use Rattle.xw_session.specs.declared.session.putting.Place.TheVariants as places
 use Rattle.xw_session.specs.Refusal.{refusal_of}
 use Rattle.xw_session.specs.Autofill.{names_of}
+use Rattle.xw_session.specs.Why.{entry_lines}
 use Rattle.xw_session.specs.Tally.{tally_lines}
 use Rattle.xw_session.specs.Erase.{erased_cells, emptied}
 use Rattle.xw_session.specs.Unmatched.{unmatched_lines}
@@ -380,6 +381,9 @@ module _ (words : Dictionary) (state : State) (is : BeganWith words state) where
     by_end named fillings.NoFill position told (none, same) = when_shown (word_line (filling_name fillings.NoFill)) (by_filling fillings.NoFill position state.position told same)
     by_end named fillings.Limit position told same = when_shown (word_line (filling_name fillings.Limit)) (by_filling fillings.Limit position state.position told same)
 
+    by_reason : (entries : List (Option ℕ)) → reply ≡ record { lines = entry_lines state.position.grid entries; state = state } → Kept
+    by_reason entries told = when_shown (entry_lines state.position.grid entries) (ap Ok (sym told))
+
     by_put : (putting : TextMode) (field : Field) (spelling : Option (List ℕ)) → put state putting field spelling ≡ Ok reply → Kept
     by_put putting field None e = not_refused refusals.Escape e
     by_put putting field (Some text) e =
@@ -416,6 +420,7 @@ module _ (words : Dictionary) (state : State) (is : BeganWith words state) where
     reply_kept commands.Unlisted e = when_shown (flat_map (spelled_line state.position.grid) (unlisted_of state.position)) e
     reply_kept commands.Unmatched e = when_shown (unmatched_lines state.position) e
     reply_kept commands.Suggest e = when_shown (suggestion_line state.position (suggestion state.position)) e
+    reply_kept (commands.Why named) e = by_reason e.entries e.is
     reply_kept (commands.Fill limit) e =
         by_fill (nat_lt limit (due (position_of state.position))) (found (position_of state.position)) (word_line (filling_name fillings.Limit)) (word_line (filling_name fillings.Filled)) (word_line (filling_name fillings.NoFill))
         (end (position_of state.position)).board.entries e

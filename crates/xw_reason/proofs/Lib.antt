@@ -1,0 +1,5 @@
+pub mod Writing
+pub mod Listing
+pub mod Reasons
+pub mod Existence
+mod Examples

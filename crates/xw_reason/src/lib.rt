@@ -1,0 +1,11 @@
+//! Says why a light has no feasible word: a set of entries that leaves it none, and of which none can be spared. Works
+//! over any engine that implements `Feasible`.
+#![tactic(auto)]
+
+mod entries;
+pub mod laws;
+mod order;
+mod sparing;
+pub mod why;
+
+pub use why::{NoReason, reason};

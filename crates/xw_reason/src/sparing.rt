@@ -1,0 +1,71 @@
+//! Leaving out entries that a light can spare: without them, it still has no feasible word.
+ghost use Rattle.std.specs.Prelude.{◌≡◌, ◌<◌, All, true, false, count_by, is_some};
+ghost use Rattle.xw_grid.specs.Grid.{is_open, index_of};
+ghost use Rattle.xw_fill.specs.Position.{position_of, DiffersInEntries};
+ghost use Rattle.xw_fill.specs.Search.{light_count, lacks_words};
+ghost use Rattle.xw_reason.specs.Reason.{entries_of, IsPart};
+ghost use Rattle.xw_reason.specs.Sparing.{IsNeeded, IsSpared};
+
+use crate::entries::write_cell;
+use xw_feas::feasible::Feasible;
+use xw_fill::scan::word_count;
+use xw_grid::cell::Cell;
+use xw_letters::letter::Letter;
+
+/// Empties a cell, unless it is empty or the light then has a feasible word. Returns whether it was emptied.
+fn spare<E: Feasible>(engine: &mut E, light: usize, cell: Cell) -> bool
+    requires light { light < light_count (position_of (E.state engine.old)) }
+    requires open { is_open (E.state engine.old).grid cell ≡ true }
+    ensures spared { result ≡ true → IsSpared (E.state engine.old) light (index_of (E.state engine.old).grid cell) (E.state engine.new) }
+    ensures needed { result ≡ false → IsNeeded (position_of (E.state engine.old)) light (entries_of (E.state engine.old)) (index_of (E.state engine.old).grid cell) }
+    ensures same { result ≡ false → E.state engine.new ≡ E.state engine.old }
+{
+    let letter = engine.grid().entry(cell);
+    if letter.is_none() {
+        return false;
+    }
+    write_cell(engine, cell, None);
+    if word_count(engine, light) == 0 {
+        return true;
+    }
+    write_cell(engine, cell, letter);
+    false
+}
+
+/// Goes through the cells once and empties each that the light can spare. Returns whether any was emptied.
+fn spare_once<E: Feasible>(engine: &mut E, light: usize, list: &[(Cell, Option<Letter>)]) -> bool
+    requires light { light < light_count (position_of (E.state engine.old)) }
+    requires open { All (λ written. is_open (E.state engine.old).grid written.0 ≡ true) list.now }
+    requires dead { lacks_words (position_of (E.state engine.old)) light ≡ true }
+    ensures rest { DiffersInEntries (E.state engine.old) (E.state engine.new) }
+    ensures part { IsPart (entries_of (E.state engine.new)) (entries_of (E.state engine.old)) }
+    ensures dead { lacks_words (position_of (E.state engine.new)) light ≡ true }
+    ensures fewer { result ≡ true → count_by is_some (entries_of (E.state engine.new)) < count_by is_some (entries_of (E.state engine.old)) }
+    ensures same { result ≡ false → E.state engine.new ≡ E.state engine.old }
+    ensures needed { result ≡ false → All (λ written. IsNeeded (position_of (E.state engine.old)) light (entries_of (E.state engine.old)) (index_of (E.state engine.old).grid written.0)) list.now }
+{
+    let mut spared = false;
+    for written in list {
+        if spare(engine, light, written.0) {
+            spared = true;
+        }
+    }
+    spared
+}
+
+/// Goes through the cells again and again, until the light can spare none of their entries.
+pub fn spare_all<E: Feasible>(engine: &mut E, light: usize, list: &[(Cell, Option<Letter>)])
+    requires light { light < light_count (position_of (E.state engine.old)) }
+    requires open { All (λ written. is_open (E.state engine.old).grid written.0 ≡ true) list.now }
+    requires dead { lacks_words (position_of (E.state engine.old)) light ≡ true }
+    ensures rest { DiffersInEntries (E.state engine.old) (E.state engine.new) }
+    ensures part { IsPart (entries_of (E.state engine.new)) (entries_of (E.state engine.old)) }
+    ensures dead { lacks_words (position_of (E.state engine.new)) light ≡ true }
+    ensures needed { All (λ written. IsNeeded (position_of (E.state engine.old)) light (entries_of (E.state engine.new)) (index_of (E.state engine.old).grid written.0)) list.now }
+{
+    loop {
+        if !spare_once(engine, light, list) {
+            return;
+        }
+    }
+}

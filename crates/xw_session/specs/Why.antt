@@ -1,0 +1,36 @@
+-- What a session may answer to why, which has more than one allowed reply.
+use Rattle.std.specs.Prelude.{◌≡◌, ◌⊎◌, ℕ, ◌*◌, false, List, flat_map, Option, None, Result, Ok, Err}
+use Rattle.std.specs.List.{range_with_len}
+use Rattle.xw_grid.specs.declared.cell.LightName.{LightName}
+use Rattle.xw_grid.specs.Grid.{Grid, cell_at}
+use Rattle.xw_grid.specs.Light.{lights_of, place_named}
+use Rattle.xw_reason.specs.Reason.{entry_in, IsReasonOf, IsLight}
+use Rattle.xw_session.specs.declared.refusal.Refusal.{Refusal}
+use Rattle.xw_session.specs.declared.refusal.Refusal.TheVariants as refusals
+use Rattle.xw_session.specs.Text.{entry_line}
+use Rattle.xw_session.specs.State.{State}
+use Rattle.xw_session.specs.Reply.{Reply}
+
+-- the line of a cell, by its index in reading order
+abbrev pub entry_told : Grid → List (Option ℕ) → ℕ → List ℕ
+entry_told grid entries place = entry_line (cell_at grid place) (entry_in entries place)
+
+-- each cell that has an entry, in reading order
+abbrev pub entry_lines : Grid → List (Option ℕ) → List ℕ
+entry_lines grid entries = flat_map (entry_told grid entries) (range_with_len 0 (grid.width * grid.height))
+
+-- the reply names the entries of a reason, and changes nothing
+pub record IsWhyReply (state : State) (name : LightName) (reply : Reply) : Type 0 where
+  pub entries : List (Option ℕ)
+  pub reason : IsReasonOf state.position name entries
+  pub is : reply ≡ record { lines = entry_lines state.position.grid entries; state = state }
+
+-- no light has this name, or it has a feasible word
+abbrev pub IsWhyRefusal : State → LightName → Refusal → Type 0
+IsWhyRefusal state name refusal =
+    ((refusal ≡ refusals.NoLight) × (place_named (lights_of state.position.grid) name ≡ None)) ⊎ ((refusal ≡ refusals.Alive) × IsLight state.position name false)
+
+-- a reply that why may get if no allocation fails: a reason, or why there is none
+abbrev pub IsWhyDue : State → LightName → Result Reply Refusal → Type 0
+IsWhyDue state name (Ok reply) = IsWhyReply state name reply
+IsWhyDue state name (Err refusal) = IsWhyRefusal state name refusal

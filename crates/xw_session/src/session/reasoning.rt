@@ -1,0 +1,108 @@
+//! Answers `why`.
+ghost use Rattle.std.specs.Prelude.{◌≡◌, IfOk, IfErr};
+ghost use Rattle.xw_reason.specs.Reason.{entry_in, IsReasonOf, IsRefused};
+ghost use Rattle.xw_lines.specs.Sends.{Sends};
+ghost use Rattle.xw_session.specs.Text.{entry_line};
+ghost use Rattle.xw_session.specs.Reply.{name_of_light};
+ghost use Rattle.xw_session.specs.Why.{entry_lines};
+ghost use Rattle.xw_session.specs.State.{State};
+ghost use Rattle.xw_session.specs.Answer.{AnswersTo, why_reply, text_of, step_of};
+
+use crate::lookup::light_name;
+use crate::refusal::Refusal;
+use crate::session::{Session, end_answer};
+use crate::text;
+use std::alloc::Global;
+use xw_commands::command::LightArg;
+use xw_feas::feasible::Feasible;
+use xw_grid::{Cell, Grid};
+use xw_letters::Letter;
+use xw_lines::device::{Sink, WriteFailed};
+use xw_lines::outcome::Step;
+use xw_reason::{NoReason, reason};
+
+/// Writes the line of a cell if it has an entry.
+fn write_entry<W: Sink>(sink: &mut W, cell: Cell, entry: Option<Letter>) -> Result<(), WriteFailed>
+    ensures { Sends W.transcript W.failures sink.old sink.new result (entry_line cell entry) }
+{
+    match entry {
+        Some(letter) => text::write_entered(sink, cell, letter),
+        None => Ok(()),
+    }
+}
+
+/// Returns the entry at an index, or none past the end.
+fn entry_at(entries: &[Option<Letter>], place: usize) -> Option<Letter>
+    ensures { result ≡ entry_in entries.now place }
+{
+    if place < entries.len() {
+        entries[place]
+    } else {
+        None
+    }
+}
+
+/// Writes each cell that has an entry on a line, in reading order.
+fn write_entries<W: Sink>(
+    sink: &mut W,
+    grid: &Grid,
+    entries: &[Option<Letter>],
+) -> Result<(), WriteFailed>
+    ensures { Sends W.transcript W.failures sink.old sink.new result (entry_lines grid.now entries.now) }
+{
+    for place in 0..grid.size() {
+        write_entry(sink, grid.cell_at(place), entry_at(entries, place))?;
+    }
+    Ok(())
+}
+
+/// Answers a search for a reason.
+fn end_reason<W: Sink>(
+    sink: &mut W,
+    grid: &Grid,
+    found: Result<Vec<Option<Letter>>, NoReason>,
+) -> Result<Step, WriteFailed>
+    ensures sends { (state : State) → Sends W.transcript W.failures sink.old sink.new result (text_of (why_reply grid.now found state)) }
+    ensures step { (state : State) → IfOk result (λ step. step ≡ step_of (why_reply grid.now found state)) }
+{
+    match found {
+        Ok(entries) => {
+            write_entries(sink, grid, &entries)?;
+            end_answer(sink, Ok(()))
+        }
+        Err(refusal) => end_answer(sink, Err(Refusal::from(refusal))),
+    }
+}
+
+/// Finds a reason why the light named in a command has no feasible word.
+fn reason_for<E: Feasible>(
+    alloc: Global,
+    engine: &mut E,
+    named: LightArg,
+) -> Result<Vec<Option<Letter>>, NoReason>
+    ensures ok { IfOk result (λ entries. IsReasonOf (E.state engine.old) (name_of_light named) entries.items) }
+    ensures refused { IfErr result (IsRefused (E.state engine.old) (name_of_light named)) }
+    ensures unchanged { E.state engine.new ≡ E.state engine.old }
+{
+    engine.grid().well_formed();
+    match light_name(named) {
+        Some(name) => reason(alloc, engine, name),
+        None => Err(NoReason::NoLight),
+    }
+}
+
+impl<E: Feasible> Session<E> {
+    ghost use Rattle.xw_commands.specs.declared.command.Command.TheVariants as commands;
+
+    /// Answers `why`: the entries of a reason why a light has no feasible word.
+    pub(crate) fn answer_why<W: Sink>(
+        &mut self,
+        named: LightArg,
+        sink: &mut W,
+    ) -> Result<Step, WriteFailed>
+        ensures { AnswersTo W.transcript W.failures self.old (commands.Why named) result self.new sink.old sink.new }
+    {
+        let found = reason_for(self.alloc, &mut self.engine, named);
+        end_reason(sink, self.engine.grid(), found)
+    }
+}
