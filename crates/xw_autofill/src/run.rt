@@ -84,7 +84,7 @@ fn is_refuted<E: Searchable>(
     ensures apart { result ≡ false → IsApartAt (position_of (E.state engine.now)) cell }
 {
     if let Some(light) = first_dead(engine, watched) {
-        blame(weights, light);
+        blame(weights, engine.emptied().unwrap_or(light));
         return true;
     }
     has_repeat_at(engine, cell)

@@ -43,4 +43,8 @@ pub trait Searchable: Feasible {
         requires light { light < length (lights_of (Self.state self.now).grid) }
         requires position { position < length (light_at (board_of (Self.state self.now).grid) light) }
         ensures { result ≡ tally_of (Self.answers self.now) light position letter };
+
+    /// A light whose words the last edit removed, by its index: the first one that the engine noticed. It is a hint for a
+    /// search; the contract promises nothing.
+    fn emptied(&self) -> Option<usize>;
 }

@@ -23,7 +23,7 @@ use xw_grid::fault::GridFault;
 /// The most marks that a search has room for. It needs one for each light that is not wholly entered. A placement whose
 /// mark is forgotten is undone by an edit. Each mark takes one snapshot: two bits for each known word of each light's
 /// length, and some 440 bytes for each cell.
-const MARKS: usize = 32;
+const MARKS: usize = 8;
 
 /// How a search for a fill ended.
 /// - `Filled`: the grid holds a fill.

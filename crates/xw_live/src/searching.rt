@@ -38,8 +38,14 @@ impl Searchable for Live {
     }
 
     fn save(&self, snapshot: &mut Saved) {
+        snapshot.net.copy_from(
+            &self.net,
+            &snapshot.grid,
+            &self.grid,
+            &self.lights,
+            &self.bank,
+        );
         snapshot.grid.copy_from(&self.grid);
-        snapshot.net.copy_from(&self.net, &self.lights);
     }
 
     fn exchange(&mut self, snapshot: &mut Saved) {
@@ -56,5 +62,9 @@ impl Searchable for Live {
             position,
             letter,
         )
+    }
+
+    fn emptied(&self) -> Option<usize> {
+        self.net.emptied()
     }
 }

@@ -34,6 +34,11 @@ pub mod NetLemmas
 pub mod CostLemmas
 pub mod Carried
 mod Left
+pub mod EmptiedCell
+pub mod Emptying
+pub mod ClearRow
+pub mod BaseAlike
+mod Emptied
 pub mod Alike
 pub mod Quiet
 pub mod Unstripped

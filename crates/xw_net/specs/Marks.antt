@@ -2,7 +2,7 @@
 use Rattle.std.specs.Prelude.{◌≡◌, ◌⊎◌, ℕ, ◌+◌, ◌*◌, ◌<◌, ◌≤◌, Bool, true, false, ◌&&◌, ◌||◌, ◌==◌, not, List, length, slice_index, if◌then◌else◌}
 use Rattle.xw_letters.specs.Letter.{is_capital}
 use Rattle.xw_words.specs.Dictionary.{Dictionary, Entry, row, IsDictionary}
-use Rattle.xw_feas.specs.Board.{Board, light_at}
+use Rattle.xw_feas.specs.Board.{Board, light_at, IsCrossing}
 use Rattle.xw_feas.specs.Choices.{choice_at, CoversSupported, IsWithinBase}
 use Rattle.xw_feas.specs.WellFormed.{IsLaidOut}
 
@@ -126,6 +126,15 @@ module _ (board : Board) (dictionary : Dictionary) where
   Stays light old new = (place letter : ℕ) → IsPlace board light place
       → (old.letters (cell_at board light place) letter ≡ true → IsHeld old light place letter)
       → new.letters (cell_at board light place) letter ≡ true → IsHeld new light place letter
+
+-- letters that were removed from the cell at a position are left pending for the crossing light, if
+-- there is one, which is queued
+pub data LeavesPending (board : Board) (light place : ℕ) (gone : ℕ → Bool) (old new : Marks) : Type 0 where
+  crossed : (other : ℕ) → IsCrossing board light (cell_at board light place) other → ((one : ℕ) → IsCrossing board light (cell_at board light place) one → other ≡ one)
+      → ((slot letter : ℕ) → new.pending slot letter ≡ (old.pending slot letter || ((slot == 2 * cell_at board light place + side_of (light_at board other)) && gone letter)))
+      → ((one : ℕ) → new.queued one ≡ (old.queued one || (one == other))) → LeavesPending board light place gone old new
+  alone : ((one : ℕ) → IsCrossing board light (cell_at board light place) one → ⊥)
+      → ((slot letter : ℕ) → new.pending slot letter ≡ old.pending slot letter) → ((one : ℕ) → new.queued one ≡ old.queued one) → LeavesPending board light place gone old new
 
 -- a letter is removed from the cell at a position; it becomes pending for the crossing light, if
 -- there is one, which is queued

@@ -138,8 +138,8 @@ fn read_open<R: Rows>(rows: &mut R, board: &Board<'_>, cells: &Cells, row: &mut 
     }
 }
 
-/// Sets the bits of a light's base words. If every cell of the light has a letter, it reads
-/// nothing.
+/// Sets the bits of a light's base words, and counts them. If every cell of the light has a letter,
+/// it reads nothing.
 pub fn read_base<R: Rows>(rows: &mut R, board: &Board<'_>, light: usize, row: &mut BitRow)
     requires light { light < length board.now.lights }
     requires long { All (λ (word : Entry). length word.word ≡ length (light_at board.now light)) (R.entries rows.old (length (light_at board.now light))) }
@@ -154,8 +154,10 @@ pub fn read_base<R: Rows>(rows: &mut R, board: &Board<'_>, light: usize, row: &m
     let cells = board.light(light);
     if has_all_entries(board, &cells) {
         row.clear();
+        row.keep_count();
     } else {
         read_open(rows, board, &cells, row);
+        row.keep_count();
     }
 }
 

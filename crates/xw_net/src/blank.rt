@@ -1,6 +1,6 @@
 //! Creates an empty net.
 use crate::net::Net;
-use crate::room::{make_flags, make_held, make_rows, make_sets};
+use crate::room::{NOWHERE, make_flags, make_held, make_rows, make_sets};
 use std::alloc::{AllocError, Global};
 use xw_grid::grid::Grid;
 use xw_grid::lights::Lights;
@@ -40,6 +40,7 @@ impl Net {
             stack: Vec::with_capacity(alloc, count)?,
             is_marked: make_flags(alloc, count)?,
             spare: None,
+            emptied: NOWHERE,
         })
     }
 }

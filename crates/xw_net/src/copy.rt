@@ -1,11 +1,12 @@
 //! Copies one net into another.
-ghost use Rattle.std.specs.Prelude.{◌≡◌, ℕ, ◌<◌, ◌≤◌, false, length, slice_index_or};
-ghost use Rattle.xw_net.specs.Copy.{AreRowsCopied};
+ghost use Rattle.std.specs.Prelude.{◌≡◌, ℕ, ◌<◌, ◌≤◌, true, false, length, slice_index_or};
+ghost use Rattle.xw_net.specs.Copy.{entries_in, AreBaseRowsAlike, AreRowsCopied};
 ghost use Rattle.xw_net.specs.Room.{row_at};
 
 use crate::net::Net;
 use std::alloc::Global;
 use xw_bits::bit_row::BitRow;
+use xw_feas::board::{Board, Cells};
 use xw_feas::dictionary::known_distinct;
 use xw_feas::edit::Refusal;
 use xw_grid::fault::GridFault;
@@ -26,6 +27,50 @@ fn copy_rows(rows: &mut [BitRow], from: &[BitRow], count: usize)
     }
 }
 
+/// Whether the same is entered in some cells of one board as in cells of another. Where it answers no the contract
+/// promises nothing.
+fn have_same_entries(before: &Board<'_>, cells: &Cells, after: &Board<'_>, others: &Cells) -> bool
+    ensures { result ≡ true → entries_in before.now cells.now ≡ entries_in after.now others.now }
+{
+    if cells.len() != others.len() {
+        return false;
+    }
+    for place in 0..cells.len() {
+        if before.entry(cells.at(place)) != after.entry(others.at(place)) {
+            return false;
+        }
+    }
+    true
+}
+
+/// Copies the first `count` base rows. With `are_settled` it leaves out the rows of lights with the same entries on both
+/// boards, which are equal.
+fn copy_base(
+    rows: &mut [BitRow],
+    from: &[BitRow],
+    before: &Board<'_>,
+    after: &Board<'_>,
+    count: usize,
+    are_settled: bool,
+)
+    requires rows { count ≤ length rows.old }
+    requires from { count ≤ length from.now }
+    requires lights { count ≤ length before.now.lights }
+    requires others { count ≤ length after.now.lights }
+    requires bits { (light : ℕ) → light < count → length (row_at rows.old light).bits ≡ length (row_at from.now light).bits }
+    requires alike { are_settled ≡ true → AreBaseRowsAlike before.now after.now count rows.old from.now }
+    ensures { AreRowsCopied count from.now rows.old rows.new }
+{
+    for light in 0..count {
+        let (cells, others) = (before.light(light), after.light(light));
+        if are_settled && have_same_entries(before, &cells, after, &others) {
+            continue;
+        }
+        let row = &mut rows[light];
+        row.copy_from(&from[light]);
+    }
+}
+
 /// Copies the first `count` flags.
 fn copy_flags(flags: &mut [bool], from: &[bool], count: usize)
     requires flags { count ≤ length flags.old }
@@ -39,23 +84,63 @@ fn copy_flags(flags: &mut [bool], from: &[bool], count: usize)
 impl Net {
     ghost use Rattle.std.specs.Prelude.{◌≡◌, false, is_some, IfOk, IfErr};
     ghost use Rattle.xw_grid.specs.Light.{lights_of};
-    ghost use Rattle.xw_net.specs.Copy.{CanCopy, IsCopy};
+    ghost use Rattle.xw_feas.specs.Board.{board_of};
+    ghost use Rattle.xw_net.specs.Copy.{CanCopy, IsCopy, AreBaseRowsAlike};
     ghost use Rattle.xw_net.specs.Net.{IsSettledFor};
 
-    /// Copies the words and letters of `net`, a net with the same lights and known words. It
-    /// allocates nothing.
-    pub fn copy_from(&mut self, net: &Net, lights: &Lights)
-        requires { CanCopy lights.now net.now self.old }
+    /// Copies the arrays of `net`. With `are_settled` it leaves out the base rows of lights with the same entries in both
+    /// grids, which are equal.
+    fn copy_arrays(
+        &mut self,
+        net: &Net,
+        before: &Grid,
+        after: &Grid,
+        lights: &Lights,
+        are_settled: bool,
+    )
+        requires lights { lights.now ≡ lights_of after.now }
+        requires same_lights { lights.now ≡ lights_of before.now }
+        requires can { CanCopy lights.now net.now self.old }
+        requires alike { are_settled ≡ true → AreBaseRowsAlike (board_of before.now) (board_of after.now) (length lights.now) self.old.base.items net.now.base.items }
         ensures copied { IsCopy lights.now net.now self.new }
         ensures spare { self.new.spare ≡ self.old.spare }
     {
         let count = lights.len();
         copy_rows(&mut self.rows, &net.rows, count);
-        copy_rows(&mut self.base, &net.base, count);
+        copy_base(
+            &mut self.base,
+            &net.base,
+            &Board::new(before, lights),
+            &Board::new(after, lights),
+            count,
+            are_settled,
+        );
         copy_flags(&mut self.entered, &net.entered, count);
         self.letters.as_mut_slice().copy_from_slice(&net.letters);
         self.held.as_mut_slice().copy_from_slice(&net.held);
         self.restart.as_mut_slice().copy_from_slice(&net.restart);
+    }
+
+    /// Copies the words and letters of `net`, which stands for the grid `after`, to this net, which stands for the grid
+    /// `before`. Both have the same lights and dictionary. It allocates nothing.
+    pub fn copy_from(
+        &mut self,
+        net: &Net,
+        before: &Grid,
+        after: &Grid,
+        lights: &Lights,
+        bank: &Bank,
+    )
+        requires lights { lights.now ≡ lights_of after.now }
+        requires same_lights { lights.now ≡ lights_of before.now }
+        requires can { CanCopy lights.now net.now self.old }
+        requires before { ∥ IsSettledFor (record { grid = before.now; words = bank.now.words }) self.old ∥₁ }
+        requires after { ∥ IsSettledFor (record { grid = after.now; words = bank.now.words }) net.now ∥₁ }
+        ensures copied { IsCopy lights.now net.now self.new }
+        ensures spare { self.new.spare ≡ self.old.spare }
+    {
+        let _ = bank;
+        self.copy_arrays(net, before, after, lights, true);
     }
 
     /// A copy of the net, which stands for this grid and dictionary. Returns `Memory` if an
@@ -79,7 +164,7 @@ impl Net {
         };
         grid.well_formed();
         known_distinct(bank);
-        net.copy_from(self, lights);
+        net.copy_arrays(self, grid, grid, lights, false);
         Ok(net)
     }
 }

@@ -23,7 +23,7 @@ fn narrow_at(base: &BitRow, place: usize, row: &mut BitRow)
     row.set_chunk(chunk, left);
 }
 
-/// Removes the words that are not base words. If the changed word has the light's length, it only
+/// Removes the words that are not base words, and counts those that are left. If the changed word has the light's length, it only
 /// processes that word's chunk.
 fn narrow(word: Option<(usize, usize)>, len: usize, base: &BitRow, row: &mut BitRow)
     requires { length row.old.bits ≡ length base.now.bits }
@@ -32,7 +32,10 @@ fn narrow(word: Option<(usize, usize)>, len: usize, base: &BitRow, row: &mut Bit
 {
     match place_if_long(word, len) {
         Some(place) => narrow_at(base, place, row),
-        None => row.and(base),
+        None => {
+            row.and(base);
+            row.keep_count();
+        }
     }
 }
 

@@ -1,12 +1,13 @@
 //! The net, and its stripping: removing words and letters without support.
-ghost use Rattle.std.specs.Prelude.{◌≡◌, ℕ, ◌+◌, ◌<◌, ◌≤◌, true, false, not, ◌++◌, [], ◌∷◌, length, vec_len, vec_capacity, count_by, slice_index_or, slice_set, if◌then◌else◌, All, IfSome, IfNone};
+ghost use Rattle.std.specs.Prelude.{◌≡◌, ℕ, ◌+◌, ◌<◌, ◌≤◌, true, false, not, ◌||◌, ◌++◌, [], ◌∷◌, length, vec_len, vec_capacity, count_by, slice_index_or, slice_set, if◌then◌else◌, All, IfSome, IfNone};
 ghost use Rattle.std.specs.List.Sorted.{IsPermutation};
 ghost use Rattle.xw_letters.specs.Letter.{IsLetter};
+ghost use Rattle.xw_letters.specs.LetterSet.{has};
 ghost use Rattle.xw_words.specs.Dictionary.{Dictionary};
 ghost use Rattle.xw_feas.specs.Board.{light_at};
 
 use crate::place::{Place, place_of, side};
-use crate::room::Spare;
+use crate::room::{NOWHERE, Spare};
 use crate::support::{find_support, strike_row};
 use std::alloc::Global;
 use xw_bits::bit_row::BitRow;
@@ -49,6 +50,8 @@ pub struct Net {
     pub(crate) is_marked: Vec<bool>,
     /// The arrays reserved for the lights after the next edit.
     pub(crate) spare: Option<Spare>,
+    /// The first light whose words the last edit removed, as a hint for searches; `NOWHERE` if there is none.
+    pub(crate) emptied: usize,
 }
 
 /// Queues the light if it is not queued.
@@ -85,6 +88,19 @@ fn take_turn(queue: &mut Vec<usize>, turn: &mut usize) -> Option<usize>
     Some(light)
 }
 
+/// The letters of two sets.
+fn with_all(set: LetterSet, more: LetterSet) -> LetterSet
+    ensures { (letter : ℕ) → has result letter ≡ (has set letter || has more letter) }
+{
+    let mut all = set;
+    let mut from = 0;
+    while let Some(number) = more.next_place(from) {
+        all.insert(Letter::at(number));
+        from = number + 1;
+    }
+    all
+}
+
 impl Net {
     ghost use Rattle.std.specs.Prelude.{◌≡◌, ℕ, ◌+◌, ◌-◌, ◌*◌, ◌<◌, ◌≤◌, ◌⊎◌, Bool, true, false, not, [], ◌||◌, ◌&&◌, ◌==◌, length, slice_index_or, slice_set, vec_len, vec_capacity, count_by, Contains};
     ghost use Rattle.xw_letters.specs.Letter.{IsLetter};
@@ -92,7 +108,7 @@ impl Net {
     ghost use Rattle.xw_words.specs.Dictionary.{Dictionary};
     ghost use Rattle.xw_feas.specs.Board.{light_at};
     ghost use Rattle.xw_feas.specs.Choices.{IsExact};
-    ghost use Rattle.xw_net.specs.Marks.{side_of, IsPosition, IsPlace, IsSlot, IsReady, IsSettledNet, IsSound, IsHeld, IsHolding, Stays, Drops, cell_at, slot_at};
+    ghost use Rattle.xw_net.specs.Marks.{side_of, IsPosition, IsPlace, IsSlot, IsReady, IsSettledNet, IsSound, IsHeld, IsHolding, Stays, Drops, LeavesPending, cell_at, slot_at};
     ghost use Rattle.xw_net.specs.Due.{Measure, IsUnderway, IsClosed, HasQueued, and_light, set_cost};
     ghost use Rattle.xw_net.specs.Nets.{marks_of, word_stands, letter_stands, pending_in, queued_in, IsShaped, IsLeft, HasBits, IsThere, IsQueue, Waits, left_of};
     ghost use Rattle.xw_net.specs.Filled.{IsUnstripped, IsFilled};
@@ -196,6 +212,47 @@ impl Net {
         }
     }
 
+    /// Makes letters that were removed from a cell pending for a light through it, and queues the
+    /// light.
+    fn leave_all_pending(&mut self, board: &Board<'_>, light: usize, cell: usize, gone: LetterSet)
+        requires shaped { IsShaped board.now self.old }
+        requires light { light < length board.now.lights }
+        requires cell { cell < length board.now.open_cells }
+        ensures shaped { IsShaped board.now self.new }
+        ensures rest { IsLeft self.old self.new }
+        ensures same { self.new ≡ record self.old { pending = self.new.pending; queue = self.new.queue; is_queued = self.new.is_queued } }
+        ensures pending { (slot letter : ℕ) → pending_in self.new slot letter ≡ (pending_in self.old slot letter || ((slot == 2 * cell + side_of (light_at board.now light)) && has gone letter)) }
+        ensures queued { (other : ℕ) → queued_in self.new other ≡ (queued_in self.old other || (other == light)) }
+        ensures waits { (other : ℕ) → Waits self.old other → Waits self.new other }
+        ensures longer { vec_len self.new.queue ≤ vec_len self.old.queue + 1 }
+    {
+        let slot = 2 * cell + side(&board.light(light));
+        let pending = self.pending[slot];
+        self.pending[slot] = with_all(pending, gone);
+        enqueue(&mut self.is_queued, &mut self.queue, light);
+    }
+
+    /// Removes all letters of a cell, and makes them pending for the crossing light. `_first` is one
+    /// of them.
+    fn empty_place(&mut self, board: &Board<'_>, here: Place, _first: Letter)
+        requires shaped { IsShaped board.now self.old }
+        requires there { IsThere board.now here }
+        requires stood { letter_stands self.old here.cell _first ≡ true }
+        ensures shaped { IsShaped board.now self.new }
+        ensures rest { IsLeft self.old self.new }
+        ensures same { self.new ≡ record self.old { letters = self.new.letters; pending = self.new.pending; queue = self.new.queue; is_queued = self.new.is_queued } }
+        ensures fewer { left_of self.new ≤ left_of self.old }
+        ensures waits { (other : ℕ) → Waits self.old other → Waits self.new other }
+        ensures letters { (cell letter : ℕ) → letter_stands self.new cell letter ≡ (letter_stands self.old cell letter && not (cell == cell_at board.now here.light here.place)) }
+        ensures leaves { LeavesPending board.now here.light here.place (letter_stands self.old (cell_at board.now here.light here.place)) (marks_of self.old) (marks_of self.new) }
+    {
+        let gone = self.letters[here.cell];
+        self.letters[here.cell] = LetterSet::new();
+        if let Some(other) = board.crossing(here.light, here.place) {
+            self.leave_all_pending(board, other, here.cell, gone);
+        }
+    }
+
     /// Checks one letter of a cell: if its support is gone, it looks for another, and removes the
     /// letter if there is none.
     fn keep_letter<R: Rows>(&mut self, rows: &mut R, board: &Board<'_>, here: Place, letter: Letter)
@@ -227,7 +284,7 @@ impl Net {
         }
     }
 
-    /// Checks each letter at a position.
+    /// Checks each letter at a position. If the light has no word left, all go at once.
     fn keep_place<R: Rows>(&mut self, rows: &mut R, board: &Board<'_>, light: usize, place: usize)
         requires shaped { IsShaped board.now self.old }
         requires bits { HasBits board.now (R.entries rows.old) self.old }
@@ -249,6 +306,12 @@ impl Net {
     {
         let here = place_of(board, light, place);
         let alive = self.letters[here.cell];
+        if let Some(first) = alive.next_place(0) {
+            if self.rows[light].count() == 0 {
+                self.empty_place(board, here, Letter::at(first));
+                return;
+            }
+        }
         let mut from = 0;
         while let Some(number) = alive.next_place(from) {
             self.keep_letter(rows, board, here, Letter::at(number));
@@ -306,6 +369,21 @@ impl Net {
         }
     }
 
+    /// Notes a light that has no letter left at its first cell, unless one was noted before.
+    fn note_emptied(&mut self, board: &Board<'_>, light: usize)
+        requires shaped { IsShaped board.now self.old }
+        requires light { light < length board.now.lights }
+        ensures { self.new ≡ record self.old { emptied = self.new.emptied } }
+    {
+        let cells = board.light(light);
+        if self.emptied == NOWHERE
+            && cells.len() > 0
+            && self.letters[cells.at(0)].is_same(LetterSet::new())
+        {
+            self.emptied = light;
+        }
+    }
+
     /// Strips the net: processes queued lights until the words and letters left support one
     /// another.
     pub(crate) fn strip_queued<R: Rows>(&mut self, rows: &mut R, board: &Board<'_>)
@@ -326,9 +404,11 @@ impl Net {
         ensures filled { (dictionary : Dictionary) → IsPosition board.now (R.entries rows.old) dictionary → IsUnstripped board.now dictionary self.old → IsFilled board.now dictionary self.new }
         ensures cost { (dictionary : Dictionary) (member : ℕ → Bool) → IsPosition board.now (R.entries rows.old) dictionary → IsReady board.now dictionary (marks_of self.old) → IsClosed board.now dictionary member (letter_stands self.old) → HasQueued board.now member (marks_of self.old) → R.ticks rows.new ≤ R.ticks rows.old + set_cost board.now dictionary member }
     {
+        self.emptied = NOWHERE;
         let mut turn = 0;
         while let Some(light) = take_turn(&mut self.queue, &mut turn) {
             self.see_to(rows, board, light);
+            self.note_emptied(board, light);
         }
     }
 }

@@ -1,5 +1,6 @@
 //! Queries of a net.
 use crate::net::Net;
+use crate::room::NOWHERE;
 use xw_grid::lights::Lights;
 use xw_letters::letter_set::LetterSet;
 
@@ -38,6 +39,16 @@ impl Net {
             Some(row.len())
         } else {
             None
+        }
+    }
+
+    /// The first light whose words the last edit removed, if it removed all words of a light. A hint for searches; the
+    /// contract promises nothing.
+    pub fn emptied(&self) -> Option<usize> {
+        if self.emptied == NOWHERE {
+            None
+        } else {
+            Some(self.emptied)
         }
     }
 

@@ -1,5 +1,5 @@
 //! Allocates the arrays of a net.
-ghost use Rattle.std.specs.Prelude.{◌≡◌, ℕ, ◌+◌, ◌-◌, ◌^◌, ◌<◌, ◌≤◌, false, [], length, replicate, vec_capacity, IfOk, OnOk};
+ghost use Rattle.std.specs.Prelude.{◌≡◌, ℕ, ◌+◌, ◌-◌, ◌*◌, ◌^◌, ◌<◌, ◌≤◌, false, [], length, replicate, vec_capacity, IfOk, OnOk};
 ghost use Rattle.xw_words.specs.Dictionary.{row as words_of};
 ghost use Rattle.xw_net.specs.Room.{counts_of, with_word, size_at as size_of_light, row_at, AreFalse, AreEmpty, AreRoomier, HaveRoom, HaveBitRoom, HaveBitMore};
 
@@ -11,6 +11,9 @@ use xw_words::bank::Bank;
 
 /// Stands for the index of a word if there is no such word.
 pub(crate) const NOWHERE: usize = usize::MAX;
+
+/// The most chunks of 64 bits that a row takes at once. No row of words comes near it.
+const MOST_CHUNKS: usize = 1 << 40;
 
 /// The number of cells of a light.
 #[tactic(auto, using(crate::proofs::Rooms::size_nowhere))]
@@ -62,14 +65,29 @@ fn make_empty_row(alloc: Global, room: usize) -> Result<BitRow, AllocError>
     Ok(row)
 }
 
-/// Appends `bits` clear bits to an empty row.
+/// Appends `chunks` times 64 clear bits to an empty row.
+fn push_chunks(row: &mut BitRow, chunks: usize)
+    requires empty { row.old.bits ≡ [] }
+    requires room { 64 * chunks ≤ row.old.room }
+    requires small { chunks ≤ MOST_CHUNKS }
+    ensures bits { row.new.bits ≡ replicate (64 * chunks) false }
+    ensures room { row.old.room ≤ row.new.room }
+{
+    for _ in 0..chunks {
+        row.push_chunk();
+    }
+}
+
+/// Appends `bits` clear bits to an empty row, 64 at a time as far as that goes.
 pub(crate) fn fill_row(row: &mut BitRow, bits: usize)
     requires empty { row.old.bits ≡ [] }
     requires room { bits ≤ row.old.room }
     ensures bits { row.new.bits ≡ replicate bits false }
     ensures room { row.old.room ≤ row.new.room }
 {
-    for _ in 0..bits {
+    let chunks = (bits / 64).min(MOST_CHUNKS);
+    push_chunks(row, chunks);
+    for _ in 64 * chunks..bits {
         row.push(false);
     }
 }

@@ -56,6 +56,7 @@ impl Net {
             stack,
             is_marked,
             spare,
+            emptied: _,
         } = self;
         let [waiting_rows, waiting_base] = waiting_rows(spare);
         let [waiting_entered, waiting_queued, waiting_marked] = waiting_lists(spare);

@@ -13,7 +13,8 @@ use xw_letters::letter::Letter;
 use xw_letters::letter_set::LetterSet;
 use xw_words::rows::Rows;
 
-/// The first word of the row, from a chunk on, that has the letter at the position.
+/// The first word of the row, from a chunk on, that has the letter at the position. An empty row is not searched: when a
+/// light dies, each letter of its cells comes here.
 fn first_support<R: Rows>(
     rows: &mut R,
     row: &BitRow,
@@ -29,13 +30,16 @@ fn first_support<R: Rows>(
     ensures none { IfNone result ((other : ℕ) → 64 * from ≤ other → supports row.now.bits (R.entries rows.old len) position letter other ≡ false) }
     ensures cost { MatchOption result (R.ticks rows.new ≤ R.ticks rows.old + (chunks_of (length row.now.bits) - from)) (λ word. R.ticks rows.new + from ≤ R.ticks rows.old + (word / 64 + 1)) }
 {
+    if row.count() == 0 {
+        return None;
+    }
     rows.next_with(len, position, letter, row, from)
 }
 
 /// Removes from the row the words that have a pending letter at the position. If fewer letters are
 /// left than are pending, it keeps the words with one of the letters left instead, which reads
 /// fewer columns.
-pub(crate) fn strike_row<R: Rows>(
+fn strike_words<R: Rows>(
     rows: &mut R,
     row: &mut BitRow,
     len: usize,
@@ -56,6 +60,30 @@ pub(crate) fn strike_row<R: Rows>(
     } else {
         rows.strike_columns(len, position, pending, row);
     }
+}
+
+/// Removes from the row the words that have a pending letter at the position, and counts those that are left.
+pub(crate) fn strike_row<R: Rows>(
+    rows: &mut R,
+    row: &mut BitRow,
+    len: usize,
+    position: usize,
+    pending: LetterSet,
+    alive: LetterSet,
+)
+    requires { length row.old.bits ≡ length (R.entries rows.old len) }
+    ensures entries { R.entries rows.new ≡ R.entries rows.old }
+    ensures risen { R.ticks rows.old ≤ R.ticks rows.new }
+    ensures len { length row.new.bits ≡ length row.old.bits }
+    ensures strikes { AreApart pending alive → Strikes (R.entries rows.old len) position pending alive (λ word. slice_index_or row.old.bits word false) (λ word. slice_index_or row.new.bits word false) }
+    ensures room { row.new.room ≡ row.old.room }
+    ensures cost { R.ticks rows.new ≤ R.ticks rows.old + chunks_of (length row.old.bits) * letter_count pending }
+{
+    if row.count() == 0 {
+        return;
+    }
+    strike_words(rows, row, len, position, pending, alive);
+    row.keep_count();
 }
 
 /// The chunk where the search for another support starts; `None` if the held one is still in the

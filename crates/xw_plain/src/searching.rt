@@ -84,4 +84,8 @@ impl Searchable for Plain {
         }
         total
     }
+
+    fn emptied(&self) -> Option<usize> {
+        None
+    }
 }

@@ -1,4 +1,5 @@
 use Rattle.std.proofs.Common.{not, ◌&&◌, length, ap, sym, ◌∙◌}
+use Rattle.xw_bits.specs.Bits.{RowOfBits}
 use Rattle.xw_words.specs.Dictionary.{entry_at}
 use Rattle.xw_feas.specs.Board.{agrees, is_wholly_entered, light_at}
 use Rattle.xw_net.proofs.BaseLemmas.{all_read}
@@ -10,7 +11,8 @@ returns-then-has_all_entries-clause-bits g c =
     let cells = light_at c.args.board.now c.args.light in
     let entries = g.R.Rows.entries c.args.rows.now (length cells) in
     let entered = ap (is_wholly_entered board) (sym c.light-cells.ensures.cells) ∙ sym c.has_all_entries.ensures ∙ c.if-has_all_entries.true in
-    all_read board cells entries c.clear.new.self.bits (c.clear.ensures.len ∙ c.requires.bits)
+    ap (λ (r : RowOfBits). r.bits) c.keep_count.ensures
+    ∙ all_read board cells entries c.clear.new.self.bits (c.clear.ensures.len ∙ c.requires.bits)
     (λ k. c.clear.ensures.bits k ∙ sym (ap (λ b. let word = entry_at entries k in not b && (word.active && agrees board cells word.word)) entered))
 
 pub returns-else-has_all_entries-clause-bits : goal.returns-else-has_all_entries-clause-bits
@@ -19,7 +21,8 @@ returns-else-has_all_entries-clause-bits g c =
     let cells = light_at c.args.board.now c.args.light in
     let entries = g.R.Rows.entries c.args.rows.now (length cells) in
     let open_ = ap (is_wholly_entered board) (sym c.light-cells.ensures.cells) ∙ sym c.has_all_entries.ensures ∙ c.if-has_all_entries.false in
-    all_read board cells entries c.read_open.new.row.bits (c.read_open.ensures.len ∙ c.requires.bits)
+    ap (λ (r : RowOfBits). r.bits) c.keep_count-else-has_all_entries.ensures
+    ∙ all_read board cells entries c.read_open.new.row.bits (c.read_open.ensures.len ∙ c.requires.bits)
     (λ k. c.read_open.ensures.bits k
     ∙ ap (λ cs. let word = entry_at (g.R.Rows.entries c.args.rows.now (length cs)) k in word.active && agrees board cs word.word) c.light-cells.ensures.cells
     ∙ sym (ap (λ b. let word = entry_at entries k in not b && (word.active && agrees board cells word.word)) open_))

@@ -1,4 +1,5 @@
-use Rattle.std.proofs.Common.{subst, sym}
+use Rattle.std.proofs.Common.{subst, sym, ap, ◌∙◌}
+use Rattle.xw_bits.specs.Bits.{RowOfBits}
 use Rattle.xw_net.specs.Begin.{IsNarrowedRow}
 use Rattle.xw_net.proofs.Narrowed.{common_narrowed}
 use Rattle.xw_net.proofs.narrow.narrow.Goals as goal
@@ -9,5 +10,5 @@ returns-in-Some-clause-narrowed c =
 
 pub returns-in-None-clause-narrowed : goal.returns-in-None-clause-narrowed
 returns-in-None-clause-narrowed c =
-    subst (λ b. IsNarrowedRow c.args.word c.args.len c.args.row.now.bits c.args.base.now.bits b) (sym c.and.ensures.bits)
+    subst (λ b. IsNarrowedRow c.args.word c.args.len c.args.row.now.bits c.args.base.now.bits b) (sym (ap (λ (r : RowOfBits). r.bits) c.keep_count.ensures ∙ c.and.ensures.bits))
     (common_narrowed c.args.word c.args.len c.args.row.now.bits c.args.base.now.bits c.requires)

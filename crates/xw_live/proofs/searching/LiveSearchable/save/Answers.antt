@@ -7,8 +7,8 @@ use Rattle.xw_live.specs.Live.{state_of}
 use Rattle.xw_live.proofs.Saving.{kept_copy, kept_same, can_copy}
 use Rattle.xw_live.proofs.searching.LiveSearchable.save.Goals as goal
 
-pub copy_from-requires-2 : goal.copy_from-requires-2
-copy_from-requires-2 c =
+pub copy_from-requires-clause-can : goal.copy_from-requires-clause-can
+copy_from-requires-clause-can c =
     let live = c.args.self.now in
     let saved : State = record { grid = c.args.snapshot.now.grid; words = c.args.snapshot.now.bank.value.words } in
     can_copy saved (state_of live) c.requires.twin live.net c.args.snapshot.now.net live.kept c.args.snapshot.now.kept live.lights live.light_list
@@ -16,10 +16,10 @@ copy_from-requires-2 c =
 pub invariant_of-snapshot : goal.invariant_of-snapshot
 invariant_of-snapshot c =
     let live = c.args.self.now in
-    let net = c.copy_from-2.new.self in
-    let copied : IsKept (state_of c.args.self.now) c.copy_from-2.new.self =
-    kept_copy (state_of live) live.net net live.lights live.light_list c.copy_from-2.ensures.copied (ap is_some c.copy_from-2.ensures.spare ∙ c.args.snapshot.now.kept.none_waits) live.kept in
+    let net = c.copy_from.new.self in
+    let copied : IsKept (state_of c.args.self.now) c.copy_from.new.self =
+    kept_copy (state_of live) live.net net live.lights live.light_list c.copy_from.ensures.copied (ap is_some c.copy_from.ensures.spare ∙ c.args.snapshot.now.kept.none_waits) live.kept in
     record {
-      kept = subst (λ (grid : Grid). IsKept (record { grid = grid; words = c.args.snapshot.now.bank.value.words }) c.copy_from-2.new.self) (sym c.copy_from.ensures)
+      kept = subst (λ (grid : Grid). IsKept (record { grid = grid; words = c.args.snapshot.now.bank.value.words }) c.copy_from.new.self) (sym c.copy_from-2.ensures)
           (kept_same live.grid net c.requires.twin.words copied);
     }

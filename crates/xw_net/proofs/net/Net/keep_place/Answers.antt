@@ -1,14 +1,17 @@
-use Rattle.std.proofs.Common.{◌≡◌, ◌+◌, ◌-◌, ℕ, Bool, List, true, false, get_or, refl, sym, ap, ◌∙◌, subst, inl, inr, arith}
+use Rattle.std.proofs.Common.{◌≡◌, ◌<◌, ◌+◌, ◌-◌, ℕ, Bool, List, true, false, length, get_or, refl, sym, ap, ◌∙◌, subst, inl, inr, arith}
 use Rattle.std.proofs.lemmas.Bool.{cases_lt, both_ways}
 use Rattle.std.proofs.lemmas.List.{get_or_default}
 use Rattle.xw_letters.specs.LetterSet.{has}
 use Rattle.xw_words.specs.Dictionary.{Dictionary}
 use Rattle.xw_net.specs.Marks.{IsPosition, IsHeld, Stays, cell_at}
 use Rattle.xw_net.specs.Due.{IsUnderway, and_light}
-use Rattle.xw_net.specs.Nets.{HasBits, marks_of, letter_stands, queued_in}
+use Rattle.xw_net.specs.Nets.{HasBits, marks_of, bits_at, bits_for, word_stands, letter_stands, queued_in}
 use Rattle.xw_net.proofs.Striking.{set_letter}
 use Rattle.xw_net.proofs.Left.{left_left, left_same}
 use Rattle.xw_net.specs.declared.net.Net.{Net}
+use Rattle.std.proofs.lemmas.Option.{slice_get_read}
+use Rattle.xw_net.proofs.ClearRow.{none_set}
+use Rattle.xw_net.proofs.EmptiedCell.{no_words, still_held, alive_before, still_holding, still_under, pends_at}
 use Rattle.xw_net.proofs.net.Net.keep_place.Goals as goal
 
 -- each letter at the start is among those the loop visits
@@ -22,7 +25,7 @@ keep_letter-requires-clause-bits g c =
 
 pub keep_letter-requires-clause-stands : goal.keep_letter-requires-clause-stands
 keep_letter-requires-clause-stands g c =
-    c.loop-number.invariant.left c.at.result (omega (arith, c.at.ensures, c.in-Some.ensures.set.0)) (ap (has c.index-alive.result.now) c.at.ensures ∙ c.in-Some.ensures.set.2)
+    c.loop-number.invariant.left c.at-in-Some-next_place.result (omega (arith, c.at-in-Some-next_place.ensures, c.in-Some-next_place.ensures.set.0)) (ap (has c.index-alive.result.now) c.at-in-Some-next_place.ensures ∙ c.in-Some-next_place.ensures.set.2)
 
 pub keep_letter-requires-clause-open : goal.keep_letter-requires-clause-open
 keep_letter-requires-clause-open g c =
@@ -45,10 +48,10 @@ loop-number-preserved g c =
     let stays : (dictionary : Dictionary) → IsPosition c.args.board.now (g.R.Rows.entries c.args.rows.now) dictionary → Stays c.args.board.now dictionary c.args.light (marks_of c.loop-number.self) (marks_of c.keep_letter.new.self) =
     λ dictionary position. subst (λ n. Stays c.args.board.now dictionary n (marks_of c.loop-number.self) (marks_of c.keep_letter.new.self)) there.light (k.ensures.stays dictionary (move dictionary position)) in
     record {
-      within = omega (arith, c.in-Some.ensures.set.1);
+      within = omega (arith, c.in-Some-next_place.ensures.set.1);
       alive = λ cell letter alive. inv.alive cell letter (k.ensures.alive cell letter alive);
       entered = k.ensures.entered ∙ inv.entered;
-      left = λ letter past has. k.ensures.others letter (λ e. absurd (omega (arith, e, past, c.at.ensures))) (inv.left letter (omega (arith, past, c.in-Some.ensures.set.0)) has);
+      left = λ letter past has. k.ensures.others letter (λ e. absurd (omega (arith, e, past, c.at-in-Some-next_place.ensures))) (inv.left letter (omega (arith, past, c.in-Some-next_place.ensures.set.0)) has);
       same = k.ensures.entries ∙ inv.same;
       risen = omega (arith, inv.risen, k.ensures.risen);
       rest = left_left inv.rest k.ensures.rest;
@@ -59,19 +62,19 @@ loop-number-preserved g c =
       held = λ dictionary position letter lt alive.
           elim (cases_lt letter (65 + c.loop-number.from)) [
             | inl before ↦ stays dictionary position c.args.place letter c.requires.place (inv.held dictionary position letter before) alive
-            | inr from ↦ elim (cases_lt letter (65 + c.in-Some.number)) [
+            | inr from ↦ elim (cases_lt letter (65 + c.in-Some-next_place.number)) [
               | inl passed ↦
                   let back : 65 + (letter - 65) ≡ letter = omega arith in
-                  absurd (both_ways (has set letter) (ap (has set) (sym back) ∙ c.in-Some.ensures.first (letter - 65) (omega arith) (omega arith))
+                  absurd (both_ways (has set letter) (ap (has set) (sym back) ∙ c.in-Some-next_place.ensures.first (letter - 65) (omega arith) (omega arith))
                   (in_set c.args.self.now (cell_at c.args.board.now c.args.light c.args.place) set letter set_is (inv.alive (cell_at board c.args.light c.args.place) letter (k.ensures.alive (cell_at board c.args.light c.args.place) letter alive))))
               | inr on ↦
-                  let is : c.at.result ≡ letter = omega (arith, c.at.ensures, lt, on) in
+                  let is : c.at-in-Some-next_place.result ≡ letter = omega (arith, c.at-in-Some-next_place.ensures, lt, on) in
                   let cell : here.cell ≡ cell_at board c.args.light c.args.place = there.there.cell ∙ ap (λ n. cell_at board n here.place) there.light ∙ ap (cell_at board c.args.light) there.place in
-                  let alive_there : letter_stands c.keep_letter.new.self c.place_of-here.result.cell c.at.result ≡ true =
-                  ap (λ x. letter_stands new x c.at.result) cell ∙ ap (letter_stands new (cell_at board c.args.light c.args.place)) is ∙ alive in
+                  let alive_there : letter_stands c.keep_letter.new.self c.place_of-here.result.cell c.at-in-Some-next_place.result ≡ true =
+                  ap (λ x. letter_stands new x c.at-in-Some-next_place.result) cell ∙ ap (letter_stands new (cell_at board c.args.light c.args.place)) is ∙ alive in
                   subst (λ d. IsHeld c.args.board.now dictionary (marks_of c.keep_letter.new.self) c.args.light c.args.place d) is
-                  (subst (λ n. IsHeld c.args.board.now dictionary (marks_of c.keep_letter.new.self) c.args.light n c.at.result) there.place
-                  (subst (λ n. IsHeld c.args.board.now dictionary (marks_of c.keep_letter.new.self) n c.place_of-here.result.place c.at.result) there.light (k.ensures.held dictionary (move dictionary position) alive_there)))
+                  (subst (λ n. IsHeld c.args.board.now dictionary (marks_of c.keep_letter.new.self) c.args.light n c.at-in-Some-next_place.result) there.place
+                  (subst (λ n. IsHeld c.args.board.now dictionary (marks_of c.keep_letter.new.self) n c.place_of-here.result.place c.at-in-Some-next_place.result) there.light (k.ensures.held dictionary (move dictionary position) alive_there)))
             ]
           ];
       stays = λ dictionary position place letter at stood alive. stays dictionary position place letter at (inv.stays dictionary position place letter at stood) alive;
@@ -94,7 +97,7 @@ returns-clause-held g c dictionary position letter alive =
       | inl before ↦ c.loop-number.invariant.held dictionary position letter before alive
       | inr past ↦
           let back : 65 + (letter - 65) ≡ letter = omega arith in
-          absurd (both_ways (has set letter) (ap (has set) (sym back) ∙ c.in_default.ensures.none (letter - 65) (omega arith)) (in_set c.args.self.now (cell_at c.args.board.now c.args.light c.args.place) set letter set_is (c.loop-number.invariant.alive cell letter alive)))
+          absurd (both_ways (has set letter) (ap (has set) (sym back) ∙ c.in_default-next_place.ensures.none (letter - 65) (omega arith)) (in_set c.args.self.now (cell_at c.args.board.now c.args.light c.args.place) set letter set_is (c.loop-number.invariant.alive cell letter alive)))
     ]
 
 pub loop-number-init : goal.loop-number-init
@@ -118,3 +121,53 @@ loop-number-init g c = record {
   holding = λ dictionary position holding. holding;
   kept = λ dictionary measure position in_set under. under;
 }
+
+pub empty_place-requires-clause-stood : goal.empty_place-requires-clause-stood
+unfolding letter_stands
+empty_place-requires-clause-stood g c =
+    let sets = c.args.self.now.letters.items in
+    let within : c.place_of-here.result.cell < length sets = omega (arith, c.place_of-here.ensures.in_board, c.requires.shaped.letters) in
+    ap (λ s. has s c.at.result) (sym (c.index-alive.ensures ∙ get_or_default sets c.place_of-here.result.cell c.index-alive.result.now 0 within))
+    ∙ ap (has c.index-alive.result.now) c.at.ensures
+    ∙ c.in-Some.ensures.set.2
+
+pub returns-then-count-eq0-clause-stays : goal.returns-then-count-eq0-clause-stays
+returns-then-count-eq0-clause-stays g c dictionary position place letter here stood alive =
+    let here_is = c.place_of-here.ensures.there in
+    let e = c.empty_place.ensures in
+    let old = c.args.self.now in
+    let new = c.empty_place.new.self in
+    let i = c.place_of-here.result.light in
+    let q = c.place_of-here.result.place in
+    still_held c.args.board.now (g.R.Rows.entries c.args.rows.now) dictionary position old new i q here_is.place e.same e.letters e.leaves c.args.light place letter
+    (stood (alive_before c.args.board.now (g.R.Rows.entries c.args.rows.now) dictionary position old new i q here_is.place e.same e.letters e.leaves (cell_at c.args.board.now c.args.light place) letter alive))
+
+pub returns-then-count-eq0-clause-holding : goal.returns-then-count-eq0-clause-holding
+returns-then-count-eq0-clause-holding g c dictionary position =
+    let e = c.empty_place.ensures in
+    still_holding c.args.board.now (g.R.Rows.entries c.args.rows.now) dictionary position c.args.self.now c.empty_place.new.self c.place_of-here.result.light c.place_of-here.result.place c.place_of-here.ensures.there.place e.same e.letters e.leaves
+
+pub returns-then-count-eq0-clause-pending : goal.returns-then-count-eq0-clause-pending
+returns-then-count-eq0-clause-pending g c slot letter pends =
+    let board = c.args.board.now in
+    pends_at board (marks_of c.args.self.now) (marks_of c.empty_place.new.self) c.place_of-here.result.light c.place_of-here.result.place
+    (letter_stands c.args.self.now (cell_at c.args.board.now c.place_of-here.result.light c.place_of-here.result.place)) c.empty_place.ensures.leaves slot letter pends
+
+pub returns-then-count-eq0-clause-kept : goal.returns-then-count-eq0-clause-kept
+returns-then-count-eq0-clause-kept g c dictionary measure position =
+    let e = c.empty_place.ensures in
+    let old = c.args.self.now in
+    let new = c.empty_place.new.self in
+    let here = c.place_of-here.result in
+    let here_is = c.place_of-here.ensures.there in
+    let light_is = c.place_of-here.ensures.light in
+    let within : c.args.light < length old.rows.items = omega (arith, c.requires.place.0, c.requires.shaped.rows) in
+    let row_is = slice_get_read old.rows.items (length old.rows.items) c.args.light c.index.result.now refl within c.index.ensures in
+    let clear : (k : ℕ) → get_or (bits_for old c.args.light) k false ≡ false = λ k.
+    ap (λ b. get_or b k false) (ap bits_at row_is) ∙ none_set c.index.result.now.bits (sym c.count.ensures ∙ c.if-count-eq0.true) k in
+    let none : (k : ℕ) → word_stands old here.light k ≡ false = λ k. ap (λ n. word_stands old n k) light_is ∙ no_words old c.args.light c.requires.open clear k in
+    let stood : letter_stands old (cell_at c.args.board.now here.light here.place) c.at.result ≡ true =
+    ap (λ n. letter_stands old n c.at.result) (sym here_is.cell) ∙ empty_place-requires-clause-stood g c.before in
+    subst (λ n. measure.member n ≡ true → IsUnderway c.args.board.now dictionary measure (marks_of c.args.self.now) (and_light (queued_in c.args.self.now) n) (g.R.Rows.ticks c.args.rows.now)
+    → IsUnderway c.args.board.now dictionary measure (marks_of c.empty_place.new.self) (and_light (queued_in c.empty_place.new.self) n) (g.R.Rows.ticks c.args.rows.now)) light_is
+    (still_under c.args.board.now (g.R.Rows.entries c.args.rows.now) dictionary position old new here.light here.place here_is.place e.same e.letters e.leaves none c.at.result stood measure (g.R.Rows.ticks c.args.rows.now))

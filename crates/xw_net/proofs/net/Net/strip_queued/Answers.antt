@@ -1,4 +1,4 @@
-use Rattle.std.proofs.Common.{◌≡◌, ◌⊎◌, ◌<◌, ◌+◌, ℕ, suc, true, List, [], ◌∷◌, length, refl, sym, ap, ◌∙◌, subst, inl, inr, arith, rules}
+use Rattle.std.proofs.Common.{◌≡◌, ◌⊎◌, ◌<◌, ◌+◌, ◌-◌, ◌^◌, ℕ, suc, true, List, [], ◌∷◌, length, refl, sym, ap, ◌∙◌, subst, inl, inr, arith, rules}
 use Rattle.std.specs.Prelude.{Contains, vec_items}
 use Rattle.std.proofs.lemmas.Bool.{false_from_ne_true, both_ways}
 use Rattle.std.proofs.lemmas.List.Elements.{Contains-push_cases, Contains-append_cases}
@@ -9,11 +9,12 @@ use Rattle.xw_net.specs.Room.{row_at}
 use Rattle.xw_net.specs.Spread.{is_marked}
 use Rattle.xw_net.specs.Brought.{HasBase, IsBase}
 use Rattle.xw_net.specs.declared.net.Net.{Net}
-use Rattle.xw_net.specs.Marks.{IsPosition, IsSlot}
+use Rattle.xw_net.specs.Marks.{IsHolding, IsPosition, IsSlot}
 use Rattle.xw_net.specs.Due.{Measure, IsUnderway, due, set_cost}
-use Rattle.xw_net.specs.Nets.{IsLeft, HasBits, marks_of, word_stands, letter_stands, held_in, restart_in, pending_in, queued_in}
+use Rattle.xw_net.specs.Nets.{IsLeft, HasBits, IsQueue, left_of, marks_of, word_stands, letter_stands, held_in, restart_in, pending_in, queued_in}
 use Rattle.xw_net.proofs.Dues.{due-bound}
 use Rattle.xw_net.proofs.Ending.{settled_net, settled_exact}
+use Rattle.xw_net.proofs.Emptied.{left_noted, shaped_noted}
 use Rattle.xw_net.proofs.Left.{left_left, left_queue, left_chained}
 use Rattle.xw_net.proofs.net.Net.strip_queued.Goals as goal
 
@@ -53,29 +54,53 @@ see_to-requires-clause-room g c =
 
 pub loop-light-smaller : goal.loop-light-smaller
 loop-light-smaller g c =
-    omega (arith, c.see_to.ensures.fewer, length_permutation c.loop-light.self.queue.items (c.in-Some.light ∷ c.take_turn.new.queue.items) c.in-Some.ensures.taken)
+    omega (arith, ap left_of c.note_emptied.ensures, c.see_to.ensures.fewer, length_permutation c.loop-light.self.queue.items (c.in-Some.light ∷ c.take_turn.new.queue.items) c.in-Some.ensures.taken)
+
+pub loop-light-init : goal.loop-light-init
+unfolding word_stands letter_stands held_in restart_in pending_in queued_in
+loop-light-init g c =
+    let old = c.args.self.now in
+    let first : Net = record old { emptied = 2 ^ 64 - 1 } in
+    record {
+      same = refl;
+      risen = omega arith;
+      rest = left_noted old first refl;
+      shaped = shaped_noted c.args.board.now old first refl c.requires.shaped;
+      bits = c.requires.bits;
+      queue = c.requires.queue;
+      pending = λ slot letter pends. inl pends;
+      holding = λ dictionary position holding. holding;
+      kept = λ dictionary measure position under. under;
+    }
+
+pub note_emptied-requires-clause-light : goal.note_emptied-requires-clause-light
+note_emptied-requires-clause-light g c =
+    All-permutation (λ light. light < length c.args.board.now.lights) c.loop-light.self.queue.items (c.in-Some.light ∷ c.take_turn.new.queue.items) c.in-Some.ensures.taken c.loop-light.invariant.shaped.queue 0 0 (omega arith)
 
 pub loop-light-preserved : goal.loop-light-preserved
 unfolding word_stands letter_stands held_in restart_in pending_in queued_in
 loop-light-preserved g c =
     let inv = c.loop-light.invariant in
     let k = c.see_to in
+    let seen = k.new.self in
+    let noted = c.note_emptied.new.self in
+    let e = c.note_emptied.ensures in
     record {
       same = k.ensures.entries ∙ inv.same;
       risen = omega (arith, inv.risen, k.ensures.risen);
-      rest = left_left inv.rest (left_left (left_queue c.loop-light.self (record c.loop-light.self { queue = c.take_turn.new.queue }) refl (omega (arith, c.take_turn.ensures.capacity))) k.ensures.rest);
-      shaped = k.ensures.shaped;
-      bits = subst (λ e. HasBits c.args.board.now e c.see_to.new.self) inv.same k.ensures.bits;
-      queue = λ light. k.ensures.waits light (λ apart is.
+      rest = left_left inv.rest (left_left (left_queue c.loop-light.self (record c.loop-light.self { queue = c.take_turn.new.queue }) refl (omega (arith, c.take_turn.ensures.capacity))) (left_left k.ensures.rest (left_noted seen noted e)));
+      shaped = shaped_noted c.args.board.now seen noted e k.ensures.shaped;
+      bits = subst (λ (n : Net). HasBits c.args.board.now (g.R.Rows.entries c.args.rows.now) n) (sym e) (subst (λ f. HasBits c.args.board.now f seen) inv.same k.ensures.bits);
+      queue = subst (λ (n : Net). IsQueue n) (sym e) (λ light. k.ensures.waits light (λ apart is.
           elim (of_two c.in-Some.light c.take_turn.new.queue.items light (Contains-permutation c.loop-light.self.queue.items (c.in-Some.light ∷ c.take_turn.new.queue.items) light c.in-Some.ensures.taken (inv.queue light is))) [
             | inl e ↦ absurd (apart (sym e))
             | inr there ↦ there
-          ]);
-      pending = λ slot letter pends. elim (k.ensures.pending slot letter pends) [ inl before ↦ inv.pending slot letter before | inr at ↦ inr at ];
+          ]));
+      pending = λ slot letter pends. elim (k.ensures.pending slot letter (sym (ap (λ (n : Net). pending_in n slot letter) e) ∙ pends)) [ inl before ↦ inv.pending slot letter before | inr at ↦ inr at ];
       holding = λ dictionary position holding.
-          k.ensures.holding dictionary (subst (λ e. IsPosition c.args.board.now e dictionary) (sym inv.same) position) (inv.holding dictionary position holding);
+          subst (λ (n : Net). IsHolding c.args.board.now dictionary (marks_of n)) (sym e) (k.ensures.holding dictionary (subst (λ e. IsPosition c.args.board.now e dictionary) (sym inv.same) position) (inv.holding dictionary position holding));
       kept = λ dictionary measure position under.
-          k.ensures.kept dictionary measure (subst (λ e. IsPosition c.args.board.now e dictionary) (sym inv.same) position) (inv.kept dictionary measure position under);
+          subst (λ (n : Net). IsUnderway c.args.board.now dictionary measure (marks_of n) (queued_in n) (g.R.Rows.ticks k.new.rows)) (sym e) (k.ensures.kept dictionary measure (subst (λ e. IsPosition c.args.board.now e dictionary) (sym inv.same) position) (inv.kept dictionary measure position under));
     }
 
 pub returns-clause-empty : goal.returns-clause-empty
