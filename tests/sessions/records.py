@@ -2,7 +2,7 @@
 from steps import call, compare, write
 
 # The queries that a session and its copy must answer alike.
-QUESTIONS = b"show\nlights\ncells\ncounts\ntexts\ncircles\nstats\nmatch ..\nmatch ...\nunlisted\nrecord\n"
+QUESTIONS = b"show\nlights\ncells\ncounts\ntexts\ncircles\nstats\nmatch ..\nmatch ...\nunlisted\nunmatched\nrecord\n"
 
 # The state of the copy before the record is replayed. None of it may remain.
 ELSEWHERE = (
@@ -51,6 +51,9 @@ CASES = {
     ),
     "sessions_made_again: a light that was filled": is_made_again(b"size 2 2\nset 1 2 s\nautofill 1000 0 1 across\n"),
     "sessions_made_again: a light that was explained": is_made_again(b"size 2 2\nset 1 2 x\nwhy 1 across\n"),
+    "sessions_made_again: a light that was emptied, but for a letter of a complete word": is_made_again(
+        b"size 2 2\nplace 1 across at\nplace 1 down as\nerase 1 across\n"
+    ),
     "sessions_made_again: one cell": is_made_again(
         b"size 1 1\ncircle 1 1\nblock 1 1\nsym updown\ntext notes \\sone\\n\\ntwo\\t\n"
     ),
