@@ -1,21 +1,13 @@
 -- Which failure names a file that cannot be read or written, or a fault of a file; what is read from a puzzle file, and
 -- what is written to one.
-use Rattle.std.specs.Prelude.{◌≡◌, ◌⊎◌, ◌↔◌, ℕ, Bool, true, false, List, take, drop, Option, Some, None, Result, Ok, Err}
+use Rattle.std.specs.Prelude.{◌≡◌, ◌⊎◌, ℕ, Bool, true, false, List, Option, Some, None, Ok, Err}
 use Rattle.std.specs.Borrow.{Bor}
 use Rattle.std.specs.List.{list_any}
 use Rattle.xw_grid.specs.Puzzle.{PuzzleShown}
 use Rattle.xw_files.specs.FaultNames.{read_fault_name, write_fault_name}
-use Rattle.xw_files.specs.Puz.Reading.{magic}
-use Rattle.xw_files.specs.Puz.Board.{puzzle_at}
-use Rattle.xw_files.specs.Puz.Relation.{IsPuz}
-use Rattle.xw_files.specs.Puz.Faults as puz_faults
 use Rattle.xw_files.specs.Puz.Sections.{Section}
 use Rattle.xw_files.specs.Puz.Rebus.{HasSections, is_rebus}
-use Rattle.xw_files.specs.Puz.Writing as puz_writing
-use Rattle.xw_files.specs.Text.Shape.{all_of}
-use Rattle.xw_files.specs.Text.Relation.{IsText}
-use Rattle.xw_files.specs.Text.Faults as text_faults
-use Rattle.xw_files.specs.Text.Written as text_writing
+use Rattle.xw_files.specs.Formats.{HasFormat, IsFirstFault, written_as}
 use Rattle.xw_files.specs.declared.fault.ReadFault.{ReadFault}
 use Rattle.xw_files.specs.declared.fault.WriteFault.{WriteFault}
 use Rattle.xw_files.specs.declared.kind.Kind.{Kind}
@@ -58,32 +50,6 @@ place_if false place = None
 
 -- ---- reading a puzzle file
 
--- the format that the bytes of a file have
-abbrev pub HasFormat : List ℕ → Kind → Type 0
-HasFormat bytes kind = (kind ≡ Puz) ↔ (take 12 (drop 2 bytes) ≡ magic)
-
--- the bytes are a file of this puzzle in this format
-abbrev pub IsFileOf : Kind → List ℕ → PuzzleShown → Type 0
-IsFileOf Puz bytes puzzle = IsPuz bytes puzzle
-IsFileOf Text bytes puzzle = IsText bytes puzzle
-
--- the puzzle that the reader of this format makes of the bytes, or its fault
-abbrev pub puzzle_in : Kind → List ℕ → Result PuzzleShown ReadFault
-puzzle_in Puz bytes = puzzle_at bytes
-puzzle_in Text bytes = all_of bytes
-
--- this is the first fault of the bytes, as a file in this format
-abbrev pub IsFirstFault : Kind → List ℕ → ReadFault → Type 0
-IsFirstFault Puz bytes fault = puz_faults.IsFirstFault bytes fault
-IsFirstFault Text bytes fault = text_faults.IsFirstFault bytes fault
-
--- The bytes have this format and are a file of this puzzle. Of the puzzles that they are a file of, it is the one that
--- the reader makes.
-pub record IsRead (kind : Kind) (bytes : List ℕ) (puzzle : PuzzleShown) : Type 0 where
-  pub format : HasFormat bytes kind
-  pub file : IsFileOf kind bytes puzzle
-  pub exact : puzzle_in kind bytes ≡ Ok puzzle
-
 -- The bytes have a first fault in their format. The failure names it and the file, and its place if `explain` is set.
 pub record IsMalformed (name : List ℕ) (explain : Bool) (bytes : List ℕ) (failure : Failure) : Type 0 where
   pub kind : Kind
@@ -107,11 +73,6 @@ IsRebusTold transcript failures name Puz bytes old new = (sections : List Sectio
 IsRebusTold transcript failures name Text bytes old new = new ≡ old
 
 -- ---- writing a puzzle file
-
--- the bytes of the puzzle in this format, or why the format cannot hold it
-abbrev pub written_as : Kind → PuzzleShown → Result (List ℕ) WriteFault
-written_as Puz puzzle = puz_writing.written puzzle
-written_as Text puzzle = text_writing.written puzzle
 
 -- these are the bytes of the puzzle in the format that the name asks for
 pub record AreBytesFor (name : List ℕ) (puzzle : PuzzleShown) (bytes : List ℕ) : Type 0 where

@@ -1,13 +1,12 @@
 -- What a call does, and which failures may end it.
-use Rattle.std.specs.Prelude.{◌≡◌, ◌⊎◌, ◌++◌, ℕ, Bool, false, List, [], ◌∷◌, Option, Some, None, Ok, codes, decimal, length, replicate}
+use Rattle.std.specs.Prelude.{◌≡◌, ◌⊎◌, ◌++◌, ℕ, Bool, List, [], ◌∷◌, Option, Some, None, Ok, codes, decimal, length, replicate}
 use Rattle.std.specs.Borrow.{Bor}
 use Rattle.xw_words.specs.Dictionary.{Dictionary}
 use Rattle.xw_words.specs.WordList.{listed_in}
 use Rattle.xw_grid.specs.Grid.{Grid}
-use Rattle.xw_grid.specs.Edit.{blank}
 use Rattle.xw_grid.specs.Light.{lights_of}
-use Rattle.xw_grid.specs.Clue.{no_clues}
 use Rattle.xw_grid.specs.Puzzle.{PuzzleShown}
+use Rattle.xw_files.specs.Formats.{IsRead}
 use Rattle.xw_files.specs.declared.kind.Kind.{Kind}
 use Rattle.xw_files.specs.declared.kind.Kind.TheVariants.{Puz, Text}
 use Rattle.xw_lines.specs.Cut.{lines_of}
@@ -15,7 +14,7 @@ use Rattle.xw_lines.specs.Device.{flushed, saturated}
 use Rattle.xw_lines.specs.Run.{Speaks}
 use Rattle.xw_lines.specs.declared.outcome.RunEnd.TheVariants.{Done}
 use Rattle.xw_session.specs.Answer.{Answers}
-use Rattle.xw_session.specs.Record.{known_counts}
+use Rattle.xw_session.specs.Opening.{empty_puzzle, opened_on, puzzle_of}
 use Rattle.xw_session.specs.Resuming.{Resumes}
 use Rattle.xw_session.specs.State.{State}
 use Rattle.xw_session.specs.Text.{name_of}
@@ -28,7 +27,7 @@ use Rattle.xw_cli.specs.declared.failure.Failure.TheVariants as failures
 use Rattle.xw_cli.specs.declared.failure.Status.{Status}
 use Rattle.xw_cli.specs.declared.failure.Status.TheVariants.{Accepted}
 use Rattle.xw_cli.specs.Explained.{IsTold}
-use Rattle.xw_cli.specs.Files.{AreBytesFor, IfNamed, IsCannotRead, IsLineFault, IsNotApart, IsRead, IsUnread, IsUnwritten}
+use Rattle.xw_cli.specs.Files.{AreBytesFor, IfNamed, IsCannotRead, IsLineFault, IsNotApart, IsUnread, IsUnwritten}
 use Rattle.xw_cli.specs.SessionFiles.{IsUnloaded, IsUnsaved}
 use Rattle.xw_cli.specs.Status.{run_ended}
 
@@ -87,25 +86,10 @@ abbrev pub HasWords : Option (Bor (List ℕ)) → Dictionary → Type 0
 HasWords None words = words ≡ replicate 256 []
 HasWords (Some file) words = (bytes : List ℕ) × (words ≡ listed_in bytes)
 
--- the puzzle without texts, clues and circles on an empty grid of 15 rows and columns
-abbrev pub empty_puzzle : PuzzleShown
-empty_puzzle = record { grid = blank 15 15; texts = record { title = []; author = []; copyright = []; notes = [] }; clues = no_clues; circles = [] }
-
 -- the puzzle that a session begins with: an empty one, or one that some bytes mean
 abbrev pub HasPuzzle : Option (Bor (List ℕ)) → PuzzleShown → Type 0
 HasPuzzle None puzzle = puzzle ≡ empty_puzzle
 HasPuzzle (Some file) puzzle = (kind : Kind) × (bytes : List ℕ) × IsRead kind bytes puzzle
-
--- the state in which a session begins
-abbrev pub opened_on : Dictionary → PuzzleShown → State
-opened_on words puzzle = record {
-  position = record { grid = puzzle.grid; words = words };
-  texts = puzzle.texts;
-  clues = puzzle.clues;
-  circles = puzzle.circles;
-  is_watched = false;
-  begun = known_counts words;
-}
 
 -- a session begins with the files that are named, in this state
 pub record IsOpened (files : SessionFiles) (state : State) : Type 0 where
@@ -119,10 +103,6 @@ pub record IsOpened (files : SessionFiles) (state : State) : Type 0 where
 abbrev pub HasResumed : Option (Bor (List ℕ)) → State → ℕ → State → Type 0
 HasResumed None start refused state = (refused ≡ 0) × (state ≡ start)
 HasResumed (Some file) start refused state = (text : List ℕ) × (told : List ℕ) × Resumes file.now start (lines_of text) (Ok refused) told state
-
--- the puzzle of a session
-abbrev pub puzzle_of : State → PuzzleShown
-puzzle_of state = record { grid = state.position.grid; texts = state.texts; clues = state.clues; circles = state.circles }
 
 -- if a file is named, the puzzle can be written in the format that its name asks for
 abbrev pub IsKept : Option (Bor (List ℕ)) → PuzzleShown → Type 0

@@ -1,9 +1,10 @@
 //! Reads and writes the files of a call.
 ghost use Rattle.std.specs.Prelude.{◌≡◌, ◌≢◌, ◌⊎◌, ℕ, List, IfOk, IfErr, OnOk, OnErr, IsOkUnless};
 ghost use Rattle.xw_grid.specs.Puzzle.{puzzle_view};
+ghost use Rattle.xw_files.specs.Formats.{IsRead};
 ghost use Rattle.xw_files.specs.FaultNames.{read_fault_name, write_fault_name};
 ghost use Rattle.xw_cli.specs.declared.failure.Failure.TheVariants.{Memory};
-ghost use Rattle.xw_cli.specs.Files.{place_if, IsCannotRead, IsCannotWrite, IsFileFault, IsLineFault, IsFileOf, puzzle_in, IsFirstFault, IsRead, IsMalformed, IsUnread, IsRebusTold, written_as, AreBytesFor, IsUnfit, IsUnwritten, IsOverList, IsNotApart};
+ghost use Rattle.xw_cli.specs.Files.{place_if, IsCannotRead, IsCannotWrite, IsFileFault, IsLineFault, IsMalformed, IsUnread, IsRebusTold, AreBytesFor, IsUnfit, IsUnwritten, IsOverList, IsNotApart};
 ghost use Rattle.xw_cli.specs.Places.{read_place, write_place};
 
 use crate::arguments::SessionFiles;
@@ -17,7 +18,7 @@ use std::os::unix::fs::MetadataExt;
 use std::rt::Files;
 use std::{fs, io};
 use xw_files::fault::{ReadFault, WriteFault};
-use xw_files::{Kind, Puzzle, has_rebus, kind_of, read_puz, read_text, write_puz, write_text};
+use xw_files::{Kind, Puzzle, has_rebus, kind_of, read_as, write_as};
 use xw_grid::grid::Grid;
 use xw_lines::Sink;
 
@@ -74,18 +75,6 @@ fn puzzle_of<E: Sink>(
             Ok((kind, puzzle))
         }
         Err(fault) => Err(malformed(alloc, file, explain, bytes, fault)),
-    }
-}
-
-/// Reads the puzzle in the bytes of a file of this format.
-fn read_as(alloc: Global, kind: Kind, bytes: &[u8]) -> Result<Puzzle, ReadFault>
-    ensures file { IfOk result (λ puzzle. IsFileOf kind bytes.now (puzzle_view puzzle)) }
-    ensures exact { IfOk result (λ puzzle. puzzle_in kind bytes.now ≡ Ok (puzzle_view puzzle)) }
-    ensures first { IfErr result (λ fault. fault ≢ ReadFault.Memory → IsFirstFault kind bytes.now fault) }
-{
-    match kind {
-        Kind::Puz => read_puz(alloc, bytes),
-        Kind::Text => read_text(alloc, bytes),
     }
 }
 
@@ -175,17 +164,6 @@ fn bytes_for(alloc: Global, file: &str, puzzle: &Puzzle, explain: bool) -> Resul
     match write_as(alloc, kind_by_name(file), puzzle) {
         Ok(bytes) => Ok(bytes),
         Err(fault) => Err(unfit(alloc, file, explain, &puzzle.grid, fault)),
-    }
-}
-
-/// Returns the bytes of a puzzle in this format.
-fn write_as(alloc: Global, kind: Kind, puzzle: &Puzzle) -> Result<Vec<u8>, WriteFault>
-    ensures ok { IfOk result (λ bytes. written_as kind (puzzle_view puzzle.now) ≡ Ok bytes.items) }
-    ensures refused { IfErr result (λ fault. fault ≢ WriteFault.Memory → written_as kind (puzzle_view puzzle.now) ≡ Err fault) }
-{
-    match kind {
-        Kind::Puz => write_puz(alloc, puzzle),
-        Kind::Text => write_text(alloc, puzzle),
     }
 }
 

@@ -1,14 +1,15 @@
 //! Executes a call.
 ghost use Rattle.std.specs.Prelude.{◌≡◌, ◌⊎◌, ℕ, List, length, Ok, Err, IfOk, IfErr, OnOk, IsOkUnless};
-ghost use Rattle.xw_grid.specs.Edit.{blank};
 ghost use Rattle.xw_grid.specs.Light.{lights_of};
 ghost use Rattle.xw_grid.specs.Puzzle.{PuzzleShown, puzzle_view};
+ghost use Rattle.xw_session.specs.Opening.{empty_puzzle, opened_on, puzzle_of};
+ghost use Rattle.xw_files.specs.Formats.{IsRead};
 ghost use Rattle.xw_files.specs.declared.kind.Kind.{Kind};
 ghost use Rattle.xw_cli.specs.declared.failure.Failure.TheVariants.{Memory};
 ghost use Rattle.xw_cli.specs.declared.failure.Status.TheVariants.{Accepted};
-ghost use Rattle.xw_cli.specs.Files.{AreBytesFor, IfNamed, IsRead, IsUnread, IsUnwritten};
+ghost use Rattle.xw_cli.specs.Files.{AreBytesFor, IfNamed, IsUnread, IsUnwritten};
 ghost use Rattle.xw_cli.specs.SessionFiles.{IsUnloaded, IsUnsaved};
-ghost use Rattle.xw_cli.specs.Performed.{format_name, described, IsChecked, IsUnchecked, IsConverted, IsUnconverted, HasWords, empty_puzzle, opened_on, IsOpened, HasResumed, puzzle_of, IsKept, AreAnswered, IsRun, IsEdited, IsUnopened, IsUnresumed, IsUnanswered, IsUnclosed, IsCut, IsUnedited, IsPerformed, MayEnd, IsEnded};
+ghost use Rattle.xw_cli.specs.Performed.{format_name, described, IsChecked, IsUnchecked, IsConverted, IsUnconverted, HasWords, IsOpened, HasResumed, IsKept, AreAnswered, IsRun, IsEdited, IsUnopened, IsUnresumed, IsUnanswered, IsUnclosed, IsCut, IsUnedited, IsPerformed, MayEnd, IsEnded};
 
 use crate::arguments::{Call, SessionFiles};
 use crate::explaining::{show, tell};
@@ -21,11 +22,8 @@ use xw_feas::feasible::Feasible;
 use xw_feas::searchable::Searchable;
 use xw_files::{Kind, Puzzle};
 use xw_grid::{Grid, Lights};
-use xw_session::{Session, Sink, Source};
+use xw_session::{Session, Sink, Source, opening};
 use xw_words::Bank;
-
-/// The initial number of rows and columns.
-const START: u32 = 15;
 
 /// Executes a call, prints a failure if there is one, and returns the exit status.
 pub fn perform<F: Searchable, R: Files + AllocGlobal, I: Source, O: Sink, E: Sink>(
@@ -160,18 +158,7 @@ fn open_puzzle<F: Feasible, R: Files + AllocGlobal, E: Sink>(
     ensures err { IfErr result (λ failure. IsUnread file.now explain failure) }
 {
     let (_, puzzle) = files::read_puzzle(rt, file, explain, errors)?;
-    session_of(rt.alloc(), bank, puzzle)
-}
-
-/// Opens a session on a dictionary and a puzzle.
-fn session_of<F: Feasible>(alloc: Global, bank: Bank, puzzle: Puzzle) -> Result<Session<F>, Failure>
-    ensures ok { IfOk result (λ session. session ≡ opened_on bank.words (puzzle_view puzzle)) }
-    ensures memory { IsOkUnless result Memory }
-{
-    match F::open(alloc, puzzle.grid, bank) {
-        Ok(engine) => Ok(Session::open(engine, puzzle.texts, puzzle.clues, puzzle.circles)),
-        Err(_) => Err(Failure::Memory),
-    }
+    Ok(opening::open_puzzle(rt.alloc(), bank, puzzle)?)
 }
 
 /// Opens a session on an empty grid.
@@ -179,22 +166,7 @@ fn open_empty<F: Feasible>(alloc: Global, bank: Bank) -> Result<Session<F>, Fail
     ensures ok { IfOk result (λ session. session ≡ opened_on bank.words empty_puzzle) }
     ensures memory { IsOkUnless result Memory }
 {
-    let grid = empty_grid(alloc)?;
-    match F::open(alloc, grid, bank) {
-        Ok(engine) => Ok(Session::new(alloc, engine)),
-        Err(_) => Err(Failure::Memory),
-    }
-}
-
-/// Returns the grid that a session begins with if no puzzle is given.
-fn empty_grid(alloc: Global) -> Result<Grid, Failure>
-    ensures ok { IfOk result (λ grid. grid ≡ blank 15 15) }
-    ensures memory { IsOkUnless result Memory }
-{
-    match Grid::new(alloc, START, START) {
-        Ok(grid) => Ok(grid),
-        Err(_) => Err(Failure::Memory),
-    }
+    Ok(opening::open_empty(alloc, bank)?)
 }
 
 /// Replays the commands of a file if one is given, and returns the number of refused lines.

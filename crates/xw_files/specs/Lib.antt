@@ -5,3 +5,4 @@ pub mod Steps
 pub mod Order
 pub mod Puz
 pub mod Text
+pub mod Formats

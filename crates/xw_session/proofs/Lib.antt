@@ -17,3 +17,4 @@ pub mod Report
 pub mod TextMode
 pub mod Recording
 pub mod Resumed
+pub mod Opened

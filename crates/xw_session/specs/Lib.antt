@@ -17,3 +17,4 @@ pub mod Autofill
 pub mod Why
 pub mod Answer
 pub mod Resuming
+pub mod Opening

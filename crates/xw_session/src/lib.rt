@@ -7,6 +7,7 @@ mod fields;
 mod light_line;
 mod lists;
 mod lookup;
+pub mod opening;
 mod record;
 pub mod refusal;
 pub mod resuming;
@@ -16,7 +17,8 @@ mod show;
 mod spelling;
 mod stats;
 mod text;
-mod vec_sink;
+pub mod vec_sink;
 
 pub use session::Session;
+pub use vec_sink::VecSink;
 pub use xw_lines::{DeviceFault, FromRead, RunEnd, Sink, Source, Step, ToWrite, WriteFailed};

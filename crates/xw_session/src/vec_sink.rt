@@ -13,6 +13,7 @@ pub struct VecSink {
 }
 
 impl VecSink {
+    /// A sink without bytes.
     pub fn new(alloc: Global) -> VecSink
         ensures bytes { result.bytes.items ≡ [] }
         ensures failures { result.failures ≡ 0 }
@@ -23,6 +24,14 @@ impl VecSink {
         }
     }
 
+    /// The number of failed calls, which stops at `u64::MAX`.
+    pub fn failures(&self) -> u64
+        ensures { result ≡ self.now.failures }
+    {
+        self.failures
+    }
+
+    /// The bytes written so far.
     pub fn into_bytes(self) -> Vec<u8>
         ensures { result.items ≡ self.bytes.items }
     {

@@ -1,7 +1,6 @@
 use Rattle.xw_grid.specs.Puzzle.{puzzle_view}
-use Rattle.xw_cli.proofs.Opened.{opened_read}
 use Rattle.xw_cli.proofs.perform.open_puzzle.Goals as goal
 
 pub returns-clause-ok : goal.returns-clause-ok
 returns-clause-ok g c =
-    opened_read _ c.args.bank.words (puzzle_view c.in_ok-puzzle.puzzle) c.in_ok-puzzle.field-0-0 c.in_ok-puzzle.ensures.ok.0 c.in_ok-puzzle.ensures.ok.1 c.session_of.ensures.ok
+    (puzzle_view c.in_ok-puzzle.puzzle, (c.in_ok-puzzle.field-0-0, c.in_ok-puzzle.ensures.ok.0, c.in_ok-puzzle.ensures.ok.1), c.in_ok-open_puzzle.ensures.ok)

@@ -1,0 +1,7 @@
+use Rattle.xw_files.specs.declared.kind.Kind.TheVariants.{Text}
+use Rattle.xw_engine.specs.Engine.{IsFileMade}
+use Rattle.xw_c.proofs.Calling.{calls_open}
+use Rattle.xw_c.proofs.xw_text.Goals as goal
+
+pub returns : goal.returns
+returns c = calls_open (IsFileMade Text) _ _ c.deref_mut.result.now _ c.text-status.result _ _ c.in-Some.ensures.taken c.deref_mut.ensures.value c.code.ensures c.of.ensures c.text-status.ensures

@@ -1,0 +1,140 @@
+//! The engine for programs in other languages. `include/xw.h` is what they see.
+#![tactic(auto)]
+
+mod box_at;
+mod handle;
+mod held;
+
+ghost use Rattle.std.specs.Prelude.{◌≡◌, None, length};
+ghost use Rattle.xw_files.specs.declared.kind.Kind.TheVariants.{Puz, Text};
+ghost use Rattle.xw_engine.specs.Engine.{IsFileMade, IsLineDone, IsRecordMade, IsResumed};
+ghost use Rattle.xw_engine.specs.Status.{code_of};
+ghost use Rattle.xw_engine.specs.declared.status.Status.TheVariants.{Closed};
+ghost use Rattle.xw_c.specs.Calls.{Opens, Calls, answer_of, copied};
+
+use crate::handle::Handle;
+use std::alloc::Global;
+use xw_engine::{Engine, Status};
+
+/// What a call without an open session answers.
+fn closed() -> u32
+    ensures { result ≡ code_of Closed }
+{
+    Status::Closed.code()
+}
+
+/// Opens a session over the words of a list, on the puzzle in the bytes of a file or, if there are none, on an empty grid.
+#[unsafe(no_mangle)]
+pub extern "C" fn xw_open(alloc: Global, handle: &mut Handle, list: &[u8], puzzle: &[u8]) -> u32
+    ensures { Opens list.now puzzle.now handle.old.held.engine result handle.new.held.engine }
+{
+    if handle.is_open() {
+        return Status::Open.code();
+    }
+    match handle::open(alloc, list, puzzle) {
+        Ok(opened) => {
+            *handle = opened;
+            Status::Accepted.code()
+        }
+        Err(status) => status.code(),
+    }
+}
+
+/// Replays the lines of a record, up to the first that is not a command.
+#[unsafe(no_mangle)]
+pub extern "C" fn xw_resume(alloc: Global, handle: &mut Handle, record: &[u8]) -> u32
+    ensures { Calls (IsResumed record.now) handle.old.held.engine result handle.new.held.engine }
+{
+    let Some(mut engine) = handle.take(alloc) else {
+        return closed();
+    };
+    let status = engine.resume(record);
+    *handle = Handle::of(engine);
+    status.code()
+}
+
+/// Answers a line.
+#[unsafe(no_mangle)]
+pub extern "C" fn xw_line(alloc: Global, handle: &mut Handle, line: &[u8]) -> u32
+    ensures { Calls (IsLineDone line.now) handle.old.held.engine result handle.new.held.engine }
+{
+    let Some(mut engine) = handle.take(alloc) else {
+        return closed();
+    };
+    let status = engine.line(line);
+    *handle = Handle::of(engine);
+    status.code()
+}
+
+/// Makes the puzzle as a `.puz` file the answer.
+#[unsafe(no_mangle)]
+pub extern "C" fn xw_puz(alloc: Global, handle: &mut Handle) -> u32
+    ensures { Calls (IsFileMade Puz) handle.old.held.engine result handle.new.held.engine }
+{
+    let Some(mut engine) = handle.take(alloc) else {
+        return closed();
+    };
+    let status = engine.puz();
+    *handle = Handle::of(engine);
+    status.code()
+}
+
+/// Makes the puzzle as a text file the answer.
+#[unsafe(no_mangle)]
+pub extern "C" fn xw_text(alloc: Global, handle: &mut Handle) -> u32
+    ensures { Calls (IsFileMade Text) handle.old.held.engine result handle.new.held.engine }
+{
+    let Some(mut engine) = handle.take(alloc) else {
+        return closed();
+    };
+    let status = engine.text();
+    *handle = Handle::of(engine);
+    status.code()
+}
+
+/// Makes the record of the session the answer.
+#[unsafe(no_mangle)]
+pub extern "C" fn xw_record(alloc: Global, handle: &mut Handle) -> u32
+    ensures { Calls IsRecordMade handle.old.held.engine result handle.new.held.engine }
+{
+    let Some(mut engine) = handle.take(alloc) else {
+        return closed();
+    };
+    let status = engine.record();
+    *handle = Handle::of(engine);
+    status.code()
+}
+
+/// Copies the answer to the last call, as much of it as there is room for, and returns its length. Without an open session
+/// the answer is empty.
+#[unsafe(no_mangle)]
+pub extern "C" fn xw_answer(alloc: Global, handle: &mut Handle, out: &mut [u8]) -> usize
+    ensures length { result ≡ length (answer_of handle.old.held.engine) }
+    ensures copied { out.new ≡ copied (answer_of handle.old.held.engine) out.old }
+    ensures same { handle.new.held.engine ≡ handle.old.held.engine }
+{
+    let Some(engine) = handle.take(alloc) else {
+        return 0;
+    };
+    let count = copy(engine.answer(), out);
+    *handle = Handle::of(engine);
+    count
+}
+
+/// Copies as much of a text as there is room for, and returns its length.
+fn copy(text: &[u8], out: &mut [u8]) -> usize
+    ensures length { result ≡ length text.now }
+    ensures copied { out.new ≡ copied text.now out.old }
+{
+    let count = text.len().min(out.len());
+    out[..count].copy_from_slice(&text[..count]);
+    text.len()
+}
+
+/// Closes a session, if one is open.
+#[unsafe(no_mangle)]
+pub extern "C" fn xw_close(alloc: Global, handle: &mut Handle)
+    ensures { handle.new.held.engine ≡ None }
+{
+    let _engine = handle.take(alloc);
+}

@@ -1,0 +1,229 @@
+//! A session that holds its last answer.
+ghost use Rattle.std.specs.Prelude.{◌≡◌, ◌≢◌, ◌⊎◌, ◌++◌, ℕ, [], Ok, Err, IfOk, IfErr, IfSome};
+ghost use Rattle.xw_words.specs.WordList.{IsTooLong, listed_in};
+ghost use Rattle.xw_grid.specs.Puzzle.{PuzzleShown, puzzle_view};
+ghost use Rattle.xw_session.specs.Resuming.{refused_line};
+ghost use Rattle.xw_files.specs.Formats.{IsRead, written_as};
+ghost use Rattle.xw_session.specs.Opening.{opened_on, puzzle_of};
+ghost use Rattle.xw_engine.specs.Engine.{Shown, HasPuzzle, IsOpened, IsUnread, IsUnopened, IsLineDone, IsFileMade, IsRecordMade, IsReplayAnswer, IsResumed, record_name, replay_status};
+
+use crate::status::Status;
+use std::alloc::{AllocError, Global};
+use std::marker::Model;
+use xw_files::{Kind, Puzzle, ReadFault, WriteFault, kind_of, read_as, write_as};
+use xw_live::Live;
+use xw_session::opening::{open_empty, open_puzzle};
+use xw_session::refusal::{self, Refusal};
+use xw_session::resuming::{self, Stop};
+use xw_session::{Session, VecSink, saving};
+use xw_words::{Bank, WordFault};
+
+/// The name of a record in the reports of its lines.
+const RECORD: &str = "record";
+
+/// A session over a word list, and the answer to the last call.
+#[derive(Drop)]
+pub struct Engine {
+    alloc: Global,
+    session: Session<Live>,
+    answer: Vec<u8>,
+}
+
+impl Model for Engine {
+    ghost use Rattle.xw_engine.specs.Engine.{Shown};
+
+    ghost Value = { Shown };
+
+    ghost view = { λ engine. record { state = engine.session; answer = engine.answer.items } };
+}
+
+/// Loads a word list.
+fn dictionary(alloc: Global, list: &[u8]) -> Result<Bank, Status>
+    ensures ok { IfOk result (λ bank. bank.words ≡ listed_in list.now) }
+    ensures err { IfErr result (λ status. (status ≡ Status.Memory) ⊎ ((status ≡ Status.Full) × IsTooLong (listed_in list.now))) }
+{
+    match Bank::load_list(alloc, list) {
+        Ok((bank, _)) => Ok(bank),
+        Err(WordFault::Full) => Err(Status::Full),
+        Err(_) => Err(Status::Memory),
+    }
+}
+
+/// Reads the puzzle in the bytes of a file.
+fn puzzle_in(alloc: Global, bytes: &[u8]) -> Result<Puzzle, ReadFault>
+    ensures ok { IfOk result (λ puzzle. (kind : Kind) × IsRead kind bytes.now (puzzle_view puzzle)) }
+    ensures err { IfErr result (λ fault. IsUnread bytes.now fault) }
+{
+    read_as(alloc, kind_of(bytes), bytes)
+}
+
+/// Opens a session on the puzzle in the bytes of a file or, if there are none, on an empty grid.
+fn session_on(alloc: Global, bank: Bank, bytes: &[u8]) -> Result<Session<Live>, ReadFault>
+    ensures ok { IfOk result (λ session. (puzzle : PuzzleShown) × HasPuzzle bytes.now puzzle × (session ≡ opened_on bank.words puzzle)) }
+    ensures err { IfErr result (λ fault. IsUnread bytes.now fault) }
+{
+    if bytes.is_empty() {
+        return Ok(open_empty(alloc, bank)?);
+    }
+    let puzzle = puzzle_in(alloc, bytes)?;
+    Ok(open_puzzle(alloc, bank, puzzle)?)
+}
+
+/// Returns the bytes of the puzzle of a session in this format.
+fn written(alloc: Global, session: &Session<Live>, kind: Kind) -> Result<Vec<u8>, WriteFault>
+    ensures ok { IfOk result (λ bytes. written_as kind (puzzle_of session.now) ≡ Ok bytes.items) }
+    ensures refused { IfErr result (λ fault. fault ≢ WriteFault.Memory → written_as kind (puzzle_of session.now) ≡ Err fault) }
+{
+    match session.puzzle() {
+        Ok(puzzle) => write_as(alloc, kind, &puzzle),
+        Err(_) => Err(WriteFault::Memory),
+    }
+}
+
+/// The status of a replay of commands, so many of which are refused.
+fn replayed(refused: usize) -> Status
+    ensures { result ≡ replay_status refused }
+{
+    if refused == 0 {
+        Status::Accepted
+    } else {
+        Status::Refused
+    }
+}
+
+/// The report of a line that is not a command.
+fn stop_line(alloc: Global, number: usize, refusal: Refusal) -> Result<String, AllocError>
+    ensures { IfOk result (λ line. line.bytes.items ≡ refused_line record_name number refusal) }
+{
+    let name = refusal::name(refusal);
+    Ok(format!(in alloc; "xw: record: line {number}: {name}\n")?)
+}
+
+/// The status and the answer of a replay. `told` has the reports of refused lines. Returns `None` if an allocation failed.
+fn report(alloc: Global, ended: Result<usize, Stop>, told: VecSink) -> Option<(Status, Vec<u8>)>
+    ensures { IfSome result (λ told_so. (told.failures ≡ 0) × IsReplayAnswer ended told.bytes.items told_so.0 told_so.1.items) }
+{
+    if told.failures() > 0 {
+        return None;
+    }
+    let mut answer = told.into_bytes();
+    match ended {
+        Ok(refused) => Some((replayed(refused), answer)),
+        Err(Stop::NoCommand { number, refusal }) => {
+            let line = stop_line(alloc, number, refusal).ok()?;
+            answer.extend_from_slice(line.as_bytes()).ok()?;
+            Some((Status::NoCommand, answer))
+        }
+        Err(Stop::Memory) => None,
+    }
+}
+
+impl Engine {
+    /// Opens a session over the words of a list, on the puzzle in the bytes of a file or, if there are none, on an empty grid
+    /// of 15 rows and columns. Returns `Full` if the list has too many words of one length, `Unread` if the bytes are no
+    /// puzzle, and `Memory` if an allocation fails.
+    pub fn open(alloc: Global, list: &[u8], puzzle: &[u8]) -> Result<Engine, Status>
+        ensures ok { IfOk result (λ engine. IsOpened list.now puzzle.now engine) }
+        ensures err { IfErr result (λ status. IsUnopened list.now puzzle.now status) }
+    {
+        let bank = dictionary(alloc, list)?;
+        let session = session_on(alloc, bank, puzzle)?;
+        Ok(Engine {
+            alloc,
+            session,
+            answer: Vec::new(alloc),
+        })
+    }
+
+    /// Answers a line, which has no line feed. The answer is what a session writes. Returns `Accepted`, `Refused` or
+    /// `Silent`, or `Memory` if the answer could not be kept: the line may then have been done.
+    pub fn line(&mut self, line: &[u8]) -> Status
+        ensures { IsLineDone line.now self.old result self.new }
+    {
+        let mut told = VecSink::new(self.alloc);
+        match self.session.step(line, &mut told) {
+            Ok(step) => {
+                self.answer = told.into_bytes();
+                Status::of_step(step)
+            }
+            Err(_) => {
+                self.answer = Vec::new(self.alloc);
+                Status::Memory
+            }
+        }
+    }
+
+    /// Replays the lines of a record, up to the first that is not a command. The answer is a line for each that is refused,
+    /// `xw: record: line N: NAME`, and one for the line that is not a command. Returns `Accepted`, `Refused` if some lines
+    /// were refused, `NoCommand`, or `Memory` if an allocation failed: some lines may then have been done.
+    pub fn resume(&mut self, record: &[u8]) -> Status
+        ensures { IsResumed record.now self.old result self.new }
+    {
+        let mut told = VecSink::new(self.alloc);
+        let ended = resuming::resume(self.alloc, &mut self.session, RECORD, record, &mut told);
+        match report(self.alloc, ended, told) {
+            Some((status, answer)) => {
+                self.answer = answer;
+                status
+            }
+            None => {
+                self.answer = Vec::new(self.alloc);
+                Status::Memory
+            }
+        }
+    }
+
+    /// Makes the puzzle as a `.puz` file the answer. Returns `Accepted`, `Unwritten` if the format cannot hold the puzzle, or
+    /// `Memory` as its fault if an allocation fails. The answer is then empty.
+    pub fn puz(&mut self) -> Status
+        ensures { IsFileMade Kind.Puz self.old result self.new }
+    {
+        self.file(Kind::Puz)
+    }
+
+    /// Makes the puzzle as a text file the answer, as `puz`.
+    pub fn text(&mut self) -> Status
+        ensures { IsFileMade Kind.Text self.old result self.new }
+    {
+        self.file(Kind::Text)
+    }
+
+    fn file(&mut self, kind: Kind) -> Status
+        ensures { IsFileMade kind self.old result self.new }
+    {
+        match written(self.alloc, &self.session, kind) {
+            Ok(bytes) => {
+                self.answer = bytes;
+                Status::Accepted
+            }
+            Err(fault) => {
+                self.answer = Vec::new(self.alloc);
+                Status::Unwritten(fault)
+            }
+        }
+    }
+
+    /// Makes the record of the session the answer. Returns `Accepted`, or `Memory` if an allocation fails. The answer is then
+    /// empty.
+    pub fn record(&mut self) -> Status
+        ensures { IsRecordMade self.old result self.new }
+    {
+        match saving::record(self.alloc, &self.session) {
+            Ok(bytes) => {
+                self.answer = bytes;
+                Status::Accepted
+            }
+            Err(_) => {
+                self.answer = Vec::new(self.alloc);
+                Status::Memory
+            }
+        }
+    }
+
+    /// The answer to the last call.
+    pub fn answer(&self) -> &[u8]
+        ensures { result.now ≡ self.now.answer }
+    {
+        self.answer.as_slice()
+    }
+}
