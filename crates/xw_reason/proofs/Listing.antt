@@ -1,10 +1,10 @@
 -- Lists of the entered cells.
-use Rattle.std.proofs.Common.{◌≡◌, ℕ, zero, suc, ◌+◌, ◌*◌, ◌<◌, ◌≤◌, Bool, true, false, List, [], ◌∷◌, ◌++◌, map, take, length, get_or, set, Option, Some, None, refl, sym, ◌∙◌, ap, subst, arith, inl, inr}
+use Rattle.std.proofs.Common.{◌≡◌, ℕ, zero, suc, ◌+◌, ◌*◌, ◌<◌, ◌≤◌, Bool, true, false, List, [], ◌∷◌, ◌++◌, map, take, drop, length, get_or, set, Option, Some, None, refl, sym, ◌∙◌, ap, subst, arith, inl, inr}
 use Rattle.std.specs.Prelude.{◌⊎◌, All, Contains, is_some}
 use Rattle.std.specs.List.Sorted.{IsPermutation}
 use Rattle.std.proofs.lemmas.Bool.{cases_eq, false≢true}
-use Rattle.std.proofs.lemmas.List.{length-map, get_or-map, take_more, take_more_set}
-use Rattle.std.proofs.lemmas.List.Elements.{All-nil, All-push, All-map, All-weaker, Contains-push, Contains-append_left}
+use Rattle.std.proofs.lemmas.List.{length-map, get_or-map, take_more, take_more_set, length-set, get_or-set_same, get_or-set_other}
+use Rattle.std.proofs.lemmas.List.Elements.{All-nil, All-head, All-tail, All-drop, All-push, All-map, All-weaker, Contains-push, Contains-append_left}
 use Rattle.std.proofs.lemmas.List.Sorted.{All-permutation, Contains-permutation}
 use Rattle.xw_letters.specs.Letter.{IsLetter}
 use Rattle.xw_grid.specs.declared.cell.Cell.{Cell}
@@ -58,6 +58,25 @@ IsPart-itself entries = record { long = refl; kept = λ cell letter h. h }
 
 pub IsPart-then : (first second third : List (Option ℕ)) → IsPart second first → IsPart third second → IsPart third first
 IsPart-then first second third a b = record { long = b.long ∙ a.long; kept = λ cell letter h. a.kept cell letter (b.kept cell letter h) }
+
+-- a part with one more of the entries
+IsPart-entered : (part entries : List (Option ℕ)) (cell : ℕ) → IsPart part entries → IsPart (set part cell (entry_in entries cell)) entries
+IsPart-entered part entries cell is = record { long = length-set part cell (entry_in entries cell) ∙ is.long; kept = λ other letter h. by_place other letter (cases_eq other cell) h } where
+  by_place : (other letter : ℕ) → (other ≡ cell) ⊎ (other ≡ cell → ⊥) → entry_in (set part cell (entry_in entries cell)) other ≡ Some letter → entry_in entries other ≡ Some letter
+  by_place other letter (inl here) h =
+      let below = entry_within (set part cell (entry_in entries cell)) other letter h in
+      ap (entry_in entries) here
+      ∙ sym (get_or-set_same part cell (entry_in entries cell) None (omega (arith, below, length-set part cell (entry_in entries cell), here)))
+      ∙ ap (entry_in (set part cell (entry_in entries cell))) (sym here) ∙ h
+  by_place other letter (inr apart) h = is.kept other letter (sym (get_or-set_other part cell other (entry_in entries cell) None apart) ∙ h)
+
+-- and with those of a list
+pub IsPart-written : (list : List (ℕ × Option ℕ)) (part entries : List (Option ℕ)) → All (λ written. written.1 ≡ entry_in entries written.0) list → IsPart part entries → IsPart (written_in part list) entries
+IsPart-written [] part entries sound is = is
+IsPart-written (first ∷ list) part entries sound is =
+    let holds = All-head (λ written. written.1 ≡ entry_in entries written.0) first list sound in
+    IsPart-written list (set part first.0 first.1) entries (All-tail (λ written. written.1 ≡ entry_in entries written.0) first list sound)
+    (subst (λ entry. IsPart (set part first.0 entry) entries) (sym holds) (IsPart-entered part entries first.0 is))
 
 pub no_entry : (entries : List (Option ℕ)) (cell : ℕ) → entry_in (no_entries entries) cell ≡ None
 no_entry [] cell = refl
@@ -154,6 +173,20 @@ list_good state part list formed is_part is =
     All-weaker (λ written. (is_open state.grid written.0 ≡ true) × (written.1 ≡ entry_in part (index_of state.grid written.0))) (CanBeWritten state.grid)
     (λ written h. (h.0, subst (λ o. IsSquare (Open o)) (sym h.1) (letter_square part (index_of state.grid written.0) (λ letter e. formed.board.letters (index_of state.grid written.0) letter (is_part.kept (index_of state.grid written.0) letter e)))))
     list is.sound
+
+-- so can its last cells
+pub list_good_from : (state : State) (part : List (Option ℕ)) (list : List (Cell × Option ℕ)) (from : ℕ) → IsWellFormed state → IsPart part (entries_of state) → IsListOf state part list → All (CanBeWritten state.grid) (drop from list)
+list_good_from state part list from formed is_part is = All-drop (CanBeWritten state.grid) from list (list_good state part list formed is_part is)
+
+-- they add to a part of the entries
+pub list_part_from : (state : State) (now : List (Option ℕ)) (list : List (Cell × Option ℕ)) (from : ℕ) → IsListOf state (entries_of state) list → IsPart now (entries_of state) → IsPart (written_in now (by_index state.grid (drop from list))) (entries_of state)
+list_part_from state now list from is part =
+    IsPart-written (by_index state.grid (drop from list)) now (entries_of state)
+    (All-map (λ written. written.1 ≡ entry_in (entries_of state) written.0) (λ written. (index_of state.grid written.0, written.1)) (drop from list)
+    (All-drop (λ written. written.1 ≡ entry_in (entries_of state) (index_of state.grid written.0)) from list
+    (All-weaker (λ written. (is_open state.grid written.0 ≡ true) × (written.1 ≡ entry_in (entries_of state) (index_of state.grid written.0)))
+    (λ written. written.1 ≡ entry_in (entries_of state) (index_of state.grid written.0)) (λ written h. h.1) list is.sound)))
+    part
 
 -- and leads to it from any part
 pub list_written : (state : State) (now part : List (Option ℕ)) (list : List (Cell × Option ℕ)) → IsPart now (entries_of state) → IsPart part (entries_of state) → IsListOf state part list → written_in now (by_index state.grid list) ≡ part

@@ -1,5 +1,5 @@
 -- What leaving out entries leads to.
-use Rattle.std.proofs.Common.{◌≡◌, ℕ, zero, suc, ◌+◌, ◌<◌, ◌≤◌, Bool, true, false, cond, List, [], ◌∷◌, map, length, get_or, set, Option, Some, None, refl, sym, ◌∙◌, ap, subst, arith, inl, inr, IfSome}
+use Rattle.std.proofs.Common.{◌≡◌, ℕ, zero, suc, ◌+◌, ◌<◌, ◌≤◌, Bool, true, false, cond, List, [], ◌∷◌, map, drop, length, get_or, set, Option, Some, None, refl, sym, ◌∙◌, ap, subst, arith, inl, inr, IfSome}
 use Rattle.std.specs.Prelude.{◌⊎◌, ◌==◌, All, is_some, count_by}
 use Rattle.std.specs.List.{AllWithin}
 use Rattle.std.proofs.lemmas.Bool.{cases_eq, false≢true, true≢false, ne_eqb}
@@ -20,7 +20,7 @@ use Rattle.xw_fill.proofs.StateLemmas.{DiffersInEntries-itself, DiffersInEntries
 use Rattle.xw_reason.specs.Reason.{entry_in, entries_of, leaves_none, IsPart, no_entries, IsReason}
 use Rattle.xw_reason.specs.Sparing.{CanBeWritten, by_index, written_in, IsListOf, IsNeeded, IsSpared}
 use Rattle.xw_reason.proofs.Writing.{position_at, same_entries, entry_of_open}
-use Rattle.xw_reason.proofs.Listing.{entry_within, IsPart-itself, IsPart-then, IsPart-none, no_entry, list_good, list_written}
+use Rattle.xw_reason.proofs.Listing.{entry_within, IsPart-itself, IsPart-then, IsPart-none, no_entry, list_good, list_written, list_part_from}
 
 -- what holds of each element holds of the one at hand
 pub of_item : {X : Type 0} (P : X → Type 0) (xs : List X) (k : ℕ) (x : X) → k < length xs → x ≡ get_or xs k x → All P xs → P x
@@ -171,13 +171,17 @@ sparing-all start light list spared index now so_far end none =
     All-from_all_within (λ written. IsNeeded (position_of start) light (entries_of start) (index_of start.grid written.0)) list
     (AllWithin-upto (λ written. IsNeeded (position_of start) light (entries_of start) (index_of start.grid written.0)) list 0 index (length list) end (so_far.needed none))
 
--- what is needed of the entries of a state is so from the start on
+-- what is needed in a state is needed at the start
+pub needed_from : (start now : State) (light : ℕ) (entries : List (Option ℕ)) (list : List (Cell × Option ℕ)) → DiffersInEntries start now → All (λ written. IsNeeded (position_of now) light entries (index_of now.grid written.0)) list
+    → All (λ written. IsNeeded (position_of start) light entries (index_of start.grid written.0)) list
+needed_from start now light entries list differs =
+    All-weaker (λ written. IsNeeded (position_of now) light entries (index_of now.grid written.0)) (λ written. IsNeeded (position_of start) light entries (index_of start.grid written.0))
+    (λ written needed. subst (λ place. IsNeeded (position_of start) light entries place) (differs_index start now written.0 differs)
+    (λ letter h. sym (leaves_along start now light (set entries (index_of now.grid written.0) None) differs) ∙ needed letter h)) list
+
 pub needed_along : (start now : State) (light : ℕ) (list : List (Cell × Option ℕ)) → DiffersInEntries start now → All (λ written. IsNeeded (position_of now) light (entries_of now) (index_of now.grid written.0)) list
     → All (λ written. IsNeeded (position_of start) light (entries_of now) (index_of start.grid written.0)) list
-needed_along start now light list differs =
-    All-weaker (λ written. IsNeeded (position_of now) light (entries_of now) (index_of now.grid written.0)) (λ written. IsNeeded (position_of start) light (entries_of now) (index_of start.grid written.0))
-    (λ written needed. subst (λ place. IsNeeded (position_of start) light (entries_of now) place) (differs_index start now written.0 differs)
-    (λ letter h. sym (leaves_along start now light (set (entries_of now) (index_of now.grid written.0) None) differs) ∙ needed letter h)) list
+needed_along start now light list differs = needed_from start now light (entries_of now) list differs
 
 -- ---- writing the lists of a room
 
@@ -228,15 +232,37 @@ reason_some start empty now light list is empty_rest emptied alive rest part dea
   least = λ h. absurd (false≢true (sym alive ∙ lacks_at start empty light (no_entries (entries_of start)) empty_rest emptied ∙ h));
 }
 
--- the entries were written back, and then those left out that can be spared
-pub reason_spared : (start empty back now : State) (light : ℕ) (list items : List (Cell × Option ℕ)) → IsListOf start (entries_of start) items → list ≡ items
-    → DiffersInEntries start empty → entries_of empty ≡ no_entries (entries_of start) → lacks_words (position_of empty) light ≡ false → back ≡ start
-    → DiffersInEntries back now → IsPart (entries_of now) (entries_of back) → lacks_words (position_of now) light ≡ true
-    → All (λ written. IsNeeded (position_of back) light (entries_of now) (index_of back.grid written.0)) list
+-- some of the entries were written back, and then those left out that can be spared
+pub reason_spared : (start empty some now : State) (light : ℕ) (list : List (Cell × Option ℕ)) → IsListOf start (entries_of start) list
+    → DiffersInEntries start empty → entries_of empty ≡ no_entries (entries_of start) → lacks_words (position_of empty) light ≡ false
+    → DiffersInEntries start some → IsPart (entries_of some) (entries_of start)
+    → DiffersInEntries some now → IsPart (entries_of now) (entries_of some) → lacks_words (position_of now) light ≡ true
+    → All (λ written. IsNeeded (position_of some) light (entries_of now) (index_of some.grid written.0)) list
     → IsReason (position_of start) light (entries_of now)
-reason_spared start empty back now light list items is same empty_rest emptied alive there rest part dead needed =
-    reason_some start empty now light list (subst (IsListOf start (entries_of start)) (sym same) is) empty_rest emptied alive
-    (subst (λ (s : State). DiffersInEntries s now) there rest)
-    (subst (λ (s : State). IsPart (entries_of now) (entries_of s)) there part)
+reason_spared start empty some now light list is empty_rest emptied alive some_rest some_part rest part dead needed =
+    reason_some start empty now light list is empty_rest emptied alive
+    (DiffersInEntries-then start some now some_rest rest)
+    (IsPart-then (entries_of start) (entries_of some) (entries_of now) some_part part)
     dead
-    (subst (λ (s : State). All (λ written. IsNeeded (position_of s) light (entries_of now) (index_of s.grid written.0)) list) there needed)
+    (needed_from start some light (entries_of now) list some_rest needed)
+
+-- ---- entries that come back, the nearest first
+
+-- some entries are back: those from an index on, and all of them at index 0
+pub record AreBack (start : State) (now : State) : Type 0 where
+  pub rest : DiffersInEntries start now
+  pub part : IsPart (entries_of now) (entries_of start)
+
+pub back-more : (start now later : State) (list : List (Cell × Option ℕ)) (from : ℕ) → IsListOf start (entries_of start) list → AreBack start now
+    → entries_of later ≡ written_in (entries_of now) (by_index now.grid (drop from list)) → DiffersInEntries now later → AreBack start later
+back-more start now later list from is back written rest = record {
+  rest = DiffersInEntries-then start now later back.rest rest;
+  part = subst (λ entries. IsPart entries (entries_of start)) (sym (written ∙ ap (λ (s : State). written_in (entries_of now) (by_index s.grid (drop from list))) back.rest))
+      (list_part_from start (entries_of now) list from is back.part);
+}
+
+-- with all entries back, the light has no word
+pub back-all : (start now later : State) (light : ℕ) (list : List (Cell × Option ℕ)) (from : ℕ) → IsListOf start (entries_of start) list → AreBack start now → lacks_words (position_of start) light ≡ true
+    → entries_of later ≡ written_in (entries_of now) (by_index now.grid (drop from list)) → DiffersInEntries now later → from ≡ 0 → lacks_words (position_of later) light ≡ true
+back-all start now later light list from is back dead written rest first =
+    ap (λ (s : State). lacks_words (position_of s) light) (back_by start now later (drop from list) list back.rest back.part is (ap (λ n. drop n list) first) written rest) ∙ dead

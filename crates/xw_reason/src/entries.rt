@@ -1,5 +1,5 @@
 //! The entries of a grid as lists of cells, and writing such a list.
-ghost use Rattle.std.specs.Prelude.{◌≡◌, All, length, true, IfOk, IfErr, IfSome, map, slice_set};
+ghost use Rattle.std.specs.Prelude.{◌≡◌, ◌≤◌, All, length, drop, true, IfOk, IfErr, IfSome, map, slice_set};
 ghost use Rattle.xw_letters.specs.Letter.{IsLetter};
 ghost use Rattle.xw_grid.specs.Grid.{is_open, index_of};
 ghost use Rattle.xw_fill.specs.Position.{DiffersInEntries};
@@ -21,6 +21,16 @@ pub fn write<E: Feasible>(engine: &mut E, list: &[(Cell, Option<Letter>)])
     ensures rest { DiffersInEntries (E.state engine.old) (E.state engine.new) }
 {
     let _ = engine.edit(&Edit::Write(list));
+}
+
+/// Writes the cells of a list from an index on, in one edit.
+pub fn write_from<E: Feasible>(engine: &mut E, list: &[(Cell, Option<Letter>)], from: usize)
+    requires from { from ≤ length list.now }
+    requires good { All (CanBeWritten (E.state engine.old).grid) list.now }
+    ensures entries { entries_of (E.state engine.new) ≡ written_in (entries_of (E.state engine.old)) (by_index (E.state engine.old).grid (drop from list.now)) }
+    ensures rest { DiffersInEntries (E.state engine.old) (E.state engine.new) }
+{
+    write(engine, &list[from..]);
 }
 
 /// Writes one open cell.

@@ -5,7 +5,7 @@ ghost use Rattle.xw_fill.specs.Search.{light_count, lacks_words};
 ghost use Rattle.xw_reason.specs.Reason.{entries_of, no_entries, IsReason, IsReasonOf, IsRefused};
 ghost use Rattle.xw_reason.specs.Sparing.{IsListOf, IsRoom};
 
-use crate::entries::{emptied, entered_cells, note_entries, room_for_entries, write};
+use crate::entries::{emptied, entered_cells, note_entries, room_for_entries, write, write_from};
 use crate::order::sort_by_distance;
 use crate::sparing::spare_all;
 use std::alloc::Global;
@@ -13,6 +13,9 @@ use xw_feas::feasible::Feasible;
 use xw_fill::scan::{light_at, word_count};
 use xw_grid::cell::{Cell, LightName};
 use xw_letters::letter::Letter;
+
+/// How many entries are tried first, those nearest to the light; then twice as many, and so on.
+const NEAREST: usize = 4;
 
 /// Why there is no reason.
 #[derive(Clone, Copy, Debug, PartialEq, Eq)]
@@ -53,7 +56,8 @@ impl Room {
     }
 }
 
-/// Leaves a reason in the grid. The lists have the entered cells, with their letters and without.
+/// Leaves a reason in the grid. The lists have the entered cells, those farthest from the light first, with their letters
+/// and without. The grid is emptied, and the entries come back from the nearest on, until they leave the light no word.
 fn leave_reason<E: Feasible>(
     engine: &mut E,
     light: usize,
@@ -71,7 +75,14 @@ fn leave_reason<E: Feasible>(
     if word_count(engine, light) == 0 {
         return;
     }
-    write(engine, entered);
+    let mut from = entered.len();
+    'nearest: loop {
+        from = from.saturating_sub((entered.len() - from).max(NEAREST));
+        write_from(engine, entered, from);
+        if word_count(engine, light) == 0 {
+            break;
+        }
+    }
     spare_all(engine, light, entered);
 }
 
