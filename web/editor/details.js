@@ -1,0 +1,186 @@
+// The tab of the puzzle: its texts, counts, repeats and words.
+import { escapeText, parseRecord, textLines, unescapeText } from './record.js';
+import { refusalText, refuse, say } from './messages.js';
+import { titleOf } from './words.js';
+
+// how long after an edit counts are asked for, in milliseconds
+const SETTLED = 200;
+
+export class DetailsView {
+  #editor;
+  #elements;
+  #timer = null;
+
+  constructor(editor, elements, actions) {
+    this.#editor = editor;
+    this.#elements = elements;
+    this.actions = actions;
+    editor.addEventListener('whole', () => this.#takeTexts());
+    editor.addEventListener('step', () => this.#soon());
+    for (const field of ['title', 'author', 'copyright', 'notes']) {
+      elements[field].addEventListener('change', () => this.#change(field));
+      elements[field].addEventListener('keydown', (event) => {
+        if (event.key === 'Escape') actions.toGrid();
+      });
+    }
+    elements.wordForm.addEventListener('submit', (event) => {
+      event.preventDefault();
+      this.#addOrStrike(event.submitter?.value ?? 'add');
+    });
+    elements.checks.addEventListener('click', (event) => this.#click(event.target.closest('button')));
+    elements.changed.addEventListener('click', (event) => this.#click(event.target.closest('button')));
+  }
+
+  #takeTexts() {
+    for (const field of ['title', 'author', 'copyright', 'notes']) {
+      const element = this.#elements[field];
+      if (element.classList.contains('refused')) continue;
+      const text = unescapeText(this.#editor.board.texts.get(field) ?? '');
+      element.value = text;
+      // as the browser shows it: a field drops line feeds, an area unites them
+      element.dataset.kept = element.value;
+    }
+  }
+
+  #change(field) {
+    const element = this.#elements[field];
+    if (element.value === element.dataset.kept) return;
+    this.actions.text(element, (text) => textLines(field, escapeText(text)));
+  }
+
+  #soon() {
+    clearTimeout(this.#timer);
+    this.#timer = setTimeout(() => this.refresh().catch(() => {}), SETTLED);
+  }
+
+  // Asks for counts and faults, if the tab is in sight.
+  async refresh() {
+    if (this.#elements.panel.hidden) return;
+    const [stats, dups, unlisted] = await this.#editor.ask('stats', 'dups', 'unlisted');
+    this.#showCounts((stats ?? []).map((line) => line.split(' ')));
+    this.#showChecks(dups ?? [], unlisted ?? []);
+    this.#showChanged();
+  }
+
+  #showCounts(stats) {
+    const named = new Map(stats.filter((words) => words.length === 2));
+    const words = stats.filter(([name]) => name === 'light');
+    const letters = new Map(stats.filter(([name]) => name === 'letter').map(([, letter, count]) => [letter, Number(count)]));
+    const { board } = this.#editor;
+    const rows = [
+      ['Size', `${board.width} × ${board.height}`], ['Words', named.get('lights')], ['Mean length', named.get('mean')],
+      ['Blocks', `${named.get('blocks')} (${Math.round((100 * named.get('blocks')) / named.get('cells'))} %)`],
+      ...(named.get('bars') === '0' ? [] : [['Bars', named.get('bars')]]), ['Unchecked cells', named.get('unchecked')],
+      ['Letters entered', `${named.get('entered')} of ${board.open}`],
+    ];
+    this.#elements.counts.replaceChildren(...rows.flatMap(([name, value]) => [element('dt', name), element('dd', value)]));
+    this.#elements.lengths.replaceChildren(...bars(words.map(([, length, count]) => [length, Number(count)])));
+    const alphabet = Array.from('ABCDEFGHIJKLMNOPQRSTUVWXYZ', (letter) => [letter, letters.get(letter) ?? 0]);
+    this.#elements.frequency.replaceChildren(...bars(alphabet));
+  }
+
+  #showChecks(dups, unlisted) {
+    const { board } = this.#editor;
+    const items = [];
+    for (const line of dups) {
+      const [number, direction, otherNumber, other, word] = line.split(' ');
+      items.push(check(`${word} stands twice: ${titleOf({ number, direction })} and ${titleOf({ number: otherNumber, direction: other })}`, `${number} ${direction}`));
+    }
+    for (const line of unlisted) {
+      const [number, direction, word] = line.split(' ');
+      const item = check(`${word} is not in the list: ${titleOf({ number, direction })}`, `${number} ${direction}`);
+      item.append(button('Add it', { add: word }));
+      items.push(item);
+    }
+    const lacking = board.lights.filter((light) => !board.texts.has(`clue ${light.name}`));
+    if (lacking.length) {
+      items.push(check(lacking.length === 1 ? `${titleOf(lacking[0])} has no clue` : `${lacking.length} lights have no clue`, lacking[0].name, 'clue'));
+    }
+    const empty = board.firstEmpty();
+    if (empty >= 0) {
+      const item = element('li', '');
+      item.append(button(`${board.open - board.entered} cells are empty`, { cell: empty }));
+      items.push(item);
+    }
+    const dead = board.lights.filter((light) => light.count === 0 && !board.isEntered(light));
+    if (dead.length) items.unshift(check(`${dead.length} lights have no word left`, dead[0].name));
+    if (!items.length) items.push(element('li', 'Nothing is missing: no repeat, no unlisted word, no empty cell, a clue for each light.', 'good'));
+    this.#elements.checks.replaceChildren(...items);
+  }
+
+  #showChanged() {
+    const { added, struck } = parseRecord(this.#editor.record);
+    const items = [
+      ...added.filter((word) => !struck.includes(word)).map((word) => changed(`+ ${word}`, 'Strike', { strike: word })),
+      ...struck.filter((word) => !added.includes(word)).map((word) => changed(`− ${word}`, 'Add again', { add: word })),
+    ];
+    this.#elements.changed.replaceChildren(...items);
+    this.#elements.changed.hidden = items.length === 0;
+  }
+
+  async #addOrStrike(command) {
+    const { word } = this.#elements;
+    const spelled = word.value.replace(/[\s'’-]/g, '').toUpperCase();
+    if (!spelled) return refuse('type a word first');
+    await this.#edit(`${command} ${spelled}`);
+    word.value = '';
+    word.focus();
+  }
+
+  async #edit(line) {
+    const [command, word] = line.split(' ');
+    const refused = await this.actions.edit([line]);
+    if (refused) return;
+    say(command === 'add' ? `${word} is in the list of this session` : `${word} is struck: it fits nothing in this session`, 'good');
+  }
+
+  #click(pressed) {
+    if (!pressed) return;
+    const { add, strike, light, cell, tab } = pressed.dataset;
+    if (add) return this.#edit(`add ${add}`);
+    if (strike) return this.#edit(`strike ${strike}`);
+    if (cell) this.#editor.moveTo(Number(cell));
+    const named = light && this.#editor.board.byName.get(light);
+    if (named) this.#editor.moveTo(named.cells[0], named.direction);
+    if (tab === 'clue') this.actions.toClue(named);
+    else this.actions.toGrid();
+  }
+}
+
+function element(name, text, className = '') {
+  const made = document.createElement(name);
+  made.textContent = text;
+  made.className = className;
+  return made;
+}
+
+function button(text, data) {
+  const made = element('button', text);
+  made.type = 'button';
+  Object.assign(made.dataset, data);
+  return made;
+}
+
+function check(text, light, tab = '') {
+  const item = element('li', '');
+  item.append(button(text, { light, tab }));
+  return item;
+}
+
+function changed(text, name, data) {
+  const item = element('li', text);
+  item.append(button(name, data));
+  return item;
+}
+
+// A bar for each pair of a name and a count.
+function bars(pairs) {
+  const most = Math.max(1, ...pairs.map(([, count]) => count));
+  return pairs.map(([name, count]) => {
+    const bar = element('span', '');
+    bar.style.setProperty('--bar', `${(100 * count) / most}%`);
+    bar.title = `${name}: ${count}`;
+    bar.append(element('i', ''), element('b', name), element('small', count || '–'));
+    return bar;
+  });
+}

@@ -1,0 +1,286 @@
+// The session: edits go to the engine in order, and each is kept in a history of records.
+import { Board } from './board.js';
+import { Engine } from './engine.js';
+import { parseRecord, transition } from './record.js';
+import { refusalText, refuse } from './messages.js';
+
+const MOST_STEPS = 5000;
+
+export class Editor extends EventTarget {
+  board = new Board();
+  // the cell under the cursor, and the direction of its light
+  cursor = 0;
+  direction = 'across';
+  sym = 'none';
+  // cells whose letters a fill entered, by place; another fill may change them
+  pencil = new Set();
+  // names of the lights to fill; all if there are none
+  chosen = new Set();
+  // the place of the last edit
+  edited = null;
+  // cells of a reason, and cells of lights that no word matches, by index
+  reason = new Set();
+  unmatched = new Set();
+  commands = new Set();
+  list = { name: '', words: 0, scored: false, best: 0, least: 0, bytes: new Uint8Array() };
+  // states: { record, pencil, cursor, direction }
+  #past = [];
+  #future = [];
+  #now = null;
+  #last = Promise.resolve();
+  #restarting = null;
+
+  constructor(makeWorker) {
+    super();
+    this.engine = new Engine(makeWorker, () => this.#restart());
+  }
+
+  #tell(name, detail) {
+    this.dispatchEvent(new CustomEvent(name, { detail }));
+  }
+
+  async begin(module, list, record, pencil = []) {
+    this.module = module;
+    await this.engine.call('load', { bytes: module });
+    await this.#open(list, record);
+    this.pencil = new Set(pencil);
+    this.#now = this.#state(this.record);
+  }
+
+  async #open(list, record) {
+    const opened = await this.engine.call('open', { list: list.bytes, least: list.least, record });
+    this.commands = new Set(opened.commands);
+    this.list = { ...list, words: opened.words, scored: opened.scored, best: opened.best };
+    this.record = opened.record;
+    this.board.takeWhole(opened);
+    this.#afterWhole();
+  }
+
+  // After a failure: a new worker, on the list and the last record.
+  #restart() {
+    this.#restarting ??= this.#startAgain().finally(() => {
+      this.#restarting = null;
+    });
+  }
+
+  async #startAgain() {
+    try {
+      this.engine.start();
+      await this.engine.call('load', { bytes: this.module });
+      await this.#open(this.list, this.record);
+      refuse(refusalText('Engine'));
+    } catch {
+      refuse('the engine cannot be started; save the session and reload the page');
+    }
+  }
+
+  #afterWhole() {
+    this.sym = parseRecord(this.record).sym;
+    const { cells } = this.board;
+    if (this.cursor >= cells.length) this.cursor = 0;
+    for (const place of this.pencil) if (!this.cellAt(place)?.letter) this.pencil.delete(place);
+    for (const name of this.chosen) if (!this.board.byName.has(name)) this.chosen.delete(name);
+    this.#tell('whole');
+  }
+
+  cellAt(place) {
+    const [row, column] = place.split(' ').map(Number);
+    return row <= this.board.height && column <= this.board.width ? this.board.cells[this.board.index(row, column)] : null;
+  }
+
+  #state(record) {
+    return { record, pencil: [...this.pencil], cursor: this.cursor, direction: this.direction };
+  }
+
+  // Does one thing after another, each to its end.
+  inOrder(action) {
+    const done = this.#last.then(() => this.#restarting).then(action);
+    this.#last = done.catch(() => {});
+    return done;
+  }
+
+  // Sends lines as one step of the history. If one is refused, all are taken back, and its name is returned.
+  // The answer is shown before the record is read.
+  edit(lines, options = {}) {
+    return this.inOrder(async () => {
+      try {
+        return await this.#edit(lines, options);
+      } catch (fault) {
+        return fault.status ?? 'Engine';
+      }
+    });
+  }
+
+  async #edit(lines, { isWhole = true, pencil = null, begin = 0 }) {
+    const answered = this.engine.call('edit', { lines, isWhole });
+    const recorded = this.engine.call('record');
+    recorded.catch(() => {});
+    const told = await answered;
+    const refused = told.answers.find(({ refusal }) => refusal)?.refusal ?? null;
+    if (refused) {
+      await this.#goTo(this.record);
+      return refused;
+    }
+    this.reason = new Set();
+    this.unmatched = new Set();
+    if (pencil) this.pencil = pencil;
+    this.#show(lines, told, isWhole, begin);
+    this.record = await recorded;
+    if (isWhole) this.sym = parseRecord(this.record).sym;
+    this.#step();
+    return null;
+  }
+
+  #show(lines, told, isWhole, begin) {
+    if (isWhole) {
+      this.board.takeWhole(told);
+      this.#afterWhole();
+      return;
+    }
+    const cells = new Set(lines.map((line) => this.#takeLetter(line)));
+    for (const cell of this.board.takeLeft(told.changed)) cells.add(cell);
+    this.board.takeCounts(told.counts);
+    this.#tell('letters', { cells, begin, engine: told.engine });
+  }
+
+  // Takes a line `set R C L` or `clear R C`, and returns the index of the cell.
+  #takeLetter(line) {
+    const [, row, column, letter = ''] = line.split(' ');
+    const index = this.board.index(Number(row), Number(column));
+    this.board.cells[index].letter = letter;
+    return index;
+  }
+
+  #step() {
+    if (this.record !== this.#now.record) {
+      this.#past.push(this.#now);
+      if (this.#past.length > MOST_STEPS) this.#past.shift();
+      this.#future = [];
+    }
+    this.#now = this.#state(this.record);
+    this.#tell('step');
+  }
+
+  // Leads the engine to a record, and checks that it is there.
+  async #goTo(record) {
+    const now = await this.engine.call('record');
+    await this.engine.call('edit', { lines: transition(now, record), isWhole: false });
+    let after = await this.engine.call('record');
+    if (!isSame(after, record)) {
+      await this.engine.call('edit', { lines: ['size 1 1', ...transition('size 1 1', record)], isWhole: false });
+      after = await this.engine.call('record');
+    }
+    const told = await this.engine.call('edit', { lines: [], isWhole: true });
+    this.record = after;
+    this.reason = new Set();
+    this.unmatched = new Set();
+    this.board.takeWhole(told);
+    this.#afterWhole();
+  }
+
+  get canUndo() {
+    return this.#past.length > 0;
+  }
+
+  get canRedo() {
+    return this.#future.length > 0;
+  }
+
+  undo() {
+    return this.#move(() => this.#past, () => this.#future);
+  }
+
+  redo() {
+    return this.#move(() => this.#future, () => this.#past);
+  }
+
+  #move(from, to) {
+    return this.inOrder(async () => {
+      const state = from().pop();
+      if (!state) return false;
+      to().push(this.#now);
+      await this.#take(state);
+      this.#tell('step');
+      return true;
+    });
+  }
+
+  async #take(state) {
+    this.pencil = new Set(state.pencil);
+    this.cursor = state.cursor;
+    this.direction = state.direction;
+    await this.#goTo(state.record);
+    this.#now = { ...state, record: this.record };
+  }
+
+  // Goes to a record as one step, such as that of a file.
+  replace(record, pencil = []) {
+    return this.inOrder(async () => {
+      this.pencil = new Set(pencil);
+      this.chosen.clear();
+      await this.#goTo(record);
+      this.cursor = Math.max(0, this.board.cells.findIndex((cell) => !cell.block));
+      this.direction = 'across';
+      this.#step();
+      this.#tell('whole');
+    });
+  }
+
+  // Opens the session anew over another list.
+  useList(list) {
+    return this.inOrder(async () => {
+      const old = this.list;
+      try {
+        await this.#open(list, this.record);
+        this.#now = this.#state(this.record);
+        this.#tell('step');
+        return null;
+      } catch (fault) {
+        this.list = old;
+        return fault.status;
+      }
+    });
+  }
+
+  // Takes back what lines did that are no step of the history, such as an unfinished fill.
+  restore() {
+    return this.inOrder(() => this.#take({ ...this.#now, cursor: this.cursor, direction: this.direction }));
+  }
+
+  setPencil(pencil) {
+    return this.inOrder(() => {
+      this.pencil = pencil;
+      this.#now = this.#state(this.record);
+      this.#tell('whole');
+      this.#tell('step');
+    });
+  }
+
+  // Asks lines that change nothing; returns the lines of each answer, or null where it was refused.
+  async ask(...lines) {
+    const answers = await this.engine.call('ask', { lines });
+    return answers.map(({ lines: told, refusal }) => (refusal ? null : told));
+  }
+
+  get light() {
+    const cell = this.board.cells[this.cursor];
+    return cell?.[this.direction] ?? null;
+  }
+
+  get crossing() {
+    const cell = this.board.cells[this.cursor];
+    return cell?.[this.direction === 'across' ? 'down' : 'across'] ?? null;
+  }
+
+  moveTo(index, direction = this.direction) {
+    const cell = this.board.cells[index];
+    this.cursor = index;
+    this.direction = direction;
+    const other = direction === 'across' ? 'down' : 'across';
+    if (!cell[direction] && cell[other]) this.direction = other;
+    this.#tell('move');
+  }
+}
+
+const bodyWithoutWords = (record) => record.split('\n').filter((line) => !/^(add|strike|watch) /.test(line)).join('\n');
+const isSame = (one, other) => bodyWithoutWords(one) === bodyWithoutWords(other);

@@ -1,0 +1,501 @@
+// The grid: its cells, the keys and the mouse.
+import { refusalText, refuse, say } from './messages.js';
+
+const ARROWS = { ArrowLeft: ['across', -1], ArrowRight: ['across', 1], ArrowUp: ['down', -1], ArrowDown: ['down', 1] };
+
+export class GridView {
+  #editor;
+  #root;
+  #cells = [];
+  // what each cell shows
+  #painted = [];
+  // a corner of the rectangle that is being chosen, by index
+  #anchor = null;
+  #far = null;
+  // `block`, `right`, `below`, `circle` or `pencil` if a click does more than move
+  tool = null;
+
+  constructor(editor, root, actions) {
+    this.#editor = editor;
+    this.#root = root;
+    this.actions = actions;
+    root.addEventListener('keydown', (event) => this.#key(event));
+    root.addEventListener('pointerdown', (event) => this.#pointerDown(event));
+    root.addEventListener('pointermove', (event) => this.#pointerMove(event));
+    root.addEventListener('pointerup', () => this.#pointerUp());
+    editor.addEventListener('whole', () => this.draw());
+    editor.addEventListener('letters', ({ detail }) => this.#letters(detail));
+    editor.addEventListener('move', () => this.mark());
+    new ResizeObserver(() => this.#fit()).observe(root.parentElement);
+  }
+
+  // The size of a cell, so that the grid fills the room it has.
+  #fit() {
+    const { board } = this.#editor;
+    if (!board.width) return;
+    const room = this.#root.parentElement.getBoundingClientRect();
+    const size = Math.floor(Math.min((room.width - 16) / board.width, (room.height - 16) / board.height, 64));
+    this.#root.style.setProperty('--cell', `${Math.max(size, 12)}px`);
+  }
+
+  draw() {
+    const { board, chosen } = this.#editor;
+    if (!chosen.size) this.#anchor = this.#far = null;
+    if (this.#cells.length !== board.cells.length || this.width !== board.width) this.#make(board);
+    for (let index = 0; index < this.#cells.length; index++) this.paint(index);
+    this.#fit();
+    this.mark();
+  }
+
+  #make(board) {
+    this.width = board.width;
+    this.#root.style.setProperty('--columns', board.width);
+    this.#root.setAttribute('aria-rowcount', board.height);
+    this.#root.setAttribute('aria-colcount', board.width);
+    this.#cells = [];
+    this.#painted = [];
+    const rows = [];
+    for (let row = 1; row <= board.height; row++) {
+      const line = document.createElement('div');
+      line.setAttribute('role', 'row');
+      line.className = 'row';
+      for (let column = 1; column <= board.width; column++) line.append(this.#makeCell(row, column));
+      rows.push(line);
+    }
+    this.#root.replaceChildren(...rows);
+  }
+
+  #makeCell(row, column) {
+    const cell = document.createElement('div');
+    cell.setAttribute('role', 'gridcell');
+    cell.id = `cell-${row}-${column}`;
+    cell.dataset.index = this.#cells.length;
+    cell.append(...['circle', 'number', 'letter'].map((name) => Object.assign(document.createElement('span'), { className: name })));
+    this.#cells.push(cell);
+    return cell;
+  }
+
+  // Shows a cell as the board has it.
+  paint(index) {
+    const { board, pencil, reason, unmatched } = this.#editor;
+    const cell = board.cells[index];
+    const classes = ['cell'];
+    if (cell.block) classes.push('block');
+    if (cell.right) classes.push('bar-right');
+    if (cell.below) classes.push('bar-below');
+    if (cell.circle && !cell.block) classes.push('circled');
+    if (cell.letter && pencil.has(cell.place)) classes.push('pencil');
+    if (reason.has(index)) classes.push('reason');
+    if (unmatched.has(index)) classes.push('unmatched');
+    const isOpen = !cell.block && !cell.letter;
+    if (isOpen && !cell.left && !this.isBlank) classes.push('dead');
+    if (isOpen && cell.left.length === 1) classes.push('only');
+    this.#marksOf(index, classes);
+    const shade = isOpen && cell.left.length > 1 ? shadeOf(cell.left.length) : '0%';
+    const letter = cell.letter || (isOpen && cell.left.length === 1 ? cell.left : '');
+    this.#put(index, { classes: classes.join(' '), shade, letter, number: cell.number, label: this.#nameOf(index) });
+  }
+
+  // Writes what differs from what the cell shows.
+  #put(index, now) {
+    const element = this.#cells[index];
+    const old = this.#painted[index] ?? {};
+    if (old.classes !== now.classes) element.className = now.classes;
+    if (old.shade !== now.shade) element.style.setProperty('--shade', now.shade);
+    if (old.number !== now.number) element.children[1].textContent = now.number;
+    if (old.letter !== now.letter) element.children[2].textContent = now.letter;
+    if (old.label !== now.label) element.setAttribute('aria-label', now.label);
+    this.#painted[index] = now;
+  }
+
+  // Whether the list fits no word into the empty grid. Its cells are not shown as dead, since no letter is the cause.
+  get isBlank() {
+    return this.#editor.board.entered === 0;
+  }
+
+  #nameOf(index) {
+    const { board } = this.#editor;
+    const cell = board.cells[index];
+    const words = [`row ${board.rowOf(index)}, column ${board.columnOf(index)}`];
+    if (cell.number) words.push(`number ${cell.number}`);
+    if (cell.block) words.push('block');
+    else if (cell.letter) words.push(cell.letter);
+    else if (!cell.left) words.push('empty, no letter is left');
+    else if (cell.left.length === 1) words.push(`empty, only ${cell.left} is left`);
+    else words.push(`empty, ${cell.left.length} letters are left`);
+    if (cell.circle && !cell.block) words.push('circled');
+    return words.join(', ');
+  }
+
+  #marksOf(index, classes) {
+    const editor = this.#editor;
+    const cell = editor.board.cells[index];
+    if (index === editor.cursor) classes.push('cursor', editor.direction);
+    else if (cell[editor.direction] && cell[editor.direction] === editor.light) classes.push('in-light');
+    else if (editor.crossing && editor.crossing.cells.includes(index)) classes.push('in-crossing');
+    if (editor.board.through(index).some((light) => editor.chosen.has(light.name))) classes.push('chosen');
+    if (this.#isWithin(index)) classes.push('within');
+  }
+
+  #marked = new Set();
+
+  // Shows where the cursor is.
+  mark() {
+    const editor = this.#editor;
+    const { board } = editor;
+    const now = new Set([editor.cursor, ...(editor.light?.cells ?? []), ...(editor.crossing?.cells ?? [])]);
+    if (editor.chosen.size || this.#anchor !== null || this.wasChosen) board.cells.forEach((_, index) => now.add(index));
+    this.wasChosen = editor.chosen.size > 0 || this.#anchor !== null;
+    for (const index of new Set([...now, ...this.#marked])) if (index < this.#cells.length) this.paint(index);
+    this.#marked = now;
+    this.#root.setAttribute('aria-activedescendant', this.#cells[editor.cursor]?.id ?? '');
+  }
+
+  // Shows what an edit of letters changed, and measures the time from the key.
+  #letters({ cells, begin, engine }) {
+    if (this.isExplained) this.draw();
+    this.isExplained = false;
+    for (const index of cells) this.paint(index);
+    if (begin) this.#measure(begin, engine);
+  }
+
+  #measure(begin, engine) {
+    this.#root.getBoundingClientRect();
+    performance.measure('letter', { start: begin, end: performance.now(), detail: { engine } });
+    requestAnimationFrame(() => {
+      const channel = new MessageChannel();
+      channel.port1.onmessage = () => performance.measure('letter painted', { start: begin, end: performance.now(), detail: { engine } });
+      channel.port2.postMessage(0);
+    });
+  }
+
+  showReason(cells) {
+    this.#editor.reason = new Set(cells);
+    this.isExplained = true;
+    this.draw();
+  }
+
+  // Shows the lights that no word matches.
+  showUnmatched(names) {
+    const { board } = this.#editor;
+    this.#editor.unmatched = new Set(names.flatMap((name) => board.byName.get(name).cells));
+    this.isExplained = true;
+    this.draw();
+  }
+
+  focus() {
+    this.#root.focus({ preventScroll: true });
+  }
+
+  // Enters a letter at the cursor, as its key does.
+  enter(letter) {
+    this.#letter(letter, 0);
+    this.focus();
+  }
+
+  // The keys.
+
+  #key(event) {
+    if (event.ctrlKey || event.metaKey || event.altKey) return;
+    const action = this.#actionOf(event);
+    if (!action) return;
+    event.preventDefault();
+    action();
+  }
+
+  #actionOf(event) {
+    const { key, shiftKey } = event;
+    if (ARROWS[key]) return () => (shiftKey ? this.#extend(...ARROWS[key]) : this.#arrow(...ARROWS[key]));
+    if (/^[a-zA-Z]$/.test(key)) return () => this.#letter(key.toUpperCase(), event.timeStamp);
+    const keys = {
+      Tab: () => this.#nextLight(shiftKey ? -1 : 1),
+      Enter: () => (shiftKey ? this.#choose() : this.turn()),
+      ' ': () => this.#clear(1),
+      Backspace: () => this.#backspace(),
+      Delete: () => (shiftKey ? this.eraseLight() : this.#clear(0)),
+      Home: () => this.#toEnd(0),
+      End: () => this.#toEnd(-1),
+      Escape: () => this.#escape(),
+      '.': () => this.toggleBlock(this.#editor.cursor, true),
+      '|': () => this.toggleBar(this.#editor.cursor, 'right'),
+      _: () => this.toggleBar(this.#editor.cursor, 'below'),
+      '*': () => this.toggleCircle(this.#editor.cursor),
+      '=': () => this.togglePencil([this.#editor.cursor]),
+      '+': () => this.togglePencil(this.#editor.light?.cells ?? []),
+      '?': () => this.actions.why(),
+      '/': () => this.actions.filter(),
+    };
+    return keys[key];
+  }
+
+  #arrow(direction, step) {
+    const editor = this.#editor;
+    this.#unchoose();
+    const cell = editor.board.cells[editor.cursor];
+    if (editor.direction !== direction && cell[direction] && !cell.block) {
+      editor.moveTo(editor.cursor, direction);
+      return;
+    }
+    const next = this.#beside(editor.cursor, direction, step);
+    if (next >= 0) editor.moveTo(next, direction);
+  }
+
+  // The neighbour of a cell, or -1.
+  #beside(index, direction, step) {
+    const { board } = this.#editor;
+    if (direction === 'down') {
+      const next = index + step * board.width;
+      return next >= 0 && next < board.cells.length ? next : -1;
+    }
+    const next = index + step;
+    return next >= 0 && next < board.cells.length && board.rowOf(next) === board.rowOf(index) ? next : -1;
+  }
+
+  #step(step) {
+    const editor = this.#editor;
+    const next = this.#beside(editor.cursor, editor.direction, step);
+    const cells = editor.light?.cells ?? [];
+    if (next >= 0 && (cells.length ? cells.includes(next) : !editor.board.cells[next].block)) editor.moveTo(next);
+  }
+
+  #letter(letter, begin) {
+    const editor = this.#editor;
+    const cell = editor.board.cells[editor.cursor];
+    if (cell.block) return refuse(refusalText('OnBlock'));
+    if (!this.actions.mayEdit()) return;
+    const index = editor.cursor;
+    const lines = [`set ${cell.place} ${letter}`];
+    editor.edited = index;
+    editor.pencil.delete(cell.place);
+    // the letter is shown at once, and what it changes when the engine answers
+    cell.letter = letter;
+    this.paint(index);
+    this.#step(1);
+    this.#send(lines, { isWhole: false, begin, index });
+  }
+
+  #send(lines, options = {}) {
+    return this.actions.edit(lines, options);
+  }
+
+  #clear(step) {
+    const editor = this.#editor;
+    const index = editor.cursor;
+    const cell = editor.board.cells[index];
+    if (cell.block || !cell.letter) {
+      if (step) this.#stepFreely(step);
+      return;
+    }
+    if (!this.actions.mayEdit()) return;
+    editor.edited = index;
+    editor.pencil.delete(cell.place);
+    cell.letter = '';
+    if (step) this.#step(step);
+    this.paint(index);
+    this.#send([`clear ${cell.place}`], { isWhole: false });
+  }
+
+  #stepFreely(step) {
+    const next = this.#beside(this.#editor.cursor, this.#editor.direction, step);
+    if (next >= 0) this.#editor.moveTo(next);
+  }
+
+  #backspace() {
+    const editor = this.#editor;
+    if (!editor.board.cells[editor.cursor].letter) this.#stepFreely(-1);
+    this.#clear(0);
+  }
+
+  // Empties the light, but keeps the letters of crossing lights that are entered.
+  eraseLight() {
+    const editor = this.#editor;
+    const { board, light } = editor;
+    if (!light) return;
+    const other = light.direction === 'across' ? 'down' : 'across';
+    const lettered = light.cells.filter((index) => board.cells[index].letter);
+    const free = lettered.filter((index) => !board.cells[index][other] || !board.isEntered(board.cells[index][other]));
+    const cells = free.length ? free : lettered;
+    if (cells.length === 0) return;
+    editor.edited = editor.cursor;
+    this.#send(editor.commands.has('erase') ? [`erase ${light.name}`] : cells.map((index) => `clear ${board.cells[index].place}`));
+  }
+
+  #toEnd(at) {
+    const cells = this.#editor.light?.cells;
+    if (cells) this.#editor.moveTo(cells.at(at));
+  }
+
+  turn() {
+    const editor = this.#editor;
+    const other = editor.direction === 'across' ? 'down' : 'across';
+    if (editor.board.cells[editor.cursor][other]) editor.moveTo(editor.cursor, other);
+  }
+
+  #nextLight(step) {
+    const editor = this.#editor;
+    const { lights } = editor.board;
+    if (!lights.length) return;
+    const order = [...lights.filter((light) => light.direction === 'across'), ...lights.filter((light) => light.direction === 'down')];
+    const at = order.indexOf(editor.light);
+    const light = at < 0 ? order[0] : order[(at + step + order.length) % order.length];
+    const empty = light.cells.find((index) => !editor.board.cells[index].letter);
+    editor.moveTo(empty ?? light.cells[0], light.direction);
+  }
+
+  #escape() {
+    this.#unchoose();
+    if (this.#editor.reason.size) this.showReason([]);
+    this.tool = null;
+    this.actions.escape();
+  }
+
+  // Blocks, bars, circles, pencil.
+
+  async toggleBlock(index, isTyped = false) {
+    const editor = this.#editor;
+    const { board } = editor;
+    const cell = board.cells[index];
+    const lines = [...(cell.letter ? [`clear ${cell.place}`] : []), `block ${cell.place}`];
+    editor.edited = null;
+    const refused = await this.#send(lines, { isBlock: true });
+    if (!refused && isTyped && editor.cursor === index) this.#stepFreely(1);
+  }
+
+  toggleBar(index, side) {
+    return this.#send([`bar ${this.#editor.board.cells[index].place} ${side}`]);
+  }
+
+  toggleCircle(index) {
+    return this.#send([`circle ${this.#editor.board.cells[index].place}`]);
+  }
+
+  // Letters in pencil are changed by another fill; the others are locked.
+  async togglePencil(indices) {
+    const editor = this.#editor;
+    if (!this.actions.mayEdit()) return;
+    const places = indices.map((index) => editor.board.cells[index]).filter((cell) => cell.letter).map((cell) => cell.place);
+    if (!places.length) return refuse('there is no letter to lock');
+    const pencil = new Set(editor.pencil);
+    const isLocked = places.every((place) => !pencil.has(place));
+    for (const place of places) {
+      if (isLocked) pencil.add(place);
+      else pencil.delete(place);
+    }
+    await editor.setPencil(pencil);
+    say(isLocked ? 'in pencil: another fill may change it' : 'locked: another fill keeps it');
+  }
+
+  // The lights to fill.
+
+  #isWithin(index) {
+    if (this.#anchor === null || this.#far === null) return false;
+    const { board } = this.#editor;
+    const between = (value, one, other) => value >= Math.min(one, other) && value <= Math.max(one, other);
+    return between(board.rowOf(index), board.rowOf(this.#anchor), board.rowOf(this.#far)) &&
+      between(board.columnOf(index), board.columnOf(this.#anchor), board.columnOf(this.#far));
+  }
+
+  #extend(direction, step) {
+    const editor = this.#editor;
+    this.#anchor ??= editor.cursor;
+    const next = this.#beside(editor.cursor, direction, step);
+    if (next < 0) return;
+    this.#far = next;
+    this.#chooseWithin();
+    editor.moveTo(next, direction);
+  }
+
+  // Chooses the lights that have at least half of their cells in the rectangle.
+  #chooseWithin() {
+    const { board, chosen } = this.#editor;
+    chosen.clear();
+    for (const light of board.lights) {
+      const within = light.cells.filter((index) => this.#isWithin(index)).length;
+      if (2 * within >= light.cells.length) chosen.add(light.name);
+    }
+    this.actions.chosen();
+  }
+
+  #choose() {
+    const { light, chosen } = this.#editor;
+    if (!light) return;
+    if (!chosen.delete(light.name)) chosen.add(light.name);
+    this.mark();
+    this.actions.chosen();
+  }
+
+  #unchoose() {
+    const had = this.#anchor !== null || this.#editor.chosen.size > 0;
+    this.#anchor = null;
+    this.#far = null;
+    if (!had) return;
+    this.#editor.chosen.clear();
+    this.mark();
+    this.actions.chosen();
+  }
+
+  unchoose() {
+    this.#unchoose();
+  }
+
+  // The mouse.
+
+  #indexOf(event) {
+    const element = document.elementFromPoint(event.clientX, event.clientY)?.closest('.cell');
+    return element && this.#root.contains(element) ? Number(element.dataset.index) : -1;
+  }
+
+  #pointerDown(event) {
+    const index = this.#indexOf(event);
+    if (index < 0 || event.button !== 0) return;
+    event.preventDefault();
+    this.focus();
+    if (this.tool) return this.#useTool(index);
+    const editor = this.#editor;
+    if (event.shiftKey) {
+      editor.moveTo(index);
+      return this.#choose();
+    }
+    this.#unchoose();
+    this.#pressed = index;
+    const isSame = index === editor.cursor;
+    const wasDead = !editor.board.cells[index].block && !editor.board.cells[index].left && !this.isBlank;
+    if (isSame) this.turn();
+    else editor.moveTo(index);
+    if (wasDead) this.actions.why();
+  }
+
+  #pressed = null;
+
+  #pointerMove(event) {
+    if (this.#pressed === null || !(event.buttons & 1)) return;
+    const index = this.#indexOf(event);
+    if (index < 0 || (index === this.#pressed && this.#anchor === null)) return;
+    this.#anchor = this.#pressed;
+    if (index === this.#far) return;
+    this.#far = index;
+    this.#chooseWithin();
+    this.mark();
+  }
+
+  #pointerUp() {
+    this.#pressed = null;
+  }
+
+  #useTool(index) {
+    this.#editor.moveTo(index);
+    const tools = {
+      block: () => this.toggleBlock(index),
+      right: () => this.toggleBar(index, 'right'),
+      below: () => this.toggleBar(index, 'below'),
+      circle: () => this.toggleCircle(index),
+      pencil: () => this.togglePencil([index]),
+    };
+    tools[this.tool]();
+  }
+}
+
+// How strongly a cell is shaded that has this many letters left, of 26.
+function shadeOf(left) {
+  return `${Math.round(62 * (1 - Math.log(left) / Math.log(26)))}%`;
+}

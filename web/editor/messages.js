@@ -1,0 +1,63 @@
+// What is said in the line at the foot of the page.
+
+// Refusals of commands, and faults of files, in a few words.
+export const REFUSALS = {
+  OnBlock: 'a block is here',
+  Occupied: 'a letter is in the way of the block, here or at its image: clear that cell first',
+  Border: 'the grid ends there, so there is no edge for a bar',
+  NotSquare: 'a quarter turn needs as many rows as columns',
+  Size: 'a grid has 1 to 255 rows and columns',
+  BadLetter: 'a word has the letters A to Z only',
+  Length: 'a word has 2 to 255 letters',
+  PlaceLength: 'the word does not have the length of the light',
+  Known: 'the word is in the list already',
+  Unknown: 'the word is not in the list, or is struck already',
+  Full: 'no more words of this length fit into the list',
+  NulByte: 'a text cannot hold a NUL',
+  Memory: 'the engine is out of memory; a smaller grid or list may help',
+  LineTooLong: 'the line is too long',
+  OutOfGrid: 'that cell is outside the grid',
+  NoLight: 'there is no such light',
+  Alive: 'a word still fits this light',
+  Arguments: 'that is not a letter or a word',
+  Short: 'the file ends too early',
+  Magic: 'this is no .puz file',
+  Version: 'this version of .puz is not known; only 1.3 is',
+  Scrambled: 'the solution of this file is scrambled',
+  NoNul: 'a text of the file has no end',
+  BadSum: 'a checksum of the file is wrong',
+  BadCell: 'the file has a cell that is no letter A to Z',
+  ClueCount: 'the file has another number of clues than lights',
+  GextSize: 'the file has circles for another size of grid',
+  GextSum: 'the checksum of the circles is wrong',
+  Header: 'this is no text file of a puzzle',
+  Tag: 'the text file lacks a tag where one is due',
+  SizeLine: 'the size in the text file is no size',
+  GridLine: 'a row of the text file has another length than the grid',
+  AcrossCount: 'the text file has another number of clues across than lights',
+  DownCount: 'the text file has another number of clues down than lights',
+  Barred: 'this format cannot hold bars: save the session instead',
+  Field: 'a text cannot be spelled in this format: an empty clue, or one with spaces at an end',
+  Circled: 'a text file cannot hold circles: save .puz instead',
+  NoCommand: 'this is no session: a line of the file is no command',
+  Engine: 'the engine failed and was started again; the grid is kept',
+  Restart: 'the engine was started again',
+};
+
+export const refusalText = (name) => REFUSALS[name] ?? `refused: ${name}`;
+
+let line;
+let clearing;
+
+export function useStatusLine(element) {
+  line = element;
+}
+
+// Says something; `tone` is '', 'good' or 'bad'.
+export function say(text, tone = '') {
+  clearTimeout(clearing);
+  line.textContent = text;
+  line.dataset.tone = tone;
+}
+
+export const refuse = (text) => say(text, 'bad');

@@ -1,0 +1,96 @@
+// What is printed: the blank grid with its clues, and the solution.
+import { unescapeText } from './record.js';
+
+export class Printer {
+  #editor;
+  #sheet;
+  #style;
+
+  constructor(editor, sheet) {
+    this.#editor = editor;
+    this.#sheet = sheet;
+    this.#style = document.head.appendChild(document.createElement('style'));
+    addEventListener('beforeprint', () => this.#prepare());
+  }
+
+  parts = 'both';
+  paper = 'A4';
+
+  print(parts, paper) {
+    this.parts = parts;
+    this.paper = paper;
+    this.#prepare();
+    print();
+  }
+
+  #prepare() {
+    this.#style.textContent = `@page { size: ${this.paper}; margin: 14mm; }`;
+    const pages = [];
+    if (this.parts !== 'solution') pages.push(this.#page(false));
+    if (this.parts !== 'puzzle') pages.push(this.#page(true));
+    this.#sheet.replaceChildren(...pages);
+  }
+
+  #text(field) {
+    return unescapeText(this.#editor.board.texts.get(field) ?? '');
+  }
+
+  #page(isSolution) {
+    const { board } = this.#editor;
+    const names = ['page', isSolution && 'solution', board.width > 17 && 'large', board.lights.length > 50 && 'many'];
+    const page = make('section', names.filter(Boolean).join(' '));
+    const title = this.#text('title');
+    const head = make('header', '');
+    head.append(make('h1', '', isSolution ? `${title || 'Crossword'}: solution` : title || 'Crossword'));
+    if (this.#text('author')) head.append(make('p', '', this.#text('author')));
+    page.append(head);
+    page.append(this.#grid(isSolution));
+    if (!isSolution) page.append(this.#clues());
+    const foot = [this.#text('copyright'), isSolution ? '' : this.#text('notes')].filter(Boolean);
+    for (const text of foot) page.append(make('p', 'foot', text));
+    return page;
+  }
+
+  #grid(isSolution) {
+    const { board } = this.#editor;
+    const size = 30;
+    const [width, height] = [board.width * size, board.height * size];
+    const parts = [];
+    board.cells.forEach((cell, index) => {
+      const [x, y] = [(board.columnOf(index) - 1) * size, (board.rowOf(index) - 1) * size];
+      parts.push(`<rect x="${x}" y="${y}" width="${size}" height="${size}" fill="${cell.block ? '#000' : '#fff'}" stroke="#000" stroke-width="0.8"/>`);
+      if (cell.circle && !cell.block) parts.push(`<circle cx="${x + size / 2}" cy="${y + size / 2}" r="${size / 2 - 1}" fill="none" stroke="#666" stroke-width="0.7"/>`);
+      if (cell.number) parts.push(`<text x="${x + 2}" y="${y + 9}" font-size="8">${cell.number}</text>`);
+      if (isSolution && cell.letter) parts.push(`<text x="${x + size / 2}" y="${y + 23}" font-size="18" text-anchor="middle">${cell.letter}</text>`);
+    });
+    board.cells.forEach((cell, index) => {
+      const [x, y] = [board.columnOf(index) * size, board.rowOf(index) * size];
+      if (cell.right) parts.push(`<path d="M${x} ${y - size}V${y}" stroke="#000" stroke-width="3"/>`);
+      if (cell.below) parts.push(`<path d="M${x - size} ${y}H${x}" stroke="#000" stroke-width="3"/>`);
+    });
+    const grid = make('div', 'grid');
+    grid.innerHTML = `<svg viewBox="-1 -1 ${width + 2} ${height + 2}" font-family="Helvetica, Arial, sans-serif">${parts.join('')}` +
+      `<rect x="0" y="0" width="${width}" height="${height}" fill="none" stroke="#000" stroke-width="2"/></svg>`;
+    return grid;
+  }
+
+  #clues() {
+    const clues = make('div', 'clues');
+    for (const [direction, title] of [['across', 'Across'], ['down', 'Down']]) {
+      clues.append(make('h2', '', title));
+      for (const light of this.#editor.board.lights.filter((one) => one.direction === direction)) {
+        const clue = make('p', '');
+        clue.append(make('b', '', light.number), ` ${this.#text(`clue ${light.name}`)} `, make('span', 'length', `(${light.cells.length})`));
+        clues.append(clue);
+      }
+    }
+    return clues;
+  }
+}
+
+function make(name, className, text = '') {
+  const element = document.createElement(name);
+  element.className = className;
+  element.textContent = text;
+  return element;
+}

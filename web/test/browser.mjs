@@ -1,0 +1,181 @@
+// A headless Chromium, driven by its debugging protocol: real keys and clicks on a page.
+import { spawn } from 'node:child_process';
+import { mkdtempSync, rmSync } from 'node:fs';
+import { tmpdir } from 'node:os';
+import { join } from 'node:path';
+
+const CODES = {
+  Enter: 13, Tab: 9, Backspace: 8, Delete: 46, Escape: 27, Home: 36, End: 35, ArrowLeft: 37, ArrowUp: 38, ArrowRight: 39, ArrowDown: 40, F1: 112, F6: 117, '.': 190, '|': 220, _: 189, '*': 56, '=': 187, '+': 187, '?': 191, '/': 191,
+  '-': 189, ';': 186,
+};
+
+export class Browser {
+  #process;
+  #folder;
+  #socket;
+  #id = 0;
+  #waiting = new Map();
+  #events = new Map();
+
+  static async open(program = 'chromium') {
+    const browser = new Browser();
+    await browser.#start(program);
+    return browser;
+  }
+
+  async #start(program) {
+    this.#folder = mkdtempSync(join(tmpdir(), 'xw-browser-'));
+    const words = ['--headless=new', '--no-sandbox', '--disable-gpu', '--remote-debugging-port=0', `--user-data-dir=${this.#folder}`, '--hide-scrollbars',
+      '--no-first-run', '--disable-extensions', 'about:blank'];
+    this.#process = spawn(program, words, { stdio: ['ignore', 'ignore', 'pipe'] });
+    const url = await new Promise((resolve, reject) => {
+      let told = '';
+      this.#process.stderr.on('data', (data) => {
+        told += data;
+        const found = /listening on (ws:\S+)/.exec(told);
+        if (found) resolve(found[1]);
+      });
+      this.#process.on('exit', () => reject(new Error(`${program} ended: ${told}`)));
+    });
+    const { host } = new URL(url);
+    const targets = await (await fetch(`http://${host}/json/list`)).json();
+    await this.#connect(targets.find((target) => target.type === 'page').webSocketDebuggerUrl);
+    for (const domain of ['Page', 'Runtime', 'Log', 'DOM']) await this.send(`${domain}.enable`);
+    this.faults = [];
+    this.on('Runtime.exceptionThrown', ({ exceptionDetails }) => this.faults.push(exceptionDetails.exception?.description ?? exceptionDetails.text));
+    this.on('Log.entryAdded', ({ entry }) => entry.level === 'error' && this.faults.push(entry.text));
+  }
+
+  async #connect(url) {
+    this.#socket = new WebSocket(url);
+    await new Promise((resolve, reject) => {
+      this.#socket.onopen = resolve;
+      this.#socket.onerror = () => reject(new Error('no connection to the browser'));
+    });
+    this.#socket.onmessage = ({ data }) => this.#take(JSON.parse(data));
+  }
+
+  #take({ id, method, params, result, error }) {
+    if (!id) {
+      for (const listener of this.#events.get(method) ?? []) listener(params);
+      return;
+    }
+    const { resolve, reject } = this.#waiting.get(id);
+    this.#waiting.delete(id);
+    if (error) reject(new Error(error.message));
+    else resolve(result);
+  }
+
+  on(method, listener) {
+    this.#events.set(method, [...(this.#events.get(method) ?? []), listener]);
+  }
+
+  send(method, params = {}) {
+    const id = ++this.#id;
+    this.#socket.send(JSON.stringify({ id, method, params }));
+    return new Promise((resolve, reject) => this.#waiting.set(id, { resolve, reject }));
+  }
+
+  async go(url) {
+    const loaded = new Promise((resolve) => this.on('Page.loadEventFired', resolve));
+    await this.send('Page.navigate', { url });
+    await loaded;
+  }
+
+  // The value of an expression in the page; a promise is awaited.
+  async value(expression) {
+    const { result, exceptionDetails } = await this.send('Runtime.evaluate', { expression, awaitPromise: true, returnByValue: true });
+    if (exceptionDetails) throw new Error(`${expression}: ${exceptionDetails.exception?.description}`);
+    return result.value;
+  }
+
+  // Waits until an expression is true.
+  async until(expression, most = 15000) {
+    const end = Date.now() + most;
+    for (;;) {
+      const value = await this.value(expression);
+      if (value) return value;
+      if (Date.now() > end) throw new Error(`never: ${expression}; the status line: ${await this.value("document.getElementById('status').textContent")}`);
+      await new Promise((resolve) => setTimeout(resolve, 25));
+    }
+  }
+
+  // Presses a key, such as `a`, `Enter` or `Control+z`.
+  async press(name) {
+    const parts = name.split(/(?<=.)\+/);
+    const key = parts.pop();
+    const modifiers = parts.reduce((sum, part) => sum + { Alt: 1, Control: 2, Shift: 8 }[part], 0);
+    const isPlain = key.length === 1 && !(modifiers & 3);
+    const code = /^[a-z]$/i.test(key) ? `Key${key.toUpperCase()}` : key === ' ' ? 'Space' : key;
+    const event = { key, code, modifiers, windowsVirtualKeyCode: CODES[key] ?? key.toUpperCase().charCodeAt(0) };
+    const text = isPlain ? { text: key } : key === 'Enter' ? { text: '\r' } : {};
+    await this.send('Input.dispatchKeyEvent', { type: 'keyDown', ...event, ...text });
+    await this.send('Input.dispatchKeyEvent', { type: 'keyUp', ...event });
+  }
+
+  // Types plain characters, each by its key.
+  async type(text) {
+    for (const character of text) await this.press(character);
+  }
+
+  async #middle(selector) {
+    const place = await this.value(`(() => {
+      const element = document.querySelector(${JSON.stringify(selector)});
+      if (!element) return null;
+      element.scrollIntoView({ block: 'nearest' });
+      const { x, y, width, height } = element.getBoundingClientRect();
+      return width ? { x: x + width / 2, y: y + height / 2 } : null;
+    })()`);
+    if (!place) throw new Error(`nothing to click: ${selector}`);
+    return place;
+  }
+
+  #mouse(type, place, modifiers = 0, buttons = 1) {
+    return this.send('Input.dispatchMouseEvent', { type, ...place, button: 'left', buttons, clickCount: 1, modifiers });
+  }
+
+  async click(selector, modifiers = 0) {
+    const place = await this.#middle(selector);
+    await this.#mouse('mouseMoved', place, modifiers, 0);
+    await this.#mouse('mousePressed', place, modifiers);
+    await this.#mouse('mouseReleased', place, modifiers, 0);
+  }
+
+  async drag(from, to) {
+    const [begin, end] = [await this.#middle(from), await this.#middle(to)];
+    await this.#mouse('mousePressed', begin);
+    await this.#mouse('mouseMoved', { x: (begin.x + end.x) / 2, y: (begin.y + end.y) / 2 });
+    await this.#mouse('mouseMoved', end);
+    await this.#mouse('mouseReleased', end, 0, 0);
+  }
+
+  // Gives files to an input of the page.
+  async choose(selector, ...paths) {
+    const { root } = await this.send('DOM.getDocument');
+    const { nodeId } = await this.send('DOM.querySelector', { nodeId: root.nodeId, selector });
+    await this.send('DOM.setFileInputFiles', { nodeId, files: paths });
+  }
+
+  async view(width, height, scheme = 'light') {
+    await this.send('Emulation.setDeviceMetricsOverride', { width, height, deviceScaleFactor: 1, mobile: false });
+    await this.send('Emulation.setEmulatedMedia', { features: [{ name: 'prefers-color-scheme', value: scheme }] });
+  }
+
+  async picture() {
+    const { data } = await this.send('Page.captureScreenshot', { format: 'png' });
+    return Buffer.from(data, 'base64');
+  }
+
+  // The page as it is printed, in PDF.
+  async pdf() {
+    const { data } = await this.send('Page.printToPDF', { preferCSSPageSize: true, printBackground: true });
+    return Buffer.from(data, 'base64');
+  }
+
+  async close() {
+    const ended = new Promise((resolve) => this.#process.on('exit', resolve));
+    await this.send('Browser.close').catch(() => {});
+    await ended;
+    rmSync(this.#folder, { recursive: true, force: true });
+  }
+}

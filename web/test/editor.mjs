@@ -1,0 +1,535 @@
+// Tests of the editor: real keys and clicks on the built page.
+//
+//   node --experimental-websocket web/test/editor.mjs [--pictures DIR] [--xw PROGRAM] [CASE..]
+//
+// It needs web/dist/xw.html (./build web), Debian's packages chromium, nodejs and wamerican, and a Node with WebSocket (20.10 with the option
+// above, or 22). With --xw the saved .puz is checked by the program. It is not part of the gate.
+import { execFileSync } from 'node:child_process';
+import { mkdirSync, mkdtempSync, readFileSync, readdirSync, rmSync, writeFileSync, existsSync } from 'node:fs';
+import { tmpdir } from 'node:os';
+import { join } from 'node:path';
+import { Xw, load } from '../dist/xw.js';
+import { Browser } from './browser.mjs';
+
+const PAGE = new URL('../dist/xw.html', import.meta.url);
+const words = process.argv.slice(2);
+const option = (name) => {
+  const at = words.indexOf(name);
+  return at < 0 ? null : words.splice(at, 2)[1];
+};
+const [pictures, program] = [option('--pictures'), option('--xw')];
+const chosen = words;
+
+const room = mkdtempSync(join(tmpdir(), 'xw-test-'));
+const module = await load(readFileSync(new URL('../dist/xw.wasm', import.meta.url)));
+const browser = await Browser.open();
+const pause = (time) => new Promise((resolve) => setTimeout(resolve, time));
+const KNOWN = knownCommands();
+
+function knownCommands() {
+  const xw = Xw.open(module);
+  const known = ['choices 1 across 0', 'why 1 across', 'unmatched', 'erase 1 across'].filter((line) => xw.line(line).refusal !== 'Command');
+  return new Set(known.map((line) => line.split(' ')[0]));
+}
+
+function expect(isSo, what) {
+  if (!isSo) throw new Error(what);
+}
+
+// What the page shows.
+const page = {
+  status: () => browser.value("document.getElementById('status').textContent"),
+  facts: () => browser.value("document.getElementById('facts').textContent"),
+  // the letters of a row, with # for a block and . for no entry
+  row: (row) => browser.value(`[...document.querySelectorAll('[id^="cell-${row}-"]')].map((cell) => cell.classList.contains('block') ? '#' :
+    cell.classList.contains('only') ? '.' : cell.querySelector('.letter').textContent || '.').join('')`),
+  rows: async () => {
+    const height = Number(await browser.value("document.getElementById('grid').getAttribute('aria-rowcount')"));
+    return Promise.all(Array.from({ length: height }, (_, at) => page.row(at + 1)));
+  },
+  has: (cell, name) => browser.value(`document.getElementById('cell-${cell}').classList.contains('${name}')`),
+  count: (selector) => browser.value(`document.querySelectorAll(${JSON.stringify(selector)}).length`),
+  statusIs: (pattern, most) => browser.until(`${pattern}.test(document.getElementById('status').textContent)`, most),
+  factsAre: (pattern, most) => browser.until(`${pattern}.test(document.getElementById('facts').textContent)`, most),
+  cursorAt: (cell) => browser.until(`document.querySelector('.cursor')?.id === 'cell-${cell}'`),
+};
+
+async function picture(name) {
+  if (!pictures) return;
+  mkdirSync(pictures, { recursive: true });
+  for (const scheme of ['light', 'dark']) {
+    await browser.send('Emulation.setEmulatedMedia', { features: [{ name: 'prefers-color-scheme', value: scheme }] });
+    await pause(120);
+    writeFileSync(join(pictures, `${name}-${scheme}.png`), await browser.picture());
+  }
+}
+
+const ready = () => browser.until("/words$|word list$/.test(document.getElementById('facts').textContent)", 30000);
+
+// The page as a first visitor finds it.
+async function fresh() {
+  await browser.go('about:blank');
+  await browser.go(PAGE.href);
+  await ready();
+  await browser.value(`new Promise((resolve) => {
+    localStorage.clear();
+    const request = indexedDB.deleteDatabase('xw-editor');
+    request.onsuccess = request.onerror = request.onblocked = () => resolve(true);
+  })`);
+  await browser.go(PAGE.href);
+  await ready();
+}
+
+async function menu(name) {
+  await browser.click('#file');
+  await browser.click(`[data-do="${name}"]`);
+}
+
+// An older message is taken away, so that what is waited for is a new one.
+const hush = () => browser.value("document.getElementById('status').textContent = ''");
+
+async function begin(pattern) {
+  await menu('new');
+  await hush();
+  await browser.click(`.pattern:nth-child(${pattern})`);
+  await page.statusIs(/new puzzle|no words for/);
+}
+
+async function openFile(path) {
+  await hush();
+  await browser.choose('#picker', path);
+}
+
+// Waits for a file that the page saves.
+async function saved(name, action) {
+  const path = join(room, name);
+  rmSync(path, { force: true });
+  await action();
+  for (let tries = 0; tries < 200; tries++) {
+    if (existsSync(path) && !readdirSync(room).some((file) => file.endsWith('.crdownload'))) return readFileSync(path);
+    await pause(25);
+  }
+  throw new Error(`not saved: ${name}; ${await page.status()}`);
+}
+
+// Asks for another fill, and waits for it.
+async function another() {
+  await hush();
+  await browser.click('#another');
+  await page.statusIs(/^filled|no fill/, 60000);
+}
+
+const lightsOf = (bytes) => Xw.open(module, { puzzle: bytes }).line('lights').lines;
+
+const CASES = {
+  async 'a first letter'() {
+    const begun = Date.now();
+    await browser.go(PAGE.href);
+    await ready();
+    await browser.press('q');
+    await browser.until("document.getElementById('cell-1-1').textContent.includes('Q')");
+    expect(Date.now() - begun < 5000, `a letter after ${Date.now() - begun} ms`);
+    await browser.until("/only U/.test(document.getElementById('cell-2-1').ariaLabel)");
+    expect(await page.has('2-1', 'only'), 'the only letter is not grey');
+  },
+
+  async 'the time of a letter'() {
+    await browser.value("performance.clearMeasures('letter'), performance.clearMeasures('letter painted')");
+    for (let time = 0; time < 6; time++) {
+      await browser.click('#cell-7-1');
+      await pause(350);
+      for (const letter of 'cared') {
+        await browser.press(letter);
+        await pause(250);
+      }
+      for (let back = 0; back < 5; back++) await browser.press('Backspace');
+      await pause(200);
+    }
+    const measures = await browser.value("performance.getEntriesByType('measure').map(({ name, duration, detail }) => [name, duration, detail.engine])");
+    const median = (numbers) => [...numbers].sort((a, b) => a - b)[Math.floor(numbers.length / 2)];
+    const of = (name, at) => median(measures.filter(([one]) => one === name).map((measure) => measure[at])).toFixed(1);
+    return `from key to changed cells ${of('letter', 1)} ms, of it the engine ${of('letter', 2)} ms; to the painted frame ${of('letter painted', 1)} ms (medians of ${measures.length / 2})`;
+  },
+
+  async 'blocks, bars, circles and symmetry'() {
+    await menu('new');
+    await browser.value("document.getElementById('new-width').value = 9, document.getElementById('new-height').value = 7");
+    await browser.click('#new-blank');
+    await page.factsAre(/^9 × 7/);
+    await browser.press('.');
+    await browser.until("document.getElementById('cell-7-9').classList.contains('block')");
+    expect(await page.has('1-1', 'block'), 'no block under the cursor');
+    await page.cursorAt('1-2');
+    await browser.press('|');
+    await browser.until("document.getElementById('cell-1-2').classList.contains('bar-right')");
+    expect(await page.has('7-7', 'bar-right'), 'the bar has no image');
+    await browser.press('_');
+    await browser.until("document.getElementById('cell-1-2').classList.contains('bar-below')");
+    await browser.press('*');
+    await browser.until("document.getElementById('cell-1-2').classList.contains('circled')");
+    await browser.click('#cell-7-8');
+    await browser.press('a');
+    await browser.until("document.getElementById('cell-7-8').textContent.includes('A')");
+    await browser.click('#cell-1-2');
+    await browser.press('.');
+    await page.statusIs(/letter at row 7, column 8 is in the way/);
+    await browser.click('[data-tool=block]');
+    await browser.click('#cell-4-5');
+    await browser.until("document.getElementById('cell-4-5').classList.contains('block')");
+    await browser.click('[data-tool=block]');
+    await menu('save-puz');
+    await page.statusIs(/cannot hold bars/);
+    await picture('bars');
+  },
+
+  async 'a dead end'() {
+    await begin(1);
+    await browser.type('sp');
+    await browser.click('#cell-2-1');
+    await browser.type('x');
+    await page.statusIs(/dead end/);
+    expect((await page.count('.cell.dead')) > 0, 'no cell is red');
+    await browser.click('#cell-3-2');
+    if (KNOWN.has('why')) {
+      await page.statusIs(/has no word, by/);
+      expect((await page.count('.cell.reason')) > 0, 'no reason is lit up');
+    }
+    await pause(300);
+    await picture('dead-end');
+    await browser.press('Control+z');
+    await browser.until("document.querySelectorAll('.cell.dead').length === 0");
+  },
+
+  async 'candidates filtered and placed'() {
+    await begin(1);
+    await browser.press('/');
+    await browser.until("document.activeElement.id === 'filter' && document.querySelectorAll('#candidates li').length > 100");
+    await browser.type('?a*e');
+    await browser.until("[...document.querySelectorAll('#candidates li')].every((row) => /^.A/.test(row.dataset.word))");
+    await browser.until("document.querySelector('#candidates .left')");
+    await pause(600);
+    await picture('candidates');
+    await browser.press('ArrowDown');
+    await browser.press('ArrowDown');
+    const word = await browser.value("document.querySelector('#candidates [aria-selected=true]').dataset.word");
+    await browser.press('Enter');
+    await browser.until(`document.getElementById('cell-1-4').textContent.includes('${word[3]}')`);
+    expect((await page.row(1)).startsWith(word), `${word} is not placed`);
+    expect(await browser.value("document.activeElement.id === 'grid'"), 'the grid has not the focus');
+    await browser.press('Tab');
+    await browser.until("document.querySelector('#light-name').textContent === '5 Across' && document.querySelector('#candidates li:nth-child(3)')");
+    const other = await browser.value("document.querySelector('#candidates li:nth-child(3)').dataset.word");
+    await browser.click('#candidates li:nth-child(3)');
+    await browser.until(`document.getElementById('cell-1-6').textContent.includes('${other[0]}')`);
+    await browser.click('#cell-2-2');
+    await browser.until("document.querySelector('#letters button')");
+    const letter = await browser.value("document.querySelector('#letters button').dataset.letter");
+    await browser.click('#letters button');
+    await browser.until(`document.querySelector('#cell-2-2 .letter').textContent === '${letter}'`);
+  },
+
+  async 'a fill, stopped, and others'() {
+    await begin(2);
+    await browser.press('Control+f');
+    await browser.until("!document.getElementById('stop').hidden");
+    await browser.click('#stop');
+    await browser.until("document.getElementById('stop').hidden");
+    await page.statusIs(/stopped|filled/);
+    await begin(1);
+    await browser.type('lard');
+    await browser.click('#fill');
+    await page.statusIs(/^filled/, 60000);
+    const first = await page.rows();
+    expect(first.every((row) => !row.includes('.')), 'a cell is empty');
+    expect(first[0].startsWith('LARD'), 'the entries have changed');
+    await picture('filled');
+    await another();
+    const second = await page.rows();
+    expect(second.join() !== first.join() && second[0].startsWith('LARD'), 'it is no other fill of the same entries');
+  },
+
+  async 'a corner filled again'() {
+    // the case before has left a fill; the letters that were typed are locked
+    await browser.click('#cell-2-2');
+    await browser.click('#cell-1-1');
+    const before = await page.rows();
+    for (let step = 0; step < 4; step++) await browser.press('Shift+ArrowDown');
+    for (let step = 0; step < 3; step++) await browser.press('Shift+ArrowRight');
+    await browser.until("/^Fill [0-9]+ lights/.test(document.getElementById('fill').textContent)");
+    await picture('corner');
+    await another();
+    const after = await page.rows();
+    expect(after[0].slice(0, 4) === before[0].slice(0, 4), 'a locked letter has changed');
+    expect(after.slice(6).join() === before.slice(6).join(), 'letters outside the corner have changed');
+    await browser.press('Escape');
+  },
+
+  async 'a puzzle from blank to .puz'() {
+    await begin(6);
+    await browser.press('Control+s');
+    await page.statusIs(/row 1, column 2 is empty/);
+    await page.cursorAt('1-2');
+    await browser.press('Control+f');
+    await page.statusIs(/^filled/, 30000);
+    await browser.press('F4');
+    await browser.until("document.activeElement.id === 'title'");
+    await browser.type('Tiny one');
+    await browser.press('Tab');
+    await browser.type('A. Setter');
+    await browser.press('Tab');
+    await browser.type('c 2020');
+    await browser.press('Tab');
+    await browser.press('F3');
+    const count = await page.count('#clue-list input');
+    await browser.value("document.querySelector('#clue-list input').focus()");
+    for (let at = 0; at < count; at++) {
+      await browser.type(`clue ${at + 1}`);
+      await browser.press('Enter');
+    }
+    await browser.until("/every light has a clue/.test(document.getElementById('clue-summary').textContent)");
+    await picture('clues');
+    const bytes = await saved('tiny-one.puz', () => browser.press('Control+s'));
+    const lights = lightsOf(bytes);
+    expect(lights.length === count && lights.every((line) => !line.includes('.')), 'the file has other lights');
+    const texts = Xw.open(module, { puzzle: bytes }).line('texts').lines;
+    expect(texts.includes('title Tiny one') && texts.includes(`clue ${lights[2].split(' ').slice(0, 2).join(' ')} clue ${await place(2)}`), `texts: ${texts}`);
+    const told = program ? execFileSync(program, ['check', join(room, 'tiny-one.puz')]).toString().trim() : 'not checked by the program';
+    const text = await saved('tiny-one.txt', () => menu('save-text'));
+    expect(text.toString().startsWith('<ACROSS PUZZLE>'), 'no text file');
+    return told;
+
+    // the place in the list of clues, which has those across first, of a light of the engine's order
+    async function place(at) {
+      const name = lights[at].split(' ').slice(0, 2).join(' ');
+      return browser.value(`[...document.querySelectorAll('#clue-list input')].findIndex((field) => field.dataset.light === '${name}') + 1`);
+    }
+  },
+
+  async 'a .puz opened and saved again'() {
+    const record = `size 4 4\nset 1 1 A\n${'set R C L'.repeat(0)}text title Caf\\s\n`;
+    const xw = Xw.open(module, { record: record.replace('Caf\\s', 'Round trip') });
+    for (let row = 1; row <= 4; row++) for (let column = 1; column <= 4; column++) xw.line(`set ${row} ${column} ${'ABCDEFGHIJKLMNOP'[4 * (row - 1) + column - 1]}`);
+    xw.answer(Buffer.from([...Buffer.from('author '), 0xe9, 0x93, 0x81]));
+    xw.line('clue 1 across one \\ two');
+    xw.line('circle 2 2');
+    xw.line('text notes line one\\r\\nline two \\s');
+    const bytes = Buffer.from(xw.puz());
+    const path = join(room, 'given.puz');
+    writeFileSync(path, bytes);
+    await openFile(path);
+    await page.statusIs(/given.puz is open/);
+    expect(await page.has('2-2', 'circled'), 'the circle is lost');
+    const again = await saved('round-trip.puz', () => browser.press('Control+s'));
+    expect(again.equals(bytes), 'the bytes differ');
+    writeFileSync(path, bytes.fill(0, 0, 2));
+    await openFile(path);
+    await page.statusIs(/checksum/);
+    expect((await page.row(1)) === 'ABCD', 'a file that is refused has changed the grid');
+  },
+
+  async 'undo of all'() {
+    await begin(6);
+    const blank = await page.rows();
+    await browser.type('co');
+    await browser.press('Control+f');
+    await page.statusIs(/^filled/, 30000);
+    await browser.press('Backspace');
+    await browser.click('#cell-3-3');
+    await browser.press('*');
+    await browser.press('|');
+    await browser.press('F3');
+    await browser.type('A clue');
+    await browser.press('Enter');
+    await browser.press('F4');
+    await browser.click('#word');
+    await browser.type('zzyzx');
+    await browser.press('Enter');
+    await page.statusIs(/ZZYZX is in the list/);
+    await browser.click('#cell-2-2');
+    const full = await page.rows();
+    const steps = 8;
+    for (let step = 0; step < steps; step++) await browser.press('Control+z');
+    await page.factsAre(/· 0 of/);
+    const undone = await page.rows();
+    expect(undone.join() === blank.join(), `undo does not come to the blank grid, but to ${undone}`);
+    expect((await page.count('.circled, .bar-right')) === 0, 'a circle or a bar stays');
+    for (let step = 0; step < steps; step++) await browser.press('Control+y');
+    await browser.until(`document.querySelectorAll('.circled').length === 1 && document.getElementById('redo').disabled`);
+    expect((await page.rows()).join() === full.join(), 'redo does not come to the end');
+  },
+
+  async 'a reload in the middle'() {
+    await begin(1);
+    await browser.type('tone');
+    await browser.press('F4');
+    await browser.type('Kept');
+    await browser.press('Tab');
+    await browser.until("/Kept/.test(localStorage.getItem('xw-editor'))");
+    await browser.go(PAGE.href);
+    await ready();
+    expect((await page.row(1)).startsWith('TONE'), 'the letters are lost');
+    expect((await browser.value("document.getElementById('title').value")) === 'Kept', 'the title is lost');
+  },
+
+  async 'words added and struck, repeats and unlisted words'() {
+    await begin(6);
+    await browser.type('zzq');
+    await page.cursorAt('1-4');
+    await browser.press('F4');
+    await browser.until("/ZZQ is not in the list/.test(document.getElementById('checks').textContent)");
+    await pause(100);
+    await picture('puzzle');
+    await browser.click('#checks [data-add=ZZQ]');
+    await page.statusIs(/ZZQ is in the list/);
+    await browser.until("!/ZZQ is not in the list/.test(document.getElementById('checks').textContent)");
+    await browser.click('#cell-5-2');
+    await browser.type('zzq');
+    await browser.press('F4');
+    await browser.until("/ZZQ stands twice/.test(document.getElementById('checks').textContent)");
+    await browser.click('#changed [data-strike=ZZQ]');
+    await browser.until("/ZZQ is not in the list/.test(document.getElementById('checks').textContent)");
+    await browser.click('#title');
+    await browser.value("document.getElementById('title').value = 'a → b', document.getElementById('title').dispatchEvent(new Event('change'))");
+    await page.statusIs(/not in the character set/);
+  },
+
+  async 'a list of 277,620 words'() {
+    const path = join(room, 'large.txt');
+    writeFileSync(path, largeList().join('\n'));
+    await begin(1);
+    await browser.type('to');
+    const begun = Date.now();
+    await openFile(path);
+    await page.factsAre(/large.txt, 277,620 words/, 30000);
+    const time = Date.now() - begun;
+    expect((await page.row(1)).startsWith('TO'), 'the puzzle is lost');
+    await CASES['the time of a letter']().then((told) => console.log(`    ${told}`));
+    await browser.go(PAGE.href);
+    await ready();
+    await page.factsAre(/large.txt, 277,620 words/);
+    return `loaded in ${time} ms`;
+  },
+
+  async 'a list with scores'() {
+    const path = join(room, 'scored.txt');
+    const list = ['cat;10', 'cot;90', 'cut;50', 'ear;60', 'oar;20', 'tea;40', 'toe;70', 'are;30', 'tar;80', 'ate;55'];
+    writeFileSync(path, `${list.join('\n')}\n`);
+    await openFile(path);
+    await page.factsAre(/scored.txt, 10 words/);
+    await menu('new');
+    await browser.value("document.getElementById('new-width').value = 3, document.getElementById('new-height').value = 1");
+    await browser.click('#new-blank');
+    await browser.until("document.querySelectorAll('#candidates li').length === 10");
+    const first = await browser.value("[...document.querySelectorAll('#candidates li')].slice(0, 3).map((row) => row.dataset.word).join()");
+    expect(first === 'COT,TAR,TOE', `the order is ${first}`);
+    await browser.click('#tab-puzzle');
+    await browser.value("document.getElementById('least').value = 50, document.getElementById('least').dispatchEvent(new Event('change'))");
+    await page.factsAre(/scored.txt, 6 words/);
+    await menu('built-in');
+    await page.factsAre(/built-in list/);
+  },
+
+  async 'a failure of the engine'() {
+    await begin(1);
+    await browser.type('rote');
+    await page.factsAre(/· 4 of/);
+    await browser.value(`(() => {
+      const post = Worker.prototype.postMessage;
+      Worker.prototype.postMessage = function (message, transfer) {
+        if (message.call !== 'edit') return post.call(this, message, transfer);
+        Worker.prototype.postMessage = post;
+        post.call(this, { ...message, call: 'nonsense' }, transfer);
+      };
+    })()`);
+    await browser.type('s');
+    await page.statusIs(/the engine failed/);
+    await browser.until("document.querySelector('#cell-1-4 .letter').textContent === 'E'");
+    expect((await page.row(1)).startsWith('ROTE'), `the grid is lost: ${await page.row(1)}`);
+    await browser.click('#cell-2-1');
+    await browser.type('a');
+    await browser.until("document.querySelector('#cell-2-1 .letter').textContent === 'A'");
+    await page.factsAre(/· 5 of/);
+  },
+
+  async 'files dropped on the page, and a session saved and opened'() {
+    await begin(6);
+    await browser.press('Control+f');
+    await page.statusIs(/^filled/, 30000);
+    const rows = await page.rows();
+    await saved('crossword.xw', () => menu('save-session'));
+    await begin(1);
+    const data = { items: [], files: [join(room, 'crossword.xw')], dragOperationsMask: 1 };
+    for (const type of ['dragEnter', 'dragOver', 'drop']) await browser.send('Input.dispatchDragEvent', { type, x: 300, y: 300, data });
+    await page.statusIs(/crossword.xw is open/);
+    expect((await page.rows()).join() === rows.join(), 'the session differs');
+    expect(await page.has('2-2', 'pencil'), 'the pencil is lost');
+    writeFileSync(join(room, 'wrong.xw'), 'size 3 3\nnonsense\n');
+    await openFile(join(room, 'wrong.xw'));
+    await page.statusIs(/a line of the file is no command/);
+    expect((await page.rows()).join() === rows.join(), 'a file that is refused has changed the grid');
+  },
+
+  async 'printing'() {
+    await begin(1);
+    await browser.press('Control+f');
+    await page.statusIs(/^filled/, 60000);
+    // the browser's own dialog would stand in the way
+    await browser.value('window.print = () => {}');
+    for (const [paper, width] of [['A4', 595], ['letter', 612]]) {
+      await browser.press('Control+p');
+      await browser.click(`[name=paper][value=${paper}]`);
+      await browser.click('#print-dialog [value=print]');
+      await pause(200);
+      const pdf = await browser.pdf();
+      if (pictures) writeFileSync(join(pictures, `print-${paper}.pdf`), pdf);
+      const text = pdf.toString('latin1');
+      const box = /\/MediaBox\s*\[\s*0\s+0\s+([\d.]+)/.exec(text);
+      expect(Math.abs(Number(box[1]) - width) < 2, `the paper is ${box[1]} points wide`);
+      const pages = (text.match(/\/Type\s*\/Page\b/g) ?? []).length;
+      expect(pages === 2, `${pages} pages`);
+    }
+  },
+};
+
+// Words of Debian's lists that are installed, and made-up ones as far as these do not reach.
+function largeList() {
+  const found = new Set();
+  const folder = '/usr/share/dict';
+  const files = existsSync(folder) ? readdirSync(folder).filter((name) => /^(american|british)-english/.test(name)).sort() : [];
+  for (const file of files) {
+    for (const word of readFileSync(join(folder, file), 'latin1').split('\n')) if (/^[a-z]{3,}$/.test(word) && found.size < 277620) found.add(word);
+  }
+  for (let number = 1; found.size < 277620; number++) {
+    found.add(Array.from({ length: 3 + (number % 12) }, (_, at) => 'etaoinshrdlu'[Math.floor(number / 7 ** (at % 6)) % 12]).join('') + 'abcdefghij'[number % 10]);
+  }
+  return [...found];
+}
+
+async function run(name) {
+  const begun = Date.now();
+  try {
+    const told = await CASES[name]();
+    expect(browser.faults.length === 0, `the console has: ${browser.faults.join('; ')}`);
+    console.log(`ok   ${name} (${Date.now() - begun} ms)${told ? `: ${told}` : ''}`);
+    return true;
+  } catch (error) {
+    console.log(`FAIL ${name}: ${error.message}; the status line: ${await page.status().catch(() => '')}`);
+    if (pictures) writeFileSync(join(pictures, 'failed.png'), await browser.picture());
+    browser.faults.length = 0;
+    return false;
+  }
+}
+
+let failed = 0;
+try {
+  await browser.view(1400, 900);
+  await browser.send('Browser.setDownloadBehavior', { behavior: 'allow', downloadPath: room });
+  if (pictures) mkdirSync(pictures, { recursive: true });
+  await fresh();
+  for (const name of Object.keys(CASES)) if (!chosen.length || chosen.some((part) => name.includes(part))) failed += (await run(name)) ? 0 : 1;
+  console.log(failed ? `${failed} failed` : 'all passed');
+} finally {
+  await browser.close();
+  rmSync(room, { recursive: true, force: true });
+}
+process.exitCode = failed ? 1 : 0;

@@ -1,0 +1,71 @@
+// Tests that the editor's commands from one record to another lead there: pairs of random sessions, of one size and of two.
+//
+//   node web/test/record.mjs [ROUNDS]
+import { readFileSync } from 'node:fs';
+import { Xw, load } from '../dist/xw.js';
+
+// record.js is a module of the page, which Node takes for one only by this way
+const source = readFileSync(new URL('../editor/record.js', import.meta.url));
+const { bodyOf, escapeText, parseRecord, textLines, transition, unescapeText } = await import(`data:text/javascript;base64,${source.toString('base64')}`);
+
+const LIST = 'cat\ncot\ncut\near\noar\ntea\ntoe\nare\ntar\nate\ntone\nrote\n';
+const module = await load(readFileSync(new URL('../dist/xw.wasm', import.meta.url)));
+const latin = new TextDecoder('windows-1252');
+const codes = new Map(Array.from({ length: 256 }, (_, code) => [latin.decode(new Uint8Array([code])), code]));
+
+let seed = 20240601;
+function below(most) {
+  seed = (Math.imul(seed, 1103515245) + 12345) >>> 0;
+  return Math.floor((seed / 2 ** 32) * most);
+}
+const one = (things) => things[below(things.length)];
+
+const send = (xw, line) => xw.answer(Uint8Array.from(line, (character) => codes.get(character)));
+const recordOf = (xw) => latin.decode(xw.record());
+
+const TEXTS = ['', 'plain', ' edges ', '\\ and \\n', 'two\nlines', 'tab\there', 'caf\u00e9 \u2019', `${'long \\ '.repeat(700)} `, '\\'.repeat(4001), ' '.repeat(2500)];
+
+// A session of random edits.
+function someSession(width, height) {
+  const xw = Xw.open(module, { list: LIST });
+  send(xw, `size ${width} ${height}`);
+  for (let edits = below(60); edits > 0; edits--) for (const line of someEdit(width, height)) send(xw, line);
+  return recordOf(xw);
+}
+
+function someEdit(width, height) {
+  const place = `${1 + below(height)} ${1 + below(width)}`;
+  const texts = () => textLines(one(['title', 'author', 'copyright', 'notes', `clue ${place} across`, `clue ${place} down`]), escapeText(one(TEXTS)));
+  return one([
+    () => [`set ${place} ${one([...'ABCDE'])}`], () => [`set ${place} ${one([...'ABCDE'])}`], () => [`clear ${place}`], () => [`block ${place}`],
+    () => [`bar ${place} ${one(['right', 'below'])}`], () => [`circle ${place}`], () => [`sym ${one(['none', 'half', 'quarter', 'leftright', 'updown'])}`],
+    () => [`strike ${one(LIST.trim().split('\n'))}`], () => [`add ${one(['new', 'newer', 'cat', 'zzz'])}`], () => [`strike ${one(['new', 'zzz'])}`], texts,
+  ])();
+}
+
+const activeWords = (xw) => [2, 3, 4, 5].map((length) => latin.decode(send(xw, `match ${'.'.repeat(length)}`).answer)).join();
+
+function check(isSo, what) {
+  if (isSo) return;
+  console.log(`FAIL ${what}`);
+  process.exit(1);
+}
+
+for (const text of TEXTS) check(unescapeText(escapeText(text)) === text, `a text is not spelled as itself: ${text.slice(0, 40)}`);
+
+const rounds = Number(process.argv[2] ?? 60);
+let whole = 0;
+for (let round = 0; round < rounds; round++) {
+  const size = [1 + below(6), 1 + below(6)];
+  const [before, after] = [someSession(...size), someSession(...(below(3) ? size : [1 + below(6), 1 + below(6)]))];
+  const xw = Xw.open(module, { list: LIST, record: Uint8Array.from(before, (character) => codes.get(character)) });
+  const lines = transition(before, after);
+  if (lines.some((line) => line.startsWith('size'))) whole++;
+  for (const line of lines) check(line.length <= 4096, 'a line is too long');
+  for (const line of lines) send(xw, line);
+  check(bodyOf(recordOf(xw)).join('\n') === bodyOf(after).join('\n'), `round ${round} leads elsewhere:\n${lines.join('\n')}`);
+  const there = Xw.open(module, { list: LIST, record: Uint8Array.from(after, (character) => codes.get(character)) });
+  check([...activeWords(xw)].sort().join('') === [...activeWords(there)].sort().join(''), `round ${round} has other words`);
+  check(parseRecord(recordOf(xw)).letters.size === parseRecord(after).letters.size, `round ${round} has other letters`);
+}
+console.log(`ok   ${rounds} pairs of sessions, ${whole} by the whole record`);
