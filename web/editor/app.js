@@ -5,7 +5,7 @@ import { Editor } from './editor.js';
 import { Files } from './files.js';
 import { Filler } from './fill.js';
 import { GridView } from './grid.js';
-import { dropList, keepList, keepSession, keptList, keptSession } from './keep.js';
+import { dropList, keepList, keepSession, keptList, keptSession, onOtherKeeper } from './keep.js';
 import { refusalText, refuse, say, useStatusLine } from './messages.js';
 import { PATTERNS, blankRows, recordOf, rowsOf } from './patterns.js';
 import { Printer } from './print.js';
@@ -289,7 +289,8 @@ async function listOpened() {
 
 function showList() {
   const { name, words: count, scored, best, least } = editor.list;
-  $('list-name').textContent = name ? `${name}: ${count.toLocaleString('en')} words` : 'No word list is loaded, so no word is known: load one, or add words.';
+  const none = 'No word list is loaded, so no word is known: load one, or add words.';
+  $('list-name').textContent = name ? `${name}: ${count.toLocaleString('en')} words` : none;
   $('least-row').hidden = !scored;
   if (scored) {
     $('least').max = Math.max(best, Number($('least').max));
@@ -321,7 +322,8 @@ for (const pattern of PATTERNS) {
   const button = document.createElement('button');
   button.type = 'button';
   button.className = 'pattern';
-  const blocks = rows.flatMap((row, at) => [...row].flatMap((cell, column) => (cell === '#' ? [`<rect x="${column}" y="${at}" width="1" height="1"/>`] : [])));
+  const block = (column, row) => `<rect x="${column}" y="${row}" width="1" height="1"/>`;
+  const blocks = rows.flatMap((row, at) => [...row].flatMap((cell, column) => (cell === '#' ? [block(column, at)] : [])));
   button.innerHTML = `<svg viewBox="0 0 ${rows[0].length} ${rows.length}" aria-hidden="true">${blocks.join('')}</svg>`;
   button.append(pattern.name);
   button.addEventListener('click', () => begin(rows, pattern.sym));
@@ -482,6 +484,8 @@ editor.addEventListener('whole', () => {
   showChosen();
 });
 
+onOtherKeeper(() => refuse('the editor is open in another tab, and the browser keeps the puzzle of that one: save this one as a file'));
+
 function unforeseen(error) {
   refuse(`that failed: ${error.message}; the grid is kept`);
   console.error(error);
@@ -499,7 +503,8 @@ function showLicence() {
 // Begins with what the browser keeps; what of it the engine refuses is left out, and said.
 async function beginOn(module, list, session) {
   const first = recordOf(rowsOf(PATTERNS[0]), PATTERNS[0].sym);
-  const tries = [[list, session?.record ?? first, session?.pencil ?? []], [builtIn, session?.record ?? first, session?.pencil ?? []], [builtIn, first, []]];
+  const kept = [session?.record ?? first, session?.pencil ?? []];
+  const tries = [[list, ...kept], [builtIn, ...kept], [builtIn, first, []]];
   for (const [words, record, pencil] of tries) {
     try {
       await editor.begin(module, words, record, pencil);

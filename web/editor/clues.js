@@ -140,6 +140,7 @@ export class CluesView {
 
   #change(field) {
     if (field.value === field.dataset.kept) return;
+    field.value = field.value.trim();
     const light = this.#editor.board.byName.get(field.dataset.light);
     if (!light) return;
     const { place } = this.#editor.board.cells[light.cells[0]];

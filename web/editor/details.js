@@ -36,6 +36,9 @@ export class DetailsView {
       const element = this.#elements[field];
       if (element.classList.contains('refused')) continue;
       const text = unescapeText(this.#editor.board.texts.get(field) ?? '');
+      // what is being typed stays when the answer to an earlier edit comes
+      if (document.activeElement === element && element.dataset.text === text) continue;
+      element.dataset.text = text;
       element.value = text;
       // as the browser shows it: a field drops line feeds, an area unites them
       element.dataset.kept = element.value;
@@ -45,6 +48,7 @@ export class DetailsView {
   #change(field) {
     const element = this.#elements[field];
     if (element.value === element.dataset.kept) return;
+    element.value = element.value.trim();
     this.actions.text(element, (text) => textLines(field, escapeText(text)));
   }
 
@@ -84,7 +88,8 @@ export class DetailsView {
     const items = [];
     for (const line of dups) {
       const [number, direction, otherNumber, other, word] = line.split(' ');
-      items.push(check(`${word} stands twice: ${titleOf({ number, direction })} and ${titleOf({ number: otherNumber, direction: other })}`, `${number} ${direction}`));
+      const [one, first] = [{ number, direction }, { number: otherNumber, direction: other }].map(titleOf);
+      items.push(check(`${word} stands twice: ${one} and ${first}`, `${number} ${direction}`));
     }
     for (const line of unlisted) {
       const [number, direction, word] = line.split(' ');
@@ -94,7 +99,8 @@ export class DetailsView {
     }
     const lacking = board.lights.filter((light) => !board.texts.has(`clue ${light.name}`));
     if (lacking.length) {
-      items.push(check(lacking.length === 1 ? `${titleOf(lacking[0])} has no clue` : `${lacking.length} lights have no clue`, lacking[0].name, 'clue'));
+      const text = lacking.length === 1 ? `${titleOf(lacking[0])} has no clue` : `${lacking.length} lights have no clue`;
+      items.push(check(text, lacking[0].name, 'clue'));
     }
     const empty = board.firstEmpty();
     if (empty >= 0) {

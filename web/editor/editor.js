@@ -152,12 +152,13 @@ export class Editor extends EventTarget {
   }
 
   #step() {
-    if (this.record !== this.#now.record) {
+    const now = this.#state(this.record);
+    if (now.record !== this.#now.record || now.pencil.join() !== this.#now.pencil.join()) {
       this.#past.push(this.#now);
       if (this.#past.length > MOST_STEPS) this.#past.shift();
       this.#future = [];
     }
-    this.#now = this.#state(this.record);
+    this.#now = now;
     this.#tell('step');
   }
 
@@ -250,9 +251,8 @@ export class Editor extends EventTarget {
   setPencil(pencil) {
     return this.inOrder(() => {
       this.pencil = pencil;
-      this.#now = this.#state(this.record);
       this.#tell('whole');
-      this.#tell('step');
+      this.#step();
     });
   }
 

@@ -35,7 +35,8 @@ export class Filler {
     const cells = this.#cells();
     const emptied = isAnother ? cells.filter((cell) => cell.letter && this.#editor.pencil.has(cell.place)) : [];
     if (!emptied.length && cells.every((cell) => cell.letter)) {
-      return refuse(isAnother ? 'every letter here is locked: choose other lights, or put letters in pencil (=)' : 'every cell is filled already: ask for another fill');
+      const isLocked = 'every letter here is locked: choose other lights, or put letters in pencil (=)';
+      return refuse(isAnother ? isLocked : 'every cell is filled already: ask for another fill');
     }
     this.isRunning = true;
     this.#isStopped = false;

@@ -37,6 +37,11 @@ export function keepSession(session) {
   }
 }
 
+// Tells when the editor in another tab keeps its session in the place of this one.
+export function onOtherKeeper(action) {
+  addEventListener('storage', ({ key }) => key === NAME && action());
+}
+
 export function keptSession() {
   try {
     const session = JSON.parse(localStorage.getItem(NAME));

@@ -1,6 +1,23 @@
 // What is printed: the blank grid with its clues, and the solution.
 import { unescapeText } from './record.js';
 
+// The room on the papers within the margins, in millimetres.
+const ROOM = { A4: { width: 182, height: 269 }, letter: { width: 188, height: 251 } };
+// What stands beside the clues: the title and the foot.
+const AROUND = 30;
+const SIZES = [10, 9.5, 9, 8.5, 8, 7.5, 7, 6.5];
+const POINT = 0.353;
+
+// The greatest size of type, in points, in which clues of these lengths fit on the page with the grid, as far as letters are of the mean width.
+function sizeFor(lengths, columns, grid, { width, height }) {
+  const fits = (size) => {
+    const letters = (width / columns - 10) / (0.48 * size * POINT);
+    const lines = lengths.reduce((sum, length) => sum + Math.ceil((length + 4) / letters), 4);
+    return lines * 1.25 * size * POINT + lengths.length * 0.8 < columns * (height - AROUND - grid);
+  };
+  return SIZES.find(fits) ?? SIZES.at(-1);
+}
+
 export class Printer {
   #editor;
   #sheet;
@@ -37,7 +54,7 @@ export class Printer {
 
   #page(isSolution) {
     const { board } = this.#editor;
-    const names = ['page', isSolution && 'solution', board.width > 17 && 'large', board.lights.length > 50 && 'many'];
+    const names = ['page', isSolution && 'solution', board.width > 17 && 'large'];
     const page = make('section', names.filter(Boolean).join(' '));
     const title = this.#text('title');
     const head = make('header', '');
@@ -45,7 +62,7 @@ export class Printer {
     if (this.#text('author')) head.append(make('p', '', this.#text('author')));
     page.append(head);
     page.append(this.#grid(isSolution));
-    if (!isSolution) page.append(this.#clues());
+    if (!isSolution) page.append(this.#clues(board.width > 17 ? 130 : 100));
     const foot = [this.#text('copyright'), isSolution ? '' : this.#text('notes')].filter(Boolean);
     for (const text of foot) page.append(make('p', 'foot', text));
     return page;
@@ -58,8 +75,9 @@ export class Printer {
     const parts = [];
     board.cells.forEach((cell, index) => {
       const [x, y] = [(board.columnOf(index) - 1) * size, (board.rowOf(index) - 1) * size];
+      const middle = `cx="${x + size / 2}" cy="${y + size / 2}" r="${size / 2 - 1}"`;
       parts.push(`<rect x="${x}" y="${y}" width="${size}" height="${size}" fill="${cell.block ? '#000' : '#fff'}" stroke="#000" stroke-width="0.8"/>`);
-      if (cell.circle && !cell.block) parts.push(`<circle cx="${x + size / 2}" cy="${y + size / 2}" r="${size / 2 - 1}" fill="none" stroke="#666" stroke-width="0.7"/>`);
+      if (cell.circle && !cell.block) parts.push(`<circle ${middle} fill="none" stroke="#666" stroke-width="0.7"/>`);
       if (cell.number) parts.push(`<text x="${x + 2}" y="${y + 9}" font-size="8">${cell.number}</text>`);
       if (isSolution && cell.letter) parts.push(`<text x="${x + size / 2}" y="${y + 23}" font-size="18" text-anchor="middle">${cell.letter}</text>`);
     });
@@ -74,11 +92,17 @@ export class Printer {
     return grid;
   }
 
-  #clues() {
+  // The clues, under a grid of a width in millimetres.
+  #clues(width) {
+    const { board } = this.#editor;
     const clues = make('div', 'clues');
+    const lengths = board.lights.map((light) => this.#text(`clue ${light.name}`).length);
+    const columns = lengths.length > 50 ? 4 : 3;
+    clues.style.columns = columns;
+    clues.style.fontSize = `${sizeFor(lengths, columns, (width * board.height) / board.width, ROOM[this.paper])}pt`;
     for (const [direction, title] of [['across', 'Across'], ['down', 'Down']]) {
       clues.append(make('h2', '', title));
-      for (const light of this.#editor.board.lights.filter((one) => one.direction === direction)) {
+      for (const light of board.lights.filter((one) => one.direction === direction)) {
         const clue = make('p', '');
         clue.append(make('b', '', light.number), ` ${this.#text(`clue ${light.name}`)} `, make('span', 'length', `(${light.cells.length})`));
         clues.append(clue);

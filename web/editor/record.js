@@ -138,7 +138,9 @@ function textChanges(from, to) {
 // The commands that lead from one record to another, in a session that began with the same words.
 export function transition(before, after) {
   const [from, to] = [parseRecord(before), parseRecord(after)];
-  const isHidden = without(from.circles, to.circles).concat(without(to.circles, from.circles)).some((place) => from.blocks.has(place) && to.blocks.has(place));
+  // a circle under a block cannot be toggled
+  const circles = [...without(from.circles, to.circles), ...without(to.circles, from.circles)];
+  const isHidden = circles.some((place) => from.blocks.has(place) && to.blocks.has(place));
   if (from.width !== to.width || from.height !== to.height || isHidden) {
     // a new size drops clues, and keeps the other texts
     const kept = without(from.texts.keys(), to.texts).filter((field) => !field.startsWith('clue '));

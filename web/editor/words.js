@@ -18,6 +18,8 @@ export class WordsView {
   #turn = 0;
   // the name of the light whose candidates are shown
   #listed = '';
+  // the cell whose letters are shown, by index
+  #lettered = -1;
   shown = [];
   #words = [];
   #scores = null;
@@ -54,6 +56,7 @@ export class WordsView {
   #head() {
     const { light, board } = this.#editor;
     if ((light?.name ?? '') !== this.#listed) this.#forget();
+    if (this.#editor.cursor !== this.#lettered) this.#forgetLetters();
     const { name, spelled } = this.#elements;
     if (!light) {
       name.textContent = board.cells[this.#editor.cursor]?.block ? 'A block' : 'No light';
@@ -70,6 +73,12 @@ export class WordsView {
     this.shown = [];
     this.#elements.list.replaceChildren();
     this.#elements.summary.textContent = '';
+  }
+
+  #forgetLetters() {
+    this.#lettered = -1;
+    this.#elements.letters.replaceChildren();
+    this.#elements.place.textContent = '';
   }
 
   #box(index) {
@@ -254,13 +263,10 @@ export class WordsView {
     const { board, cursor } = this.#editor;
     const cell = board.cells[cursor];
     const { letters, place } = this.#elements;
-    if (cell.block) {
-      letters.replaceChildren();
-      place.textContent = '';
-      return;
-    }
+    if (cell.block) return;
     const [lines] = await this.#editor.ask(`tally ${cell.place}`);
     if (turn !== this.#turn) return;
+    this.#lettered = cursor;
     place.textContent = `Row ${board.rowOf(cursor)}, column ${board.columnOf(cursor)}`;
     if (!lines?.length) {
       letters.replaceChildren(Object.assign(document.createElement('p'), { textContent: 'No letter is left for this cell.' }));

@@ -5,7 +5,8 @@ import { tmpdir } from 'node:os';
 import { join } from 'node:path';
 
 const CODES = {
-  Enter: 13, Tab: 9, Backspace: 8, Delete: 46, Escape: 27, Home: 36, End: 35, ArrowLeft: 37, ArrowUp: 38, ArrowRight: 39, ArrowDown: 40, F1: 112, F6: 117, '.': 190, '|': 220, _: 189, '*': 56, '=': 187, '+': 187, '?': 191, '/': 191,
+  Enter: 13, Tab: 9, Backspace: 8, Delete: 46, Escape: 27, Home: 36, End: 35, ArrowLeft: 37, ArrowUp: 38, ArrowRight: 39, ArrowDown: 40,
+  F1: 112, F2: 113, F3: 114, F4: 115, F6: 117, '.': 190, '|': 220, _: 189, '*': 56, '=': 187, '+': 187, '?': 191, '/': 191,
   '-': 189, ';': 186,
 };
 

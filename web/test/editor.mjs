@@ -222,7 +222,7 @@ const CASES = {
     await browser.click('#candidates li:nth-child(3)');
     await browser.until(`document.getElementById('cell-1-6').textContent.includes('${other[0]}')`);
     await browser.click('#cell-2-2');
-    await browser.until("document.querySelector('#letters button')");
+    await browser.until("document.getElementById('cell-place').textContent === 'Row 2, column 2' && document.querySelector('#letters button')");
     const letter = await browser.value("document.querySelector('#letters button').dataset.letter");
     await browser.click('#letters button');
     await browser.until(`document.querySelector('#cell-2-2 .letter').textContent === '${letter}'`);
@@ -292,7 +292,7 @@ const CASES = {
     const lights = lightsOf(bytes);
     expect(lights.length === count && lights.every((line) => !line.includes('.')), 'the file has other lights');
     const texts = Xw.open(module, { puzzle: bytes }).line('texts').lines;
-    expect(texts.includes('title Tiny one') && texts.includes(`clue ${lights[2].split(' ').slice(0, 2).join(' ')} clue ${await place(2)}`), `texts: ${texts}`);
+    expect(texts.includes('title Tiny one') && texts.includes('author A. Setter') && texts.includes(`clue ${lights[2].split(' ').slice(0, 2).join(' ')} clue ${await place(2)}`), `texts: ${texts}`);
     const told = program ? execFileSync(program, ['check', join(room, 'tiny-one.puz')]).toString().trim() : 'not checked by the program';
     const text = await saved('tiny-one.txt', () => menu('save-text'));
     expect(text.toString().startsWith('<ACROSS PUZZLE>'), 'no text file');
@@ -306,8 +306,7 @@ const CASES = {
   },
 
   async 'a .puz opened and saved again'() {
-    const record = `size 4 4\nset 1 1 A\n${'set R C L'.repeat(0)}text title Caf\\s\n`;
-    const xw = Xw.open(module, { record: record.replace('Caf\\s', 'Round trip') });
+    const xw = Xw.open(module, { record: 'size 4 4\ntext title Round trip\n' });
     for (let row = 1; row <= 4; row++) for (let column = 1; column <= 4; column++) xw.line(`set ${row} ${column} ${'ABCDEFGHIJKLMNOP'[4 * (row - 1) + column - 1]}`);
     xw.answer(Buffer.from([...Buffer.from('author '), 0xe9, 0x93, 0x81]));
     xw.line('clue 1 across one \\ two');
