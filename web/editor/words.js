@@ -2,7 +2,7 @@
 import { refuse, refusalText } from './messages.js';
 
 // The most candidates that are listed, and the most words that are counted in one call.
-const MOST_LISTED = 400;
+const MOST_LISTED = 200;
 const MOST_COUNTED = 40;
 const MOST_PROBED = 6;
 // how long the cursor rests before words are asked for, in milliseconds

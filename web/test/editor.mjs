@@ -340,6 +340,9 @@ const CASES = {
     await browser.type('A clue');
     await browser.press('Enter');
     await browser.press('F4');
+    // the counts move the field when they come
+    await browser.until("/20 of 21|21 of 21/.test(document.getElementById('counts').textContent)");
+    await pause(300);
     await browser.click('#word');
     await browser.type('zzyzx');
     await browser.press('Enter');
