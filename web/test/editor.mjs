@@ -305,6 +305,33 @@ const CASES = {
     }
   },
 
+  async 'a whole 15 by 15'() {
+    await begin(2);
+    // a long word across, the rest by a fill, and a clue for each light
+    await browser.click('#cell-1-7');
+    await browser.type('chocolate');
+    await browser.until("document.querySelector('#cell-1-15 .letter')?.textContent === 'E'");
+    await browser.press('Control+f');
+    await page.statusIs(/^filled/, 60000);
+    expect((await page.row(1)).endsWith('CHOCOLATE'), 'the word did not stay');
+    await browser.press('F4');
+    await browser.until("document.activeElement.id === 'title'");
+    await browser.type('Across and down');
+    await browser.press('Tab');
+    await browser.press('F3');
+    const count = await page.count('#clue-list input');
+    await browser.value("document.querySelector('#clue-list input').focus()");
+    for (let at = 0; at < count; at++) {
+      await browser.type(`c${at + 1}`);
+      await browser.press('Enter');
+    }
+    await browser.until("/every light has a clue/.test(document.getElementById('clue-summary').textContent)");
+    const bytes = await saved('across-and-down.puz', () => browser.press('Control+s'));
+    const lights = lightsOf(bytes);
+    expect(lights.length === count && lights.every((line) => !line.includes('.')), 'the file has other lights');
+    return program ? execFileSync(program, ['check', join(room, 'across-and-down.puz')]).toString().trim() : `${count} lights`;
+  },
+
   async 'a .puz opened and saved again'() {
     const xw = Xw.open(module, { record: 'size 4 4\ntext title Round trip\n' });
     for (let row = 1; row <= 4; row++) for (let column = 1; column <= 4; column++) xw.line(`set ${row} ${column} ${'ABCDEFGHIJKLMNOP'[4 * (row - 1) + column - 1]}`);
