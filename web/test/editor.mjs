@@ -100,6 +100,31 @@ async function openFile(path) {
   await browser.choose('#picker', path);
 }
 
+// Gives each light a clue, and returns their number.
+async function writeClues() {
+  await browser.press('F3');
+  const count = await page.count('#clue-list input');
+  await browser.value("document.querySelector('#clue-list input').focus()");
+  for (let at = 0; at < count; at++) {
+    await browser.type(`clue ${at + 1}`);
+    await browser.press('Enter');
+  }
+  await browser.until("/every light has a clue/.test(document.getElementById('clue-summary').textContent)");
+  return count;
+}
+
+// The lights of a saved file, which are so many and all filled.
+function filledLights(bytes, count) {
+  const lights = lightsOf(bytes);
+  expect(lights.length === count && lights.every((line) => !line.includes('.')), 'the file has other lights');
+  return lights;
+}
+
+// What the program says of a saved file.
+function judged(name) {
+  return program ? execFileSync(program, ['check', join(room, name)]).toString().trim() : 'not checked by the program';
+}
+
 // Waits for a file that the page saves.
 async function saved(name, action) {
   const path = join(room, name);
@@ -279,21 +304,13 @@ const CASES = {
     await browser.press('Tab');
     await browser.type('c 2020');
     await browser.press('Tab');
-    await browser.press('F3');
-    const count = await page.count('#clue-list input');
-    await browser.value("document.querySelector('#clue-list input').focus()");
-    for (let at = 0; at < count; at++) {
-      await browser.type(`clue ${at + 1}`);
-      await browser.press('Enter');
-    }
-    await browser.until("/every light has a clue/.test(document.getElementById('clue-summary').textContent)");
+    const count = await writeClues();
     await picture('clues');
     const bytes = await saved('tiny-one.puz', () => browser.press('Control+s'));
-    const lights = lightsOf(bytes);
-    expect(lights.length === count && lights.every((line) => !line.includes('.')), 'the file has other lights');
+    const lights = filledLights(bytes, count);
     const texts = Xw.open(module, { puzzle: bytes }).line('texts').lines;
     expect(texts.includes('title Tiny one') && texts.includes('author A. Setter') && texts.includes(`clue ${lights[2].split(' ').slice(0, 2).join(' ')} clue ${await place(2)}`), `texts: ${texts}`);
-    const told = program ? execFileSync(program, ['check', join(room, 'tiny-one.puz')]).toString().trim() : 'not checked by the program';
+    const told = judged('tiny-one.puz');
     const text = await saved('tiny-one.txt', () => menu('save-text'));
     expect(text.toString().startsWith('<ACROSS PUZZLE>'), 'no text file');
     return told;
@@ -318,18 +335,10 @@ const CASES = {
     await browser.until("document.activeElement.id === 'title'");
     await browser.type('Across and down');
     await browser.press('Tab');
-    await browser.press('F3');
-    const count = await page.count('#clue-list input');
-    await browser.value("document.querySelector('#clue-list input').focus()");
-    for (let at = 0; at < count; at++) {
-      await browser.type(`c${at + 1}`);
-      await browser.press('Enter');
-    }
-    await browser.until("/every light has a clue/.test(document.getElementById('clue-summary').textContent)");
+    const count = await writeClues();
     const bytes = await saved('across-and-down.puz', () => browser.press('Control+s'));
-    const lights = lightsOf(bytes);
-    expect(lights.length === count && lights.every((line) => !line.includes('.')), 'the file has other lights');
-    return program ? execFileSync(program, ['check', join(room, 'across-and-down.puz')]).toString().trim() : `${count} lights`;
+    filledLights(bytes, count);
+    return judged('across-and-down.puz');
   },
 
   async 'a .puz opened and saved again'() {
