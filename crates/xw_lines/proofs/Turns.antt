@@ -2,7 +2,7 @@
 use Rattle.std.proofs.Common.{◌≡◌, ℕ, ◌+◌, List, [], ◌∷◌, ◌++◌, Option, Some, arith, refl, sym, ◌∙◌, ap, subst, append_assoc, append-nil}
 use Rattle.xw_lines.specs.Cut.{Cut, held, ended_lines, last_piece, lines_of, HasNoLf}
 use Rattle.xw_lines.specs.Device.{saturated}
-use Rattle.xw_lines.specs.Spoken.{Spoken, Answered, BrokeOff, refusals, flush_after}
+use Rattle.xw_lines.specs.Spoken.{Spoken, Answered, BreaksOff, refusals, flush_after}
 use Rattle.xw_lines.specs.Run.{Speaks, StopsIn, Progress}
 use Rattle.xw_lines.specs.declared.outcome.Step.{Step}
 use Rattle.xw_lines.proofs.Cuts.{cut-at_lf, cut-longer_by, lines_of-at_lf, lines_of-ended, lines_of-rest}
@@ -25,11 +25,12 @@ module _ {S : Type 0} (Answers : S → List ℕ → Step → List ℕ → S → 
   }
 
   -- a whole answer is a prefix of itself
-  pub broke-after : (start end : S) (outcome : Step) (old new new' : List ℕ) (piece piece' : Option (List ℕ)) → piece ≡ piece' → new' ≡ new → Answered Answers start piece outcome end old new → BrokeOff Answers start piece' end old new'
-  broke-after start end outcome old new new' piece piece' p n a = record {
+  pub broke-after : (start end : S) (outcome : Step) (old new new' : List ℕ) (piece piece' : Option (List ℕ)) → piece ≡ piece' → new' ≡ new → Answered Answers start piece outcome end old new
+      → (line : List ℕ) → held line ≡ piece' → BreaksOff Answers start line end old new'
+  broke-after start end outcome old new new' piece piece' p n a line h = record {
     outcome = outcome;
     answer = a.answer;
-    fits = λ line h. a.fits line (h ∙ sym p);
+    answers = a.fits line (h ∙ sym p);
     begins = record { sent = a.answer; unsent = []; parts = sym (append-nil a.answer); transcript = n ∙ a.transcript };
   }
 
@@ -94,10 +95,10 @@ module _ {S : Type 0} (Answers : S → List ℕ → Step → List ℕ → S → 
         refused-is = r ∙ ap (λ n. saturated (n + refusals outcome)) p.refused-is ∙ saturated-add p.count (refusals outcome);
       }
 
-  -- the writer fails in the answer of a line that ends with an LF
-  pub stops-at_lf : (start state end : S) (begun text more : List ℕ) (piece : Option (List ℕ)) (refused : ℕ) (transcript transcript' : List ℕ)
-      → BrokeOff Answers state piece end transcript transcript' → Progress Answers start begun text state piece refused transcript → StopsIn Answers start (text ++ 10 ∷ more) end begun transcript'
-  stops-at_lf start state end begun text more piece refused transcript transcript' b p = record {
+  -- the answer to a line that ends with an LF is not finished
+  pub stops-at_lf : (Breaks : S → List ℕ → S → List ℕ → List ℕ → Type 0) (start state end : S) (begun text more : List ℕ) (piece : Option (List ℕ)) (refused : ℕ) (transcript transcript' : List ℕ)
+      → ((line : List ℕ) → held line ≡ piece → Breaks state line end transcript transcript') → Progress Answers start begun text state piece refused transcript → StopsIn Answers Breaks start (text ++ 10 ∷ more) end begun transcript'
+  stops-at_lf Breaks start state end begun text more piece refused transcript transcript' b p = record {
     before = ended_lines text;
     line = last_piece text;
     after = lines_of more;
@@ -106,15 +107,7 @@ module _ {S : Type 0} (Answers : S → List ℕ → Step → List ℕ → S → 
     refused = p.count;
     mid = state;
     spoken = p.speaks.spoken;
-    outcome = b.outcome;
-    answer = b.answer;
-    answers = b.fits (last_piece text) (sym p.piece-is);
-    begins = record {
-      sent = b.begins.sent;
-      unsent = b.begins.unsent;
-      parts = b.begins.parts;
-      transcript = b.begins.transcript ∙ ap (λ xs. xs ++ b.begins.sent) p.speaks.transcript-is;
-    };
+    breaks = subst (λ old. Breaks state (last_piece text) end old transcript') p.speaks.transcript-is (b (last_piece text) (sym p.piece-is));
   }
 
   -- if nothing is buffered at the end, all lines are answered
@@ -136,10 +129,10 @@ module _ {S : Type 0} (Answers : S → List ℕ → Step → List ℕ → S → 
       } in
       subst (λ lines. Speaks Answers start lines (p.count + refusals outcome) end begun transcript') (sym (lines_of-rest text (λ h. e (p.piece-is ∙ h)))) all
 
-  -- the writer fails in the answer of the last line, which has no LF
-  pub stops-last : (start state end : S) (begun text : List ℕ) (piece : Option (List ℕ)) (refused : ℕ) (transcript transcript' : List ℕ) → (piece ≡ Some [] → ⊥)
-      → BrokeOff Answers state piece end transcript transcript' → Progress Answers start begun text state piece refused transcript → StopsIn Answers start text end begun transcript'
-  stops-last start state end begun text piece refused transcript transcript' e b p = record {
+  -- the answer to the last line, which has no LF, is not finished
+  pub stops-last : (Breaks : S → List ℕ → S → List ℕ → List ℕ → Type 0) (start state end : S) (begun text : List ℕ) (piece : Option (List ℕ)) (refused : ℕ) (transcript transcript' : List ℕ) → (piece ≡ Some [] → ⊥)
+      → ((line : List ℕ) → held line ≡ piece → Breaks state line end transcript transcript') → Progress Answers start begun text state piece refused transcript → StopsIn Answers Breaks start text end begun transcript'
+  stops-last Breaks start state end begun text piece refused transcript transcript' e b p = record {
     before = ended_lines text;
     line = last_piece text;
     after = [];
@@ -148,15 +141,7 @@ module _ {S : Type 0} (Answers : S → List ℕ → Step → List ℕ → S → 
     refused = p.count;
     mid = state;
     spoken = p.speaks.spoken;
-    outcome = b.outcome;
-    answer = b.answer;
-    answers = b.fits (last_piece text) (sym p.piece-is);
-    begins = record {
-      sent = b.begins.sent;
-      unsent = b.begins.unsent;
-      parts = b.begins.parts;
-      transcript = b.begins.transcript ∙ ap (λ xs. xs ++ b.begins.sent) p.speaks.transcript-is;
-    };
+    breaks = subst (λ old. Breaks state (last_piece text) end old transcript') p.speaks.transcript-is (b (last_piece text) (sym p.piece-is));
   }
 
 -- answers in terms of states are answers in terms of what the states mean

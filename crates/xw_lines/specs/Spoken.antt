@@ -1,7 +1,9 @@
 -- Which answers a list of lines may get.
 use Rattle.std.specs.Prelude.{◌≡◌, ℕ, ◌+◌, List, [], ◌∷◌, ◌++◌, Option}
 use Rattle.xw_lines.specs.Cut.{held}
-use Rattle.xw_lines.specs.Device.{Begins, flushed}
+use Rattle.xw_lines.specs.Device.{Begins, HasFailed, flushed}
+use Rattle.xw_lines.specs.declared.outcome.AnswerFault.{AnswerFault}
+use Rattle.xw_lines.specs.declared.outcome.AnswerFault.TheVariants.{WriteFailed, Stopped}
 use Rattle.xw_lines.specs.declared.outcome.Step.{Step}
 use Rattle.xw_lines.specs.declared.outcome.Step.TheVariants.{Silent, Accepted, Refused}
 
@@ -37,9 +39,27 @@ pub record Answered {S : Type 0} (Answers : S → List ℕ → Step → List ℕ
   pub fits : AnswersPiece Answers start piece outcome answer end
   pub transcript : new ≡ old ++ answer
 
--- a prefix of an answer to the buffered line was written
-pub record BrokeOff {S : Type 0} (Answers : S → List ℕ → Step → List ℕ → S → Type 0) (start : S) (piece : Option (List ℕ)) (end : S) (old new : List ℕ) : Type 0 where
+-- a prefix of an answer to the line was written
+pub record BreaksOff {S : Type 0} (Answers : S → List ℕ → Step → List ℕ → S → Type 0) (start : S) (line : List ℕ) (end : S) (old new : List ℕ) : Type 0 where
   pub outcome : Step
   pub answer : List ℕ
-  pub fits : AnswersPiece Answers start piece outcome answer end
+  pub answers : Answers start line outcome answer end
   pub begins : Begins old new answer
+
+-- How the answer to a line was not finished. `Stops state line next old new` says that the handler may stop at the line.
+abbrev pub broken_by : {S : Type 0} → (S → List ℕ → Step → List ℕ → S → Type 0) → (S → List ℕ → S → List ℕ → List ℕ → Type 0) → AnswerFault → S → List ℕ → S → List ℕ → List ℕ → Type 0
+broken_by Answers Stops WriteFailed = BreaksOff Answers
+broken_by Answers Stops Stopped = Stops
+
+-- the answer to any line whose buffered form is this piece was not finished
+abbrev pub BreaksPiece : {S : Type 0} → (S → List ℕ → Step → List ℕ → S → Type 0) → (S → List ℕ → S → List ℕ → List ℕ → Type 0) → AnswerFault → S → Option (List ℕ) → S → List ℕ → List ℕ → Type 0
+BreaksPiece Answers Stops fault start piece end old new = (line : List ℕ) → held line ≡ piece → broken_by Answers Stops fault start line end old new
+
+-- the writer failed if that is the fault
+abbrev pub HasFailedFor : AnswerFault → ℕ → ℕ → Type 0
+HasFailedFor WriteFailed old new = HasFailed old new
+HasFailedFor Stopped old new = Unit {0}
+
+-- a handler that never stops
+abbrev pub NeverStops : {S : Type 0} → S → List ℕ → S → List ℕ → List ℕ → Type 0
+NeverStops state line next old new = ⊥

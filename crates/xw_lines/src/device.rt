@@ -61,6 +61,20 @@ pub trait Sink {
         ensures failures { failures self.new ≡ failures_after result (failures self.old) };
 }
 
+impl<W: Sink> Sink for &mut W {
+    ghost transcript = { λ sink. W.transcript sink.now };
+
+    ghost failures = { λ sink. W.failures sink.now };
+
+    fn write(&mut self, bytes: &[u8]) -> Result<usize, DeviceFault> {
+        Sink::write(&mut **self, bytes)
+    }
+
+    fn flush(&mut self) -> Result<(), DeviceFault> {
+        Sink::flush(&mut **self)
+    }
+}
+
 /// Writes all the bytes, in as many calls as needed. After an error a prefix of them was written.
 pub fn write_all<W: Sink>(sink: &mut W, bytes: &[u8]) -> Result<(), WriteFailed>
     ensures { Sends W.transcript W.failures sink.old sink.new result bytes.now }

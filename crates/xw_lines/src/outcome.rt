@@ -1,4 +1,5 @@
-//! The outcome of a line, and how a run ended.
+//! The outcome of a line, why it was not answered, and how a run ended.
+use crate::device::WriteFailed;
 
 /// The outcome of a line. A `Silent` line has no answer.
 #[derive(Clone, Copy, Debug, PartialEq, Eq)]
@@ -8,6 +9,26 @@ pub enum Step {
     Refused,
 }
 
+/// Why the answer to a line was not finished.
+#[derive(Clone, Copy, Debug, PartialEq, Eq)]
+pub enum AnswerFault {
+    /// The writer failed.
+    WriteFailed,
+    /// The line handler cannot go on.
+    Stopped,
+}
+
+impl From<WriteFailed> for AnswerFault {
+    ghost use Rattle.std.specs.Prelude.{◌≡◌};
+    ghost use Rattle.xw_lines.specs.declared.outcome.AnswerFault.TheVariants as faults;
+
+    ghost from_gives = { λ _ fault. fault ≡ faults.WriteFailed };
+
+    fn from(_failed: WriteFailed) -> AnswerFault {
+        AnswerFault::WriteFailed
+    }
+}
+
 /// How a run over a reader and a writer ended. Refused lines are not an error; `Done` counts them.
 #[derive(Clone, Copy, Debug, PartialEq, Eq)]
 pub enum RunEnd {
@@ -15,6 +36,8 @@ pub enum RunEnd {
     Done { refused: u64 },
     ReadFailed,
     WriteFailed,
+    /// The line handler could not go on.
+    Stopped,
     /// The reader did not end within `u64::MAX` reads.
     Endless,
     /// The line buffer could not be allocated. Nothing was read or written.

@@ -1,15 +1,15 @@
 //! Reads lines and writes their answers.
-ghost use Rattle.std.specs.Prelude.{◌≡◌, ℕ, ◌+◌, ◌<◌, ◌≤◌, List, [], ◌∷◌, ◌++◌, length, drop, position, Some, IfOk, IfSome, IfNone, OnOk, OnErr};
+ghost use Rattle.std.specs.Prelude.{◌≡◌, ℕ, ◌+◌, ◌<◌, ◌≤◌, List, [], ◌∷◌, ◌++◌, length, drop, position, Some, IfOk, IfErr, IfSome, IfNone, OnOk, OnErr};
 ghost use Rattle.std.specs.Option.{option_map};
 ghost use Rattle.xw_lines.specs.Cut.{lines_of, HasNoLf, EndsLine};
 ghost use Rattle.xw_text.specs.Lines.{is_line_feed};
 ghost use Rattle.xw_lines.specs.Device.{flushed, saturated, HasFailed};
-ghost use Rattle.xw_lines.specs.Spoken.{Answered, BrokeOff, refusals, flush_after};
-ghost use Rattle.xw_lines.specs.Run.{Speaks, StopsIn, Progress, IsRun};
+ghost use Rattle.xw_lines.specs.Spoken.{Answered, BreaksPiece, HasFailedFor, broken_by, refusals, flush_after};
+ghost use Rattle.xw_lines.specs.Run.{Speaks, StopsIn, Progress, IsRun, broken_end};
 
 use crate::device::{Sink, Source, WriteFailed};
 use crate::line_buffer::LineBuffer;
-use crate::outcome::{RunEnd, Step};
+use crate::outcome::{AnswerFault, RunEnd, Step};
 use std::alloc::Global;
 
 /// The maximum length of a line in bytes, without its LF.
@@ -26,16 +26,20 @@ pub trait LineHandler {
     // `answers state line step answer next`: in `state` the line may get this answer, which leaves the state `next`.
     ghost answers: { Self → List ℕ → Step → List ℕ → Self → Type 0 };
 
-    /// Writes the answer of a line. The line has no LF; `None` stands for a line longer than `LINE_LIMIT`. After an
-    /// error a prefix of the answer was written, and the effect of the line remains.
-    fn handle<W: Sink>(&mut self, line: Option<&[u8]>, sink: &mut W) -> Result<Step, WriteFailed>
+    // `stops state line next old new`: in `state` the handler may stop at the line and leave the state `next`. The
+    // transcript of the writer is then `new`, and was `old`.
+    ghost stops: { Self → List ℕ → Self → List ℕ → List ℕ → Type 0 };
+
+    /// Writes the answer of a line. The line has no LF; `None` stands for a line longer than `LINE_LIMIT`. If the
+    /// writer fails, a prefix of the answer was written, and the effect of the line remains.
+    fn handle<W: Sink>(&mut self, line: Option<&[u8]>, sink: &mut W) -> Result<Step, AnswerFault>
         ensures ok { IfOk result (λ outcome. Answered answers self.old (option_map (λ bytes. bytes.now) line.entry)
             outcome self.new (W.transcript sink.old) (W.transcript sink.new)) }
         ensures quiet { OnOk result (W.failures sink.new ≡ W.failures sink.old) }
         ensures silent { IfOk result (λ outcome. outcome ≡ Step.Silent → sink.new ≡ sink.old) }
-        ensures err { OnErr result (BrokeOff answers self.old (option_map (λ bytes. bytes.now) line.entry)
+        ensures err { IfErr result (λ fault. BreaksPiece answers stops fault self.old (option_map (λ bytes. bytes.now) line.entry)
             self.new (W.transcript sink.old) (W.transcript sink.new)) }
-        ensures failed { OnErr result (HasFailed (W.failures sink.old) (W.failures sink.new)) };
+        ensures failed { IfErr result (λ fault. HasFailedFor fault (W.failures sink.old) (W.failures sink.new)) };
 }
 
 /// Returns the count of refused lines after one more line.
@@ -79,15 +83,15 @@ fn answer_piece<S: LineHandler, W: Sink>(
     piece: &mut LineBuffer,
     refused: &mut u64,
     sink: &mut W,
-) -> Result<(), WriteFailed>
+) -> Result<(), AnswerFault>
     ensures ok { OnOk result ((outcome : Step) × (answered : List ℕ)
         × Answered S.answers handler.old piece.old outcome handler.new (W.transcript sink.old) answered
         × (W.transcript sink.new ≡ answered ++ flush_after outcome)
         × (refused.new ≡ saturated (refused.old + refusals outcome))) }
     ensures cleared { OnOk result (piece.new ≡ Some []) }
     ensures quiet { OnOk result (W.failures sink.new ≡ W.failures sink.old) }
-    ensures err { OnErr result (BrokeOff S.answers handler.old piece.old handler.new (W.transcript sink.old) (W.transcript sink.new)) }
-    ensures failed { OnErr result (HasFailed (W.failures sink.old) (W.failures sink.new)) }
+    ensures err { IfErr result (λ fault. BreaksPiece S.answers S.stops fault handler.old piece.old handler.new (W.transcript sink.old) (W.transcript sink.new)) }
+    ensures failed { IfErr result (λ fault. HasFailedFor fault (W.failures sink.old) (W.failures sink.new)) }
 {
     let outcome = handler.handle(piece.line(), sink)?;
     pass_on(outcome, sink)?;
@@ -122,16 +126,16 @@ fn take_line<S: LineHandler, W: Sink>(
     refused: &mut u64,
     bytes: &[u8],
     sink: &mut W,
-) -> Result<(), WriteFailed>
+) -> Result<(), AnswerFault>
     requires { HasNoLf bytes.now }
     ensures ok { OnOk result ((start : S) (begun text : List ℕ)
         → Progress S.answers start begun text handler.old piece.old refused.old (W.transcript sink.old)
         → Progress S.answers start begun ((text ++ bytes.now) ++ 10 ∷ []) handler.new piece.new refused.new (W.transcript sink.new)) }
     ensures quiet { OnOk result (W.failures sink.new ≡ W.failures sink.old) }
-    ensures err { OnErr result ((start : S) (begun text more : List ℕ)
+    ensures err { IfErr result (λ fault. (start : S) (begun text more : List ℕ)
         → Progress S.answers start begun text handler.old piece.old refused.old (W.transcript sink.old)
-        → StopsIn S.answers start ((text ++ bytes.now) ++ 10 ∷ more) handler.new begun (W.transcript sink.new)) }
-    ensures failed { OnErr result (HasFailed (W.failures sink.old) (W.failures sink.new)) }
+        → StopsIn S.answers (broken_by S.answers S.stops fault) start ((text ++ bytes.now) ++ 10 ∷ more) handler.new begun (W.transcript sink.new)) }
+    ensures failed { IfErr result (λ fault. HasFailedFor fault (W.failures sink.old) (W.failures sink.new)) }
 {
     piece.hold(bytes);
     answer_piece(handler, piece, refused, sink)?;
@@ -145,15 +149,15 @@ fn take_bytes<S: LineHandler, W: Sink>(
     refused: &mut u64,
     bytes: &[u8],
     sink: &mut W,
-) -> Result<(), WriteFailed>
+) -> Result<(), AnswerFault>
     ensures ok { OnOk result ((start : S) (begun text : List ℕ)
         → Progress S.answers start begun text handler.old piece.old refused.old (W.transcript sink.old)
         → Progress S.answers start begun (text ++ bytes.now) handler.new piece.new refused.new (W.transcript sink.new)) }
     ensures quiet { OnOk result (W.failures sink.new ≡ W.failures sink.old) }
-    ensures err { OnErr result ((start : S) (begun text : List ℕ)
+    ensures err { IfErr result (λ fault. (start : S) (begun text : List ℕ)
         → Progress S.answers start begun text handler.old piece.old refused.old (W.transcript sink.old)
-        → StopsIn S.answers start (text ++ bytes.now) handler.new begun (W.transcript sink.new)) }
-    ensures failed { OnErr result (HasFailed (W.failures sink.old) (W.failures sink.new)) }
+        → StopsIn S.answers (broken_by S.answers S.stops fault) start (text ++ bytes.now) handler.new begun (W.transcript sink.new)) }
+    ensures failed { IfErr result (λ fault. HasFailedFor fault (W.failures sink.old) (W.failures sink.new)) }
 {
     let mut from = 0;
     while let Some(end) = next_lf(bytes, from) {
@@ -170,15 +174,15 @@ fn finish<S: LineHandler, W: Sink>(
     mut piece: LineBuffer,
     mut refused: u64,
     sink: &mut W,
-) -> Result<u64, WriteFailed>
+) -> Result<u64, AnswerFault>
     ensures ok { IfOk result (λ total. (start : S) (begun text : List ℕ)
         → Progress S.answers start begun text handler.old piece refused (W.transcript sink.old)
         → (count : ℕ) × (total ≡ saturated count) × Speaks S.answers start (lines_of text) count handler.new begun (W.transcript sink.new)) }
     ensures quiet { OnOk result (W.failures sink.new ≡ W.failures sink.old) }
-    ensures err { OnErr result ((start : S) (begun text : List ℕ)
+    ensures err { IfErr result (λ fault. (start : S) (begun text : List ℕ)
         → Progress S.answers start begun text handler.old piece refused (W.transcript sink.old)
-        → StopsIn S.answers start text handler.new begun (W.transcript sink.new)) }
-    ensures failed { OnErr result (HasFailed (W.failures sink.old) (W.failures sink.new)) }
+        → StopsIn S.answers (broken_by S.answers S.stops fault) start text handler.new begun (W.transcript sink.new)) }
+    ensures failed { IfErr result (λ fault. HasFailedFor fault (W.failures sink.old) (W.failures sink.new)) }
 {
     if piece.is_empty() {
         return Ok(refused);
@@ -187,8 +191,18 @@ fn finish<S: LineHandler, W: Sink>(
     Ok(refused)
 }
 
+/// Returns how a run ends if an answer was not finished.
+fn broken(fault: AnswerFault) -> RunEnd
+    ensures { result ≡ broken_end fault }
+{
+    match fault {
+        AnswerFault::WriteFailed => RunEnd::WriteFailed,
+        AnswerFault::Stopped => RunEnd::Stopped,
+    }
+}
+
 /// Reads lines until the reader ends, and writes the answer of each. Each answer is flushed before the next one is
-/// started. Stops early if the reader or the writer fails. Returns `Memory`, before the first read, if the line buffer
+/// started. Stops early if the reader or the writer fails, or if the line handler stops. Returns `Memory`, before the first read, if the line buffer
 /// cannot be allocated.
 pub fn run_lines<S: LineHandler, R: Source, W: Sink>(
     alloc: Global,
@@ -196,7 +210,7 @@ pub fn run_lines<S: LineHandler, R: Source, W: Sink>(
     source: &mut R,
     sink: &mut W,
 ) -> RunEnd
-    ensures { IsRun S.answers R.transcript R.is_at_end R.failures W.transcript W.failures result
+    ensures { IsRun S.answers S.stops R.transcript R.is_at_end R.failures W.transcript W.failures result
         handler.old handler.new source.old source.new sink.old sink.new }
 {
     let Ok(mut piece) = LineBuffer::new(alloc) else {
@@ -210,14 +224,14 @@ pub fn run_lines<S: LineHandler, R: Source, W: Sink>(
             Ok(0) => {
                 return match finish(handler, piece, refused, sink) {
                     Ok(refused) => RunEnd::Done { refused },
-                    Err(_) => RunEnd::WriteFailed,
+                    Err(fault) => broken(fault),
                 };
             }
             Ok(count) => {
                 let bytes = &chunk[..count];
                 match take_bytes(handler, &mut piece, &mut refused, bytes, sink) {
                     Ok(()) => {}
-                    Err(_) => return RunEnd::WriteFailed,
+                    Err(fault) => return broken(fault),
                 }
             }
         }

@@ -1,4 +1,6 @@
-use Rattle.std.proofs.Common.{arith, ◌<◌, length, ◌∙◌}
+use Rattle.std.proofs.Common.{arith, ◌<◌, length, ◌++◌, append_assoc, ap, ◌∙◌}
+use Rattle.xw_lines.specs.Spoken.{HasFailedFor}
+use Rattle.xw_lines.proofs.Broken.{broken-run}
 use Rattle.xw_lines.proofs.Texts.{transcript-nothing}
 use Rattle.xw_lines.proofs.run.run_lines.Goals as goal
 
@@ -13,8 +15,33 @@ returns-in-Ok-finish g c =
       done = (text, transcript, c.in-Ok-eq0.ensures.end c.in-Ok-eq0.field-0-test room, said.0, said.1, said.2);
       read_failed = tt;
       write_failed = tt;
+      stopped = tt;
       endless = tt;
       memory = tt;
       unfailed = c.in-Ok-finish.ensures.quiet ∙ kept.quiet;
       reads = c.in-Ok-eq0.ensures.failures ∙ kept.unfailed;
     }
+
+pub returns-in-Err-finish : goal.returns-in-Err-finish
+returns-in-Err-finish g c =
+    let text = c.loop-turn.invariant.0 in
+    let kept = c.loop-turn.invariant.1 in
+    let fault = c.in-Err-finish.fault in
+    let transcript = transcript-nothing (g.R.Source.transcript c.args.source.now) _ _ text _ _ kept.transcript c.in-Ok-eq0.field-0-test c.in-Ok-eq0.ensures.transcript in
+    let failed : HasFailedFor fault (g.W.Sink.failures c.args.sink.now) (g.W.Sink.failures c.finish.new.sink) = rw (← kept.quiet) c.in-Err-finish.ensures.failed in
+    rw c.broken.ensures
+    (broken-run g.S.LineHandler.answers g.S.LineHandler.stops g.R.Source.transcript g.R.Source.is_at_end g.R.Source.failures g.W.Sink.transcript g.W.Sink.failures
+    _ _ _ _ _ _ text transcript (c.in-Ok-eq0.ensures.failures ∙ kept.unfailed) fault failed
+    (c.in-Err-finish.ensures.err c.args.handler.now (g.W.Sink.transcript c.args.sink.now) text kept.goes-on))
+
+pub returns-in-Err-take_bytes : goal.returns-in-Err-take_bytes
+returns-in-Err-take_bytes g c =
+    let text = c.loop-turn.invariant.0 in
+    let kept = c.loop-turn.invariant.1 in
+    let fault = c.in-Err-take_bytes.fault in
+    let failed : HasFailedFor fault (g.W.Sink.failures c.args.sink.now) (g.W.Sink.failures c.take_bytes.new.sink) = rw (← kept.quiet) c.in-Err-take_bytes.ensures.failed in
+    let transcript = c.in-Ok-read.ensures.transcript ∙ ap (λ xs. xs ++ _) kept.transcript ∙ append_assoc (g.R.Source.transcript c.args.source.now) text _ in
+    rw c.broken-in-Err-take_bytes.ensures
+    (broken-run g.S.LineHandler.answers g.S.LineHandler.stops g.R.Source.transcript g.R.Source.is_at_end g.R.Source.failures g.W.Sink.transcript g.W.Sink.failures
+    _ _ _ _ _ _ _ transcript (c.in-Ok-read.ensures.failures ∙ kept.unfailed) fault failed
+    (c.in-Err-take_bytes.ensures.err c.args.handler.now (g.W.Sink.transcript c.args.sink.now) text kept.goes-on))

@@ -1,0 +1,31 @@
+//! What a command changes if it is accepted.
+ghost use Rattle.std.specs.Prelude.{◌≡◌};
+ghost use Rattle.xw_journal.specs.Journal.{effect_of as effect_of_command};
+
+use xw_commands::command::Command;
+
+/// What an accepted command changes.
+#[derive(Clone, Copy, Debug, PartialEq, Eq)]
+pub enum Effect {
+    /// Nothing: the command is a query.
+    Nothing,
+    /// What the command states.
+    Change,
+    /// Letters that a search enters, if it finds any.
+    Letters,
+}
+
+/// Returns what a command changes if it is accepted.
+pub fn effect_of(command: &Command<'_>) -> Effect
+    ensures { result ≡ effect_of_command command.now }
+{
+    match command {
+        Command::Match(_) | Command::Circles | Command::Show | Command::Lights => Effect::Nothing,
+        Command::Words(..) | Command::Choices(..) | Command::Letters(_) => Effect::Nothing,
+        Command::Tally(_) | Command::Duplicates | Command::Unlisted => Effect::Nothing,
+        Command::Unmatched | Command::Suggest | Command::Why(_) => Effect::Nothing,
+        Command::Tell(_) => Effect::Nothing,
+        Command::Fill(_) | Command::Autofill(..) => Effect::Letters,
+        _ => Effect::Change,
+    }
+}
