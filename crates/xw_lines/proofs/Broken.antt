@@ -1,5 +1,5 @@
 -- A run that ends because an answer was not finished.
-use Rattle.std.proofs.Common.{◌≡◌, ℕ, List, ◌++◌, tt}
+use Rattle.std.proofs.Common.{◌≡◌, ℕ, List, ◌++◌}
 use Rattle.std.specs.Prelude.{Bool}
 use Rattle.xw_lines.specs.Spoken.{broken_by, HasFailedFor}
 use Rattle.xw_lines.specs.Run.{StopsIn, IsRun, broken_end}

@@ -9,7 +9,7 @@ pub returns-in_err-answer_piece-clause-err : goal.returns-in_err-answer_piece-cl
 returns-in_err-answer_piece-clause-err g c =
     let e = err_from_is_err_and c.from_residual.result c.from_residual.ensures.1 in
     let full : c.args.piece ≡ Some [] → ⊥ = search rules in
-    rw e.1 (λ start begun text p. stops-last g.S.LineHandler.answers _ start _ _ begun text _ _ _ _ full c.in_err-answer_piece.ensures.err p)
+    rw e.1 (rw e.2 (λ start begun text p. stops-last g.S.LineHandler.answers _ start _ _ begun text _ _ _ _ full c.in_err-answer_piece.ensures.err p))
 
 pub returns-clause-ok : goal.returns-clause-ok
 returns-clause-ok g c =

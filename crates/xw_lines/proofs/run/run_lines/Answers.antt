@@ -1,4 +1,4 @@
-use Rattle.std.proofs.Common.{arith, ◌<◌, length, ◌++◌, append_assoc, ap, ◌∙◌}
+use Rattle.std.proofs.Common.{arith, ◌<◌, length, take, ◌++◌, append_assoc, ap, ◌∙◌}
 use Rattle.xw_lines.specs.Spoken.{HasFailedFor}
 use Rattle.xw_lines.proofs.Broken.{broken-run}
 use Rattle.xw_lines.proofs.Texts.{transcript-nothing}
@@ -40,8 +40,9 @@ returns-in-Err-take_bytes g c =
     let kept = c.loop-turn.invariant.1 in
     let fault = c.in-Err-take_bytes.fault in
     let failed : HasFailedFor fault (g.W.Sink.failures c.args.sink.now) (g.W.Sink.failures c.take_bytes.new.sink) = rw (← kept.quiet) c.in-Err-take_bytes.ensures.failed in
-    let transcript = c.in-Ok-read.ensures.transcript ∙ ap (λ xs. xs ++ _) kept.transcript ∙ append_assoc (g.R.Source.transcript c.args.source.now) text _ in
+    let bytes = take c.in-Ok-read.count c.read.new.buffer in
+    let transcript = c.in-Ok-read.ensures.transcript ∙ ap (λ xs. xs ++ bytes) kept.transcript ∙ append_assoc (g.R.Source.transcript c.args.source.now) text bytes in
     rw c.broken-in-Err-take_bytes.ensures
     (broken-run g.S.LineHandler.answers g.S.LineHandler.stops g.R.Source.transcript g.R.Source.is_at_end g.R.Source.failures g.W.Sink.transcript g.W.Sink.failures
-    _ _ _ _ _ _ _ transcript (c.in-Ok-read.ensures.failures ∙ kept.unfailed) fault failed
+    _ _ _ _ _ _ (text ++ bytes) transcript (c.in-Ok-read.ensures.failures ∙ kept.unfailed) fault failed
     (c.in-Err-take_bytes.ensures.err c.args.handler.now (g.W.Sink.transcript c.args.sink.now) text kept.goes-on))

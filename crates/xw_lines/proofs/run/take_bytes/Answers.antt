@@ -12,9 +12,9 @@ returns-in_err-take_line-clause-err g c =
     let bytes = c.args.bytes.now in
     let from = c.loop-end.from in
     let end = c.in-Some.end in
-    rw e.1 (λ start begun text p.
+    rw e.1 (rw e.2 (λ start begun text p.
     rw (← line-within text bytes from end c.in-Some.ensures.within.0 c.in-Some.ensures.ends)
-    (c.in_err-take_line.ensures.err start begun (text ++ take from bytes) (drop (end + 1) bytes) (c.loop-end.invariant.goes-on start begun text p)))
+    (c.in_err-take_line.ensures.err start begun (text ++ take from bytes) (drop (end + 1) bytes) (c.loop-end.invariant.goes-on start begun text p))))
 
 pub loop-end-preserved : goal.loop-end-preserved
 loop-end-preserved g c =

@@ -4,9 +4,9 @@ use Rattle.xw_lines.proofs.run.take_line.Goals as goal
 
 pub returns-in_err-answer_piece-clause-err : goal.returns-in_err-answer_piece-clause-err
 returns-in_err-answer_piece-clause-err g c =
-    let e = err_from_is_err_and c.from_residual.result c.from_residual.ensures.1 in rw e.1 (λ start begun text more p.
+    let e = err_from_is_err_and c.from_residual.result c.from_residual.ensures.1 in rw e.1 (rw e.2 (λ start begun text more p.
     stops-at_lf g.S.LineHandler.answers _ start _ _ begun _ more _ _ _ _ c.in_err-answer_piece.ensures.err
-    (progress-held g.S.LineHandler.answers start _ begun text c.args.bytes.now _ _ _ _ c.requires c.hold.ensures p))
+    (progress-held g.S.LineHandler.answers start _ begun text c.args.bytes.now _ _ _ _ c.requires c.hold.ensures p)))
 
 pub returns-clause-ok : goal.returns-clause-ok
 returns-clause-ok g c =
