@@ -10,7 +10,8 @@ use Rattle.xw_lines.specs.declared.outcome.Step.{Step}
 use Rattle.xw_lines.specs.declared.outcome.Step.TheVariants.{Silent, Refused}
 use Rattle.xw_commands.specs.declared.command.SyntaxFault.TheVariants as syntax
 use Rattle.xw_lines.specs.Cut.{held}
-use Rattle.xw_lines.specs.Spoken.{Answered, BrokeOff, AnswersPiece}
+use Rattle.xw_lines.specs.Spoken.{Answered, BreaksPiece, NeverStops, AnswersPiece}
+use Rattle.xw_lines.specs.declared.outcome.AnswerFault.TheVariants.{WriteFailed}
 use Rattle.xw_commands.specs.Command.{command_of}
 use Rattle.xw_session.specs.Text.{accepted, refused}
 use Rattle.xw_commands.specs.declared.command.SyntaxFault.{SyntaxFault}
@@ -172,11 +173,11 @@ piece_answered transcript failures state after line step old new a = record {
 }
 
 pub piece_broke_off : {S E : Type 0} (transcript : S → List ℕ) (failures : S → ℕ) (state after : State) (line : List ℕ) (error : E) (old new : S)
-    → AnswersLine transcript failures state line (Err error) after old new → BrokeOff Answers state (Some line) after (transcript old) (transcript new)
-piece_broke_off transcript failures state after line error old new a = record {
+    → AnswersLine transcript failures state line (Err error) after old new → BreaksPiece Answers NeverStops WriteFailed state (Some line) after (transcript old) (transcript new)
+piece_broke_off transcript failures state after line error old new a = λ whole h. record {
   outcome = a.outcome;
   answer = a.answer;
-  fits = λ whole h. subst (λ l. Answers state l a.outcome a.answer after) (sym (held_is whole line h)) a.fits;
+  answers = subst (λ l. Answers state l a.outcome a.answer after) (sym (held_is whole line h)) a.fits;
   begins = a.sends.0;
 }
 
@@ -185,10 +186,10 @@ pub long_piece : (state : State) → AnswersPiece Answers state None Refused (re
 long_piece state whole h =
     subst (λ parsed. AnswersParsed state parsed Refused (refused (refusals.Syntax syntax.LineTooLong)) state) (sym (too_long whole h)) (refl, refl, refl)
 
-pub long_piece_broke_off : (state : State) (old new : List ℕ) → Begins old new (refused (refusals.Syntax syntax.LineTooLong)) → BrokeOff Answers state None state old new
-long_piece_broke_off state old new begins = record {
+pub long_piece_broke_off : (state : State) (old new : List ℕ) → Begins old new (refused (refusals.Syntax syntax.LineTooLong)) → BreaksPiece Answers NeverStops WriteFailed state None state old new
+long_piece_broke_off state old new begins = λ whole h. record {
   outcome = Refused;
   answer = refused (refusals.Syntax syntax.LineTooLong);
-  fits = long_piece state;
+  answers = long_piece state whole h;
   begins = begins;
 }

@@ -19,6 +19,7 @@ mod stats;
 mod text;
 pub mod vec_sink;
 
+pub use record::write_letter;
 pub use session::Session;
 pub use vec_sink::VecSink;
 pub use xw_lines::{DeviceFault, FromRead, RunEnd, Sink, Source, Step, ToWrite, WriteFailed};

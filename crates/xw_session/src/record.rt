@@ -334,7 +334,8 @@ fn write_block<W: Sink>(sink: &mut W, grid: &Grid, cell: Cell) -> Result<(), Wri
     write_cell_command(sink, b"block", cell)
 }
 
-fn write_letter<W: Sink>(sink: &mut W, grid: &Grid, cell: Cell) -> Result<(), WriteFailed>
+/// Writes the command that enters the letter of a cell, if it has one.
+pub fn write_letter<W: Sink>(sink: &mut W, grid: &Grid, cell: Cell) -> Result<(), WriteFailed>
     ensures { Sends W.transcript W.failures sink.old sink.new result (command_lines (letter_commands cell (entry_of grid.now cell))) }
 {
     match grid.entry(cell) {

@@ -18,6 +18,7 @@ ghost use Rattle.xw_grid.specs.Clue.{no_clues};
 ghost use Rattle.xw_grid.specs.Puzzle.{texts_view, puzzle_view};
 ghost use Rattle.xw_lines.specs.Run.{IsRun};
 ghost use Rattle.xw_lines.specs.Sends.{Sends};
+ghost use Rattle.xw_lines.specs.Spoken.{NeverStops};
 ghost use Rattle.xw_session.specs.State.{State};
 ghost use Rattle.xw_session.specs.Record.{known_counts};
 ghost use Rattle.xw_session.specs.Reply.{cell_of, has_lines};
@@ -33,9 +34,9 @@ use xw_feas::edit::Refusal as EditRefusal;
 use xw_feas::feasible::Feasible;
 use xw_feas::searchable::Searchable;
 use xw_grid::puzzle::{Puzzle, Texts};
-use xw_grid::{Cell, Circles, Clues, GridFault};
+use xw_grid::{Cell, Circles, Clues, Grid, GridFault};
 use xw_lines::device::{Sink, Source, WriteFailed};
-use xw_lines::outcome::{RunEnd, Step};
+use xw_lines::outcome::{AnswerFault, RunEnd, Step};
 use xw_lines::run::{self, LineHandler};
 
 /// A session over an engine: the puzzle, the watch, and the word counts at the start. `begun` holds, for each length,
@@ -142,6 +143,13 @@ impl<E: Feasible> Session<E> {
             is_watched: false,
             begun,
         }
+    }
+
+    /// The grid.
+    pub fn grid(&self) -> &Grid
+        ensures { result.now ≡ self.now.position.grid }
+    {
+        self.engine.grid()
     }
 
     /// Copies the grid, the texts, the clues and the circles. Returns `Memory` if an allocation fails.
@@ -273,7 +281,7 @@ impl<E: Searchable> Session<E> {
     /// started. Stops early if the reader or the writer fails. Returns `Memory`, before the first read, if the line
     /// buffer cannot be allocated.
     pub fn run_lines<R: Source, W: Sink>(&mut self, source: &mut R, sink: &mut W) -> RunEnd
-        ensures { IsRun Answers R.transcript R.is_at_end R.failures W.transcript W.failures result
+        ensures { IsRun Answers NeverStops R.transcript R.is_at_end R.failures W.transcript W.failures result
             self.old self.new source.old source.new sink.old sink.new }
     {
         let alloc = self.alloc;
@@ -282,11 +290,14 @@ impl<E: Searchable> Session<E> {
 }
 
 impl<E: Searchable> LineHandler for Session<E> {
+    ghost use Rattle.xw_lines.specs.Spoken.{NeverStops};
     ghost use Rattle.xw_session.specs.Answer.{Answers};
 
     ghost answers = { Answers };
 
-    fn handle<W: Sink>(&mut self, line: Option<&[u8]>, sink: &mut W) -> Result<Step, WriteFailed> {
+    ghost stops = { NeverStops };
+
+    fn handle<W: Sink>(&mut self, line: Option<&[u8]>, sink: &mut W) -> Result<Step, AnswerFault> {
         match line {
             Some(line) => {
                 let step = self.step(line, sink)?;
