@@ -1,10 +1,11 @@
 -- What a journal holds of a session: lines that make its changes again.
-use Rattle.std.specs.Prelude.{◌≡◌, ◌⊎◌, ℕ, Bool, true, false, nat_eq, List, [], ◌∷◌, ◌++◌, flat_map, Option, Some, None, Result, Ok, Err, if◌then◌else◌}
+use Rattle.std.specs.Prelude.{◌≡◌, ℕ, Bool, true, false, nat_eq, List, [], ◌∷◌, ◌++◌, map, flat_map, Option, Some, None, Result, Ok, if◌then◌else◌}
 use Rattle.xw_grid.specs.declared.cell.Cell.{Cell}
 use Rattle.xw_grid.specs.Grid.{Grid, cells, entry}
+use Rattle.xw_lines.specs.Cut.{held}
 use Rattle.xw_lines.specs.Device.{Begins, HasFailed, flushed}
 use Rattle.xw_lines.specs.declared.outcome.Step.{Step}
-use Rattle.xw_lines.specs.declared.outcome.Step.TheVariants.{Accepted}
+use Rattle.xw_lines.specs.declared.outcome.Step.TheVariants.{Accepted, Silent}
 use Rattle.xw_commands.specs.Command.{command_of}
 use Rattle.xw_commands.specs.declared.command.Command.{Command}
 use Rattle.xw_commands.specs.declared.command.Command.TheVariants as commands
@@ -12,7 +13,9 @@ use Rattle.xw_commands.specs.declared.command.SyntaxFault.{SyntaxFault}
 use Rattle.xw_session.specs.Answer.{Answers}
 use Rattle.xw_session.specs.Record.{letter_commands, command_lines}
 use Rattle.xw_session.specs.State.{State}
-use Rattle.xw_session.specs.Text.{accepted}
+use Rattle.xw_session.specs.Resuming.{MayBeDone}
+use Rattle.xw_journal.specs.declared.cause.Cause.{Cause}
+use Rattle.xw_journal.specs.declared.cause.Cause.TheVariants.{Journal, Memory}
 use Rattle.xw_journal.specs.declared.effect.Effect.{Effect}
 use Rattle.xw_journal.specs.declared.effect.Effect.TheVariants.{Nothing, Change, Letters}
 
@@ -33,10 +36,14 @@ effect_of commands.Unlisted = Nothing
 effect_of commands.Unmatched = Nothing
 effect_of commands.Suggest = Nothing
 effect_of (commands.Why named) = Nothing
-effect_of (commands.Tell report) = Nothing
+effect_of (commands.Tell _) = Nothing
 effect_of (commands.Fill limit) = Letters
 effect_of (commands.Autofill limit seed lights) = Letters
 effect_of other = Change
+
+abbrev pub effect_of_parsed : Result (Option Command) SyntaxFault → Effect
+effect_of_parsed (Ok (Some command)) = effect_of command
+effect_of_parsed other = Nothing
 
 -- ---- the letters that a search entered
 
@@ -52,6 +59,16 @@ entered_at before after cell = if is_same_entry (entry before cell) (entry after
 -- the letters that one grid has and the other had not, in reading order, as commands
 abbrev pub entered_commands : Grid → Grid → List Command
 entered_commands before after = flat_map (entered_at before after) (cells after)
+
+-- the entries of all cells in reading order
+abbrev pub entries_of : Grid → List (Option ℕ)
+entries_of grid = map (entry grid) (cells grid)
+
+-- these are the entries of an earlier grid of the same size
+pub record HasEntriesBefore (before after : Grid) (entries : List (Option ℕ)) : Type 0 where
+  pub entries-are : entries ≡ entries_of before
+  pub width : before.width ≡ after.width
+  pub height : before.height ≡ after.height
 
 -- ---- what is written to the journal
 
@@ -70,30 +87,72 @@ abbrev pub journal_text : Grid → List ℕ → Step → Grid → List ℕ
 journal_text before line Accepted after = text_of_parsed (command_of line) line before after
 journal_text before line other after = []
 
--- a text as the journal takes it: nothing, or all of it and a flush
-abbrev pub taken : List ℕ → List ℕ
-taken [] = []
-taken (byte ∷ bytes) = (byte ∷ bytes) ++ flushed ∷ []
+-- a text as the journal takes it: each change, and each search, ends with a flush
+abbrev pub taken : Effect → List ℕ → List ℕ
+taken Nothing text = []
+taken Change text = text ++ flushed ∷ []
+taken Letters text = text ++ flushed ∷ []
+
+abbrev pub events_of_parsed : Result (Option Command) SyntaxFault → List ℕ → Grid → Grid → List ℕ
+events_of_parsed (Ok (Some command)) line before after = taken (effect_of command) (text_of_effect (effect_of command) line before after)
+events_of_parsed other line before after = []
+
+-- the text for a line with its flush
+abbrev pub journal_events : Grid → List ℕ → Step → Grid → List ℕ
+journal_events before line Accepted after = events_of_parsed (command_of line) line before after
+journal_events before line other after = []
 
 -- ---- a session with its journal
 
--- the state of the session, what was written to the journal, and how often a write to it failed
+-- The state of the session, what was written to the journal, how often a write to it failed, and why the session stopped, if it did.
 pub record JournaledState : Type 0 where
   pub state : State
   pub journal : List ℕ
   pub failures : ℕ
+  pub cause : Option Cause
 
 -- The line may get this answer, and its text is in the journal.
 pub record AnswersJournaled (old : JournaledState) (line : List ℕ) (step : Step) (answer : List ℕ) (new : JournaledState) : Type 0 where
   pub answers : Answers old.state line step answer new.state
-  pub journal : new.journal ≡ old.journal ++ taken (journal_text old.state.position.grid line step new.state.position.grid)
+  pub journal : new.journal ≡ old.journal ++ journal_events old.state.position.grid line step new.state.position.grid
+  pub quiet : new.failures ≡ old.failures
+  pub going : new.cause ≡ old.cause
+
+-- the line was accepted, the journal failed, and a prefix of the line's text is in it
+pub record IsUnjournaled (old : JournaledState) (line : List ℕ) (new : JournaledState) : Type 0 where
+  pub answer : List ℕ
+  pub answers : Answers old.state line Accepted answer new.state
+  pub journal : Begins old.journal new.journal (journal_events old.state.position.grid line Accepted new.state.position.grid)
+  pub failed : HasFailed old.failures new.failures
+
+-- the answer of the line could not be kept in memory, and the journal is as it was
+pub record IsUnkept (old : JournaledState) (line : List ℕ) (new : JournaledState) : Type 0 where
+  pub done : MayBeDone old.state line new.state
+  pub journal : new.journal ≡ old.journal
   pub quiet : new.failures ≡ old.failures
 
--- The journal failed at a line that was accepted. Of its text a prefix is in the journal, and of its answer a prefix of the lines before
--- the last was written. Its effect on the session remains.
+-- why a session with a journal stops at a line
+abbrev pub IsCause : Cause → JournaledState → List ℕ → JournaledState → Type 0
+IsCause Journal old line new = IsUnjournaled old line new
+IsCause Memory old line new = IsUnkept old line new
+
+-- The session stopped at the line, of whose answer nothing was written. The effect of the line remains.
 pub record StopsAtJournal (old : JournaledState) (line : List ℕ) (new : JournaledState) (told_old told_new : List ℕ) : Type 0 where
-  pub lines : List ℕ
-  pub answers : Answers old.state line Accepted (lines ++ accepted) new.state
-  pub begins : Begins told_old told_new lines
-  pub journal : Begins old.journal new.journal (taken (journal_text old.state.position.grid line Accepted new.state.position.grid))
-  pub failed : HasFailed old.failures new.failures
+  pub told : told_new ≡ told_old
+  pub cause : Cause
+  pub is : new.cause ≡ Some cause
+  pub why : IsCause cause old line new
+
+-- ---- a line in parts
+
+abbrev pub journaled_state : State → List ℕ → ℕ → Option Cause → JournaledState
+journaled_state state journal failures cause = record { state = state; journal = journal; failures = failures; cause = cause }
+
+-- The buffered line was executed, its text is in the journal, and this is its answer.
+pub record IsExecuted (old : JournaledState) (piece : Option (List ℕ)) (step : Step) (answer : List ℕ) (new : JournaledState) : Type 0 where
+  pub fits : (line : List ℕ) → held line ≡ piece → AnswersJournaled old line step answer new
+  pub silent : step ≡ Silent → answer ≡ []
+
+-- The session stops at the buffered line for this cause.
+abbrev pub IsHalted : JournaledState → Option (List ℕ) → Cause → JournaledState → Type 0
+IsHalted old piece cause new = (line : List ℕ) → held line ≡ piece → IsCause cause old line new

@@ -1,1 +1,1 @@
-mod Journal
+pub mod Journal

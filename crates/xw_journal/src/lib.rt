@@ -1,4 +1,11 @@
 //! A journal of a session: each change is written to it before the change is answered.
 #![tactic(auto)]
 
-pub mod effect;
+mod cause;
+mod effect;
+mod entries;
+mod journal;
+mod session;
+
+pub use cause::Cause;
+pub use session::JournaledSession;

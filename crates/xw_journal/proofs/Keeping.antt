@@ -1,0 +1,89 @@
+-- What a line leaves: an accepted search keeps the size of the grid, and a line whose answer was not finished was executed.
+use Rattle.std.proofs.Common.{◌≡◌, ℕ, List, refl, sym, ◌∙◌, subst}
+use Rattle.std.specs.Prelude.{Bool, true, false, Option, Some, None, Result, Ok, Err, if◌then◌else◌, nat_lt}
+use Rattle.xw_grid.specs.Grid.{Grid}
+use Rattle.xw_commands.specs.declared.command.Command.{Command}
+use Rattle.xw_commands.specs.declared.command.Command.TheVariants as commands
+use Rattle.xw_commands.specs.declared.command.LightArg.{LightArg}
+use Rattle.xw_commands.specs.declared.command.SyntaxFault.{SyntaxFault}
+use Rattle.xw_commands.specs.Command.{command_of}
+use Rattle.xw_fill.specs.Position.{position_of, filled_in}
+use Rattle.xw_fill.specs.Search.{found, due, end}
+use Rattle.xw_fill.specs.declared.search.Filling.{Filling}
+use Rattle.xw_fill.specs.declared.search.Filling.TheVariants.{Filled, NoFill, Limit}
+use Rattle.xw_autofill.specs.NamedFill.{IsAutofilled, is_named}
+use Rattle.xw_lines.specs.Spoken.{NeverStops, broken_by}
+use Rattle.xw_lines.specs.declared.outcome.AnswerFault.{AnswerFault}
+use Rattle.xw_lines.specs.declared.outcome.AnswerFault.TheVariants.{WriteFailed, Stopped}
+use Rattle.xw_lines.specs.declared.outcome.Step.TheVariants.{Accepted}
+use Rattle.xw_feas.specs.State.{State as Position}
+use Rattle.xw_session.specs.declared.refusal.Refusal.{Refusal}
+use Rattle.xw_session.specs.State.{State}
+use Rattle.xw_session.specs.Resuming.{MayBeDone}
+use Rattle.xw_session.specs.Reply.{Reply, fill_tried, filling_name, shown}
+use Rattle.xw_session.specs.Text.{word_line}
+use Rattle.xw_session.specs.Autofill.{names_of, IsAutofillDue, IsAutofillReply}
+use Rattle.xw_session.specs.Answer.{IsDue, Replies, Answers, AnswersParsed, step_of, state_after}
+use Rattle.xw_journal.specs.declared.effect.Effect.TheVariants.{Letters}
+use Rattle.xw_journal.specs.Journal.{effect_of, effect_of_parsed}
+
+-- the grid has the size that it had before
+pub record HasSizeOf (before after : Grid) : Type 0 where
+  pub width : before.width ≡ after.width
+  pub height : before.height ≡ after.height
+
+same_size : (grid : Grid) → HasSizeOf grid grid
+same_size grid = record { width = refl; height = refl }
+
+abbrev done : Reply → Result Reply Refusal
+done reply = Ok reply
+
+reply_size : (state : State) (given reply : Reply) → done given ≡ done reply → HasSizeOf state.position.grid given.state.position.grid → HasSizeOf state.position.grid reply.state.position.grid
+reply_size state given reply e size = let same : given ≡ reply = cc in subst (λ (r : Reply). HasSizeOf state.position.grid r.state.position.grid) same size
+
+tried_size : (state : State) (filled : Position) (limit_line fill_line none_line : List ℕ) (many is_found : Bool) (reply : Reply) → HasSizeOf state.position.grid filled.grid
+    → (if many then shown state limit_line else if is_found then Ok (record { lines = fill_line; state = record state { position = filled } }) else shown state none_line) ≡ done reply
+    → HasSizeOf state.position.grid reply.state.position.grid
+tried_size state filled limit_line fill_line none_line true is_found reply size e = reply_size state (record { lines = limit_line; state = state }) reply e (same_size state.position.grid)
+tried_size state filled limit_line fill_line none_line false true reply size e = reply_size state (record { lines = fill_line; state = record state { position = filled } }) reply e size
+tried_size state filled limit_line fill_line none_line false false reply size e = reply_size state (record { lines = none_line; state = state }) reply e (same_size state.position.grid)
+
+fill_size : (state : State) (limit : ℕ) (reply : Reply) → fill_tried state limit ≡ Ok reply → HasSizeOf state.position.grid reply.state.position.grid
+fill_size state limit reply e =
+    tried_size state (filled_in state.position (end (position_of state.position)).board.entries) (word_line (filling_name Limit)) (word_line (filling_name Filled)) (word_line (filling_name NoFill))
+    (nat_lt limit (due (position_of state.position))) (found (position_of state.position)) reply (record { width = refl; height = refl }) e
+
+autofill_size : (named : ℕ → Bool) (before after : Position) (filling : Filling) → IsAutofilled named before after filling → HasSizeOf before.grid after.grid
+autofill_size named before after Filled (entries, fills, left) = subst (λ (p : Position). HasSizeOf before.grid p.grid) (sym left) (record { width = refl; height = refl })
+autofill_size named before after NoFill (none, left) = subst (λ (p : Position). HasSizeOf before.grid p.grid) (sym left) (same_size before.grid)
+autofill_size named before after Limit left = subst (λ (p : Position). HasSizeOf before.grid p.grid) (sym left) (same_size before.grid)
+
+autofilled_size : (state : State) (lights : List LightArg) (reply : Reply) → IsAutofillReply state (names_of lights) reply → HasSizeOf state.position.grid reply.state.position.grid
+autofilled_size state lights reply a =
+    subst (λ (r : Reply). HasSizeOf state.position.grid r.state.position.grid) (sym a.is) (autofill_size (is_named state.position (names_of lights)) state.position a.position a.filling a.done)
+
+search_size : (state : State) (command : Command) (reply : Reply) → effect_of command ≡ Letters → (due : Result Reply Refusal) → IsDue state command due → due ≡ Ok reply → HasSizeOf state.position.grid reply.state.position.grid
+search_size state (commands.Fill limit) reply e due owed is = fill_size state limit reply (owed ∙ is)
+search_size state (commands.Autofill limit seed lights) reply e due owed is = autofilled_size state lights reply (subst (λ (d : Result Reply Refusal). IsAutofillDue state (names_of lights) d) is owed)
+search_size state other reply e due owed is = cc
+
+accepted_size : (state : State) (command : Command) (reply : Result Reply Refusal) (after : State) → effect_of command ≡ Letters → Replies state command reply → Accepted ≡ step_of reply → after ≡ state_after state reply
+    → HasSizeOf state.position.grid after.position.grid
+accepted_size state command (Ok reply) after e (due, owed, fits) step is = subst (λ (s : State). HasSizeOf state.position.grid s.position.grid) (sym is) (search_size state command reply e due owed fits)
+accepted_size state command (Err refusal) after e replies step is = cc
+
+parsed_size : (state after : State) (parsed : Result (Option Command) SyntaxFault) (answer : List ℕ) → effect_of_parsed parsed ≡ Letters → AnswersParsed state parsed Accepted answer after
+    → HasSizeOf state.position.grid after.position.grid
+parsed_size state after (Ok (Some command)) answer e (reply, replies, step, is, left) = accepted_size state command reply after e replies step left
+parsed_size state after (Ok None) answer e said = cc
+parsed_size state after (Err fault) answer e said = cc
+
+-- an accepted search keeps the size of the grid
+pub searched_size : (state after : State) (line answer : List ℕ) → effect_of_parsed (command_of line) ≡ Letters → Answers state line Accepted answer after
+    → HasSizeOf state.position.grid after.position.grid
+searched_size state after line answer e said = parsed_size state after (command_of line) answer e said
+
+-- a line whose answer was not finished was executed
+pub broken_done : (state after : State) (line : List ℕ) (fault : AnswerFault) (old new : List ℕ) → broken_by Answers NeverStops fault state line after old new → MayBeDone state line after
+broken_done state after line WriteFailed old new broke = (broke.outcome, broke.answer, broke.answers)
+broken_done state after line Stopped old new broke = absurd broke

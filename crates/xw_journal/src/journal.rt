@@ -1,0 +1,97 @@
+//! Writes the text of a line to a journal.
+ghost use Rattle.std.specs.Prelude.{◌≡◌, ℕ, List, [], ◌∷◌, ◌++◌, if◌then◌else◌, option_map, OnErr};
+ghost use Rattle.xw_grid.specs.Grid.{Grid as AnyGrid, entry};
+ghost use Rattle.xw_commands.specs.Command.{command_of};
+ghost use Rattle.xw_lines.specs.Cut.{held};
+ghost use Rattle.xw_lines.specs.Device.{flushed};
+ghost use Rattle.xw_lines.specs.Sends.{Sends};
+ghost use Rattle.xw_session.specs.Record.{command_lines, letter_commands};
+ghost use Rattle.xw_journal.specs.Journal.{effect_of_parsed, entered_commands, journal_events, taken, text_of_effect, HasEntriesBefore};
+
+use crate::effect::Effect;
+use crate::entries::Entries;
+use xw_grid::{Cell, Grid};
+use xw_lines::device::{self, Sink, WriteFailed};
+use xw_lines::outcome::Step;
+use xw_session::write_letter;
+
+/// Writes the command that enters the letter of a cell, unless the cell has the entry that it had before.
+fn write_unless<J: Sink>(
+    journal: &mut J,
+    is_same: bool,
+    grid: &Grid,
+    cell: Cell,
+) -> Result<(), WriteFailed>
+    ensures { Sends J.transcript J.failures journal.old journal.new result (command_lines (if is_same then [] else letter_commands cell (entry grid.now cell))) }
+{
+    if is_same {
+        return Ok(());
+    }
+    write_letter(journal, grid, cell)
+}
+
+/// Writes the letters that a grid has and had not before, as commands.
+fn write_entered<J: Sink>(journal: &mut J, before: &Entries, grid: &Grid) -> Result<(), WriteFailed>
+    ensures { (was : AnyGrid) → HasEntriesBefore was grid.now before.now → Sends J.transcript J.failures journal.old journal.new result (command_lines (entered_commands was grid.now)) }
+{
+    for index in 0..grid.size() {
+        let cell = grid.cell_at(index);
+        write_unless(journal, before.has(index, grid.entry(cell)), grid, cell)?;
+    }
+    Ok(())
+}
+
+fn flush<J: Sink>(journal: &mut J) -> Result<(), WriteFailed>
+    ensures { Sends J.transcript J.failures journal.old journal.new result (flushed ∷ []) }
+{
+    match journal.flush() {
+        Ok(()) => Ok(()),
+        Err(_) => Err(WriteFailed),
+    }
+}
+
+/// Writes a line as it is, and an LF.
+fn write_line<J: Sink>(journal: &mut J, line: &[u8]) -> Result<(), WriteFailed>
+    ensures { Sends J.transcript J.failures journal.old journal.new result (line.now ++ 10 ∷ []) }
+{
+    device::write_all(journal, line)?;
+    device::write_all(journal, b"\n")
+}
+
+/// Writes the text of an accepted line to the journal, and flushes it, unless the line changes nothing.
+fn keep<J: Sink>(
+    journal: &mut J,
+    effect: Effect,
+    line: &[u8],
+    before: &Entries,
+    grid: &Grid,
+) -> Result<(), WriteFailed>
+    ensures { (was : AnyGrid) → (effect ≡ Effect.Letters → HasEntriesBefore was grid.now before.now) → Sends J.transcript J.failures journal.old journal.new result (taken effect (text_of_effect effect line.now was grid.now)) }
+{
+    match effect {
+        Effect::Nothing => return Ok(()),
+        Effect::Change => write_line(journal, line)?,
+        Effect::Letters => write_entered(journal, before, grid)?,
+    }
+    flush(journal)
+}
+
+/// Writes the text of a line to the journal if the line was accepted.
+pub fn keep_accepted<J: Sink>(
+    journal: &mut J,
+    step: Step,
+    effect: Effect,
+    line: Option<&[u8]>,
+    before: &Entries,
+    grid: &Grid,
+) -> Result<(), WriteFailed>
+    ensures events { (was : AnyGrid) (whole : List ℕ) → held whole ≡ option_map (λ bytes. bytes.now) line.entry
+        → effect ≡ effect_of_parsed (command_of whole) → (effect ≡ Effect.Letters → step ≡ Step.Accepted → HasEntriesBefore was grid.now before.now)
+        → Sends J.transcript J.failures journal.old journal.new result (journal_events was whole step grid.now) }
+    ensures accepted { OnErr result (step ≡ Step.Accepted) }
+{
+    match (step, line) {
+        (Step::Accepted, Some(line)) => keep(journal, effect, line, before, grid),
+        _ => Ok(()),
+    }
+}
