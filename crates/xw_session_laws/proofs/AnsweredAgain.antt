@@ -51,7 +51,7 @@ determined state (commands.Watch is_on) due left e owed = owed
 determined state (commands.Tell telling) due left e owed = owed
 determined state (commands.Put putting field spelling) due left e owed = owed
 
-some_left : {X : Type 0} (left : Option X) (f : X → Option State) (last : State) → option_and_then f left ≡ Some last → (next : X) × (left ≡ Some next)
+pub some_left : {X : Type 0} (left : Option X) (f : X → Option State) (last : State) → option_and_then f left ≡ Some last → (next : X) × (left ≡ Some next)
 some_left None f last e = cc
 some_left (Some next) f last e = (next, refl)
 
@@ -87,7 +87,7 @@ one_and_others : (left : Option State) (front rest : List (List ℕ))
 one_and_others None front rest others = refl
 one_and_others (Some next) front rest others = others next
 
-both_replayed : (state : State) (front rest : List (List ℕ)) → replayed_lines state (front ++ rest) ≡ option_and_then (λ mid. replayed_lines mid rest) (replayed_lines state front)
+pub both_replayed : (state : State) (front rest : List (List ℕ)) → replayed_lines state (front ++ rest) ≡ option_and_then (λ mid. replayed_lines mid rest) (replayed_lines state front)
 both_replayed state [] rest = refl
 both_replayed state (line ∷ front) rest = one_and_others (left_by_line state (command_of line)) front rest (λ next. both_replayed next front rest)
 

@@ -109,12 +109,12 @@ letter_chosen letter true true true d p q r = cc
 letter_chosen letter true false c d p q r = cc
 letter_chosen letter false b c d p q r = cc
 
-letter_is : (letter : ℕ) → IsLetter letter → letter_of letter ≡ Some letter
+pub letter_is : (letter : ℕ) → IsLetter letter → letter_of letter ≡ Some letter
 letter_is letter is =
     let high : leb 97 letter ≡ false = grind (arith, nat_tests, is.1) in
     letter_chosen letter (leb 65 letter) (leb letter 90) (leb 97 letter) (leb letter 122) (le-leb 65 letter is.0) (le-leb letter 90 is.1) high
 
-entered : (state : State) (inside blocks : Bool) (grid : Grid) → inside ≡ true → blocks ≡ false
+pub entered : (state : State) (inside blocks : Bool) (grid : Grid) → inside ≡ true → blocks ≡ false
     → state_left (moved state (with_edited state.position (by_fault (if not inside then Err OutOfGrid else if blocks then Err OnBlock else Ok grid)))) ≡ Some (with_grid state grid)
 entered state true false grid p q = refl
 entered state true true grid p q = cc

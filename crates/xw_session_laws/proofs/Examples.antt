@@ -1,4 +1,4 @@
--- An example of a record, computed from the definitions.
+-- Examples of a record and of a journal, computed from the definitions.
 use Rattle.std.specs.Prelude.{◌≡◌, true, false, List, [], ◌∷◌, codes, replicate, set, Some, None, refl}
 use Rattle.std.specs.Fmt.{digits}
 use Rattle.xw_words.specs.Dictionary.{Dictionary, Entry}
@@ -8,7 +8,10 @@ use Rattle.xw_grid.specs.Edit.{blank}
 use Rattle.xw_grid.specs.Clue.{no_clues}
 use Rattle.xw_session.specs.State.{State}
 use Rattle.xw_session.specs.Record.{known_counts, record_commands, record_lines}
-use Rattle.xw_session_laws.specs.Replay.{replayed}
+use Rattle.xw_lines.specs.Cut.{lines_of}
+use Rattle.xw_lines.specs.declared.outcome.Step.TheVariants.{Accepted, Refused}
+use Rattle.xw_journal.specs.Journal.{journal_text}
+use Rattle.xw_session_laws.specs.Replay.{replayed, replayed_lines}
 
 abbrev words_of_two : List Entry → Dictionary
 words_of_two entries = set (replicate 256 []) 2 entries
@@ -47,3 +50,38 @@ made_again = refl
 lines : record_lines later ≡ codes "add AT\nstrike AS\nsize 2 1\ncircle 1 2\nbar 1 1 right\nsym half\nset 1 1 A\ntext title \ntext author one\ntext copyright \ntext notes \ntext clue 1 1 across First\nwatch on\n"
 unfolding digits
 lines = refl
+
+-- ---- a journal
+
+-- three open cells, which one word of the dictionary fits
+abbrev before_fill : State
+before_fill = record {
+  position = record { grid = record { width = 3; height = 1; squares = Open None ∷ Open (Some 65) ∷ Open None ∷ []; right = replicate 3 false; below = replicate 3 false; symmetry = kinds.None }; words = replicate 256 [] };
+  texts = record { title = []; author = []; copyright = []; notes = [] };
+  clues = no_clues;
+  circles = [];
+  is_watched = false;
+  begun = known_counts (replicate 256 []);
+}
+
+abbrev after_fill : State
+after_fill = record before_fill { position = record before_fill.position { grid = record before_fill.position.grid { squares = Open (Some 67) ∷ Open (Some 65) ∷ Open (Some 84) ∷ [] } } }
+
+-- a search is journaled as the letters that it entered
+fill_journaled : journal_text before_fill.position.grid (codes "fill 9") Accepted after_fill.position.grid ≡ codes "set 1 1 C\nset 1 3 T\n"
+unfolding digits
+fill_journaled = refl
+
+-- they lead to the grid after the search
+fill_made_again : replayed_lines before_fill (lines_of (codes "set 1 1 C\nset 1 3 T\n")) ≡ Some after_fill
+fill_made_again = refl
+
+-- any other change is journaled as its line, and nothing else is
+circle_journaled : journal_text before_fill.position.grid (codes " circle 1 1 ") Accepted before_fill.position.grid ≡ codes " circle 1 1 \n"
+circle_journaled = refl
+
+query_journaled : journal_text before_fill.position.grid (codes "show") Accepted before_fill.position.grid ≡ []
+query_journaled = refl
+
+refusal_journaled : journal_text before_fill.position.grid (codes "circle 9 9") Refused before_fill.position.grid ≡ []
+refusal_journaled = refl

@@ -20,3 +20,8 @@ pub mod PuzOpened
 pub mod PlainLines
 pub mod TextOpened
 pub mod Examples
+pub mod GridsKept
+pub mod LineEffects
+pub mod LettersEntered
+pub mod JournalLines
+pub mod JournalAgain

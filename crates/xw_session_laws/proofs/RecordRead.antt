@@ -38,15 +38,15 @@ use Rattle.xw_session_laws.proofs.CommandsRead.{IsRecorded, IsKnownWord, IsSmall
 
 -- ---- the commands of records
 
-abbrev AreRecorded : List Command → Type 0
+abbrev pub AreRecorded : List Command → Type 0
 AreRecorded [] = Unit {0}
 AreRecorded (command ∷ commands) = IsRecorded command × AreRecorded commands
 
-both_recorded : (front rest : List Command) → AreRecorded front → AreRecorded rest → AreRecorded (front ++ rest)
+pub both_recorded : (front rest : List Command) → AreRecorded front → AreRecorded rest → AreRecorded (front ++ rest)
 both_recorded [] rest a b = b
 both_recorded (command ∷ front) rest a b = (a.0, both_recorded front rest a.1 b)
 
-each_recorded : {X : Type 0} (made : X → List Command) (d : X) (xs : List X) → ((i : ℕ) → i < length xs → AreRecorded (made (get_or xs i d))) → AreRecorded (flat_map made xs)
+pub each_recorded : {X : Type 0} (made : X → List Command) (d : X) (xs : List X) → ((i : ℕ) → i < length xs → AreRecorded (made (get_or xs i d))) → AreRecorded (flat_map made xs)
 each_recorded made d [] are = tt
 each_recorded made d (x ∷ xs) are =
     both_recorded (made x) (flat_map made xs) (are 0 (omega arith)) (each_recorded made d xs (λ i within. are (suc i) (omega (arith, within))))
@@ -158,11 +158,11 @@ record_recorded words made is = each_recorded (section_commands made) sections.W
 abbrev read_as : Command → Result (Option Command) SyntaxFault
 read_as command = Ok (Some command)
 
-no_lf_in : (commands : List Command) → AreRecorded commands → AllHaveNoLf (map line_without_lf commands)
+pub no_lf_in : (commands : List Command) → AreRecorded commands → AllHaveNoLf (map line_without_lf commands)
 no_lf_in [] are = tt
 no_lf_in (command ∷ commands) are = ((read_again command are.0).1, no_lf_in commands are.1)
 
-lines_apart : (commands : List Command) → AreRecorded commands → command_lines commands ≡ with_lfs (map line_without_lf commands) []
+pub lines_apart : (commands : List Command) → AreRecorded commands → command_lines commands ≡ with_lfs (map line_without_lf commands) []
 lines_apart [] are = refl
 lines_apart (command ∷ commands) are =
     ap (λ front. front ++ command_lines commands) (read_again command are.0).0
@@ -184,7 +184,7 @@ next_the_same : (left : Option State) (f g : State → Option State) → ((next 
 next_the_same None f g same = refl
 next_the_same (Some next) f g same = same next
 
-replayed_as_read : (state : State) (commands : List Command) → AreRecorded commands → replayed_lines state (map line_without_lf commands) ≡ replayed state commands
+pub replayed_as_read : (state : State) (commands : List Command) → AreRecorded commands → replayed_lines state (map line_without_lf commands) ≡ replayed state commands
 replayed_as_read state [] are = refl
 replayed_as_read state (command ∷ commands) are =
     ap (λ found. option_and_then (λ next. replayed_lines next (map line_without_lf commands)) (left_by_line state found)) (read_again command are.0).2

@@ -27,6 +27,7 @@ ghost use Rattle.xw_session.specs.Reply.{has_nul};
 ghost use Rattle.xw_session.specs.Put.{place_of, has_place, with_text_at};
 ghost use Rattle.xw_session.specs.Record.{known_counts, text_commands, section_commands};
 ghost use Rattle.xw_session_laws.specs.Replay.{NoneIsStruck, SessionsBegin, SessionsOpen, SessionsStay, CommandsMakeSessionsAgain, LinesAreReadAgain, LinesMakeSessionsAgain, AnsweredLinesMakeSessionsAgain, RecordsAreRefusedForMemoryOnly, replayed, bared, with_grid, with_words, clues_of, ComeFirst, BarsAreOnEdges, AreFrom, AreTextsFrom};
+ghost use Rattle.xw_session_laws.specs.Journals.{JournalsMakeSessionsAgain, JournalsHaveWholeLines, AnsweredJournalsMakeSessionsAgain, JournalsAreRefusedForMemoryOnly};
 ghost use Rattle.xw_lines.specs.Cut.{ended_lines, last_piece, with_lfs, AllHaveNoLf, HasNoLf};
 
 /// A text splits into lines in exactly one way: its complete lines, each with its LF, and the rest without an LF.
@@ -167,4 +168,18 @@ pub fn sessions_open_with_files()
     ensures listed { (bytes : List ℕ) → NoneIsStruck (listed_in bytes) }
     ensures puz { SessionsOpen puzzle_at }
     ensures text { SessionsOpen all_of }
+{}
+
+/// The lines of a session's journal, executed in the state where the session started, are all accepted and leave the
+/// state where it ended, whatever lines the session was given. Each of them ends with an LF.
+pub fn journals_make_sessions_again()
+    ensures made { JournalsMakeSessionsAgain }
+    ensures whole { JournalsHaveWholeLines }
+{}
+
+/// A session over any engine that starts in the same state and accepts every line of a journal ends in the same state.
+/// The first line that it refuses, if any, is refused with `Memory`.
+pub fn answered_journals_make_sessions_again()
+    ensures made { AnsweredJournalsMakeSessionsAgain }
+    ensures memory { JournalsAreRefusedForMemoryOnly }
 {}

@@ -1,0 +1,178 @@
+-- The text that one line leaves in a journal, as lines that make its change again.
+use Rattle.std.proofs.Common.{◌≡◌, ℕ, List, [], ◌∷◌, ◌++◌, get_or, map, Some, None, refl, sym, ◌∙◌, ap, subst, inl, inr, append_assoc, append-nil}
+use Rattle.std.specs.Prelude.{Option, Result, Ok, Err, ◌⊎◌}
+use Rattle.std.specs.Option.{option_and_then}
+use Rattle.xw_grid.specs.declared.cell.Square.{Square}
+use Rattle.xw_grid.specs.declared.cell.Square.TheVariants.{Block, Open}
+use Rattle.xw_grid.specs.Grid.{IsGrid}
+use Rattle.xw_lines.specs.declared.outcome.Step.{Step}
+use Rattle.xw_lines.specs.declared.outcome.Step.TheVariants.{Accepted}
+use Rattle.xw_lines.specs.Cut.{Cut, cut, lines_of, last_piece, last_line, with_lfs, HasNoLf, AllHaveNoLf}
+use Rattle.xw_lines.proofs.Cuts.{cut-with_lfs}
+use Rattle.xw_commands.specs.declared.command.Command.{Command}
+use Rattle.xw_commands.specs.declared.command.SyntaxFault.{SyntaxFault}
+use Rattle.xw_commands.specs.Command.{command_of}
+use Rattle.xw_session.specs.declared.refusal.Refusal.{Refusal}
+use Rattle.xw_session.specs.State.{State}
+use Rattle.xw_session.specs.Reply.{Reply}
+use Rattle.xw_session.specs.Answer.{IsDue, Replies, step_of, state_after, AnswersParsed, Answers}
+use Rattle.xw_session.specs.Record.{command_lines}
+use Rattle.xw_journal.specs.declared.effect.Effect.{Effect}
+use Rattle.xw_journal.specs.declared.effect.Effect.TheVariants.{Nothing, Change, Letters}
+use Rattle.xw_journal.specs.Journal.{effect_of, entered_commands, text_of_effect, text_of_parsed, journal_text}
+use Rattle.xw_session_laws.specs.Replay.{state_left, replayed, left_by_line, replayed_lines}
+use Rattle.xw_session_laws.proofs.AnsweredAgain.{both_replayed}
+use Rattle.xw_session_laws.proofs.CommandsRead.{line_without_lf}
+use Rattle.xw_session_laws.proofs.RecordRead.{AreRecorded, lines_apart, no_lf_in, replayed_as_read}
+use Rattle.xw_session_laws.proofs.LineEffects.{HasEffect, effected, grid_left}
+use Rattle.xw_session_laws.proofs.LettersEntered.{IsLettered, letters_entered, entered_recorded, search_again, search_recorded}
+
+-- ---- what one line leaves
+
+-- the line changes nothing, and nothing is written
+abbrev pub IsQuiet : State → List ℕ → State → Type 0
+IsQuiet state text next = (text ≡ []) × (next ≡ state)
+
+-- the line makes its change again, and is written
+abbrev pub IsChange : State → List ℕ → List ℕ → State → Type 0
+IsChange state line text next = (text ≡ line ++ 10 ∷ []) × (left_by_line state (command_of line) ≡ Some next)
+
+-- the line is a search, whose letters make its change again and are written
+pub record Enters (state : State) (line text : List ℕ) (next : State) : Type 0 where
+  pub command : Command
+  pub is : command_of line ≡ Ok (Some command)
+  pub searches : effect_of command ≡ Letters
+  pub text-is : text ≡ command_lines (entered_commands state.position.grid next.position.grid)
+  pub recorded : AreRecorded (entered_commands state.position.grid next.position.grid)
+  pub done : replayed state (entered_commands state.position.grid next.position.grid) ≡ Some next
+
+abbrev pub Leaves : State → List ℕ → List ℕ → State → Type 0
+Leaves state line text next = IsQuiet state text next ⊎ (IsChange state line text next ⊎ Enters state line text next)
+
+same_lettered : (square : Square) → IsLettered square square
+same_lettered Block = tt
+same_lettered (Open None) = tt
+same_lettered (Open (Some letter)) = refl
+
+module _ (state : State) (is : IsGrid state.position.grid) where
+  -- no letters lead from a grid to itself
+  none_again : replayed state (entered_commands state.position.grid state.position.grid) ≡ Some state
+  none_again = letters_entered state state.position.grid is state.position.grid.squares refl (λ k within. same_lettered (get_or state.position.grid.squares k Block))
+
+  none_recorded : AreRecorded (entered_commands state.position.grid state.position.grid)
+  none_recorded = entered_recorded state state.position.grid is state.position.grid.squares refl (λ k within. same_lettered (get_or state.position.grid.squares k Block))
+
+  module _ (line : List ℕ) (outcome : Step) (answer : List ℕ) (next : State) where
+    abbrev text : List ℕ
+    text = journal_text state.position.grid line outcome next.position.grid
+
+    module _ (command : Command) (read : command_of line ≡ Ok (Some command)) (reply : Reply) (step : outcome ≡ Accepted) (same : next ≡ reply.state) where
+      text_is : text ≡ text_of_effect (effect_of command) line state.position.grid next.position.grid
+      text_is =
+          ap (λ step. journal_text state.position.grid line step next.position.grid) step
+          ∙ ap (λ found. text_of_parsed found line state.position.grid next.position.grid) read
+
+      by_letters : effect_of command ≡ Letters → AreRecorded (entered_commands state.position.grid next.position.grid) → replayed state (entered_commands state.position.grid next.position.grid) ≡ Some next → Leaves state line text next
+      by_letters effect recorded done = inr (inr (record {
+        command = command;
+        is = read;
+        searches = effect;
+        text-is = text_is ∙ ap (λ effect. text_of_effect effect line state.position.grid next.position.grid) effect;
+        recorded = recorded;
+        done = done;
+      }))
+
+      by_effect : (effect : Effect) → effect_of command ≡ effect → HasEffect effect state command reply → Leaves state line text next
+      by_effect Nothing effect left = inl (text_is ∙ ap (λ effect. text_of_effect effect line state.position.grid next.position.grid) effect, same ∙ left)
+      by_effect Change effect left =
+          inr (inl (text_is ∙ ap (λ effect. text_of_effect effect line state.position.grid next.position.grid) effect, ap (left_by_line state) read ∙ ap state_left left ∙ ap Some (sym same)))
+      by_effect Letters effect (inl left) =
+          let stays : state ≡ next = sym (same ∙ left) in
+          by_letters effect
+          (subst (λ (s : State). AreRecorded (entered_commands state.position.grid s.position.grid)) stays none_recorded)
+          (subst (λ (s : State). replayed state (entered_commands state.position.grid s.position.grid) ≡ Some s) stays none_again)
+      by_effect Letters effect (inr (position, left, done)) =
+          let moves : record state { position = position } ≡ next = sym (same ∙ left) in
+          by_letters effect
+          (subst (λ (s : State). AreRecorded (entered_commands state.position.grid s.position.grid)) moves (search_recorded state is position done))
+          (subst (λ (s : State). replayed state (entered_commands state.position.grid s.position.grid) ≡ Some s) moves (search_again state is position done))
+
+    by_reply : (command : Command) → command_of line ≡ Ok (Some command) → (reply : Result Reply Refusal) → Replies state command reply → outcome ≡ step_of reply → next ≡ state_after state reply → Leaves state line text next
+    by_reply command read (Ok reply) (due, owed, fits) step same = by_effect command read reply step same (effect_of command) refl (effected state is reply command (subst (IsDue state command) fits owed))
+    by_reply command read (Err refusal) replies step same = inl (ap (λ step. journal_text state.position.grid line step next.position.grid) step, same)
+
+    by_parsed : (found : Result (Option Command) SyntaxFault) → command_of line ≡ found → AnswersParsed state found outcome answer next → Leaves state line text next
+    by_parsed (Ok None) read said = inl (ap (λ step. journal_text state.position.grid line step next.position.grid) said.0, said.2)
+    by_parsed (Ok (Some command)) read said = by_reply command read said.0 said.1 said.2 said.4
+    by_parsed (Err fault) read said = inl (ap (λ step. journal_text state.position.grid line step next.position.grid) said.0, said.2)
+
+    pub line_leaves : Answers state line outcome answer next → Leaves state line text next
+    line_leaves said = by_parsed (command_of line) refl said
+
+    -- ---- the grid after a line
+
+    grid_after_reply : (command : Command) (reply : Result Reply Refusal) → Replies state command reply → next ≡ state_after state reply → IsGrid next.position.grid
+    grid_after_reply command (Ok reply) (due, owed, fits) same =
+        subst (λ (s : State). IsGrid s.position.grid) (sym same) (grid_left state is reply command (subst (IsDue state command) fits owed))
+    grid_after_reply command (Err refusal) replies same = subst (λ (s : State). IsGrid s.position.grid) (sym same) is
+
+    grid_after_parsed : (found : Result (Option Command) SyntaxFault) → AnswersParsed state found outcome answer next → IsGrid next.position.grid
+    grid_after_parsed (Ok None) said = subst (λ (s : State). IsGrid s.position.grid) (sym said.2) is
+    grid_after_parsed (Ok (Some command)) said = grid_after_reply command said.0 said.1 said.4
+    grid_after_parsed (Err fault) said = subst (λ (s : State). IsGrid s.position.grid) (sym said.2) is
+
+    pub grid_after_line : Answers state line outcome answer next → IsGrid next.position.grid
+    grid_after_line said = grid_after_parsed (command_of line) said
+
+-- ---- as lines
+
+-- whole lines of a text, which lead from one state to another
+pub record Replays (start : State) (bytes : List ℕ) (end : State) : Type 0 where
+  pub lines : List (List ℕ)
+  pub whole : bytes ≡ with_lfs lines []
+  pub plain : AllHaveNoLf lines
+  pub done : replayed_lines start lines ≡ Some end
+
+pub lfs_joined : (front lines : List (List ℕ)) (rest : List ℕ) → with_lfs front [] ++ with_lfs lines rest ≡ with_lfs (front ++ lines) rest
+lfs_joined [] lines rest = refl
+lfs_joined (line ∷ front) lines rest = append_assoc line (10 ∷ with_lfs front []) (with_lfs lines rest) ∙ ap (λ xs. line ++ 10 ∷ xs) (lfs_joined front lines rest)
+
+pub plain_joined : (front lines : List (List ℕ)) → AllHaveNoLf front → AllHaveNoLf lines → AllHaveNoLf (front ++ lines)
+plain_joined [] lines a b = b
+plain_joined (line ∷ front) lines a b = (a.0, plain_joined front lines a.1 b)
+
+pub both_replays : (start mid end : State) (bytes others : List ℕ) → Replays start bytes mid → Replays mid others end → Replays start (bytes ++ others) end
+both_replays start mid end bytes others a b = record {
+  lines = a.lines ++ b.lines;
+  whole = ap (λ xs. xs ++ others) a.whole ∙ ap (λ xs. with_lfs a.lines [] ++ xs) b.whole ∙ lfs_joined a.lines b.lines [];
+  plain = plain_joined a.lines b.lines a.plain b.plain;
+  done = both_replayed start a.lines b.lines ∙ ap (option_and_then (λ mid. replayed_lines mid b.lines)) a.done ∙ b.done;
+}
+
+pub commands_replay : (state next : State) (commands : List Command) → AreRecorded commands → replayed state commands ≡ Some next → Replays state (command_lines commands) next
+commands_replay state next commands recorded done = record {
+  lines = map line_without_lf commands;
+  whole = lines_apart commands recorded;
+  plain = no_lf_in commands recorded;
+  done = replayed_as_read state commands recorded ∙ done;
+}
+
+pub line_replays : (state : State) (line bytes : List ℕ) (next : State) → HasNoLf line → Leaves state line bytes next → Replays state bytes next
+line_replays state line bytes next plain (inl (none, same)) = record { lines = []; whole = none; plain = tt; done = ap Some (sym same) }
+line_replays state line bytes next plain (inr (inl (is, left))) = record { lines = line ∷ []; whole = is; plain = (plain, tt); done = ap (option_and_then (λ next. Some next)) left }
+line_replays state line bytes next plain (inr (inr enters)) =
+    subst (λ bytes. Replays state bytes next) (sym enters.text-is) (commands_replay state next (entered_commands state.position.grid next.position.grid) enters.recorded enters.done)
+
+-- the lines of such a text
+module _ (start end : State) (bytes : List ℕ) (is : Replays start bytes end) where
+  bytes_cut : cut bytes ≡ record { ended = is.lines; rest = [] }
+  bytes_cut = ap cut is.whole ∙ cut-with_lfs is.lines [] is.plain tt
+
+  pub lines_there : lines_of bytes ≡ is.lines
+  lines_there = ap (λ (c : Cut). c.ended ++ last_line c.rest) bytes_cut ∙ append-nil is.lines
+
+  pub nothing_behind : last_piece bytes ≡ []
+  nothing_behind = ap (λ (c : Cut). c.rest) bytes_cut
+
+  pub lines_again : replayed_lines start (lines_of bytes) ≡ Some end
+  lines_again = ap (replayed_lines start) lines_there ∙ is.done

@@ -1,0 +1,310 @@
+-- What an accepted command leaves: by its effect, and always a grid.
+use Rattle.std.proofs.Common.{◌≡◌, ℕ, zero, suc, Bool, true, false, not, ◌&&◌, List, [], ◌∷◌, ◌++◌, length, map, get_or, flat_map, Some, None, refl, sym, ◌∙◌, ap, subst, inl, inr}
+use Rattle.std.specs.Prelude.{Option, Result, Ok, Err, ◌⊎◌, nat_le, nat_lt, if◌then◌else◌}
+use Rattle.xw_letters.specs.Letter.{IsLetter, letter_of}
+use Rattle.xw_words.specs.Dictionary.{matching_answer}
+use Rattle.xw_words.specs.declared.fault.WordFault.{WordFault}
+use Rattle.xw_words.specs.declared.fault.WordFault.TheVariants as faults
+use Rattle.xw_grid.specs.declared.cell.Cell.{Cell}
+use Rattle.xw_grid.specs.declared.cell.Square.{Square}
+use Rattle.xw_grid.specs.declared.cell.Square.TheVariants as squares
+use Rattle.xw_grid.specs.declared.fault.GridFault.{GridFault}
+use Rattle.xw_grid.specs.declared.fault.GridFault.TheVariants as grids
+use Rattle.xw_grid.specs.declared.lights.Light.{Light}
+use Rattle.xw_grid.specs.Grid.{Grid, IsGrid, IsSquare, is_inside, is_open, is_block, index_of, letter_in}
+use Rattle.xw_grid.specs.Edit.{blank, new_grid}
+use Rattle.xw_grid.specs.Clue.{no_clues, with_clue, with_circle, is_circled}
+use Rattle.xw_grid.specs.Light.{lights_of, place_named}
+use Rattle.xw_feas.specs.Board.{board_of, square_entry}
+use Rattle.xw_feas.specs.declared.edit.Refusal.{Refusal as EditRefusal}
+use Rattle.xw_feas.specs.State.{State as Position, letter_set, cell_cleared, word_placed, list_written, block_toggled, bar_toggled, symmetry_chosen, word_added, word_struck, after}
+use Rattle.xw_feas.specs.WellFormed.{HasLetterEntries}
+use Rattle.xw_feas.proofs.FormedLemmas.{laid_out}
+use Rattle.xw_fill.specs.Position.{position_of, filled_in}
+use Rattle.xw_fill.specs.Search.{unentered_count, found, due, end}
+use Rattle.xw_fill.proofs.Shaped.{shaped}
+use Rattle.xw_fill.proofs.FillLemmas.{found_is_fill, reached-start}
+use Rattle.xw_fill.specs.Suggesting.{suggestion}
+use Rattle.xw_fill.specs.Listing.{duplicates_of, unlisted_of}
+use Rattle.xw_fill.specs.FeasibleLetters.{feasible_letters}
+use Rattle.xw_fill.specs.FeasibleWords.{feasible_words}
+use Rattle.xw_fill.specs.declared.search.Filling.{Filling}
+use Rattle.xw_fill.specs.declared.search.Filling.TheVariants as fillings
+use Rattle.xw_autofill.specs.NamedFill.{IsAutofilled, is_named}
+use Rattle.xw_commands.specs.declared.command.Command.{Command}
+use Rattle.xw_commands.specs.declared.command.Command.TheVariants as commands
+use Rattle.xw_commands.specs.declared.command.CellArg.{CellArg}
+use Rattle.xw_commands.specs.declared.command.Field.{Field}
+use Rattle.xw_commands.specs.declared.command.TextField.{TextField}
+use Rattle.xw_commands.specs.declared.command.TextMode.{TextMode}
+use Rattle.xw_session.specs.declared.refusal.Refusal.{Refusal}
+use Rattle.xw_session.specs.declared.refusal.Refusal.TheVariants as refusals
+use Rattle.xw_session.specs.declared.session.putting.Place.{Place}
+use Rattle.xw_session.specs.declared.session.putting.Place.TheVariants as places
+use Rattle.xw_commands.specs.declared.command.TextMode.TheVariants.{Instead, Behind}
+use Rattle.xw_session.specs.Refusal.{refusal_of}
+use Rattle.xw_session.specs.Autofill.{names_of}
+use Rattle.xw_session.specs.Tally.{tally_lines}
+use Rattle.xw_session.specs.Erase.{erased_cells, emptied}
+use Rattle.xw_session.specs.Unmatched.{unmatched_lines}
+use Rattle.xw_session.specs.Choices.{choice_lines}
+use Rattle.xw_session.specs.Answer.{IsDue}
+use Rattle.xw_session.specs.Escape.{text_spelled}
+use Rattle.xw_session.specs.State.{State, with_text_in, cell_of}
+use Rattle.xw_session.specs.Put.{place_of, has_place, text_at, with_text_at, with_piece}
+use Rattle.xw_session.specs.Show.{show_lines}
+use Rattle.xw_session.specs.Text.{word_line, light_lines, circle_lines, letters_line, counted_lines, duplicate_line, spelled_line, suggestion_line}
+use Rattle.xw_session.specs.Reply.{Reply, reply_to, edited, shown, moved, watch_lines, with_letter, resized, matched, with_clue_of, erased, has_nul, written, circle_toggled, worded, weighed, put, light_named, name_of_light, told_lines, first_words, filling_name}
+use Rattle.xw_journal.specs.declared.effect.Effect.{Effect}
+use Rattle.xw_journal.specs.declared.effect.Effect.TheVariants.{Nothing, Change, Letters}
+use Rattle.xw_journal.specs.Journal.{effect_of}
+use Rattle.xw_session_laws.proofs.GridsKept.{blank_good, letter_good, with_words_good, with_letter_good, with_word_good, emptied_good, with_orbit_good, with_bar_good, with_symmetry_good, square_good, filled_good}
+
+-- ---- a search
+
+-- the entries of a position
+abbrev pub entries_of : Position → List (Option ℕ)
+entries_of position = (position_of position).board.entries
+
+-- the search entered letters, and every letter that was there stays
+pub record IsSearched (position next : Position) : Type 0 where
+  pub entries : List (Option ℕ)
+  pub letters : (cell letter : ℕ) → get_or entries cell None ≡ Some letter → IsLetter letter
+  pub kept : (cell letter : ℕ) → get_or (entries_of position) cell None ≡ Some letter → get_or entries cell None ≡ Some letter
+  pub is : next ≡ filled_in position entries
+
+entry_here : (xs : List Square) (cell : ℕ) → get_or (map square_entry xs) cell None ≡ letter_in (Some (get_or xs cell squares.Block))
+entry_here [] cell = refl
+entry_here (x ∷ xs) zero = refl
+entry_here (x ∷ xs) (suc cell) = entry_here xs cell
+
+pub letter_entries : (grid : Grid) → IsGrid grid → HasLetterEntries (board_of grid)
+unfolding board_of
+letter_entries grid is cell letter at =
+    by_square (get_or grid.squares cell squares.Block) (square_good grid.squares cell is.letters) (sym (entry_here grid.squares cell) ∙ at) where
+      by_square : (square : Square) → IsSquare square → letter_in (Some square) ≡ Some letter → IsLetter letter
+      by_square squares.Block good e = cc
+      by_square (squares.Open None) good e = cc
+      by_square (squares.Open (Some other)) good e = let same : other ≡ letter = cc in subst IsLetter same good
+
+end_is_fill : (position : Position) → IsGrid position.grid → found (position_of position) ≡ true → IsSearched position (filled_in position (end (position_of position)).board.entries)
+end_is_fill position is there =
+    let laid = laid_out position.grid is (letter_entries position.grid is) in
+    let done = found_is_fill (unentered_count (position_of position)) (position_of position) (entries_of position) (shaped (position_of position).board laid) (reached-start (position_of position) laid.letters) there in
+    record {
+      entries = done.0;
+      letters = done.2.letters;
+      kept = done.2.kept;
+      is = ap (λ board. filled_in position board.board.entries) done.1;
+    }
+
+-- ---- what a reply leaves, by the effect of its command
+
+abbrev pub HasEffect : Effect → State → Command → Reply → Type 0
+HasEffect Nothing state command reply = reply.state ≡ state
+HasEffect Change state command reply = reply_to state command ≡ Ok reply
+HasEffect Letters state command reply = (reply.state ≡ state) ⊎ ((next : Position) × (reply.state ≡ record state { position = next }) × IsSearched state.position next)
+
+ok_state : (one other : Reply) → ◌≡◌ {A = Result Reply Refusal} (Ok one) (Ok other) → one.state ≡ other.state
+ok_state one other e = let same : one ≡ other = cc in ap (λ (reply : Reply). reply.state) same
+
+module _ (state : State) (is : IsGrid state.position.grid) (reply : Reply) where
+  by_test : (P : Type 0) (b : Bool) (x y : Result Reply Refusal) → (x ≡ Ok reply → P) → (b ≡ false → y ≡ Ok reply → P) → (if b then x else y) ≡ Ok reply → P
+  by_test P true x y here there e = here e
+  by_test P false x y here there e = there refl e
+
+  refused_not : (P : Type 0) (refusal : Refusal) → ◌≡◌ {A = Result Reply Refusal} (Err refusal) (Ok reply) → P
+  refused_not P refusal e = cc
+
+  -- ---- queries
+
+  abbrev Stays : Type 0
+  Stays = reply.state ≡ state
+
+  when_shown : (lines : List ℕ) → shown state lines ≡ Ok reply → Stays
+  when_shown lines e = sym (ok_state (record { lines = lines; state = state }) reply e)
+
+  of_words : (result : Result (List (List ℕ)) WordFault) → matched state result ≡ Ok reply → Stays
+  of_words (Ok matches) e = when_shown (flat_map word_line matches) e
+  of_words (Err fault) e = refused_not Stays (refusals.Word fault) e
+
+  of_light : (light most : Option ℕ) → worded state light most ≡ Ok reply → Stays
+  of_light None most e = refused_not Stays refusals.NoLight e
+  of_light (Some light) most e = when_shown (counted_lines (length (feasible_words (position_of state.position) light)) (first_words most (feasible_words (position_of state.position) light))) e
+
+  of_choices : (light : Option ℕ) (most : ℕ) → weighed state light most ≡ Ok reply → Stays
+  of_choices None most e = refused_not Stays refusals.NoLight e
+  of_choices (Some light) most e = when_shown (choice_lines state.position light most) e
+
+  of_cell : (cell : Cell) (lines : List ℕ) → (if not (is_inside state.position.grid cell) then Err (refusals.Grid grids.OutOfGrid) else if is_block state.position.grid cell then Err (refusals.Grid grids.OnBlock) else shown state lines) ≡ Ok reply → Stays
+  of_cell cell lines e =
+      by_test Stays (not (is_inside state.position.grid cell)) (Err (refusals.Grid grids.OutOfGrid)) (if is_block state.position.grid cell then Err (refusals.Grid grids.OnBlock) else shown state lines) (refused_not Stays (refusals.Grid grids.OutOfGrid))
+      (λ _ e. by_test Stays (is_block state.position.grid cell) (Err (refusals.Grid grids.OnBlock)) (shown state lines) (refused_not Stays (refusals.Grid grids.OnBlock)) (λ _ e. when_shown lines e) e) e
+
+  -- ---- searches
+
+  abbrev Searched : Type 0
+  Searched = (reply.state ≡ state) ⊎ ((next : Position) × (reply.state ≡ record state { position = next }) × IsSearched state.position next)
+
+  by_fill : (past there : Bool) (limit filled none : List ℕ) → found (position_of state.position) ≡ there
+      → (if past then shown state limit else if there then Ok (record { lines = filled; state = record state { position = filled_in state.position (end (position_of state.position)).board.entries } }) else shown state none) ≡ Ok reply → Searched
+  by_fill true there limit filled none is_found e = inl (when_shown limit e)
+  by_fill false true limit filled none is_found e =
+      let next = filled_in state.position (end (position_of state.position)).board.entries in
+      inr (next, sym (ok_state (record { lines = filled; state = record state { position = next } }) reply e), end_is_fill state.position is is_found)
+  by_fill false false limit filled none is_found e = inl (when_shown none e)
+
+  by_end : (named : ℕ → Bool) (filling : Filling) (position : Position) → reply.state ≡ record state { position = position } → IsAutofilled named state.position position filling → Searched
+  by_end named fillings.Filled position told (entries, fill, same) = inr (position, told, record { entries = entries; letters = fill.letters; kept = fill.kept; is = same })
+  by_end named fillings.NoFill position told (none, same) = inl (told ∙ ap (λ (p : Position). record state { position = p }) same)
+  by_end named fillings.Limit position told same = inl (told ∙ ap (λ (p : Position). record state { position = p }) same)
+
+  -- ---- all commands
+
+  pub effected : (command : Command) → IsDue state command (Ok reply) → HasEffect (effect_of command) state command reply
+  effected (commands.Size width height) e = e
+  effected (commands.Symmetry kind) e = e
+  effected (commands.Add word) e = e
+  effected (commands.Strike word) e = e
+  effected (commands.Match pattern) e = of_words (matching_answer state.position.words pattern) e
+  effected (commands.Set at letter) e = e
+  effected (commands.Clear at) e = e
+  effected (commands.Place named word) e = e
+  effected (commands.Erase named) e = e
+  effected (commands.Block at) e = e
+  effected (commands.Bar at side) e = e
+  effected (commands.Clue named text) e = e
+  effected (commands.Write field text) e = e
+  effected (commands.Circle at) e = e
+  effected commands.Circles e = when_shown (circle_lines state.position.grid state.circles) e
+  effected commands.Show e = when_shown (show_lines state.position.grid) e
+  effected commands.Lights e = when_shown (light_lines state.position.grid) e
+  effected (commands.Words named most) e = of_light (place_named (lights_of state.position.grid) (name_of_light named)) most e
+  effected (commands.Choices named most) e = of_choices (place_named (lights_of state.position.grid) (name_of_light named)) most e
+  effected (commands.Letters at) e = of_cell (cell_of at) (letters_line (feasible_letters (position_of state.position) (index_of state.position.grid (cell_of at)))) e
+  effected (commands.Tally at) e = of_cell (cell_of at) (tally_lines state.position (cell_of at)) e
+  effected commands.Duplicates e = when_shown (flat_map (duplicate_line state.position.grid) (duplicates_of state.position)) e
+  effected commands.Unlisted e = when_shown (flat_map (spelled_line state.position.grid) (unlisted_of state.position)) e
+  effected commands.Unmatched e = when_shown (unmatched_lines state.position) e
+  effected commands.Suggest e = when_shown (suggestion_line state.position (suggestion state.position)) e
+  effected (commands.Why named) e = ap (λ (reply : Reply). reply.state) e.is
+  effected (commands.Fill limit) e =
+      by_fill (nat_lt limit (due (position_of state.position))) (found (position_of state.position)) (word_line (filling_name fillings.Limit)) (word_line (filling_name fillings.Filled)) (word_line (filling_name fillings.NoFill)) refl e
+  effected (commands.Autofill limit seed lights) e = by_end (is_named state.position (names_of lights)) e.filling e.position (ap (λ (reply : Reply). reply.state) e.is) e.done
+  effected (commands.Watch is_on) e = e
+  effected (commands.Tell telling) e = when_shown (told_lines state telling) e
+  effected (commands.Put putting field spelling) e = e
+
+  -- ---- the grid after a reply
+
+  abbrev Good : Type 0
+  Good = IsGrid reply.state.position.grid
+
+  good_at : (one : Reply) → ◌≡◌ {A = Result Reply Refusal} (Ok one) (Ok reply) → IsGrid one.state.position.grid → Good
+  good_at one e good = subst (λ (s : State). IsGrid s.position.grid) (ok_state one reply e) good
+
+  good_quiet : Stays → Good
+  good_quiet same = subst (λ (s : State). IsGrid s.position.grid) (sym same) is
+
+  good_searched : Searched → Good
+  good_searched (inl same) = good_quiet same
+  good_searched (inr (next, told, done)) =
+      let filled : IsGrid next.grid = subst (λ (p : Position). IsGrid p.grid) (sym done.is) (filled_good state.position done.entries is done.letters) in
+      subst (λ (s : State). IsGrid s.position.grid) (sym told) filled
+
+  good_edited : (next : State) → IsGrid next.position.grid → edited next ≡ Ok reply → Good
+  good_edited next good e = good_at (record { lines = []; state = next }) e good
+
+  good_moved : (result : Result Position EditRefusal) → ((next : Position) → result ≡ Ok next → IsGrid next.grid) → moved state result ≡ Ok reply → Good
+  good_moved (Ok next) good e = good_at (record { lines = watch_lines state next; state = record state { position = next } }) e (good next refl)
+  good_moved (Err refusal) good e = refused_not Good (refusal_of refusal) e
+
+  good_letter : (at : CellArg) (letter : ℕ) (found : Option ℕ) → letter_of letter ≡ found → with_letter state at found ≡ Ok reply → Good
+  good_letter at letter None is_found e = refused_not Good (refusals.Word (faults.BadLetter 1)) e
+  good_letter at letter (Some capital) is_found e =
+      good_moved (after state.position (letter_set (cell_of at) capital)) (λ next. with_letter_good state.position next is (cell_of at) (Some capital) (letter_good letter capital is_found)) e
+
+  good_erased : (light : Option Light) → erased state light ≡ Ok reply → Good
+  good_erased None e = refused_not Good refusals.NoLight e
+  good_erased (Some light) e =
+      good_moved (after state.position (list_written (emptied (erased_cells state.position light)))) (λ next. emptied_good state.position next is (erased_cells state.position light)) e
+
+  good_size : (result : Result Grid GridFault) → ((grid : Grid) → result ≡ Ok grid → IsGrid grid) → resized state result ≡ Ok reply → Good
+  good_size (Ok grid) good e =
+      good_at (record { lines = []; state = record state { position = record { grid = grid; words = state.position.words }; clues = no_clues; circles = [] } }) e (good grid refl)
+  good_size (Err fault) good e = refused_not Good (refusals.Grid fault) e
+
+  good_clue : (light : Option Light) (text : List ℕ) → with_clue_of state light text ≡ Ok reply → Good
+  good_clue None text e = refused_not Good refusals.NoLight e
+  good_clue (Some light) text e =
+      by_test Good (has_nul text) (Err refusals.NulByte) (edited (record state { clues = with_clue state.clues light.start light.name.direction text })) (refused_not Good refusals.NulByte)
+      (λ _. good_edited (record state { clues = with_clue state.clues light.start light.name.direction text }) is) e
+
+  good_text : (field : TextField) (text : List ℕ) → written state field text ≡ Ok reply → Good
+  good_text field text e =
+      by_test Good (has_nul text) (Err refusals.NulByte) (edited (record state { texts = with_text_in state.texts field text })) (refused_not Good refusals.NulByte)
+      (λ _. good_edited (record state { texts = with_text_in state.texts field text }) is) e
+
+  good_circle : (cell : Cell) → circle_toggled state cell ≡ Ok reply → Good
+  good_circle cell e =
+      let next : State = record state { circles = with_circle state.circles cell (not (is_circled state.circles cell)) } in
+      by_test Good (not (is_inside state.position.grid cell)) (Err (refusals.Grid grids.OutOfGrid)) (if not (is_open state.position.grid cell) then Err (refusals.Grid grids.OnBlock) else edited next) (refused_not Good (refusals.Grid grids.OutOfGrid))
+      (λ _. by_test Good (not (is_open state.position.grid cell)) (Err (refusals.Grid grids.OnBlock)) (edited next) (refused_not Good (refusals.Grid grids.OnBlock)) (λ _. good_edited next is)) e
+
+  good_placed : (place : Place) (text : List ℕ) → IsGrid (with_text_at state place text).position.grid
+  good_placed (places.Text name) text = is
+  good_placed (places.Clue cell direction) text = is
+
+  good_piece : (putting : TextMode) (place : Place) (text : List ℕ) → IsGrid (with_piece state putting place text).position.grid
+  good_piece Instead place text = good_placed place text
+  good_piece Behind place [] = is
+  good_piece Behind place (byte ∷ bytes) = good_placed place (text_at state place ++ byte ∷ bytes)
+
+  good_put : (putting : TextMode) (field : Field) (spelling : Option (List ℕ)) → put state putting field spelling ≡ Ok reply → Good
+  good_put putting field None e = refused_not Good refusals.Escape e
+  good_put putting field (Some text) e =
+      let next : Result Reply Refusal = edited (with_piece state putting (place_of field) text) in
+      by_test Good (not (has_place state.position.grid (place_of field))) (Err (refusals.Grid grids.OutOfGrid)) (if has_nul text then Err refusals.NulByte else next) (refused_not Good (refusals.Grid grids.OutOfGrid))
+      (λ _. by_test Good (has_nul text) (Err refusals.NulByte) next (refused_not Good refusals.NulByte) (λ _. good_edited (with_piece state putting (place_of field) text) (good_piece putting (place_of field) text))) e
+
+  size_good : (width height : ℕ) (grid : Grid) → new_grid width height ≡ Ok grid → IsGrid grid
+  size_good width height grid e =
+      elim ((nat_le 1 width && nat_le width 255) && (nat_le 1 height && nat_le height 255)) as (λ b. (nat_le 1 width && nat_le width 255) && (nat_le 1 height && nat_le height 255) ≡ b → ◌≡◌ {A = Result Grid GridFault} (if b then Ok (blank width height) else Err grids.Size) (Ok grid) → IsGrid grid) [
+        | true ↦ λ sizes e. let same : blank width height ≡ grid = cc in subst IsGrid same (blank_good width height sizes)
+        | false ↦ λ sizes e. cc
+      ] refl e
+
+  -- the grid stays a grid
+  pub grid_left : (command : Command) → IsDue state command (Ok reply) → Good
+  grid_left (commands.Size width height) e = good_size (new_grid width height) (size_good width height) e
+  grid_left (commands.Symmetry kind) e = good_moved (after state.position (symmetry_chosen kind)) (λ next. with_symmetry_good state.position next is kind) e
+  grid_left (commands.Add word) e = good_moved (after state.position (word_added word)) (λ next. with_words_good state.position next is _) e
+  grid_left (commands.Strike word) e = good_moved (after state.position (word_struck word)) (λ next. with_words_good state.position next is _) e
+  grid_left (commands.Match pattern) e = good_quiet (effected (commands.Match pattern) e)
+  grid_left (commands.Set at letter) e = good_letter at letter (letter_of letter) refl e
+  grid_left (commands.Clear at) e = good_moved (after state.position (cell_cleared (cell_of at))) (λ next. with_letter_good state.position next is (cell_of at) None tt) e
+  grid_left (commands.Place named word) e =
+      good_moved (after state.position (word_placed (name_of_light named) word)) (λ next. with_word_good state.position next is (place_named (lights_of state.position.grid) (name_of_light named)) word) e
+  grid_left (commands.Erase named) e = good_erased (light_named state.position.grid named) e
+  grid_left (commands.Block at) e = good_moved (after state.position (block_toggled (cell_of at))) (λ next. with_orbit_good state.position next is (cell_of at)) e
+  grid_left (commands.Bar at side) e = good_moved (after state.position (bar_toggled (cell_of at) side)) (λ next. with_bar_good state.position next is (cell_of at) side) e
+  grid_left (commands.Clue named text) e = good_clue (light_named state.position.grid named) text e
+  grid_left (commands.Write field text) e = good_text field text e
+  grid_left (commands.Circle at) e = good_circle (cell_of at) e
+  grid_left commands.Circles e = good_quiet (effected commands.Circles e)
+  grid_left commands.Show e = good_quiet (effected commands.Show e)
+  grid_left commands.Lights e = good_quiet (effected commands.Lights e)
+  grid_left (commands.Words named most) e = good_quiet (effected (commands.Words named most) e)
+  grid_left (commands.Choices named most) e = good_quiet (effected (commands.Choices named most) e)
+  grid_left (commands.Letters at) e = good_quiet (effected (commands.Letters at) e)
+  grid_left (commands.Tally at) e = good_quiet (effected (commands.Tally at) e)
+  grid_left commands.Duplicates e = good_quiet (effected commands.Duplicates e)
+  grid_left commands.Unlisted e = good_quiet (effected commands.Unlisted e)
+  grid_left commands.Unmatched e = good_quiet (effected commands.Unmatched e)
+  grid_left commands.Suggest e = good_quiet (effected commands.Suggest e)
+  grid_left (commands.Why named) e = good_quiet (effected (commands.Why named) e)
+  grid_left (commands.Fill limit) e = good_searched (effected (commands.Fill limit) e)
+  grid_left (commands.Autofill limit seed lights) e = good_searched (effected (commands.Autofill limit seed lights) e)
+  grid_left (commands.Watch is_on) e = good_edited (record state { is_watched = is_on }) is e
+  grid_left (commands.Tell telling) e = good_quiet (effected (commands.Tell telling) e)
+  grid_left (commands.Put putting field spelling) e = good_put putting field (text_spelled spelling) e
