@@ -42,6 +42,8 @@ pub record Enters (state : State) (line text : List ℕ) (next : State) : Type 0
   pub command : Command
   pub is : command_of line ≡ Ok (Some command)
   pub searches : effect_of command ≡ Letters
+  pub answer : List ℕ
+  pub answers : Answers state line Accepted answer next
   pub text-is : text ≡ command_lines (entered_commands state.position.grid next.position.grid)
   pub recorded : AreRecorded (entered_commands state.position.grid next.position.grid)
   pub done : replayed state (entered_commands state.position.grid next.position.grid) ≡ Some next
@@ -62,7 +64,7 @@ module _ (state : State) (is : IsGrid state.position.grid) where
   none_recorded : AreRecorded (entered_commands state.position.grid state.position.grid)
   none_recorded = entered_recorded state state.position.grid is state.position.grid.squares refl (λ k within. same_lettered (get_or state.position.grid.squares k Block))
 
-  module _ (line : List ℕ) (outcome : Step) (answer : List ℕ) (next : State) where
+  module _ (line : List ℕ) (outcome : Step) (answer : List ℕ) (next : State) (said : Answers state line outcome answer next) where
     abbrev text : List ℕ
     text = journal_text state.position.grid line outcome next.position.grid
 
@@ -77,6 +79,8 @@ module _ (state : State) (is : IsGrid state.position.grid) where
         command = command;
         is = read;
         searches = effect;
+        answer = answer;
+        answers = subst (λ step. Answers state line step answer next) step said;
         text-is = text_is ∙ ap (λ effect. text_of_effect effect line state.position.grid next.position.grid) effect;
         recorded = recorded;
         done = done;
@@ -106,8 +110,8 @@ module _ (state : State) (is : IsGrid state.position.grid) where
     by_parsed (Ok (Some command)) read said = by_reply command read said.0 said.1 said.2 said.4
     by_parsed (Err fault) read said = inl (ap (λ step. journal_text state.position.grid line step next.position.grid) said.0, said.2)
 
-    pub line_leaves : Answers state line outcome answer next → Leaves state line text next
-    line_leaves said = by_parsed (command_of line) refl said
+    pub line_leaves : Leaves state line text next
+    line_leaves = by_parsed (command_of line) refl said
 
     -- ---- the grid after a line
 
@@ -121,8 +125,8 @@ module _ (state : State) (is : IsGrid state.position.grid) where
     grid_after_parsed (Ok (Some command)) said = grid_after_reply command said.0 said.1 said.4
     grid_after_parsed (Err fault) said = subst (λ (s : State). IsGrid s.position.grid) (sym said.2) is
 
-    pub grid_after_line : Answers state line outcome answer next → IsGrid next.position.grid
-    grid_after_line said = grid_after_parsed (command_of line) said
+    pub grid_after_line : IsGrid next.position.grid
+    grid_after_line = grid_after_parsed (command_of line) said
 
 -- ---- as lines
 
@@ -176,3 +180,9 @@ module _ (start end : State) (bytes : List ℕ) (is : Replays start bytes end) w
 
   pub lines_again : replayed_lines start (lines_of bytes) ≡ Some end
   lines_again = ap (replayed_lines start) lines_there ∙ is.done
+
+pub both_there : (start mid end : State) (bytes others : List ℕ) → Replays start bytes mid → Replays mid others end → lines_of (bytes ++ others) ≡ lines_of bytes ++ lines_of others
+unfolding both_replays
+both_there start mid end bytes others a b =
+    lines_there start end (bytes ++ others) (both_replays start mid end bytes others a b)
+    ∙ ap (λ lines. lines ++ b.lines) (sym (lines_there start mid bytes a)) ∙ ap (λ lines. lines_of bytes ++ lines) (sym (lines_there mid end others b))

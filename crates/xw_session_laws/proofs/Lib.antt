@@ -25,3 +25,4 @@ pub mod LineEffects
 pub mod LettersEntered
 pub mod JournalLines
 pub mod JournalAgain
+pub mod JournalCut

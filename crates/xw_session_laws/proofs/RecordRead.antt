@@ -169,7 +169,7 @@ lines_apart (command ∷ commands) are =
     ∙ append_assoc (line_without_lf command) (10 ∷ []) (command_lines commands)
     ∙ ap (λ rest. line_without_lf command ++ 10 ∷ rest) (lines_apart commands are.1)
 
-lines_are : (commands : List Command) → AreRecorded commands → lines_of (command_lines commands) ≡ map line_without_lf commands
+pub lines_are : (commands : List Command) → AreRecorded commands → lines_of (command_lines commands) ≡ map line_without_lf commands
 lines_are commands are =
     let lines = map line_without_lf commands in
     let is : cut (command_lines commands) ≡ record { ended = lines; rest = [] } = ap cut (lines_apart commands are) ∙ cut-with_lfs lines [] (no_lf_in commands are) tt in

@@ -1,15 +1,18 @@
 -- A session with a journal, and the laws of journals.
-use Rattle.std.specs.Prelude.{◌≡◌, ℕ, List, [], ◌∷◌, ◌++◌, Some}
+use Rattle.std.specs.Prelude.{◌≡◌, ℕ, List, [], ◌∷◌, ◌++◌, Some, Ok}
 use Rattle.xw_grid.specs.Grid.{IsGrid}
 use Rattle.xw_lines.specs.declared.outcome.Step.{Step}
-use Rattle.xw_lines.specs.declared.outcome.Step.TheVariants.{Refused}
-use Rattle.xw_lines.specs.Cut.{lines_of, last_piece, AllHaveNoLf}
+use Rattle.xw_lines.specs.declared.outcome.Step.TheVariants.{Accepted, Refused}
+use Rattle.xw_lines.specs.Cut.{lines_of, ended_lines, last_piece, AllHaveNoLf}
 use Rattle.xw_lines.specs.Spoken.{Spoken}
 use Rattle.xw_commands.specs.Command.{command_of}
+use Rattle.xw_commands.specs.declared.command.Command.{Command}
 use Rattle.xw_session.specs.Answer.{Answers}
+use Rattle.xw_session.specs.Record.{command_lines}
 use Rattle.xw_session.specs.State.{State}
-use Rattle.xw_journal.specs.Journal.{journal_text}
-use Rattle.xw_session_laws.specs.Replay.{replayed_lines, WantsMemory}
+use Rattle.xw_journal.specs.declared.effect.Effect.TheVariants.{Letters}
+use Rattle.xw_journal.specs.Journal.{effect_of, entered_commands, journal_text}
+use Rattle.xw_session_laws.specs.Replay.{replayed, replayed_lines, with_grid, WantsMemory}
 
 -- Starting in `start`, a session may answer these lines, each accepted, refused or silent, with these bytes in its journal, and ends in
 -- `end`.
@@ -46,3 +49,50 @@ JournalsAreRefusedForMemoryOnly =
     (start end mid last : State) (lines front rest : List (List ℕ)) (line bytes out answer : List ℕ) → IsGrid start.position.grid → AllHaveNoLf lines → IsJournaled start lines bytes end
     → lines_of bytes ≡ front ++ line ∷ rest → Spoken Answers start front out 0 mid → Answers mid line Refused answer last
     → WantsMemory mid (command_of line) answer
+
+-- ---- a part of a journal
+
+-- A search at this line may be answered such that these letters are the first that it enters.
+pub record MayEnterFirst (state : State) (line : List ℕ) (letters : List Command) : Type 0 where
+  pub command : Command
+  pub is : command_of line ≡ Ok (Some command)
+  pub searches : effect_of command ≡ Letters
+  pub answer : List ℕ
+  pub next : State
+  pub answers : Answers state line Accepted answer next
+  pub others : List Command
+  pub entered : entered_commands state.position.grid next.position.grid ≡ letters ++ others
+
+-- there are no letters, or the first of these lines is a search that may enter them first
+abbrev pub BeginWithLetters : State → List (List ℕ) → List Command → Type 0
+BeginWithLetters state lines [] = Unit {0}
+BeginWithLetters state [] (letter ∷ letters) = ⊥
+BeginWithLetters state (line ∷ lines) (letter ∷ letters) = MayEnterFirst state line (letter ∷ letters)
+
+-- `first` are the first lines of a journal of `lines`: those of the given lines `done`, and, if the next given line is a search, some
+-- letters that it entered. They leave the state after `done`, with these letters.
+pub record AreFirstLines (start : State) (lines : List (List ℕ)) (journal : List ℕ) (end : State) (first : List (List ℕ)) : Type 0 where
+  pub more : List (List ℕ)
+  pub of_journal : lines_of journal ≡ first ++ more
+  pub done : List (List ℕ)
+  pub others : List (List ℕ)
+  pub of_lines : lines ≡ done ++ others
+  pub bytes : List ℕ
+  pub rest : List ℕ
+  pub parts : journal ≡ bytes ++ rest
+  pub mid : State
+  pub so_far : IsJournaled start done bytes mid
+  pub further : IsJournaled mid others rest end
+  pub letters : List Command
+  pub begun : BeginWithLetters mid others letters
+  pub are : first ≡ lines_of bytes ++ lines_of (command_lines letters)
+  pub left : State
+  pub entered : replayed mid letters ≡ Some left
+  pub only : left ≡ with_grid mid left.position.grid
+  pub again : replayed_lines start first ≡ Some left
+
+-- the whole lines of any first bytes of a journal are its first lines
+abbrev pub JournalsAreCutAtLines : Type 0
+JournalsAreCutAtLines =
+    (start end : State) (lines : List (List ℕ)) (journal front rest : List ℕ) → IsGrid start.position.grid → AllHaveNoLf lines → IsJournaled start lines journal end
+    → journal ≡ front ++ rest → AreFirstLines start lines journal end (ended_lines front)

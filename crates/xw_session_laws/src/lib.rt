@@ -27,7 +27,7 @@ ghost use Rattle.xw_session.specs.Reply.{has_nul};
 ghost use Rattle.xw_session.specs.Put.{place_of, has_place, with_text_at};
 ghost use Rattle.xw_session.specs.Record.{known_counts, text_commands, section_commands};
 ghost use Rattle.xw_session_laws.specs.Replay.{NoneIsStruck, SessionsBegin, SessionsOpen, SessionsStay, CommandsMakeSessionsAgain, LinesAreReadAgain, LinesMakeSessionsAgain, AnsweredLinesMakeSessionsAgain, RecordsAreRefusedForMemoryOnly, replayed, bared, with_grid, with_words, clues_of, ComeFirst, BarsAreOnEdges, AreFrom, AreTextsFrom};
-ghost use Rattle.xw_session_laws.specs.Journals.{JournalsMakeSessionsAgain, JournalsHaveWholeLines, AnsweredJournalsMakeSessionsAgain, JournalsAreRefusedForMemoryOnly};
+ghost use Rattle.xw_session_laws.specs.Journals.{JournalsMakeSessionsAgain, JournalsHaveWholeLines, AnsweredJournalsMakeSessionsAgain, JournalsAreRefusedForMemoryOnly, JournalsAreCutAtLines};
 ghost use Rattle.xw_lines.specs.Cut.{ended_lines, last_piece, with_lfs, AllHaveNoLf, HasNoLf};
 
 /// A text splits into lines in exactly one way: its complete lines, each with its LF, and the rest without an LF.
@@ -182,4 +182,10 @@ pub fn journals_make_sessions_again()
 pub fn answered_journals_make_sessions_again()
     ensures made { AnsweredJournalsMakeSessionsAgain }
     ensures memory { JournalsAreRefusedForMemoryOnly }
+{}
+
+/// The whole lines of any first bytes of a journal are its first lines. They leave the state after those of the given
+/// lines whose text is whole, with the letters, if any, that a search at the next line entered first.
+pub fn journals_are_cut_at_lines()
+    ensures { JournalsAreCutAtLines }
 {}
