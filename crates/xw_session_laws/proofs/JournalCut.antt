@@ -101,10 +101,10 @@ alone line plain = ap (λ (c : Cut). c.ended ++ last_line c.rest) (cut-with_lfs 
 
 -- ---- letters that were entered
 
-abbrev IsSet : Command → Type 0
+abbrev pub IsSet : Command → Type 0
 IsSet command = (at : CellArg) × (letter : ℕ) × (command ≡ commands.Set at letter)
 
-abbrev AreSets : List Command → Type 0
+abbrev pub AreSets : List Command → Type 0
 AreSets [] = Unit {0}
 AreSets (command ∷ rest) = IsSet command × AreSets rest
 
@@ -116,7 +116,7 @@ sets_front : (front rest : List Command) → AreSets (front ++ rest) → AreSets
 sets_front [] rest are = tt
 sets_front (command ∷ front) rest are = (are.0, sets_front front rest are.1)
 
-entered_sets : (before after : Grid) (all : List Cell) → AreSets (flat_map (entered_at before after) all)
+pub entered_sets : (before after : Grid) (all : List Cell) → AreSets (flat_map (entered_at before after) all)
 entered_sets before after [] = tt
 entered_sets before after (cell ∷ all) =
     both_sets (entered_at before after cell) (flat_map (entered_at before after) all) (by_entry (is_same_entry (entry before cell) (entry after cell)) (entry after cell)) (entered_sets before after all) where

@@ -26,3 +26,4 @@ pub mod LettersEntered
 pub mod JournalLines
 pub mod JournalAgain
 pub mod JournalCut
+pub mod JournalRuns

@@ -1,9 +1,10 @@
 -- A session with a journal, and the laws of journals.
-use Rattle.std.specs.Prelude.{◌≡◌, ℕ, List, [], ◌∷◌, ◌++◌, Some, Ok}
+use Rattle.std.specs.Prelude.{◌≡◌, ℕ, ◌<◌, not, List, [], ◌∷◌, ◌++◌, filter, All, Some, Ok, nat_eq}
 use Rattle.xw_grid.specs.Grid.{IsGrid}
 use Rattle.xw_lines.specs.declared.outcome.Step.{Step}
 use Rattle.xw_lines.specs.declared.outcome.Step.TheVariants.{Accepted, Refused}
 use Rattle.xw_lines.specs.Cut.{lines_of, ended_lines, last_piece, AllHaveNoLf}
+use Rattle.xw_lines.specs.Device.{flushed}
 use Rattle.xw_lines.specs.Spoken.{Spoken}
 use Rattle.xw_commands.specs.Command.{command_of}
 use Rattle.xw_commands.specs.declared.command.Command.{Command}
@@ -11,7 +12,7 @@ use Rattle.xw_session.specs.Answer.{Answers}
 use Rattle.xw_session.specs.Record.{command_lines}
 use Rattle.xw_session.specs.State.{State}
 use Rattle.xw_journal.specs.declared.effect.Effect.TheVariants.{Letters}
-use Rattle.xw_journal.specs.Journal.{effect_of, entered_commands, journal_text}
+use Rattle.xw_journal.specs.Journal.{effect_of, entered_commands, journal_text, JournaledState, AnswersJournaled}
 use Rattle.xw_session_laws.specs.Replay.{replayed, replayed_lines, with_grid, WantsMemory}
 
 -- Starting in `start`, a session may answer these lines, each accepted, refused or silent, with these bytes in its journal, and ends in
@@ -96,3 +97,24 @@ abbrev pub JournalsAreCutAtLines : Type 0
 JournalsAreCutAtLines =
     (start end : State) (lines : List (List ℕ)) (journal front rest : List ℕ) → IsGrid start.position.grid → AllHaveNoLf lines → IsJournaled start lines journal end
     → journal ≡ front ++ rest → AreFirstLines start lines journal end (ended_lines front)
+
+-- ---- the journal of a run
+
+-- what was written, without the marks of flushes
+abbrev pub without_flushes : List ℕ → List ℕ
+without_flushes written = filter (λ byte. not (nat_eq byte flushed)) written
+
+abbrev pub AreBytes : List ℕ → Type 0
+AreBytes text = All (λ byte. byte < 256) text
+
+-- a journal of these lines was written between two moments
+pub record HasJournaled (start : JournaledState) (lines : List (List ℕ)) (end : JournaledState) : Type 0 where
+  pub bytes : List ℕ
+  pub journaled : IsJournaled start.state lines bytes end.state
+  pub written : without_flushes end.journal ≡ without_flushes start.journal ++ bytes
+
+-- a run that answered these lines wrote their journal
+abbrev pub RunsAreJournaled : Type 0
+RunsAreJournaled =
+    (start end : JournaledState) (lines : List (List ℕ)) (out : List ℕ) (refused : ℕ) → IsGrid start.state.position.grid → All AreBytes lines
+    → Spoken AnswersJournaled start lines out refused end → HasJournaled start lines end

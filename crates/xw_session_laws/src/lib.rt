@@ -27,7 +27,7 @@ ghost use Rattle.xw_session.specs.Reply.{has_nul};
 ghost use Rattle.xw_session.specs.Put.{place_of, has_place, with_text_at};
 ghost use Rattle.xw_session.specs.Record.{known_counts, text_commands, section_commands};
 ghost use Rattle.xw_session_laws.specs.Replay.{NoneIsStruck, SessionsBegin, SessionsOpen, SessionsStay, CommandsMakeSessionsAgain, LinesAreReadAgain, LinesMakeSessionsAgain, AnsweredLinesMakeSessionsAgain, RecordsAreRefusedForMemoryOnly, replayed, bared, with_grid, with_words, clues_of, ComeFirst, BarsAreOnEdges, AreFrom, AreTextsFrom};
-ghost use Rattle.xw_session_laws.specs.Journals.{JournalsMakeSessionsAgain, JournalsHaveWholeLines, AnsweredJournalsMakeSessionsAgain, JournalsAreRefusedForMemoryOnly, JournalsAreCutAtLines};
+ghost use Rattle.xw_session_laws.specs.Journals.{JournalsMakeSessionsAgain, JournalsHaveWholeLines, AnsweredJournalsMakeSessionsAgain, JournalsAreRefusedForMemoryOnly, JournalsAreCutAtLines, RunsAreJournaled};
 ghost use Rattle.xw_lines.specs.Cut.{ended_lines, last_piece, with_lfs, AllHaveNoLf, HasNoLf};
 
 /// A text splits into lines in exactly one way: its complete lines, each with its LF, and the rest without an LF.
@@ -188,4 +188,9 @@ pub fn answered_journals_make_sessions_again()
 /// lines whose text is whole, with the letters, if any, that a search at the next line entered first.
 pub fn journals_are_cut_at_lines()
     ensures { JournalsAreCutAtLines }
+{}
+
+/// A run whose lines are answered with a journal writes the journal of these lines.
+pub fn runs_are_journaled()
+    ensures { RunsAreJournaled }
 {}
