@@ -1,5 +1,5 @@
 -- The journal of a run.
-use Rattle.std.proofs.Common.{◌≡◌, ℕ, ◌<◌, ◌≤◌, ◌^◌, not, List, [], ◌∷◌, ◌++◌, get_or, codes, refl, sym, ◌∙◌, ap, subst, inl, inr, append_assoc, append-nil, lit<, arith}
+use Rattle.std.proofs.Common.{◌≡◌, ℕ, ◌<◌, ◌≤◌, ◌^◌, not, List, [], ◌∷◌, ◌++◌, get_or, codes, Some, refl, sym, ◌∙◌, ap, subst, inl, inr, append_assoc, append-nil, lit<, arith}
 use Rattle.std.specs.Prelude.{All, nat_eq, decimal, if◌then◌else◌}
 use Rattle.std.proofs.lemmas.Bool.{ne_eqb}
 use Rattle.std.proofs.lemmas.Fmt.{IsAscii-decimal}
@@ -8,7 +8,13 @@ use Rattle.std.proofs.lemmas.List.Elements.{All-head, All-tail, All-cons, All-ni
 use Rattle.xw_letters.specs.Letter.{IsLetter}
 use Rattle.xw_grid.specs.Grid.{IsGrid, cells}
 use Rattle.xw_lines.specs.Device.{flushed}
-use Rattle.xw_lines.specs.Spoken.{Spoken}
+use Rattle.xw_lines.specs.Cut.{lines_of, ended_lines, last_piece, last_line, with_lfs, HasNoLf, AllHaveNoLf}
+use Rattle.xw_lines.proofs.Cuts.{cut-whole}
+use Rattle.xw_lines.specs.Spoken.{Spoken, BreaksOff}
+use Rattle.xw_lines.specs.Run.{StopsIn}
+use Rattle.xw_lines.specs.declared.outcome.Step.TheVariants.{Accepted}
+use Rattle.xw_session.specs.Text.{accepted}
+use Rattle.xw_session_laws.specs.Replay.{replayed_lines}
 use Rattle.xw_lines.specs.declared.outcome.Step.{Step}
 use Rattle.xw_commands.specs.declared.command.Command.{Command}
 use Rattle.xw_commands.specs.declared.command.Command.TheVariants as commands
@@ -17,12 +23,13 @@ use Rattle.xw_session.specs.State.{State}
 use Rattle.xw_session.specs.Answer.{Answers}
 use Rattle.xw_session.specs.Record.{command_lines}
 use Rattle.xw_session.specs.Spelling.{command_line}
-use Rattle.xw_journal.specs.Journal.{entered_commands, journal_text, taken, JournaledState, AnswersJournaled}
-use Rattle.xw_session_laws.specs.Journals.{without_flushes, AreBytes, HasJournaled}
+use Rattle.xw_journal.specs.Journal.{entered_commands, journal_text, taken, JournaledState, AnswersJournaled, StopsAtJournal}
+use Rattle.xw_session_laws.specs.Journals.{IsJournaled, AreFirstLines, without_flushes, AreBytes, HasJournaled, HasBegunJournal}
 use Rattle.xw_session_laws.proofs.CommandsRead.{IsSmallSpot, IsRecorded}
 use Rattle.xw_session_laws.proofs.RecordRead.{AreRecorded}
-use Rattle.xw_session_laws.proofs.JournalLines.{Leaves, line_leaves, grid_after_line}
-use Rattle.xw_session_laws.proofs.JournalCut.{AreSets, entered_sets}
+use Rattle.xw_session_laws.proofs.JournalLines.{Leaves, line_leaves, grid_after_line, lines_again}
+use Rattle.xw_session_laws.proofs.JournalAgain.{journal_replays}
+use Rattle.xw_session_laws.proofs.JournalCut.{AreSets, entered_sets, journal_cut}
 
 -- ---- texts without a mark
 
@@ -100,3 +107,125 @@ run_journaled (line ∷ lines) start end out refused is are (outcome, answer, mi
       journaled = (outcome, answer, mid.state, tail.bytes, said.answers, tail.journaled, refl);
       written = tail.written ∙ ap (λ xs. xs ++ tail.bytes) here ∙ append_assoc (without_flushes start.journal) text tail.bytes;
     }
+
+-- ---- one more line
+
+grid_behind : (lines : List (List ℕ)) (start end : State) (bytes : List ℕ) → IsGrid start.position.grid → IsJournaled start lines bytes end → IsGrid end.position.grid
+grid_behind [] start end bytes is (none, same) = subst (λ (s : State). IsGrid s.position.grid) (sym same) is
+grid_behind (line ∷ lines) start end bytes is (outcome, answer, mid, others, said, rest, bytes-is) = grid_behind lines mid end others (grid_after_line start is line outcome answer mid said) rest
+
+one_more : (lines : List (List ℕ)) (start mid end : State) (bytes line answer : List ℕ) (outcome : Step) → IsJournaled start lines bytes mid → Answers mid line outcome answer end
+    → IsJournaled start (lines ++ line ∷ []) (bytes ++ journal_text mid.position.grid line outcome end.position.grid) end
+one_more [] start mid end bytes line answer outcome (none, same) said =
+    let text = journal_text mid.position.grid line outcome end.position.grid in
+    let here : Answers start line outcome answer end = subst (λ s. Answers s line outcome answer end) same said in
+    let plain : bytes ++ text ≡ journal_text start.position.grid line outcome end.position.grid ++ [] =
+    ap (λ xs. xs ++ text) none ∙ ap (λ (s : State). journal_text s.position.grid line outcome end.position.grid) same ∙ sym (append-nil (journal_text start.position.grid line outcome end.position.grid)) in
+    (outcome, answer, end, [], here, (refl, refl), plain)
+one_more (first ∷ lines) start mid end bytes line answer outcome (step, told, next, others, done, rest, bytes-is) said =
+    let text = journal_text mid.position.grid line outcome end.position.grid in
+    let here = journal_text start.position.grid first step next.position.grid in
+    (step, told, next, others ++ text, done, one_more lines next mid end others line answer outcome rest said, ap (λ xs. xs ++ text) bytes-is ∙ append_assoc here others text)
+
+-- ---- the lines of a text
+
+bytes_parted : (front rest : List ℕ) → AreBytes (front ++ rest) → AreBytes front × AreBytes rest
+bytes_parted [] rest are = (All-nil (λ byte. byte < 256), are)
+bytes_parted (byte ∷ front) rest are =
+    let behind = bytes_parted front rest (All-tail (λ byte. byte < 256) byte (front ++ rest) are) in
+    (All-cons (λ byte. byte < 256) byte front (All-head (λ byte. byte < 256) byte (front ++ rest) are) behind.0, behind.1)
+
+lines_bytes : (lines : List (List ℕ)) (rest : List ℕ) → AreBytes (with_lfs lines rest) → All AreBytes (lines ++ last_line rest)
+lines_bytes [] [] are = All-nil AreBytes
+lines_bytes [] (byte ∷ rest) are = All-cons AreBytes (byte ∷ rest) [] are (All-nil AreBytes)
+lines_bytes (line ∷ lines) rest are =
+    let parts = bytes_parted line (10 ∷ with_lfs lines rest) are in
+    All-cons AreBytes line (lines ++ last_line rest) parts.0 (lines_bytes lines rest (All-tail (λ byte. byte < 256) 10 (with_lfs lines rest) parts.1))
+
+lines_plain : (lines : List (List ℕ)) (rest : List ℕ) → AllHaveNoLf lines → HasNoLf rest → AllHaveNoLf (lines ++ last_line rest)
+lines_plain [] [] plain last = tt
+lines_plain [] (byte ∷ rest) plain last = (last, tt)
+lines_plain (line ∷ lines) rest plain last = (plain.0, lines_plain lines rest plain.1 last)
+
+pub text_lines : (text : List ℕ) → AreBytes text → AllHaveNoLf (lines_of text) × All AreBytes (lines_of text)
+text_lines text are =
+    let whole = cut-whole text in
+    (lines_plain (ended_lines text) (last_piece text) whole.1 whole.2, lines_bytes (ended_lines text) (last_piece text) (subst AreBytes whole.0 are))
+
+-- the lines up to one of them, and the others
+before_parts : (lines before after : List (List ℕ)) (line : List ℕ) → lines ≡ before ++ line ∷ after → lines ≡ (before ++ line ∷ []) ++ after
+before_parts lines before after line parts = parts ∙ sym (append_assoc before (line ∷ []) after)
+
+lines_before : (before after : List (List ℕ)) (line : List ℕ) → All AreBytes (before ++ line ∷ after) → All AreBytes before × AreBytes line
+lines_before [] after line are = (All-nil AreBytes, All-head AreBytes line after are)
+lines_before (first ∷ before) after line are =
+    let behind = lines_before before after line (All-tail AreBytes first (before ++ line ∷ after) are) in
+    (All-cons AreBytes first before (All-head AreBytes first (before ++ line ∷ after) are) behind.0, behind.1)
+
+-- ---- a run that did not finish an answer
+
+module _ (start mid end : JournaledState) (before : List (List ℕ)) (line : List ℕ) (is : IsGrid start.state.position.grid) (are : AreBytes line) (so_far : HasJournaled start before mid) where
+  mid_grid : IsGrid mid.state.position.grid
+  mid_grid = grid_behind before start.state mid.state so_far.bytes is so_far.journaled
+
+  pub line_journaled : (outcome : Step) (answer : List ℕ) → AnswersJournaled mid line outcome answer end → HasJournaled start (before ++ line ∷ []) end
+  line_journaled outcome answer said =
+      let text = journal_text mid.state.position.grid line outcome end.state.position.grid in
+      record {
+        bytes = so_far.bytes ++ text;
+        journaled = one_more before start.state mid.state end.state so_far.bytes line answer outcome so_far.journaled said.answers;
+        written = ap without_flushes said.journal ∙ flushes_joined mid.journal (taken text) ∙ ap (λ xs. xs ++ without_flushes (taken text)) so_far.written
+            ∙ ap (λ xs. (without_flushes start.journal ++ so_far.bytes) ++ xs) (line_taken mid.state line outcome answer end.state mid_grid are said.answers)
+            ∙ append_assoc (without_flushes start.journal) so_far.bytes text;
+      }
+
+  pub line_begun : (told_old told_new : List ℕ) → StopsAtJournal mid line end told_old told_new → HasBegunJournal start (before ++ line ∷ []) end
+  line_begun told_old told_new stops =
+      let text = journal_text mid.state.position.grid line Accepted end.state.position.grid in
+      let sent = without_flushes stops.journal.sent in
+      let unsent = without_flushes stops.journal.unsent in
+      let whole : text ≡ sent ++ unsent =
+      sym (line_taken mid.state line Accepted (stops.lines ++ accepted) end.state mid_grid are stops.answers) ∙ ap without_flushes stops.journal.parts ∙ flushes_joined stops.journal.sent stops.journal.unsent in
+      record {
+        bytes = so_far.bytes ++ text;
+        journaled = one_more before start.state mid.state end.state so_far.bytes line (stops.lines ++ accepted) Accepted so_far.journaled stops.answers;
+        front = so_far.bytes ++ sent;
+        rest = unsent;
+        parts = ap (λ xs. so_far.bytes ++ xs) whole ∙ sym (append_assoc so_far.bytes sent unsent);
+        written = ap without_flushes stops.journal.transcript ∙ flushes_joined mid.journal stops.journal.sent ∙ ap (λ xs. xs ++ sent) so_far.written ∙ append_assoc (without_flushes start.journal) so_far.bytes sent;
+      }
+
+module _ (start end : JournaledState) (text begun transcript : List ℕ) (is : IsGrid start.state.position.grid) (are : AreBytes text) where
+  pub broken_journaled : StopsIn AnswersJournaled (BreaksOff AnswersJournaled) start text end begun transcript → (lines : List (List ℕ)) × (others : List (List ℕ)) × (lines_of text ≡ lines ++ others) × HasJournaled start lines end
+  broken_journaled stops =
+      let bytes = lines_before stops.before stops.after stops.line (subst (All AreBytes) stops.are-lines (text_lines text are).1) in
+      let so_far = run_journaled stops.before start stops.mid stops.out stops.refused is bytes.0 stops.spoken in (
+        stops.before ++ stops.line ∷ [],
+        stops.after,
+        before_parts (lines_of text) stops.before stops.after stops.line stops.are-lines,
+        line_journaled start stops.mid end stops.before stops.line is bytes.1 so_far stops.breaks.outcome stops.breaks.answer stops.breaks.answers,
+      )
+
+  pub stopped_journaled : StopsIn AnswersJournaled StopsAtJournal start text end begun transcript → (lines : List (List ℕ)) × (others : List (List ℕ)) × (lines_of text ≡ lines ++ others) × HasBegunJournal start lines end
+  stopped_journaled stops =
+      let bytes = lines_before stops.before stops.after stops.line (subst (All AreBytes) stops.are-lines (text_lines text are).1) in
+      let so_far = run_journaled stops.before start stops.mid stops.out stops.refused is bytes.0 stops.spoken in (
+        stops.before ++ stops.line ∷ [],
+        stops.after,
+        before_parts (lines_of text) stops.before stops.after stops.line stops.are-lines,
+        line_begun start stops.mid end stops.before stops.line is bytes.1 so_far (begun ++ stops.out) transcript stops.breaks,
+      )
+
+-- ---- a journal that was empty at the start
+
+module _ (start end : JournaledState) (lines : List (List ℕ)) (is : IsGrid start.state.position.grid) (plain : AllHaveNoLf lines) (none : without_flushes start.journal ≡ []) where
+  pub run_again : HasJournaled start lines end → replayed_lines start.state (lines_of (without_flushes end.journal)) ≡ Some end.state
+  run_again done =
+      let held : without_flushes end.journal ≡ done.bytes = done.written ∙ ap (λ xs. xs ++ done.bytes) none in
+      ap (λ bytes. replayed_lines start.state (lines_of bytes)) held ∙ lines_again start.state end.state done.bytes (journal_replays lines start.state end.state done.bytes is plain done.journaled)
+
+  pub begun_again : (begun : HasBegunJournal start lines end) → AreFirstLines start.state lines begun.bytes end.state (ended_lines (without_flushes end.journal))
+  begun_again begun =
+      let held : begun.front ≡ without_flushes end.journal = sym (begun.written ∙ ap (λ xs. xs ++ begun.front) none) in
+      subst (λ front. AreFirstLines start.state lines begun.bytes end.state (ended_lines front)) held
+      (journal_cut start.state end.state lines begun.bytes begun.front begun.rest is plain begun.journaled begun.parts)

@@ -5,14 +5,15 @@ use Rattle.xw_lines.specs.declared.outcome.Step.{Step}
 use Rattle.xw_lines.specs.declared.outcome.Step.TheVariants.{Accepted, Refused}
 use Rattle.xw_lines.specs.Cut.{lines_of, ended_lines, last_piece, AllHaveNoLf}
 use Rattle.xw_lines.specs.Device.{flushed}
-use Rattle.xw_lines.specs.Spoken.{Spoken}
+use Rattle.xw_lines.specs.Spoken.{Spoken, BreaksOff}
+use Rattle.xw_lines.specs.Run.{StopsIn}
 use Rattle.xw_commands.specs.Command.{command_of}
 use Rattle.xw_commands.specs.declared.command.Command.{Command}
 use Rattle.xw_session.specs.Answer.{Answers}
 use Rattle.xw_session.specs.Record.{command_lines}
 use Rattle.xw_session.specs.State.{State}
 use Rattle.xw_journal.specs.declared.effect.Effect.TheVariants.{Letters}
-use Rattle.xw_journal.specs.Journal.{effect_of, entered_commands, journal_text, JournaledState, AnswersJournaled}
+use Rattle.xw_journal.specs.Journal.{effect_of, entered_commands, journal_text, JournaledState, AnswersJournaled, StopsAtJournal}
 use Rattle.xw_session_laws.specs.Replay.{replayed, replayed_lines, with_grid, WantsMemory}
 
 -- Starting in `start`, a session may answer these lines, each accepted, refused or silent, with these bytes in its journal, and ends in
@@ -118,3 +119,44 @@ abbrev pub RunsAreJournaled : Type 0
 RunsAreJournaled =
     (start end : JournaledState) (lines : List (List ℕ)) (out : List ℕ) (refused : ℕ) → IsGrid start.state.position.grid → All AreBytes lines
     → Spoken AnswersJournaled start lines out refused end → HasJournaled start lines end
+
+-- some first bytes of a journal of these lines were written between two moments
+pub record HasBegunJournal (start : JournaledState) (lines : List (List ℕ)) (end : JournaledState) : Type 0 where
+  pub bytes : List ℕ
+  pub journaled : IsJournaled start.state lines bytes end.state
+  pub front : List ℕ
+  pub rest : List ℕ
+  pub parts : bytes ≡ front ++ rest
+  pub written : without_flushes end.journal ≡ without_flushes start.journal ++ front
+
+-- If the writer failed, the journal is that of the lines up to the one whose answer was not finished, and has its whole text.
+abbrev pub BrokenRunsAreJournaled : Type 0
+BrokenRunsAreJournaled =
+    (start end : JournaledState) (text begun transcript : List ℕ) → IsGrid start.state.position.grid → AreBytes text
+    → StopsIn AnswersJournaled (BreaksOff AnswersJournaled) start text end begun transcript
+    → (lines : List (List ℕ)) × (others : List (List ℕ)) × (lines_of text ≡ lines ++ others) × HasJournaled start lines end
+
+-- If the journal failed, first bytes of the journal of the lines up to the one where it failed were written.
+abbrev pub StoppedRunsAreJournaled : Type 0
+StoppedRunsAreJournaled =
+    (start end : JournaledState) (text begun transcript : List ℕ) → IsGrid start.state.position.grid → AreBytes text
+    → StopsIn AnswersJournaled StopsAtJournal start text end begun transcript
+    → (lines : List (List ℕ)) × (others : List (List ℕ)) × (lines_of text ≡ lines ++ others) × HasBegunJournal start lines end
+
+-- ---- a journal that was empty at the start
+
+-- its lines, executed in the state where the session started, are all accepted and leave the state where the session ended
+abbrev pub JournaledRunsAreMadeAgain : Type 0
+JournaledRunsAreMadeAgain =
+    (start end : JournaledState) (lines : List (List ℕ)) → IsGrid start.state.position.grid → AllHaveNoLf lines → without_flushes start.journal ≡ []
+    → HasJournaled start lines end → replayed_lines start.state (lines_of (without_flushes end.journal)) ≡ Some end.state
+
+-- its whole lines are the first lines of such a journal
+abbrev pub BegunJournalsAreMadeAgain : Type 0
+BegunJournalsAreMadeAgain =
+    (start end : JournaledState) (lines : List (List ℕ)) → IsGrid start.state.position.grid → AllHaveNoLf lines → without_flushes start.journal ≡ []
+    → (begun : HasBegunJournal start lines end) → AreFirstLines start.state lines begun.bytes end.state (ended_lines (without_flushes end.journal))
+
+-- the lines of a text have no LF, and its bytes only
+abbrev pub LinesArePlain : Type 0
+LinesArePlain = (text : List ℕ) → AreBytes text → AllHaveNoLf (lines_of text) × All AreBytes (lines_of text)

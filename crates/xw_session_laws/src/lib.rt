@@ -27,7 +27,7 @@ ghost use Rattle.xw_session.specs.Reply.{has_nul};
 ghost use Rattle.xw_session.specs.Put.{place_of, has_place, with_text_at};
 ghost use Rattle.xw_session.specs.Record.{known_counts, text_commands, section_commands};
 ghost use Rattle.xw_session_laws.specs.Replay.{NoneIsStruck, SessionsBegin, SessionsOpen, SessionsStay, CommandsMakeSessionsAgain, LinesAreReadAgain, LinesMakeSessionsAgain, AnsweredLinesMakeSessionsAgain, RecordsAreRefusedForMemoryOnly, replayed, bared, with_grid, with_words, clues_of, ComeFirst, BarsAreOnEdges, AreFrom, AreTextsFrom};
-ghost use Rattle.xw_session_laws.specs.Journals.{JournalsMakeSessionsAgain, JournalsHaveWholeLines, AnsweredJournalsMakeSessionsAgain, JournalsAreRefusedForMemoryOnly, JournalsAreCutAtLines, RunsAreJournaled};
+ghost use Rattle.xw_session_laws.specs.Journals.{JournalsMakeSessionsAgain, JournalsHaveWholeLines, AnsweredJournalsMakeSessionsAgain, JournalsAreRefusedForMemoryOnly, JournalsAreCutAtLines, RunsAreJournaled, BrokenRunsAreJournaled, StoppedRunsAreJournaled, JournaledRunsAreMadeAgain, BegunJournalsAreMadeAgain, LinesArePlain};
 ghost use Rattle.xw_lines.specs.Cut.{ended_lines, last_piece, with_lfs, AllHaveNoLf, HasNoLf};
 
 /// A text splits into lines in exactly one way: its complete lines, each with its LF, and the rest without an LF.
@@ -193,4 +193,19 @@ pub fn journals_are_cut_at_lines()
 /// A run whose lines are answered with a journal writes the journal of these lines.
 pub fn runs_are_journaled()
     ensures { RunsAreJournaled }
+{}
+
+/// A run whose writer failed wrote the journal of the lines up to the one whose answer was not finished. A run whose
+/// journal failed wrote first bytes of the journal of the lines up to the one where it failed.
+pub fn stopped_runs_are_journaled()
+    ensures broken { BrokenRunsAreJournaled }
+    ensures stopped { StoppedRunsAreJournaled }
+{}
+
+/// A journal that was empty before a run makes the session after the run again. If the journal failed, its whole lines
+/// are the first lines of such a journal.
+pub fn journaled_runs_are_made_again()
+    ensures lines { LinesArePlain }
+    ensures made { JournaledRunsAreMadeAgain }
+    ensures begun { BegunJournalsAreMadeAgain }
 {}
