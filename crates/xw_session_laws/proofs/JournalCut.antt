@@ -25,7 +25,7 @@ use Rattle.xw_session_laws.proofs.Replaying.{replayed_both}
 use Rattle.xw_session_laws.proofs.AnsweredAgain.{both_replayed, some_left}
 use Rattle.xw_session_laws.proofs.CommandsRead.{line_without_lf}
 use Rattle.xw_session_laws.proofs.RecordRead.{AreRecorded, lines_are, replayed_as_read}
-use Rattle.xw_session_laws.proofs.JournalLines.{Enters, Leaves, line_leaves, grid_after_line, Replays, line_replays, lines_there, lines_again, both_there}
+use Rattle.xw_session_laws.proofs.JournalLines.{plain_joined, Enters, Leaves, line_leaves, grid_after_line, Replays, line_replays, lines_there, lines_again, both_there}
 use Rattle.xw_session_laws.proofs.JournalAgain.{journal_replays}
 
 -- ---- lists
@@ -79,10 +79,6 @@ lfs_twice : (front lines : List (List ℕ)) (rest : List ℕ) → with_lfs front
 lfs_twice [] lines rest = refl
 lfs_twice (line ∷ front) lines rest = ap (λ xs. line ++ 10 ∷ xs) (lfs_twice front lines rest)
 
-plain_both : (front lines : List (List ℕ)) → AllHaveNoLf front → AllHaveNoLf lines → AllHaveNoLf (front ++ lines)
-plain_both [] lines a b = b
-plain_both (line ∷ front) lines a b = (a.0, plain_both front lines a.1 b)
-
 pub ended_first : (lines : List (List ℕ)) (front rest : List ℕ) → AllHaveNoLf lines → with_lfs lines [] ≡ front ++ rest → (more : List (List ℕ)) × (lines ≡ ended_lines front ++ more)
 ended_first lines front rest plain e =
     let here = cut-whole front in
@@ -92,7 +88,7 @@ ended_first lines front rest plain e =
     e ∙ ap (λ xs. xs ++ rest) here.0 ∙ lfs_before (ended_lines front) (last_piece front) rest ∙ ap (with_lfs (ended_lines front)) behind.0
     ∙ lfs_twice (ended_lines front) (ended_lines piece) (last_piece piece) in
     let cuts = sym (cut-with_lfs lines [] plain tt) ∙ ap cut whole
-    ∙ cut-with_lfs (ended_lines front ++ ended_lines piece) (last_piece piece) (plain_both (ended_lines front) (ended_lines piece) here.1 behind.1) behind.2 in
+    ∙ cut-with_lfs (ended_lines front ++ ended_lines piece) (last_piece piece) (plain_joined (ended_lines front) (ended_lines piece) here.1 behind.1) behind.2 in
     (ended_lines piece, ap (λ (c : Cut). c.ended) cuts)
 
 -- a line alone

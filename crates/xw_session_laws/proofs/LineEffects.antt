@@ -58,6 +58,7 @@ use Rattle.xw_session.specs.Reply.{Reply, reply_to, edited, shown, moved, watch_
 use Rattle.xw_journal.specs.declared.effect.Effect.{Effect}
 use Rattle.xw_journal.specs.declared.effect.Effect.TheVariants.{Nothing, Change, Letters}
 use Rattle.xw_journal.specs.Journal.{effect_of}
+use Rattle.xw_session_laws.proofs.SessionKept.{ok_state}
 use Rattle.xw_session_laws.proofs.GridsKept.{blank_good, letter_good, with_words_good, with_letter_good, with_word_good, emptied_good, with_orbit_good, with_bar_good, with_symmetry_good, square_good, filled_good}
 
 -- ---- a search
@@ -104,9 +105,6 @@ abbrev pub HasEffect : Effect → State → Command → Reply → Type 0
 HasEffect Nothing state command reply = reply.state ≡ state
 HasEffect Change state command reply = reply_to state command ≡ Ok reply
 HasEffect Letters state command reply = (reply.state ≡ state) ⊎ ((next : Position) × (reply.state ≡ record state { position = next }) × IsSearched state.position next)
-
-ok_state : (one other : Reply) → ◌≡◌ {A = Result Reply Refusal} (Ok one) (Ok other) → one.state ≡ other.state
-ok_state one other e = let same : one ≡ other = cc in ap (λ (reply : Reply). reply.state) same
 
 module _ (state : State) (is : IsGrid state.position.grid) (reply : Reply) where
   by_test : (P : Type 0) (b : Bool) (x y : Result Reply Refusal) → (x ≡ Ok reply → P) → (b ≡ false → y ≡ Ok reply → P) → (if b then x else y) ≡ Ok reply → P

@@ -178,7 +178,7 @@ light_starts grid (Some place) light e =
 
 -- ---- a session after a reply
 
-ok_state : (one other : Reply) → ◌≡◌ {A = Result Reply Refusal} (Ok one) (Ok other) → one.state ≡ other.state
+pub ok_state : (one other : Reply) → ◌≡◌ {A = Result Reply Refusal} (Ok one) (Ok other) → one.state ≡ other.state
 ok_state one other e = let same : one ≡ other = cc in ap (λ (reply : Reply). reply.state) same
 
 text_kept : (texts : TextsShown) (field name : TextField) (text : List ℕ) → has_nul text ≡ false → ((name : TextField) → has_nul (text_of_field texts name) ≡ false) → has_nul (text_of_field (with_text_in texts field text) name) ≡ false
