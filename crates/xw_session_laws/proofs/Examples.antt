@@ -1,5 +1,5 @@
 -- Examples of a record and of a journal, computed from the definitions.
-use Rattle.std.specs.Prelude.{◌≡◌, true, false, List, [], ◌∷◌, codes, replicate, set, Some, None, refl}
+use Rattle.std.specs.Prelude.{◌≡◌, true, false, List, [], ◌∷◌, ◌++◌, codes, replicate, set, Some, None, refl}
 use Rattle.std.specs.Fmt.{digits}
 use Rattle.xw_words.specs.Dictionary.{Dictionary, Entry}
 use Rattle.xw_grid.specs.declared.cell.Square.TheVariants.{Open}
@@ -8,10 +8,11 @@ use Rattle.xw_grid.specs.Edit.{blank}
 use Rattle.xw_grid.specs.Clue.{no_clues}
 use Rattle.xw_session.specs.State.{State}
 use Rattle.xw_session.specs.Record.{known_counts, record_commands, record_lines}
-use Rattle.xw_lines.specs.Cut.{lines_of}
+use Rattle.xw_lines.specs.Cut.{lines_of, ended_lines}
 use Rattle.xw_lines.specs.declared.outcome.Step.TheVariants.{Accepted, Refused}
-use Rattle.xw_journal.specs.Journal.{journal_text}
+use Rattle.xw_journal.specs.Journal.{journal_text, taken}
 use Rattle.xw_session_laws.specs.Replay.{replayed, replayed_lines}
+use Rattle.xw_session_laws.specs.Journals.{without_flushes}
 
 abbrev words_of_two : List Entry → Dictionary
 words_of_two entries = set (replicate 256 []) 2 entries
@@ -85,3 +86,11 @@ query_journaled = refl
 
 refusal_journaled : journal_text before_fill.position.grid (codes "circle 9 9") Refused before_fill.position.grid ≡ []
 refusal_journaled = refl
+
+-- of a journal that was cut in a line, the whole lines are executed
+cut_made_again : replayed_lines before_fill (ended_lines (codes "set 1 1 C\nset 1 ")) ≡ Some (record before_fill { position = record before_fill.position { grid = record before_fill.position.grid { squares = Open (Some 67) ∷ Open (Some 65) ∷ Open None ∷ [] } } })
+cut_made_again = refl
+
+-- the flush after a line is no byte of the journal
+flush_left_out : without_flushes (taken (codes "watch on\n") ++ taken (codes "watch off\n")) ≡ codes "watch on\nwatch off\n"
+flush_left_out = refl

@@ -4,7 +4,7 @@ use Rattle.std.specs.Prelude.{All, nat_eq, decimal, if◌then◌else◌}
 use Rattle.std.proofs.lemmas.Bool.{ne_eqb}
 use Rattle.std.proofs.lemmas.Fmt.{IsAscii-decimal}
 use Rattle.std.proofs.lemmas.Str.Ascii.{All-from_ascii}
-use Rattle.std.proofs.lemmas.List.Elements.{All-head, All-tail, All-cons, All-nil, filter-append}
+use Rattle.std.proofs.lemmas.List.Elements.{All-head, All-tail, All-cons, All-nil, All-append, filter-append}
 use Rattle.xw_letters.specs.Letter.{IsLetter}
 use Rattle.xw_grid.specs.Grid.{IsGrid, cells}
 use Rattle.xw_lines.specs.Device.{flushed}
@@ -135,22 +135,30 @@ bytes_parted (byte ∷ front) rest are =
     let behind = bytes_parted front rest (All-tail (λ byte. byte < 256) byte (front ++ rest) are) in
     (All-cons (λ byte. byte < 256) byte front (All-head (λ byte. byte < 256) byte (front ++ rest) are) behind.0, behind.1)
 
-lines_bytes : (lines : List (List ℕ)) (rest : List ℕ) → AreBytes (with_lfs lines rest) → All AreBytes (lines ++ last_line rest)
-lines_bytes [] [] are = All-nil AreBytes
-lines_bytes [] (byte ∷ rest) are = All-cons AreBytes (byte ∷ rest) [] are (All-nil AreBytes)
-lines_bytes (line ∷ lines) rest are =
+ended_bytes : (lines : List (List ℕ)) (rest : List ℕ) → AreBytes (with_lfs lines rest) → All AreBytes lines × AreBytes rest
+ended_bytes [] rest are = (All-nil AreBytes, are)
+ended_bytes (line ∷ lines) rest are =
     let parts = bytes_parted line (10 ∷ with_lfs lines rest) are in
-    All-cons AreBytes line (lines ++ last_line rest) parts.0 (lines_bytes lines rest (All-tail (λ byte. byte < 256) 10 (with_lfs lines rest) parts.1))
+    let behind = ended_bytes lines rest (All-tail (λ byte. byte < 256) 10 (with_lfs lines rest) parts.1) in
+    (All-cons AreBytes line lines parts.0 behind.0, behind.1)
+
+last_bytes : (rest : List ℕ) → AreBytes rest → All AreBytes (last_line rest)
+last_bytes [] are = All-nil AreBytes
+last_bytes (byte ∷ rest) are = All-cons AreBytes (byte ∷ rest) [] are (All-nil AreBytes)
 
 lines_plain : (lines : List (List ℕ)) (rest : List ℕ) → AllHaveNoLf lines → HasNoLf rest → AllHaveNoLf (lines ++ last_line rest)
 lines_plain [] [] plain last = tt
 lines_plain [] (byte ∷ rest) plain last = (last, tt)
 lines_plain (line ∷ lines) rest plain last = (plain.0, lines_plain lines rest plain.1 last)
 
-pub text_lines : (text : List ℕ) → AreBytes text → AllHaveNoLf (lines_of text) × All AreBytes (lines_of text)
+pub text_lines : (text : List ℕ) → AreBytes text → AllHaveNoLf (lines_of text) × All AreBytes (lines_of text) × All AreBytes (ended_lines text)
 text_lines text are =
     let whole = cut-whole text in
-    (lines_plain (ended_lines text) (last_piece text) whole.1 whole.2, lines_bytes (ended_lines text) (last_piece text) (subst AreBytes whole.0 are))
+    let bytes = ended_bytes (ended_lines text) (last_piece text) (subst AreBytes whole.0 are) in (
+      lines_plain (ended_lines text) (last_piece text) whole.1 whole.2,
+      All-append AreBytes (ended_lines text) (last_line (last_piece text)) bytes.0 (last_bytes (last_piece text) bytes.1),
+      bytes.0,
+    )
 
 -- the lines up to one of them, and the others
 before_parts : (lines before after : List (List ℕ)) (line : List ℕ) → lines ≡ before ++ line ∷ after → lines ≡ (before ++ line ∷ []) ++ after

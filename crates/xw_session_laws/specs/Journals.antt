@@ -157,6 +157,6 @@ BegunJournalsAreMadeAgain =
     (start end : JournaledState) (lines : List (List ℕ)) → IsGrid start.state.position.grid → AllHaveNoLf lines → without_flushes start.journal ≡ []
     → (begun : HasBegunJournal start lines end) → AreFirstLines start.state lines begun.bytes end.state (ended_lines (without_flushes end.journal))
 
--- the lines of a text have no LF, and its bytes only
+-- the lines of a text have no LF, and only bytes of the text
 abbrev pub LinesArePlain : Type 0
-LinesArePlain = (text : List ℕ) → AreBytes text → AllHaveNoLf (lines_of text) × All AreBytes (lines_of text)
+LinesArePlain = (text : List ℕ) → AreBytes text → AllHaveNoLf (lines_of text) × All AreBytes (lines_of text) × All AreBytes (ended_lines text)
