@@ -61,7 +61,7 @@ module _ {X : Type 0} where
       let is = front_mapped f ys first tail rest in
       (y ∷ is.0, is.1, ap (λ zs. y ∷ zs) is.2, ap (λ h. h ∷ first) (sym head) ∙ ap (λ zs. f y ∷ zs) is.3)
 
-plain_front : (front lines : List (List ℕ)) → AllHaveNoLf (front ++ lines) → AllHaveNoLf front
+pub plain_front : (front lines : List (List ℕ)) → AllHaveNoLf (front ++ lines) → AllHaveNoLf front
 plain_front [] lines plain = tt
 plain_front (line ∷ front) lines plain = (plain.0, plain_front front lines plain.1)
 

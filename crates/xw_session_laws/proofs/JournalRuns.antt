@@ -129,7 +129,7 @@ one_more (first ∷ lines) start mid end bytes line answer outcome (step, told, 
 
 -- ---- the lines of a text
 
-bytes_parted : (front rest : List ℕ) → AreBytes (front ++ rest) → AreBytes front × AreBytes rest
+pub bytes_parted : (front rest : List ℕ) → AreBytes (front ++ rest) → AreBytes front × AreBytes rest
 bytes_parted [] rest are = (All-nil (λ byte. byte < 256), are)
 bytes_parted (byte ∷ front) rest are =
     let behind = bytes_parted front rest (All-tail (λ byte. byte < 256) byte (front ++ rest) are) in

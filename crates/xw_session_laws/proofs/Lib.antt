@@ -27,3 +27,4 @@ pub mod JournalLines
 pub mod JournalAgain
 pub mod JournalCut
 pub mod JournalRuns
+pub mod JournalLeft

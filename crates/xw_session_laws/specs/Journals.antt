@@ -1,12 +1,14 @@
 -- A session with a journal, and the laws of journals.
-use Rattle.std.specs.Prelude.{◌≡◌, ℕ, ◌<◌, not, List, [], ◌∷◌, ◌++◌, filter, All, Some, Ok, nat_eq}
+use Rattle.std.specs.Prelude.{◌≡◌, ℕ, ◌<◌, Bool, not, List, [], ◌∷◌, ◌++◌, filter, All, Some, Ok, nat_eq}
 use Rattle.xw_grid.specs.Grid.{IsGrid}
 use Rattle.xw_lines.specs.declared.outcome.Step.{Step}
 use Rattle.xw_lines.specs.declared.outcome.Step.TheVariants.{Accepted, Refused}
 use Rattle.xw_lines.specs.Cut.{lines_of, ended_lines, last_piece, AllHaveNoLf}
 use Rattle.xw_lines.specs.Device.{flushed}
 use Rattle.xw_lines.specs.Spoken.{Spoken, BreaksOff}
-use Rattle.xw_lines.specs.Run.{StopsIn}
+use Rattle.xw_lines.specs.declared.outcome.RunEnd.{RunEnd}
+use Rattle.xw_lines.specs.declared.outcome.RunEnd.TheVariants.{Done, ReadFailed, WriteFailed, Stopped, Endless, Memory}
+use Rattle.xw_lines.specs.Run.{StopsIn, IsRun}
 use Rattle.xw_commands.specs.Command.{command_of}
 use Rattle.xw_commands.specs.declared.command.Command.{Command}
 use Rattle.xw_session.specs.Answer.{Answers}
@@ -160,3 +162,37 @@ BegunJournalsAreMadeAgain =
 -- the lines of a text have no LF, and only bytes of the text
 abbrev pub LinesArePlain : Type 0
 LinesArePlain = (text : List ℕ) → AreBytes text → AllHaveNoLf (lines_of text) × All AreBytes (lines_of text) × All AreBytes (ended_lines text)
+
+-- ---- a whole run
+
+-- a fact that holds unless the journal failed
+abbrev pub UnlessStopped : RunEnd → Type 0 → Type 0
+UnlessStopped (Done refused) P = P
+UnlessStopped ReadFailed P = P
+UnlessStopped WriteFailed P = P
+UnlessStopped Stopped P = Unit {0}
+UnlessStopped Endless P = P
+UnlessStopped Memory P = P
+
+-- What a run left in a journal that was empty before it. `text` was read, and the session ended in the state after `lines` of it. Unless
+-- the journal failed, it holds the journal of these lines, which makes the session again. In any case its whole lines are first lines of
+-- that journal.
+pub record LeavesJournal {R : Type 0} (read : R → List ℕ) (result : RunEnd) (start end : JournaledState) (source source' : R) : Type 0 where
+  pub text : List ℕ
+  pub was_read : read source' ≡ read source ++ text
+  pub lines : List (List ℕ)
+  pub others : List (List ℕ)
+  pub of_text : lines_of text ≡ lines ++ others
+  pub bytes : List ℕ
+  pub journaled : IsJournaled start.state lines bytes end.state
+  pub whole : UnlessStopped result (without_flushes end.journal ≡ bytes)
+  pub again : UnlessStopped result (replayed_lines start.state (lines_of (without_flushes end.journal)) ≡ Some end.state)
+  pub first : AreFirstLines start.state lines bytes end.state (ended_lines (without_flushes end.journal))
+
+-- every run with an empty journal does so, however it ends
+abbrev pub RunsLeaveJournals : {R W : Type 0} → (R → List ℕ) → (R → Bool) → (R → ℕ) → (W → List ℕ) → (W → ℕ) → Type 0
+RunsLeaveJournals {R} {W} read is_at_end read_failures written write_failures =
+    (result : RunEnd) (start end : JournaledState) (source source' : R) (sink sink' : W) → IsGrid start.state.position.grid → AreBytes (read source')
+    → without_flushes start.journal ≡ []
+    → IsRun AnswersJournaled StopsAtJournal read is_at_end read_failures written write_failures result start end source source' sink sink'
+    → LeavesJournal read result start end source source'

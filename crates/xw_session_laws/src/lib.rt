@@ -27,8 +27,10 @@ ghost use Rattle.xw_session.specs.Reply.{has_nul};
 ghost use Rattle.xw_session.specs.Put.{place_of, has_place, with_text_at};
 ghost use Rattle.xw_session.specs.Record.{known_counts, text_commands, section_commands};
 ghost use Rattle.xw_session_laws.specs.Replay.{NoneIsStruck, SessionsBegin, SessionsOpen, SessionsStay, CommandsMakeSessionsAgain, LinesAreReadAgain, LinesMakeSessionsAgain, AnsweredLinesMakeSessionsAgain, RecordsAreRefusedForMemoryOnly, replayed, bared, with_grid, with_words, clues_of, ComeFirst, BarsAreOnEdges, AreFrom, AreTextsFrom};
-ghost use Rattle.xw_session_laws.specs.Journals.{JournalsMakeSessionsAgain, JournalsHaveWholeLines, AnsweredJournalsMakeSessionsAgain, JournalsAreRefusedForMemoryOnly, JournalsAreCutAtLines, RunsAreJournaled, BrokenRunsAreJournaled, StoppedRunsAreJournaled, JournaledRunsAreMadeAgain, BegunJournalsAreMadeAgain, LinesArePlain};
+ghost use Rattle.xw_session_laws.specs.Journals.{JournalsMakeSessionsAgain, JournalsHaveWholeLines, AnsweredJournalsMakeSessionsAgain, JournalsAreRefusedForMemoryOnly, JournalsAreCutAtLines, RunsAreJournaled, BrokenRunsAreJournaled, StoppedRunsAreJournaled, JournaledRunsAreMadeAgain, BegunJournalsAreMadeAgain, LinesArePlain, RunsLeaveJournals};
 ghost use Rattle.xw_lines.specs.Cut.{ended_lines, last_piece, with_lfs, AllHaveNoLf, HasNoLf};
+
+use xw_lines::{Sink, Source};
 
 /// A text splits into lines in exactly one way: its complete lines, each with its LF, and the rest without an LF.
 pub fn lines_are_cut_at_each_lf()
@@ -208,4 +210,10 @@ pub fn journaled_runs_are_made_again()
     ensures lines { LinesArePlain }
     ensures made { JournaledRunsAreMadeAgain }
     ensures begun { BegunJournalsAreMadeAgain }
+{}
+
+/// However a run ends, a journal that was empty before it holds the journal of the lines that were answered, or first
+/// bytes of it if the journal failed, and its whole lines make the session again as far as they go.
+pub fn runs_leave_journals<R: Source, W: Sink>()
+    ensures { RunsLeaveJournals R.transcript R.is_at_end R.failures W.transcript W.failures }
 {}
