@@ -79,7 +79,7 @@ lfs_twice : (front lines : List (List ℕ)) (rest : List ℕ) → with_lfs front
 lfs_twice [] lines rest = refl
 lfs_twice (line ∷ front) lines rest = ap (λ xs. line ++ 10 ∷ xs) (lfs_twice front lines rest)
 
-pub ended_first : (lines : List (List ℕ)) (front rest : List ℕ) → AllHaveNoLf lines → with_lfs lines [] ≡ front ++ rest → (more : List (List ℕ)) × (lines ≡ ended_lines front ++ more)
+ended_first : (lines : List (List ℕ)) (front rest : List ℕ) → AllHaveNoLf lines → with_lfs lines [] ≡ front ++ rest → (more : List (List ℕ)) × (lines ≡ ended_lines front ++ more)
 ended_first lines front rest plain e =
     let here = cut-whole front in
     let piece = last_piece front ++ rest in
@@ -184,7 +184,7 @@ module _ (start mid end : State) (line : List ℕ) (lines : List (List ℕ)) (ou
     one = line_replays start line text mid plain leaves
 
     -- the line is done
-    pub line_done : AllHaveNoLf lines → (first tail more : List (List ℕ)) → lines_of journal ≡ first ++ more → first ≡ lines_of text ++ tail → AreFirstLines mid lines others end tail → AreFirstLines start (line ∷ lines) journal end first
+    line_done : AllHaveNoLf lines → (first tail more : List (List ℕ)) → lines_of journal ≡ first ++ more → first ≡ lines_of text ++ tail → AreFirstLines mid lines others end tail → AreFirstLines start (line ∷ lines) journal end first
     line_done plain first tail more parts first-is cuts =
         let plain_done = plain_front cuts.done cuts.others (subst AllHaveNoLf cuts.of_lines plain) in
         let two = journal_replays cuts.done mid cuts.mid cuts.bytes (grid_after_line start is line outcome answer mid said) plain_done cuts.so_far in
@@ -273,7 +273,7 @@ module _ (start mid end : State) (line : List ℕ) (lines : List (List ℕ)) (ou
     by_fronts first more parts (inl (next, tail, front)) plain cuts = line_begun leaves first tail more next parts front
     by_fronts first more parts (inr (tail, front, behind)) plain cuts = line_done plain first tail more parts front (cuts tail behind)
 
-    pub line_cut : (first more : List (List ℕ)) → lines_of journal ≡ first ++ more → AllHaveNoLf lines → ((tail : List (List ℕ)) → lines_of others ≡ tail ++ more → AreFirstLines mid lines others end tail) → AreFirstLines start (line ∷ lines) journal end first
+    line_cut : (first more : List (List ℕ)) → lines_of journal ≡ first ++ more → AllHaveNoLf lines → ((tail : List (List ℕ)) → lines_of others ≡ tail ++ more → AreFirstLines mid lines others end tail) → AreFirstLines start (line ∷ lines) journal end first
     line_cut first more parts plain_lines cuts =
         let two = journal_replays lines mid end others (grid_after_line start is line outcome answer mid said) plain_lines rest in
         let there : lines_of text ++ lines_of others ≡ first ++ more = sym (ap lines_of journal-is ∙ both_there start mid end text others one two) ∙ parts in
@@ -283,7 +283,7 @@ no_lines : (first more : List (List ℕ)) → [] ≡ first ++ more → first ≡
 no_lines [] more e = refl
 no_lines (line ∷ first) more e = cc
 
-pub first_lines_cut : (lines : List (List ℕ)) (start end : State) (journal : List ℕ) (first more : List (List ℕ)) → IsGrid start.position.grid → AllHaveNoLf lines → IsJournaled start lines journal end → lines_of journal ≡ first ++ more
+first_lines_cut : (lines : List (List ℕ)) (start end : State) (journal : List ℕ) (first more : List (List ℕ)) → IsGrid start.position.grid → AllHaveNoLf lines → IsJournaled start lines journal end → lines_of journal ≡ first ++ more
     → AreFirstLines start lines journal end first
 first_lines_cut [] start end journal first more is plain done parts =
     nothing_done start end [] journal first more done parts (no_lines first more (ap lines_of (sym done.0) ∙ parts))

@@ -76,8 +76,10 @@ BeginWithLetters state (line ∷ lines) (letter ∷ letters) = MayEnterFirst sta
 -- `first` are the first lines of a journal of `lines`: those of the given lines `done`, and, if the next given line is a search, some
 -- letters that it entered. They leave the state after `done`, with these letters.
 pub record AreFirstLines (start : State) (lines : List (List ℕ)) (journal : List ℕ) (end : State) (first : List (List ℕ)) : Type 0 where
+  -- they are the first lines of the journal
   pub more : List (List ℕ)
   pub of_journal : lines_of journal ≡ first ++ more
+  -- the given lines whose text they have, with their journal, and the others
   pub done : List (List ℕ)
   pub others : List (List ℕ)
   pub of_lines : lines ≡ done ++ others
@@ -87,9 +89,11 @@ pub record AreFirstLines (start : State) (lines : List (List ℕ)) (journal : Li
   pub mid : State
   pub so_far : IsJournaled start done bytes mid
   pub further : IsJournaled mid others rest end
+  -- some letters of the search at the first of the others
   pub letters : List Command
   pub begun : BeginWithLetters mid others letters
   pub are : first ≡ lines_of bytes ++ lines_of (command_lines letters)
+  -- the state that they leave
   pub left : State
   pub entered : replayed mid letters ≡ Some left
   pub only : left ≡ with_grid mid left.position.grid

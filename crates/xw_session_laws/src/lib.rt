@@ -1,5 +1,5 @@
-//! Laws of sessions: replaying a session's record rebuilds the session. The functions do nothing at run time; each
-//! gives callers a proved fact.
+//! Laws of sessions: replaying a session's record or its journal rebuilds the session. The functions do nothing at run
+//! time; each gives callers a proved fact.
 #![tactic(auto)]
 
 ghost use Rattle.std.specs.Prelude.{◌≡◌, ℕ, ◌++◌, ◌*◌, List, [], map, replicate, filter, None, Some, true, false};
