@@ -1,5 +1,5 @@
 -- Examples of a record and of a journal, computed from the definitions.
-use Rattle.std.specs.Prelude.{◌≡◌, true, false, List, [], ◌∷◌, ◌++◌, codes, replicate, set, Some, None, refl}
+use Rattle.std.specs.Prelude.{◌≡◌, true, false, List, [], ◌∷◌, ◌++◌, codes, replicate, set, Some, None, Ok, refl}
 use Rattle.std.specs.Fmt.{digits}
 use Rattle.xw_words.specs.Dictionary.{Dictionary, Entry}
 use Rattle.xw_grid.specs.declared.cell.Square.TheVariants.{Open}
@@ -7,12 +7,16 @@ use Rattle.xw_grid.specs.declared.cell.Symmetry.TheVariants as kinds
 use Rattle.xw_grid.specs.Edit.{blank}
 use Rattle.xw_grid.specs.Clue.{no_clues}
 use Rattle.xw_session.specs.State.{State}
+use Rattle.xw_session.specs.Reply.{Reply}
+use Rattle.xw_session.specs.Text.{accepted, refused}
+use Rattle.xw_session.specs.declared.refusal.Refusal.TheVariants as refusals
+use Rattle.xw_commands.specs.declared.command.SyntaxFault.TheVariants as faults
 use Rattle.xw_session.specs.Record.{known_counts, record_commands, record_lines}
 use Rattle.xw_lines.specs.Cut.{lines_of, ended_lines}
 use Rattle.xw_lines.specs.declared.outcome.Step.TheVariants.{Accepted, Refused}
 use Rattle.xw_journal.specs.Journal.{journal_text, taken}
 use Rattle.xw_session_laws.specs.Replay.{replayed, replayed_lines}
-use Rattle.xw_session_laws.specs.Journals.{without_flushes}
+use Rattle.xw_session_laws.specs.Journals.{IsJournaled, without_flushes}
 
 abbrev words_of_two : List Entry → Dictionary
 words_of_two entries = set (replicate 256 []) 2 entries
@@ -94,3 +98,19 @@ cut_made_again = refl
 -- the flush after a line is no byte of the journal
 flush_left_out : without_flushes (taken (codes "watch on\n") ++ taken (codes "watch off\n")) ≡ codes "watch on\nwatch off\n"
 flush_left_out = refl
+
+-- a session that is told to watch, and then refuses a line, may have this journal
+abbrev watching : State
+watching = record before_fill { is_watched = true }
+
+session_journaled : IsJournaled before_fill (codes "watch on" ∷ codes "lights 1" ∷ []) (codes "watch on\n") watching
+session_journaled =
+    let told : Reply = record { lines = []; state = watching } in (
+      Accepted,
+      accepted,
+      watching,
+      [],
+      (Ok told, (Ok told, refl, refl), refl, refl, refl),
+      (Refused, refused (refusals.Syntax faults.Arguments), watching, [], (refl, refl, refl), (refl, refl), refl),
+      refl,
+    )
