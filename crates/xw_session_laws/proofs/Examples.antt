@@ -15,6 +15,7 @@ use Rattle.xw_session.specs.Record.{known_counts, record_commands, record_lines}
 use Rattle.xw_lines.specs.Cut.{lines_of, ended_lines}
 use Rattle.xw_lines.specs.declared.outcome.Step.TheVariants.{Accepted, Refused}
 use Rattle.xw_journal.specs.Journal.{journal_text, taken}
+use Rattle.xw_journal.specs.declared.effect.Effect.TheVariants.{Change}
 use Rattle.xw_session_laws.specs.Replay.{replayed, replayed_lines}
 use Rattle.xw_session_laws.specs.Journals.{IsJournaled, without_flushes}
 
@@ -96,7 +97,7 @@ cut_made_again : replayed_lines before_fill (ended_lines (codes "set 1 1 C\nset 
 cut_made_again = refl
 
 -- the flush after a line is no byte of the journal
-flush_left_out : without_flushes (taken (codes "watch on\n") ++ taken (codes "watch off\n")) ≡ codes "watch on\nwatch off\n"
+flush_left_out : without_flushes (taken Change (codes "watch on\n") ++ taken Change (codes "watch off\n")) ≡ codes "watch on\nwatch off\n"
 flush_left_out = refl
 
 -- a session that is told to watch, and then refuses a line, may have this journal

@@ -1,19 +1,20 @@
 -- The journal of a run.
 use Rattle.std.proofs.Common.{◌≡◌, ℕ, ◌<◌, ◌≤◌, ◌^◌, not, List, [], ◌∷◌, ◌++◌, get_or, codes, Some, refl, sym, ◌∙◌, ap, subst, inl, inr, append_assoc, append-nil, lit<, arith}
-use Rattle.std.specs.Prelude.{All, nat_eq, decimal, if◌then◌else◌}
+use Rattle.std.specs.Prelude.{All, nat_eq, decimal, Option, None, Result, Ok, Err, if◌then◌else◌}
 use Rattle.std.proofs.lemmas.Bool.{ne_eqb}
 use Rattle.std.proofs.lemmas.Fmt.{IsAscii-decimal}
 use Rattle.std.proofs.lemmas.Str.Ascii.{All-from_ascii}
 use Rattle.std.proofs.lemmas.List.Elements.{All-head, All-tail, All-cons, All-nil, All-append, filter-append}
 use Rattle.xw_letters.specs.Letter.{IsLetter}
-use Rattle.xw_grid.specs.Grid.{IsGrid, cells}
+use Rattle.xw_grid.specs.Grid.{Grid, IsGrid, cells}
 use Rattle.xw_lines.specs.Device.{flushed}
 use Rattle.xw_lines.specs.Cut.{lines_of, ended_lines, last_piece, last_line, with_lfs, HasNoLf, AllHaveNoLf}
 use Rattle.xw_lines.proofs.Cuts.{cut-whole}
 use Rattle.xw_lines.specs.Spoken.{Spoken, BreaksOff}
 use Rattle.xw_lines.specs.Run.{StopsIn}
-use Rattle.xw_lines.specs.declared.outcome.Step.TheVariants.{Accepted}
-use Rattle.xw_session.specs.Text.{accepted}
+use Rattle.xw_lines.specs.declared.outcome.Step.TheVariants.{Silent, Accepted, Refused}
+use Rattle.xw_commands.specs.Command.{command_of}
+use Rattle.xw_commands.specs.declared.command.SyntaxFault.{SyntaxFault}
 use Rattle.xw_session_laws.specs.Replay.{replayed_lines}
 use Rattle.xw_lines.specs.declared.outcome.Step.{Step}
 use Rattle.xw_commands.specs.declared.command.Command.{Command}
@@ -23,7 +24,11 @@ use Rattle.xw_session.specs.State.{State}
 use Rattle.xw_session.specs.Answer.{Answers}
 use Rattle.xw_session.specs.Record.{command_lines}
 use Rattle.xw_session.specs.Spelling.{command_line}
-use Rattle.xw_journal.specs.Journal.{entered_commands, journal_text, taken, JournaledState, AnswersJournaled, StopsAtJournal}
+use Rattle.xw_journal.specs.Journal.{effect_of, entered_commands, text_of_effect, text_of_parsed, journal_text, taken, events_of_parsed, journal_events, JournaledState, AnswersJournaled, IsUnjournaled, IsUnkept, IsCause, StopsAtJournal}
+use Rattle.xw_journal.specs.declared.cause.Cause.{Cause}
+use Rattle.xw_journal.specs.declared.cause.Cause.TheVariants.{Journal, Memory}
+use Rattle.xw_journal.specs.declared.effect.Effect.{Effect}
+use Rattle.xw_journal.specs.declared.effect.Effect.TheVariants.{Nothing, Change, Letters}
 use Rattle.xw_session_laws.specs.Journals.{IsJournaled, AreFirstLines, without_flushes, AreBytes, HasJournaled, HasBegunJournal}
 use Rattle.xw_session_laws.proofs.CommandsRead.{IsSmallSpot, IsRecorded}
 use Rattle.xw_session_laws.proofs.RecordRead.{AreRecorded}
@@ -78,18 +83,33 @@ text_unmarked state line text next are (inr (inr enters)) =
     subst IsUnmarked (sym enters.text-is)
     (letters_unmarked (entered_commands state.position.grid next.position.grid) enters.recorded (entered_sets state.position.grid next.position.grid (cells next.position.grid)))
 
-taken_unmarked : (text : List ℕ) → IsUnmarked text → without_flushes (taken text) ≡ text
-taken_unmarked [] plain = refl
-taken_unmarked (byte ∷ text) plain = flushes_joined (byte ∷ text) (flushed ∷ []) ∙ append-nil (without_flushes (byte ∷ text)) ∙ plain
+taken_unmarked : (effect : Effect) (text : List ℕ) → (effect ≡ Nothing → text ≡ []) → IsUnmarked text → without_flushes (taken effect text) ≡ text
+taken_unmarked Nothing text none plain = sym (none refl)
+taken_unmarked Change text none plain = flushes_joined text (flushed ∷ []) ∙ append-nil (without_flushes text) ∙ plain
+taken_unmarked Letters text none plain = flushes_joined text (flushed ∷ []) ∙ append-nil (without_flushes text) ∙ plain
+
+nothing_written : (effect : Effect) (line : List ℕ) (before after : Grid) → effect ≡ Nothing → text_of_effect effect line before after ≡ []
+nothing_written effect line before after is = ap (λ effect. text_of_effect effect line before after) is
+
+parsed_unmarked : (parsed : Result (Option Command) SyntaxFault) (line : List ℕ) (before after : Grid) → IsUnmarked (text_of_parsed parsed line before after)
+    → without_flushes (events_of_parsed parsed line before after) ≡ text_of_parsed parsed line before after
+parsed_unmarked (Ok (Some command)) line before after plain = taken_unmarked (effect_of command) (text_of_effect (effect_of command) line before after) (nothing_written (effect_of command) line before after) plain
+parsed_unmarked (Ok None) line before after plain = refl
+parsed_unmarked (Err fault) line before after plain = refl
+
+events_unmarked : (step : Step) (line : List ℕ) (before after : Grid) → IsUnmarked (journal_text before line step after) → without_flushes (journal_events before line step after) ≡ journal_text before line step after
+events_unmarked Accepted line before after plain = parsed_unmarked (command_of line) line before after plain
+events_unmarked Silent line before after plain = refl
+events_unmarked Refused line before after plain = refl
 
 -- ---- a run
 
 -- what the journal takes of a line is its text
 pub line_taken : (state : State) (line : List ℕ) (outcome : Step) (answer : List ℕ) (next : State) → IsGrid state.position.grid → AreBytes line → Answers state line outcome answer next
-    → without_flushes (taken (journal_text state.position.grid line outcome next.position.grid)) ≡ journal_text state.position.grid line outcome next.position.grid
+    → without_flushes (journal_events state.position.grid line outcome next.position.grid) ≡ journal_text state.position.grid line outcome next.position.grid
 line_taken state line outcome answer next is are said =
     let text = journal_text state.position.grid line outcome next.position.grid in
-    taken_unmarked text (text_unmarked state line text next are (line_leaves state is line outcome answer next said))
+    events_unmarked outcome line state.position.grid next.position.grid (text_unmarked state line text next are (line_leaves state is line outcome answer next said))
 
 pub run_journaled : (lines : List (List ℕ)) (start end : JournaledState) (out : List ℕ) (refused : ℕ) → IsGrid start.state.position.grid → All AreBytes lines → Spoken AnswersJournaled start lines out refused end → HasJournaled start lines end
 run_journaled [] start end out refused is are said = record {
@@ -99,9 +119,10 @@ run_journaled [] start end out refused is are said = record {
 }
 run_journaled (line ∷ lines) start end out refused is are (outcome, answer, mid, others, more, said, rest, out-is, refused-is) =
     let text = journal_text start.state.position.grid line outcome mid.state.position.grid in
+    let events = journal_events start.state.position.grid line outcome mid.state.position.grid in
     let tail = run_journaled lines mid end others more (grid_after_line start.state is line outcome answer mid.state said.answers) (All-tail AreBytes line lines are) rest in
     let here : without_flushes mid.journal ≡ without_flushes start.journal ++ text =
-    ap without_flushes said.journal ∙ flushes_joined start.journal (taken text) ∙ ap (λ xs. without_flushes start.journal ++ xs) (line_taken start.state line outcome answer mid.state is (All-head AreBytes line lines are) said.answers) in
+    ap without_flushes said.journal ∙ flushes_joined start.journal events ∙ ap (λ xs. without_flushes start.journal ++ xs) (line_taken start.state line outcome answer mid.state is (All-head AreBytes line lines are) said.answers) in
     record {
       bytes = text ++ tail.bytes;
       journaled = (outcome, answer, mid.state, tail.bytes, said.answers, tail.journaled, refl);
@@ -179,29 +200,54 @@ module _ (start mid end : JournaledState) (before : List (List ℕ)) (line : Lis
   pub line_journaled : (outcome : Step) (answer : List ℕ) → AnswersJournaled mid line outcome answer end → HasJournaled start (before ++ line ∷ []) end
   line_journaled outcome answer said =
       let text = journal_text mid.state.position.grid line outcome end.state.position.grid in
+      let events = journal_events mid.state.position.grid line outcome end.state.position.grid in
       record {
         bytes = so_far.bytes ++ text;
         journaled = one_more before start.state mid.state end.state so_far.bytes line answer outcome so_far.journaled said.answers;
-        written = ap without_flushes said.journal ∙ flushes_joined mid.journal (taken text) ∙ ap (λ xs. xs ++ without_flushes (taken text)) so_far.written
+        written = ap without_flushes said.journal ∙ flushes_joined mid.journal events ∙ ap (λ xs. xs ++ without_flushes events) so_far.written
             ∙ ap (λ xs. (without_flushes start.journal ++ so_far.bytes) ++ xs) (line_taken mid.state line outcome answer end.state mid_grid are said.answers)
             ∙ append_assoc (without_flushes start.journal) so_far.bytes text;
       }
 
-  pub line_begun : (told_old told_new : List ℕ) → StopsAtJournal mid line end told_old told_new → HasBegunJournal start (before ++ line ∷ []) end
-  line_begun told_old told_new stops =
+  -- the journal failed in the text of the line
+  line_unjournaled : IsUnjournaled mid line end → HasBegunJournal start (before ++ line ∷ []) end
+  line_unjournaled stops =
       let text = journal_text mid.state.position.grid line Accepted end.state.position.grid in
       let sent = without_flushes stops.journal.sent in
       let unsent = without_flushes stops.journal.unsent in
       let whole : text ≡ sent ++ unsent =
-      sym (line_taken mid.state line Accepted (stops.lines ++ accepted) end.state mid_grid are stops.answers) ∙ ap without_flushes stops.journal.parts ∙ flushes_joined stops.journal.sent stops.journal.unsent in
+      sym (line_taken mid.state line Accepted stops.answer end.state mid_grid are stops.answers) ∙ ap without_flushes stops.journal.parts ∙ flushes_joined stops.journal.sent stops.journal.unsent in
       record {
         bytes = so_far.bytes ++ text;
-        journaled = one_more before start.state mid.state end.state so_far.bytes line (stops.lines ++ accepted) Accepted so_far.journaled stops.answers;
+        journaled = one_more before start.state mid.state end.state so_far.bytes line stops.answer Accepted so_far.journaled stops.answers;
         front = so_far.bytes ++ sent;
         rest = unsent;
         parts = ap (λ xs. so_far.bytes ++ xs) whole ∙ sym (append_assoc so_far.bytes sent unsent);
         written = ap without_flushes stops.journal.transcript ∙ flushes_joined mid.journal stops.journal.sent ∙ ap (λ xs. xs ++ sent) so_far.written ∙ append_assoc (without_flushes start.journal) so_far.bytes sent;
       }
+
+  -- the answer of the line could not be kept, and nothing of its text was written
+  line_unkept : IsUnkept mid line end → HasBegunJournal start (before ++ line ∷ []) end
+  line_unkept stops =
+      let outcome = stops.done.0 in
+      let answer = stops.done.1 in
+      let answers = stops.done.2 in
+      let text = journal_text mid.state.position.grid line outcome end.state.position.grid in
+      record {
+        bytes = so_far.bytes ++ text;
+        journaled = one_more before start.state mid.state end.state so_far.bytes line answer outcome so_far.journaled answers;
+        front = so_far.bytes;
+        rest = text;
+        parts = refl;
+        written = ap without_flushes stops.journal ∙ so_far.written;
+      }
+
+  stopped_by : (cause : Cause) → IsCause cause mid line end → HasBegunJournal start (before ++ line ∷ []) end
+  stopped_by Journal why = line_unjournaled why
+  stopped_by Memory why = line_unkept why
+
+  pub line_begun : (told_old told_new : List ℕ) → StopsAtJournal mid line end told_old told_new → HasBegunJournal start (before ++ line ∷ []) end
+  line_begun told_old told_new stops = stopped_by stops.cause stops.why
 
 module _ (start end : JournaledState) (text begun transcript : List ℕ) (is : IsGrid start.state.position.grid) (are : AreBytes text) where
   pub broken_journaled : StopsIn AnswersJournaled (BreaksOff AnswersJournaled) start text end begun transcript → (lines : List (List ℕ)) × (others : List (List ℕ)) × (lines_of text ≡ lines ++ others) × HasJournaled start lines end

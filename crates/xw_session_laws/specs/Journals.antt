@@ -142,7 +142,7 @@ BrokenRunsAreJournaled =
     → StopsIn AnswersJournaled (BreaksOff AnswersJournaled) start text end begun transcript
     → (lines : List (List ℕ)) × (others : List (List ℕ)) × (lines_of text ≡ lines ++ others) × HasJournaled start lines end
 
--- If the journal failed, first bytes of the journal of the lines up to the one where it failed were written.
+-- If the session stopped, first bytes of the journal of the lines up to the one where it stopped were written.
 abbrev pub StoppedRunsAreJournaled : Type 0
 StoppedRunsAreJournaled =
     (start end : JournaledState) (text begun transcript : List ℕ) → IsGrid start.state.position.grid → AreBytes text
@@ -169,7 +169,7 @@ LinesArePlain = (text : List ℕ) → AreBytes text → AllHaveNoLf (lines_of te
 
 -- ---- a whole run
 
--- a fact that holds unless the journal failed
+-- a fact that holds unless the session stopped
 abbrev pub UnlessStopped : RunEnd → Type 0 → Type 0
 UnlessStopped (Done refused) P = P
 UnlessStopped ReadFailed P = P
@@ -179,7 +179,7 @@ UnlessStopped Endless P = P
 UnlessStopped Memory P = P
 
 -- What a run left in a journal that was empty before it. `text` was read, and the session ended in the state after `lines` of it. Unless
--- the journal failed, it holds the journal of these lines, which makes the session again. In any case its whole lines are first lines of
+-- it stopped, it holds the journal of these lines, which makes the session again. In any case its whole lines are first lines of
 -- that journal.
 pub record LeavesJournal {R : Type 0} (read : R → List ℕ) (result : RunEnd) (start end : JournaledState) (source source' : R) : Type 0 where
   pub text : List ℕ
