@@ -11,7 +11,7 @@ pub struct DeviceFault;
 #[derive(Clone, Copy, Debug, PartialEq, Eq)]
 pub struct WriteFailed;
 
-/// A reader. The ghost `told` is the list of all bytes that it returned.
+/// A reader. The ghost `transcript` is the list of all bytes that it returned.
 pub trait Source {
     // all bytes that reads returned so far
     ghost transcript: { Self → List ℕ };
@@ -34,7 +34,7 @@ pub trait Source {
         ensures failures { failures self.new ≡ failures_after result (failures self.old) };
 }
 
-/// A writer. The ghost `told` is the list of all bytes that it took, with a mark for each flush.
+/// A writer. The ghost `transcript` is the list of all bytes that it took, with a mark for each flush.
 pub trait Sink {
     // all bytes that writes took so far, with `flushed` after the bytes that each flush covered
     ghost transcript: { Self → List ℕ };
