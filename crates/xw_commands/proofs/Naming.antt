@@ -1,20 +1,33 @@
 -- Lemmas on command words.
-use Rattle.std.proofs.Common.{◌≡◌, ℕ, true, List, [], ◌∷◌, Some, ap, ◌∙◌, inl, inr}
+use Rattle.std.proofs.Common.{◌≡◌, ℕ, List, [], ◌∷◌, map, Some, None, refl, ap, ◌∙◌, inl, inr}
 use Rattle.std.specs.Prelude.{bytes_eq}
-use Rattle.std.specs.List.{list_all}
-use Rattle.std.proofs.lemmas.Bool.{and_parts, cases_Bool}
+use Rattle.std.proofs.lemmas.Bool.{cases_Bool}
 use Rattle.std.proofs.lemmas.Slice.Eq.{bytes_eq-Decides}
+use Rattle.xw_commands.specs.Names.{by_name}
 use Rattle.xw_commands.specs.Reading.{lookup}
 
--- a table that pairs every value with its own word
-pub own_word : {A : Type 0} (word_of : A → List ℕ) (table : List (List ℕ × A)) (word : List ℕ) (a : A) → list_all (λ row. bytes_eq row.0 (word_of row.1)) table ≡ true → lookup table word ≡ Some a → word ≡ word_of a
-own_word word_of [] word a own found = cc
-own_word word_of (row ∷ rows) word a own found =
-    let parts = and_parts (bytes_eq row.0 (word_of row.1)) (list_all (λ r. bytes_eq r.0 (word_of r.1)) rows) own in
-    elim (cases_Bool (bytes_eq word row.0)) [
+-- a value that is found by a word has this word
+pub own_word : {A : Type 0} (name : A → List ℕ) (values : List A) (word : List ℕ) (a : A) → lookup (by_name name values) word ≡ Some a → word ≡ name a
+own_word name [] word a found = cc
+own_word name (value ∷ values) word a found =
+    elim (cases_Bool (bytes_eq word (name value))) [
       | inl same ↦
-          let is : Some row.1 ≡ Some a = rw same at found in
-          let value : row.1 ≡ a = cc in
-          (bytes_eq-Decides word row.0).0 same ∙ (bytes_eq-Decides row.0 (word_of row.1)).0 parts.0 ∙ ap word_of value
-      | inr other ↦ own_word word_of rows word a parts.1 (rw other at found)
+          let is : Some value ≡ Some a = rw same at found in
+          let value_is : value ≡ a = cc in
+          (bytes_eq-Decides word (name value)).0 same ∙ ap name value_is
+      | inr other ↦ own_word name values word a (rw other at found)
+    ]
+
+-- two tables with the same words lack the same words
+pub no_row : {A B : Type 0} (name : A → List ℕ) (values : List A) (table : List (List ℕ × B)) (word : List ℕ) → map (λ row. row.0) table ≡ map name values → lookup (by_name name values) word ≡ None
+    → lookup table word ≡ None
+no_row name [] [] word same none = refl
+no_row name [] (row ∷ rows) word same none = cc
+no_row name (value ∷ values) [] word same none = cc
+no_row {A} name (value ∷ values) (row ∷ rows) word same none =
+    let first : row.0 ≡ name value = cc in
+    let others : map (λ row. row.0) rows ≡ map name values = cc in
+    elim (cases_Bool (bytes_eq word (name value))) [
+      | inl is ↦ let bad : Some value ≡ None = rw is at none in cc
+      | inr other ↦ rw (first, other) (no_row name values rows word others (rw other at none))
     ]

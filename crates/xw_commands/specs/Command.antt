@@ -1,58 +1,62 @@
 -- The command of a line.
-use Rattle.std.specs.Prelude.{ℕ, ◌==◌, nat_lt, List, [], ◌∷◌, length, codes, slice_index, Option, Some, None, Result, Ok, Err, if◌then◌else◌}
+use Rattle.std.specs.Prelude.{ℕ, ◌==◌, nat_lt, List, [], ◌∷◌, length, slice_index, Option, Some, None, Result, Ok, Err, if◌then◌else◌}
 use Rattle.xw_commands.specs.declared.command.Command.{Command}
 use Rattle.xw_commands.specs.declared.command.Command.TheVariants.{Size, Symmetry, Add, Strike, Match, Set, Clear, Place, Erase, Block, Bar, Clue, Write, Circle, Circles, Show, Lights, Words, Choices, Letters, Tally, Duplicates, Unlisted, Unmatched, Suggest, Why, Fill, Autofill, Watch, Tell, Put}
+use Rattle.xw_commands.specs.declared.command.Name.TheVariants as names
+use Rattle.xw_commands.specs.declared.command.WithWord.TheVariants as with_word
+use Rattle.xw_commands.specs.declared.command.WithCell.TheVariants as with_cell
+use Rattle.xw_commands.specs.declared.command.WithLight.TheVariants as with_light
 use Rattle.xw_commands.specs.declared.command.TextField.TheVariants.{Title, Author, Copyright, Notes}
 use Rattle.xw_commands.specs.declared.command.Report.TheVariants.{Cells, Counts, Texts, Stats, Record}
 use Rattle.xw_commands.specs.declared.command.TextMode.TheVariants.{Instead, Behind}
 use Rattle.xw_commands.specs.declared.command.SyntaxFault.{SyntaxFault}
 use Rattle.xw_commands.specs.declared.command.SyntaxFault.TheVariants as faults
 use Rattle.xw_commands.specs.Line.{without_cr, first_word}
-use Rattle.xw_commands.specs.Names.{field_name, clue_name}
+use Rattle.xw_commands.specs.Name.{word_of}
 use Rattle.xw_commands.specs.Reading.{Reading, ◌>>=◌, given, fault, word, number, number_if_any, number_or_zero, byte, text, symmetry, side, switch, spot, named, lights, field, lookup, is_ended}
 
--- every command word with the reading of its arguments
+-- the word of every command with the reading of its arguments
 abbrev pub commands : List (List ℕ × Reading Command)
 commands =
-    (codes "size", do given (Size (← number) (← number)))
-    ∷ (codes "sym", do given (Symmetry (← symmetry)))
-    ∷ (codes "add", do given (Add (← word)))
-    ∷ (codes "strike", do given (Strike (← word)))
-    ∷ (codes "match", do given (Match (← word)))
-    ∷ (codes "set", do given (Set (← spot) (← byte)))
-    ∷ (codes "clear", do given (Clear (← spot)))
-    ∷ (codes "place", do given (Place (← named) (← word)))
-    ∷ (codes "erase", do given (Erase (← named)))
-    ∷ (codes "block", do given (Block (← spot)))
-    ∷ (codes "bar", do given (Bar (← spot) (← side)))
-    ∷ (clue_name, do given (Clue (← named) (← text)))
-    ∷ (field_name Title, do given (Write Title (← text)))
-    ∷ (field_name Author, do given (Write Author (← text)))
-    ∷ (field_name Copyright, do given (Write Copyright (← text)))
-    ∷ (field_name Notes, do given (Write Notes (← text)))
-    ∷ (codes "circle", do given (Circle (← spot)))
-    ∷ (codes "circles", given Circles)
-    ∷ (codes "show", given Show)
-    ∷ (codes "lights", given Lights)
-    ∷ (codes "words", do given (Words (← named) (← number_if_any)))
-    ∷ (codes "choices", do given (Choices (← named) (← number)))
-    ∷ (codes "letters", do given (Letters (← spot)))
-    ∷ (codes "tally", do given (Tally (← spot)))
-    ∷ (codes "dups", given Duplicates)
-    ∷ (codes "unlisted", given Unlisted)
-    ∷ (codes "unmatched", given Unmatched)
-    ∷ (codes "suggest", given Suggest)
-    ∷ (codes "why", do given (Why (← named)))
-    ∷ (codes "fill", do given (Fill (← number)))
-    ∷ (codes "autofill", do given (Autofill (← number) (← number_or_zero) (← lights)))
-    ∷ (codes "watch", do given (Watch (← switch)))
-    ∷ (codes "cells", given (Tell Cells))
-    ∷ (codes "counts", given (Tell Counts))
-    ∷ (codes "texts", given (Tell Texts))
-    ∷ (codes "stats", given (Tell Stats))
-    ∷ (codes "record", given (Tell Record))
-    ∷ (codes "text", do given (Put Instead (← field) (← text)))
-    ∷ (codes "more", do given (Put Behind (← field) (← text)))
+    (word_of names.Size, do given (Size (← number) (← number)))
+    ∷ (word_of names.Symmetry, do given (Symmetry (← symmetry)))
+    ∷ (word_of (names.Word with_word.Add), do given (Add (← word)))
+    ∷ (word_of (names.Word with_word.Strike), do given (Strike (← word)))
+    ∷ (word_of (names.Word with_word.Match), do given (Match (← word)))
+    ∷ (word_of (names.Cell with_cell.Set), do given (Set (← spot) (← byte)))
+    ∷ (word_of (names.Cell with_cell.Clear), do given (Clear (← spot)))
+    ∷ (word_of (names.Light with_light.Place), do given (Place (← named) (← word)))
+    ∷ (word_of (names.Light with_light.Erase), do given (Erase (← named)))
+    ∷ (word_of (names.Cell with_cell.Block), do given (Block (← spot)))
+    ∷ (word_of (names.Cell with_cell.Bar), do given (Bar (← spot) (← side)))
+    ∷ (word_of (names.Light with_light.Clue), do given (Clue (← named) (← text)))
+    ∷ (word_of (names.Text Title), do given (Write Title (← text)))
+    ∷ (word_of (names.Text Author), do given (Write Author (← text)))
+    ∷ (word_of (names.Text Copyright), do given (Write Copyright (← text)))
+    ∷ (word_of (names.Text Notes), do given (Write Notes (← text)))
+    ∷ (word_of (names.Cell with_cell.Circle), do given (Circle (← spot)))
+    ∷ (word_of names.Circles, given Circles)
+    ∷ (word_of names.Show, given Show)
+    ∷ (word_of names.Lights, given Lights)
+    ∷ (word_of (names.Light with_light.Words), do given (Words (← named) (← number_if_any)))
+    ∷ (word_of (names.Light with_light.Choices), do given (Choices (← named) (← number)))
+    ∷ (word_of (names.Cell with_cell.Letters), do given (Letters (← spot)))
+    ∷ (word_of (names.Cell with_cell.Tally), do given (Tally (← spot)))
+    ∷ (word_of names.Duplicates, given Duplicates)
+    ∷ (word_of names.Unlisted, given Unlisted)
+    ∷ (word_of names.Unmatched, given Unmatched)
+    ∷ (word_of names.Suggest, given Suggest)
+    ∷ (word_of (names.Light with_light.Why), do given (Why (← named)))
+    ∷ (word_of names.Fill, do given (Fill (← number)))
+    ∷ (word_of names.Autofill, do given (Autofill (← number) (← number_or_zero) (← lights)))
+    ∷ (word_of names.Watch, do given (Watch (← switch)))
+    ∷ (word_of (names.Tell Cells), given (Tell Cells))
+    ∷ (word_of (names.Tell Counts), given (Tell Counts))
+    ∷ (word_of (names.Tell Texts), given (Tell Texts))
+    ∷ (word_of (names.Tell Stats), given (Tell Stats))
+    ∷ (word_of (names.Tell Record), given (Tell Record))
+    ∷ (word_of (names.Put Instead), do given (Put Instead (← field) (← text)))
+    ∷ (word_of (names.Put Behind), do given (Put Behind (← field) (← text)))
     ∷ []
 
 abbrev arguments_of : Option (Reading Command) → Reading Command

@@ -1,5 +1,5 @@
 //! Splits a line into words.
-ghost use Rattle.std.specs.Prelude.{◌≡◌, ◌+◌, ◌*◌, ◌^◌, ◌<◌, ◌≤◌, true, length, map, reverse, position, bytes_eq, Some, None};
+ghost use Rattle.std.specs.Prelude.{◌≡◌, ◌+◌, ◌*◌, ◌^◌, ◌<◌, ◌≤◌, true, length, reverse, position, bytes_eq, Some, None};
 ghost use Rattle.std.specs.Option.{option_map};
 ghost use Rattle.std.specs.List.{list_all};
 ghost use Rattle.std.specs.Str.Parse.{digits_value};
@@ -24,18 +24,6 @@ fn is(word: &[u8], name: &str) -> bool
     ensures { result ≡ bytes_eq word.now name.now }
 {
     word == name.as_bytes()
-}
-
-/// Returns the value of the table's first row with this word.
-pub fn lookup<T: Copy>(table: &[(&str, T)], word: &[u8]) -> Option<T>
-    ensures { result ≡ lookup_in (map (λ row. (row.0.now, row.1)) table.now) word.now }
-{
-    for (name, value) in table {
-        if is(word, name) {
-            return Some(*value);
-        }
-    }
-    None
 }
 
 /// Returns the first of these values that has this word.

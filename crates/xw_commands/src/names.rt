@@ -1,5 +1,6 @@
-//! The words for the values of arguments. Lines of commands, answers and records spell them alike.
-use crate::command::{TextField, TextMode};
+//! The words of the commands and of the values of their arguments. Lines of commands, answers and records spell them
+//! alike.
+use crate::command::{Name, Report, TextField, TextMode, WithCell, WithLight, WithWord};
 use xw_grid::{Direction, Side, Symmetry};
 
 /// The directions.
@@ -126,6 +127,79 @@ impl Named for Option<TextField> {
 }
 
 /// The name of the command.
+impl Named for WithWord {
+    ghost use Rattle.xw_commands.specs.Name.{word_of};
+    ghost use Rattle.xw_commands.specs.declared.command.Name.TheVariants as commands;
+
+    ghost name = { λ name. word_of (commands.Word name) };
+
+    fn name(self) -> &'static str {
+        match self {
+            WithWord::Add => "add",
+            WithWord::Strike => "strike",
+            WithWord::Match => "match",
+        }
+    }
+}
+
+/// The name of the command.
+impl Named for WithCell {
+    ghost use Rattle.xw_commands.specs.Name.{word_of};
+    ghost use Rattle.xw_commands.specs.declared.command.Name.TheVariants as commands;
+
+    ghost name = { λ name. word_of (commands.Cell name) };
+
+    fn name(self) -> &'static str {
+        match self {
+            WithCell::Set => "set",
+            WithCell::Clear => "clear",
+            WithCell::Block => "block",
+            WithCell::Bar => "bar",
+            WithCell::Circle => "circle",
+            WithCell::Letters => "letters",
+            WithCell::Tally => "tally",
+        }
+    }
+}
+
+/// The name of the command.
+impl Named for WithLight {
+    ghost use Rattle.xw_commands.specs.Name.{word_of};
+    ghost use Rattle.xw_commands.specs.declared.command.Name.TheVariants as commands;
+
+    ghost name = { λ name. word_of (commands.Light name) };
+
+    fn name(self) -> &'static str {
+        match self {
+            WithLight::Place => "place",
+            WithLight::Erase => "erase",
+            WithLight::Clue => CLUE,
+            WithLight::Words => "words",
+            WithLight::Choices => "choices",
+            WithLight::Why => "why",
+        }
+    }
+}
+
+/// The name of the command.
+impl Named for Report {
+    ghost use Rattle.xw_commands.specs.Name.{word_of};
+    ghost use Rattle.xw_commands.specs.declared.command.Name.TheVariants as commands;
+
+    ghost name = { λ report. word_of (commands.Tell report) };
+
+    fn name(self) -> &'static str {
+        match self {
+            Report::Cells => "cells",
+            Report::Counts => "counts",
+            Report::Texts => "texts",
+            Report::Stats => "stats",
+            Report::Record => "record",
+        }
+    }
+}
+
+/// The name of the command.
 impl Named for TextMode {
     ghost use Rattle.xw_commands.specs.Name.{word_of};
     ghost use Rattle.xw_commands.specs.declared.command.Name.TheVariants as commands;
@@ -136,6 +210,35 @@ impl Named for TextMode {
         match self {
             TextMode::Instead => "text",
             TextMode::Behind => "more",
+        }
+    }
+}
+
+impl Named for Name {
+    ghost use Rattle.xw_commands.specs.Name.{word_of};
+
+    ghost name = { word_of };
+
+    fn name(self) -> &'static str {
+        match self {
+            Name::Size => "size",
+            Name::Symmetry => "sym",
+            Name::Word(name) => name.name(),
+            Name::Cell(name) => name.name(),
+            Name::Light(name) => name.name(),
+            Name::Text(field) => field.name(),
+            Name::Circles => "circles",
+            Name::Show => "show",
+            Name::Lights => "lights",
+            Name::Duplicates => "dups",
+            Name::Unlisted => "unlisted",
+            Name::Unmatched => "unmatched",
+            Name::Suggest => "suggest",
+            Name::Fill => "fill",
+            Name::Autofill => "autofill",
+            Name::Watch => "watch",
+            Name::Tell(report) => report.name(),
+            Name::Put(mode) => mode.name(),
         }
     }
 }
