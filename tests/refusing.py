@@ -241,10 +241,11 @@ def without_memory(before, typed, output):
 
 class Call:
     """A call of the program on some input, and what it comes to where memory is ample. It may write `files`, which have these bytes before
-    it, or are absent where they are None."""
+    it, or are absent where they are None. If it ends early, the file of `journal`, if there is one, may also hold its lines so far: one of
+    these texts."""
 
-    def __init__(self, room, program, words, lines, files):
-        self.room, self.words, self.lines, self.files = room, words, lines, files
+    def __init__(self, room, program, words, lines, files, journal):
+        self.room, self.words, self.lines, self.files, self.journal = room, words, lines, files, journal
         self.known = {}
         self.program = Stopped(room, program, words.split())
         self.ample = self.wanted()
@@ -305,14 +306,14 @@ class Call:
         if output:
             compare(what + "other answers", [it for it in answers_of(output) if it != REFUSAL], answers_of(ample[1]))
         for name, data in left.items():
-            assert data in (ample[3][name], self.files[name]), f"{what}{name} holds {data!r}"
+            assert data in (ample[3][name], self.files[name], *self.journal.get(name, ())), f"{what}{name} holds {data!r}"
 
 
-def each_call(words, lines=(), files={}):
+def each_call(words, lines=(), files={}, journal={}):
     """Refuses the allocations of a call of the program, from its start to its end: each one alone, and each one with all that follow."""
 
     def step(room, program):
-        call = Call(room, program, words, lines, files)
+        call = Call(room, program, words, lines, files, journal)
         for number in range(1, call.count + 1):
             call.try_refused(number, number)
             call.try_refused(number, ALL)

@@ -43,13 +43,15 @@ EDIT_HELP = (
 Usage: xw edit [OPTIONS]
 
 Options:
-      --dict <FILE>    The word list to start with, a word a line
-      --from <FILE>    The puzzle to start with, .puz or text [default: 15 by 15 cells, all empty]
-      --resume <FILE>  Commands to do first, without answers, as --save wrote them
-      --to <FILE>      Where to write the puzzle at the end, as .puz if it is called so, else as text
-      --save <FILE>    Where to write the session at the end, as commands for --resume
-      --explain        Tell where a fault of a file is, in one more line
-  -h, --help           Print help
+      --dict <FILE>     The word list to start with, a word a line
+      --from <FILE>     The puzzle to start with, .puz or text [default: 15 by 15 cells, all empty]
+      --resume <FILE>   Commands to do first, without answers, as --save wrote them
+      --to <FILE>       Where to write the puzzle at the end, as .puz if it is called so, else as text
+      --save <FILE>     Where to write the session at the end, as commands for --resume
+      --journal <FILE>  Where to keep each change before its answer, and what to go on from
+      --sync            Bring each line of the journal to the device before its answer
+      --explain         Tell where a fault of a file is, in one more line
+  -h, --help            Print help
 """
     + EXAMPLE
 )
@@ -135,13 +137,19 @@ WRONG = {
     "edit --resume": valueless("--resume"),
     "edit --to": valueless("--to"),
     "edit --save": valueless("--save"),
+    "edit --journal": valueless("--journal"),
     "edit --dict a --dict b": twice("--dict <FILE>"),
     "edit --from a --from b": twice("--from <FILE>"),
     "edit --resume a --resume b": twice("--resume <FILE>"),
     "edit --to a --to b": twice("--to <FILE>"),
     "edit --save a --save b": twice("--save <FILE>"),
+    "edit --journal a --journal b": twice("--journal <FILE>"),
+    "edit --journal a --sync --sync": twice("--sync"),
     "edit --explain --explain": twice("--explain"),
     "edit --from a --resume b": b"xw: --from and --resume cannot be given together\n",
+    "edit --journal a --resume b": b"xw: --journal cannot be given with --from or --resume\n",
+    "edit --journal a --from b --sync": b"xw: --journal cannot be given with --from or --resume\n",
+    "edit --sync": b"xw: --sync needs --journal\n",
     "convert": missing(["<FROM>", "<TO>"], "convert <FROM> <TO>"),
     "convert a": missing(["<TO>"], "convert <FROM> <TO>"),
     "convert a b c": extra("c", "convert [OPTIONS] <FROM> <TO>"),

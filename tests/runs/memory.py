@@ -1,4 +1,5 @@
 """Every allocation of the program refused in turn: in each command, each option, and each file that is read or written."""
+import fcntl
 import pathlib
 import re
 
@@ -233,6 +234,24 @@ CALLS = {
     "the_list_to_write": ("edit --dict few --to few", [], {}),
 }
 
+# Lines of a journal, and those that it is given; each is done without memory.
+BEGUN_JOURNAL = b"add AT\nadd SO\nsize 2 1\nset 9 9 A\n"
+TYPED = [b"set 1 1 S", b"show", b"strike AT"]
+GROWN_JOURNAL = BEGUN_JOURNAL + b"set 1 1 S\nstrike AT\n"
+
+# The same with a journal: what it may hold besides its old lines and those of the whole session.
+JOURNALED = {
+    "a_new_journal": ("edit --dict few --journal new.xw", [b"watch on", b"show"], {"new.xw": None}, {"new.xw": (b"", b"watch on\n")}),
+    "a_journal": ("edit --journal new.xw --sync", TYPED, {"new.xw": BEGUN_JOURNAL}, {"new.xw": (GROWN_JOURNAL,)}),
+    "a_cut_journal": ("edit --journal new.xw", TYPED, {"new.xw": BEGUN_JOURNAL + b"add"}, {"new.xw": (BEGUN_JOURNAL, GROWN_JOURNAL)}),
+    "a_journal_with_a_line_that_is_no_command": ("edit --journal broken.xw", [b"record"], {}, {}),
+    "a_journal_that_is_a_folder": ("edit --journal .", [b"record"], {}, {}),
+    "a_journal_that_is_the_list": ("edit --dict few --journal few", [], {}, {}),
+    "a_journal_and_a_start": ("edit --resume mine.xw --journal new.xw", [], {"new.xw": None}, {}),
+    "sync_alone": ("edit --sync", [], {}, {}),
+    "a_journal_and_a_puzzle": ("edit --journal new.xw --save new.too --to new.txt", [b"watch on"], {"new.xw": None, "new.too": None, **NEW_TEXT}, {"new.xw": (b"", b"watch on\n")}),
+}
+
 
 def has_each_of_the_manual(room, program):
     """Each command and each option of the manual is in a session or in a call above."""
@@ -241,7 +260,7 @@ def has_each_of_the_manual(room, program):
     commands = {part.split()[0] for heading in headings for part in heading.split(", ")}
     options = set(re.findall(r"--[a-z]+", manual.split("\n\n")[1])) | {"--help"}
     typed = {line.split()[0].decode() for _, typed in SESSIONS.values() for line in typed if line.split()}
-    called = {word for words, _, _ in CALLS.values() for word in words.split()}
+    called = {word for words, *_ in [*CALLS.values(), *JOURNALED.values()] for word in words.split()}
     missing = (commands - typed) | (options - called)
     assert len(commands) > 30 and len(options) > 6 and not missing, f"no case has {missing}"
 
@@ -261,10 +280,24 @@ IN_THE_SQUARE = [b"!" + line for line in WITHOUT_MEMORY] + [b"add OX", b"clear 1
 
 PLACED = [write(name, data) for name, data in FILES.items()]
 
+
+def while_locked(name, step):
+    """Does a step while this process has a file locked."""
+
+    def locked(room, program):
+        with open(room / name, "rb") as file:
+            fcntl.flock(file, fcntl.LOCK_EX)
+            step(room, program)
+
+    return locked
+
+
 CASES = {
     "each_of_the_manual": [has_each_of_the_manual],
     "square_without_memory": [without_memory(lines("\n".join(SQUARE)), list(WITHOUT_MEMORY), b"".join(WITHOUT_MEMORY.values()))],
     "square_refused_line_by_line": [each_line("edit", lines("\n".join(SQUARE)) + IN_THE_SQUARE)],
     **{f"refused_in_{name}": [*PLACED, each_line(words, typed)] for name, (words, typed) in SESSIONS.items()},
     **{f"refused_in_{name}": [*PLACED, each_call(words, typed, files)] for name, (words, typed, files) in CALLS.items()},
+    **{f"refused_in_{name}": [*PLACED, each_call(*call)] for name, call in JOURNALED.items()},
+    "refused_in_a_journal_in_use": [*PLACED, while_locked("mine.xw", each_call("edit --journal mine.xw", [b"record"]))],
 }

@@ -1,6 +1,6 @@
 -- The parsed subcommand.
 use Rattle.std.proofs.Common.{◌≡◌, ◌∙◌, ◌⊎◌, inl, inr, [], sym, ap, refl, arith, codes, subst, slice_index_or, List, Option, Some, None}
-use Rattle.std.specs.Prelude.{Bool, true, false, ◌&&◌, is_some, option_map}
+use Rattle.std.specs.Prelude.{Bool, true, false, is_some, option_map}
 use Rattle.std.specs.Borrow.{Bor}
 use Rattle.std.specs.Option.{option_map_or}
 use Rattle.clap.specs.Words.{Row, Text, first_of, subcommand_name_of, subcommand_rows_of}
@@ -8,8 +8,9 @@ use Rattle.clap.specs.Simple.{subcommand_rows}
 use Rattle.clap.specs.declared.parser.matches.ArgMatches.{ArgMatches}
 use Rattle.clap.specs.declared.parser.matches.ArgMatches.TheViews.{out-ArgMatches, out-SubCommand}
 use Rattle.std.specs.Box.{box_value}
-use Rattle.xw_cli.specs.Calls.{AreFiles, IsNameOf}
+use Rattle.xw_cli.specs.Calls.{AreFiles, clash_in}
 use Rattle.xw_cli.specs.Usage.{IsNoCall}
+use Rattle.xw_cli.specs.declared.arguments.Clash.{Clash}
 use Rattle.xw_cli.specs.declared.arguments.SessionFiles.{SessionFiles}
 use Rattle.xw_cli.specs.declared.arguments.Call.TheVariants.{Edit, Convert, Check}
 
@@ -76,34 +77,21 @@ no_edit found rows named none (Check file explain) call =
     let names : codes "edit" ≡ codes "check" = ap name_in (sym named ∙ call.1) in
     let bad : 101 ≡ 99 = ap (λ (t : Text). slice_index_or t 0 0) names in absurd (omega (arith, bad))
 
--- ---- the start of a session
+-- ---- options that do not go together
 
-none_there : (found : Option (Bor Text)) → is_some found ≡ false → found ≡ None
+-- an option is given if it has a value
+pub given : (found : Option (Bor Text)) (value : Option Text) (is : Bool) → option_map (λ n. n.now) found ≡ value → is ≡ is_some found → is ≡ is_some value
+given None value is same is_so = is_so ∙ ap (λ (o : Option Text). is_some o) same
+given (Some text) value is same is_so = is_so ∙ ap (λ (o : Option Text). is_some o) same
+
+none_there : (found : Option Clash) → is_some found ≡ false → found ≡ None
 none_there None h = refl
-none_there (Some text) h = cc
+none_there (Some clash) h = cc
 
-same_none : (found name : Option (Bor Text)) → option_map (λ n. n.now) found ≡ option_map (λ n. n.now) name → name ≡ None → is_some found ≡ false
-same_none None name same none = refl
-same_none (Some text) name same none = let bad : Some text.now ≡ None = same ∙ ap (option_map (λ (n : Bor Text). n.now)) none in cc
+pub fits : (rows : List Row) (found : Option Clash) (is : Bool) → found ≡ clash_in rows → is ≡ is_some found → is ≡ false → clash_in rows ≡ None
+fits rows found is found_so is_so not = sym found_so ∙ none_there found (sym is_so ∙ not)
 
--- at most one of the two options is given
-pub starts_once : (one other : Option (Bor Text)) (twice : Bool) → twice ≡ (is_some one && is_some other) → twice ≡ false → (one ≡ None) ⊎ (other ≡ None)
-starts_once None other twice is not_twice = inl refl
-starts_once (Some text) other twice is not_twice = inr (none_there other (sym is ∙ not_twice))
-
--- if both options are given, no files of a session exist
-pub starts_never : (one other : Option (Bor Text)) (rows : List Row) (twice : Bool) → IsNameOf (codes "from") rows one → IsNameOf (codes "resume") rows other
-    → twice ≡ (is_some one && is_some other) → twice ≡ true → (files : SessionFiles) → AreFiles files rows → ⊥
-starts_never one other rows twice from resume is both files are = elim are.starts [
-  | inl none ↦
-      let gone = same_none one files.from_file (from ∙ sym are.from_file) none in
-      let bad : true ≡ false = sym both ∙ is ∙ ap (λ (b : Bool). b && is_some other) gone in cc
-  | inr none ↦
-      let gone = same_none other files.resume_file (resume ∙ sym are.resume_file) none in
-      let bad : true ≡ (is_some one && false) = sym both ∙ is ∙ ap (λ (b : Bool). is_some one && b) gone in
-      never (is_some one) bad
-]
-  where
-    never : (b : Bool) → true ≡ (b && false) → ⊥
-    never true h = cc
-    never false h = cc
+-- if two options clash, no files of a session exist
+pub fits_not : (rows : List Row) (found : Option Clash) (is : Bool) → found ≡ clash_in rows → is ≡ is_some found → is ≡ true → (files : SessionFiles) → AreFiles files rows → ⊥
+fits_not rows found is found_so is_so so files are =
+    let bad : true ≡ false = sym so ∙ is_so ∙ ap (λ (o : Option Clash). is_some o) (found_so ∙ are.fits) in cc

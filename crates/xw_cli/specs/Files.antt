@@ -32,6 +32,11 @@ abbrev pub IsCannotWrite : List ℕ → Failure → Type 0
 IsCannotWrite name (failures.CannotWrite file) = file.bytes.items ≡ name
 IsCannotWrite name other = ⊥
 
+-- another program has the file with this name open
+abbrev pub IsInUse : List ℕ → Failure → Type 0
+IsInUse name (failures.InUse file) = file.bytes.items ≡ name
+IsInUse name other = ⊥
+
 -- the file with this name has the fault with this name, at this place if one is told
 abbrev pub IsFileFault : List ℕ → List ℕ → Option Place → Failure → Type 0
 IsFileFault name fault None (failures.File file told) = (file.bytes.items ≡ name) × (told.now ≡ fault)
@@ -114,7 +119,25 @@ IsTwoTexts name other = ⊥
 abbrev pub IsOverList : Option (Bor (List ℕ)) → Option (Bor (List ℕ)) → Failure → Type 0
 IsOverList dict written failure = IfNamed dict (λ _. IfNamed written (λ name. IsOneFile name failure))
 
--- The word list is named for the puzzle or for the record, or one file for both.
-abbrev pub IsNotApart : SessionFiles → Failure → Type 0
-IsNotApart files failure =
+-- this file is named for the journal and by another option
+abbrev pub IsSharedJournal : List ℕ → Failure → Type 0
+IsSharedJournal name (failures.SharedJournal file) = file.bytes.items ≡ name
+IsSharedJournal name other = ⊥
+
+-- the journal is the other file
+abbrev pub IsOverJournal : Option (Bor (List ℕ)) → Option (Bor (List ℕ)) → Failure → Type 0
+IsOverJournal journal other failure = IfNamed journal (λ name. IfNamed other (λ _. IsSharedJournal name failure))
+
+-- the word list is named for the puzzle or for the record, or one file for both
+abbrev pub AreTextsNotApart : SessionFiles → Failure → Type 0
+AreTextsNotApart files failure =
     (failure ≡ failures.Memory) ⊎ (IsOverList files.dict files.to_file failure ⊎ (IsOverList files.dict files.save_file failure ⊎ IfNamed files.to_file (λ _. IfNamed files.save_file (λ name. IsTwoTexts name failure))))
+
+-- the journal is the word list, or is named for the puzzle or for the record
+abbrev pub IsJournalNotApart : SessionFiles → Failure → Type 0
+IsJournalNotApart files failure =
+    (failure ≡ failures.Memory) ⊎ (IsOverJournal files.journal_file files.dict failure ⊎ (IsOverJournal files.journal_file files.to_file failure ⊎ IsOverJournal files.journal_file files.save_file failure))
+
+-- two files that must differ are one
+abbrev pub IsNotApart : SessionFiles → Failure → Type 0
+IsNotApart files failure = AreTextsNotApart files failure ⊎ IsJournalNotApart files failure

@@ -7,4 +7,5 @@ pub mod Places
 pub mod Explained
 pub mod Files
 pub mod SessionFiles
+pub mod Journals
 pub mod Performed

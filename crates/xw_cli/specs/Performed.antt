@@ -13,6 +13,8 @@ use Rattle.xw_lines.specs.Cut.{lines_of}
 use Rattle.xw_lines.specs.Device.{flushed, saturated}
 use Rattle.xw_lines.specs.Run.{Speaks}
 use Rattle.xw_lines.specs.declared.outcome.RunEnd.TheVariants.{Done}
+use Rattle.xw_lines.specs.declared.outcome.Step.{Step}
+use Rattle.xw_journal.specs.Journal.{AnswersJournaled, JournaledState}
 use Rattle.xw_session.specs.Answer.{Answers}
 use Rattle.xw_session.specs.Opening.{empty_puzzle, opened_on, puzzle_of}
 use Rattle.xw_session.specs.Resuming.{Resumes}
@@ -27,7 +29,8 @@ use Rattle.xw_cli.specs.declared.failure.Failure.TheVariants as failures
 use Rattle.xw_cli.specs.declared.failure.Status.{Status}
 use Rattle.xw_cli.specs.declared.failure.Status.TheVariants.{Accepted}
 use Rattle.xw_cli.specs.Explained.{IsTold}
-use Rattle.xw_cli.specs.Files.{AreBytesFor, IfNamed, IsCannotRead, IsLineFault, IsNotApart, IsUnread, IsUnwritten}
+use Rattle.xw_cli.specs.Files.{AreBytesFor, IfNamed, IsCannotRead, IsCannotWrite, IsLineFault, IsNotApart, IsUnread, IsUnwritten}
+use Rattle.xw_cli.specs.Journals.{HasReplayed, IsUnreplayed}
 use Rattle.xw_cli.specs.SessionFiles.{IsUnloaded, IsUnsaved}
 use Rattle.xw_cli.specs.Status.{run_ended}
 
@@ -111,7 +114,7 @@ IsKept (Some file) puzzle = (bytes : List ℕ) × AreBytesFor file.now puzzle by
 
 -- The lines of the input are answered, each by the session in the state that the lines before it leave, and the status
 -- is that of the end of the run.
-pub record AreAnswered (before : ℕ) (start left : State) (status : Status) (read_old read_new told_old told_new : List ℕ) : Type 0 where
+pub record AreAnswered {S : Type 0} (Answers : S → List ℕ → Step → List ℕ → S → Type 0) (before : ℕ) (start left : S) (status : Status) (read_old read_new told_old told_new : List ℕ) : Type 0 where
   pub text : List ℕ
   pub read : read_new ≡ read_old ++ text
   pub refused : ℕ
@@ -125,14 +128,29 @@ pub record IsRun (files : SessionFiles) (opened : State) (status : Status) (read
   pub resumed : State
   pub has_resumed : HasResumed files.resume_file opened before resumed
   pub left : State
-  pub answers : AreAnswered before resumed left status read_old read_new told_old told_new
+  pub answers : AreAnswered Answers before resumed left status read_old read_new told_old told_new
   pub kept : IsKept files.to_file (puzzle_of left)
+
+-- From its first state a session replays the journal with this name and answers the input, with each change in the journal before its
+-- answer is finished, and its puzzle is written if a file for it is named.
+pub record IsJournaled (name : List ℕ) (files : SessionFiles) (opened : State) (status : Status) (read_old read_new told_old told_new : List ℕ) : Type 0 where
+  pub before : ℕ
+  pub replayed : State
+  pub has_replayed : HasReplayed name opened before replayed
+  pub left : JournaledState
+  pub answers : AreAnswered AnswersJournaled before (record { state = replayed; journal = []; failures = 0; cause = None }) left status read_old read_new told_old told_new
+  pub kept : IsKept files.to_file (puzzle_of left.state)
+
+-- what a session does from its first state, with or without a journal
+abbrev pub IsRunWith : Option (Bor (List ℕ)) → SessionFiles → State → Status → List ℕ → List ℕ → List ℕ → List ℕ → Type 0
+IsRunWith None files opened status read_old read_new told_old told_new = IsRun files opened status read_old read_new told_old told_new
+IsRunWith (Some file) files opened status read_old read_new told_old told_new = IsJournaled file.now files opened status read_old read_new told_old told_new
 
 -- a session is opened with the files that are named, and run
 pub record IsEdited (files : SessionFiles) (status : Status) (read_old read_new told_old told_new : List ℕ) : Type 0 where
   pub opened : State
   pub is_opened : IsOpened files opened
-  pub is_run : IsRun files opened status read_old read_new told_old told_new
+  pub is_run : IsRunWith files.journal_file files opened status read_old read_new told_old told_new
 
 -- why a session is not opened
 abbrev pub IsUnopened : SessionFiles → Bool → Failure → Type 0
@@ -148,15 +166,25 @@ IsUnanswered failure = (failure ≡ failures.Memory) ⊎ ((failure ≡ failures.
 
 -- why the files of a session are not written
 abbrev pub IsUnclosed : SessionFiles → Bool → Failure → Type 0
-IsUnclosed files explain failure = (failure ≡ failures.Memory) ⊎ (IfNamed files.save_file (λ name. IsUnsaved name failure) ⊎ IfNamed files.to_file (λ name. (puzzle : PuzzleShown) × IsUnwritten name explain puzzle failure))
+IsUnclosed files explain failure =
+    (failure ≡ failures.Memory) ⊎ (IfNamed files.save_file (λ name. IsUnsaved name failure) ⊎ (IfNamed files.journal_file (λ name. IsUnsaved name failure) ⊎ IfNamed files.to_file (λ name. (puzzle : PuzzleShown) × IsUnwritten name explain puzzle failure)))
 
 -- why an opened session is not run to its end
 abbrev pub IsCut : SessionFiles → Bool → Failure → Type 0
 IsCut files explain failure = IfNamed files.resume_file (λ name. IsUnresumed name failure) ⊎ (IsUnanswered failure ⊎ IsUnclosed files explain failure)
 
+-- why an opened session is not run to its end with the journal of this name
+abbrev pub IsCutJournal : List ℕ → SessionFiles → Bool → Failure → Type 0
+IsCutJournal name files explain failure = IsUnreplayed name failure ⊎ (IsUnanswered failure ⊎ (IsCannotWrite name failure ⊎ IsUnclosed files explain failure))
+
+-- why an opened session is not run to its end, with or without a journal
+abbrev pub IsCutWith : Option (Bor (List ℕ)) → SessionFiles → Bool → Failure → Type 0
+IsCutWith None files explain failure = IsCut files explain failure
+IsCutWith (Some file) files explain failure = IsCutJournal file.now files explain failure
+
 -- why a session is not opened and run to its end
 abbrev pub IsUnedited : SessionFiles → Bool → Failure → Type 0
-IsUnedited files explain failure = IsNotApart files failure ⊎ (IsUnopened files explain failure ⊎ IsCut files explain failure)
+IsUnedited files explain failure = IsNotApart files failure ⊎ (IsUnopened files explain failure ⊎ IsCutWith files.journal_file files explain failure)
 
 -- ---- any call
 

@@ -8,15 +8,19 @@ use Rattle.clap.specs.declared.builder.action.ArgAction.TheVariants.{SetTrue}
 abbrev pub option : Text → Rule
 option name = record (new_rule name) { long = Some name; value_names = 1 }
 
--- the flag `--explain`
+-- an option without a value, `--NAME`
+abbrev pub flag : Text → Rule
+flag name = record (new_rule name) { long = Some name; action = Some SetTrue }
+
 abbrev pub explain : Rule
-explain = record (new_rule (codes "explain")) { long = Some (codes "explain"); action = Some SetTrue }
+explain = flag (codes "explain")
 
 -- a required operand that is a file
 abbrev pub operand : Text → Rule
 operand name = record (new_rule name) { value_names = 1; required = true }
 
--- `edit` built up in steps: word list and puzzle to start with, commands to start with, files to write, `--explain`
+-- `edit` built up in steps: word list and puzzle to start with, commands to start with, files to write
+-- at the end, the journal, `--explain`
 abbrev pub opened : App
 opened = with_rule (with_rule (new_app (codes "edit")) (option (codes "dict"))) (option (codes "from"))
 
@@ -26,8 +30,11 @@ begun = with_rule opened (option (codes "resume"))
 abbrev pub kept : App
 kept = with_rule (with_rule begun (option (codes "to"))) (option (codes "save"))
 
+abbrev pub journaled : App
+journaled = with_rule (with_rule kept (option (codes "journal"))) (flag (codes "sync"))
+
 abbrev pub edit : App
-edit = with_rule kept explain
+edit = with_rule journaled explain
 
 -- `convert` built up in steps: input, output, `--explain`
 abbrev pub reading : App

@@ -5,7 +5,7 @@ use Rattle.xw_cli.specs.declared.failure.Status.TheVariants.{Accepted, Refused, 
 use Rattle.xw_cli.specs.declared.failure.Failure.{Failure}
 use Rattle.xw_cli.specs.declared.failure.Failure.TheVariants as failures
 use Rattle.xw_lines.specs.declared.outcome.RunEnd.{RunEnd}
-use Rattle.xw_lines.specs.declared.outcome.RunEnd.TheVariants.{Done, ReadFailed, WriteFailed, Endless, Memory}
+use Rattle.xw_lines.specs.declared.outcome.RunEnd.TheVariants.{Done, ReadFailed, WriteFailed, Stopped, Endless, Memory}
 
 abbrev pub code_of : Status → ℕ
 code_of Accepted = 0
@@ -21,11 +21,13 @@ status_of failures.Output = Failed
 status_of failures.Memory = Failed
 status_of (failures.CannotRead file) = Failed
 status_of (failures.CannotWrite file) = Failed
+status_of (failures.InUse file) = Failed
 status_of (failures.File file name) = Format
 status_of (failures.Placed file name place) = Format
 status_of (failures.Line file number name) = Format
 status_of (failures.OneFile file) = Usage
 status_of (failures.TwoTexts file) = Usage
+status_of (failures.SharedJournal file) = Usage
 
 -- the outcome of answering commands; `before` is the number of lines refused earlier
 abbrev pub run_ended : ℕ → RunEnd → Result Status Failure
@@ -33,4 +35,5 @@ run_ended before (Done refused) = if before + refused == 0 then Ok Accepted else
 run_ended before ReadFailed = Err failures.Input
 run_ended before Endless = Err failures.Input
 run_ended before WriteFailed = Err failures.Output
+run_ended before Stopped = Err failures.Output
 run_ended before Memory = Err failures.Memory

@@ -1,9 +1,9 @@
 //! The command line of the program: its options, and the call that the arguments describe.
-ghost use Rattle.std.specs.Prelude.{◌≡◌, ◌&&◌, is_some, IfOk, IfErr, OnOk, IfSome, None, Ok, map, false, [], codes};
+ghost use Rattle.std.specs.Prelude.{◌≡◌, is_some, Bool, IfOk, IfErr, OnOk, IfSome, None, Ok, map, false, [], codes};
 ghost use Rattle.clap.specs.Values.{kind_of};
 ghost use Rattle.clap.specs.Words.{AddsSubcommand, app_of, fault_of, first_of, found_of, rows_of, rule_of, subcommand_of, subcommand_rows_of};
 ghost use Rattle.clap.specs.declared.builder.command.Command.TheViews.{out-Command as fields_of};
-ghost use Rattle.xw_cli.specs.Calls.{AreFiles, IsCall, is_set};
+ghost use Rattle.xw_cli.specs.Calls.{AreFiles, IsCall, is_set, clash_in, clash_of};
 ghost use Rattle.xw_cli.specs.Usage.{IsTold, IsNoCall, IsUsageOf};
 ghost use Rattle.xw_cli.specs.Shapes as shapes;
 
@@ -45,10 +45,33 @@ pub struct SessionFiles<'a> {
     pub to_file: Option<&'a str>,
     /// The file for the record at the end.
     pub save_file: Option<&'a str>,
+    /// The journal.
+    pub journal_file: Option<&'a str>,
+    /// Whether each line of the journal is brought to the device before its answer.
+    pub is_synced: bool,
 }
 
-/// The message if both a puzzle and commands are given to start with.
-const TWO_STARTS: &str = "xw: --from and --resume cannot be given together\n";
+/// Options of `edit` that do not go together.
+#[derive(Clone, Copy, Debug, PartialEq, Eq)]
+pub enum Clash {
+    /// A puzzle and commands to start with.
+    TwoStarts,
+    /// A journal, and a puzzle or commands to start with.
+    JournalAndStart,
+    /// `--sync` without a journal.
+    SyncAlone,
+}
+
+impl Clash {
+    /// Returns the message.
+    pub fn message(self) -> &'static str {
+        match self {
+            Clash::TwoStarts => "xw: --from and --resume cannot be given together\n",
+            Clash::JournalAndStart => "xw: --journal cannot be given with --from or --resume\n",
+            Clash::SyncAlone => "xw: --sync needs --journal\n",
+        }
+    }
+}
 
 /// What the program has to do. `explain` asks for the place of a fault in the message.
 #[derive(Clone, Copy, Debug, PartialEq, Eq)]
@@ -90,15 +113,27 @@ fn option<'a>(alloc: Global, name: &'a str, help: &'a str) -> Arg<'a>
         .help(help)
 }
 
+/// Returns an option without a value.
+fn flag<'a>(alloc: Global, name: &'a str, help: &'a str) -> Arg<'a>
+    ensures rule { rule_of result ≡ shapes.flag name.entry.now }
+    ensures local { result.global ≡ false }
+{
+    Arg::new(alloc, name)
+        .long(name)
+        .help(help)
+        .action(ArgAction::SetTrue)
+}
+
 /// Returns the option `--explain`.
 fn explain<'a>(alloc: Global) -> Arg<'a>
     ensures rule { rule_of result ≡ shapes.explain }
     ensures local { result.global ≡ false }
 {
-    Arg::new(alloc, "explain")
-        .long("explain")
-        .help("Tell where a fault of a file is, in one more line")
-        .action(ArgAction::SetTrue)
+    flag(
+        alloc,
+        "explain",
+        "Tell where a fault of a file is, in one more line",
+    )
 }
 
 /// Returns a required operand that is a file.
@@ -140,7 +175,7 @@ fn begun<'a>(alloc: Global) -> Result<Command<'a>, AllocError>
     ))
 }
 
-/// Returns `edit` with all options for files.
+/// Returns `edit` with the options for the files it reads, and those for the files it writes at the end.
 fn kept<'a>(alloc: Global) -> Result<Command<'a>, AllocError>
     ensures shape { IfOk result (λ command. app_of command ≡ shapes.kept) }
     ensures local { IfOk result (λ command. (fields_of command).has_globals ≡ false) }
@@ -158,11 +193,29 @@ fn kept<'a>(alloc: Global) -> Result<Command<'a>, AllocError>
         ))
 }
 
+/// Returns `edit` with all options for files.
+fn journaled<'a>(alloc: Global) -> Result<Command<'a>, AllocError>
+    ensures shape { IfOk result (λ command. app_of command ≡ shapes.journaled) }
+    ensures local { IfOk result (λ command. (fields_of command).has_globals ≡ false) }
+{
+    kept(alloc)?
+        .arg(option(
+            alloc,
+            "journal",
+            "Where to keep each change before its answer, and what to go on from",
+        ))?
+        .arg(flag(
+            alloc,
+            "sync",
+            "Bring each line of the journal to the device before its answer",
+        ))
+}
+
 fn edit<'a>(alloc: Global) -> Result<Command<'a>, AllocError>
     ensures shape { IfOk result (λ command. app_of command ≡ shapes.edit) }
     ensures local { IfOk result (λ command. (fields_of command).has_globals ≡ false) }
 {
-    kept(alloc)?.arg(explain(alloc))
+    journaled(alloc)?.arg(explain(alloc))
 }
 
 /// Returns `convert` with its input operand.
@@ -269,34 +322,73 @@ pub fn arguments<'a, S: AsStr>(alloc: Global, words: &'a [S]) -> Result<Call<'a>
     };
     match call_of(&matches) {
         Some(call) => Ok(call),
-        // `clap` reports all other errors.
-        None => Err(Usage::Wrong(String::from_str(alloc, TWO_STARTS)?)),
+        None => Err(Usage::Wrong(String::from_str(alloc, message(&matches))?)),
     }
 }
 
-/// Returns whether a session has two starts: a puzzle and commands.
-fn starts_twice(from_file: Option<&str>, resume_file: Option<&str>) -> bool
-    ensures { result ≡ (is_some from_file.entry && is_some resume_file.entry) }
-{
-    from_file.is_some() && resume_file.is_some()
+/// Returns the message for parsed arguments that are no call: two options do not go together, since `clap` reports all other
+/// errors.
+fn message(matches: &ArgMatches<'_>) -> &'static str {
+    match matches.subcommand() {
+        Some((_, options)) => clash_found(options).unwrap_or(Clash::TwoStarts).message(),
+        None => Clash::TwoStarts.message(),
+    }
 }
 
-/// Returns the files of a session, or `None` if both `--from` and `--resume` are given.
+/// Returns whether an option is given.
+fn is_given(matches: &ArgMatches<'_>, name: &str) -> bool
+    ensures { result ≡ is_some (first_of name.now (rows_of (found_of matches.now))) }
+{
+    matches.get_str(name).is_some()
+}
+
+/// Returns whether an option without a value is given.
+fn is_set(matches: &ArgMatches<'_>, name: &str) -> bool
+    ensures { result ≡ is_set (first_of name.now (rows_of (found_of matches.now))) }
+{
+    match matches.get_str(name) {
+        Some(text) => text == "true",
+        None => false,
+    }
+}
+
+/// Returns the options that do not go together, if there are such, from whether each of these options is given.
+fn clash_among(from: bool, resume: bool, journal: bool, sync: bool) -> Option<Clash>
+    ensures { result ≡ clash_of from resume journal sync }
+{
+    match (from, resume, journal, sync) {
+        (true, true, _, _) => Some(Clash::TwoStarts),
+        (true, false, true, _) | (false, true, true, _) => Some(Clash::JournalAndStart),
+        (_, _, false, true) => Some(Clash::SyncAlone),
+        _ => None,
+    }
+}
+
+/// Returns the options that do not go together, if there are such.
+fn clash_found(matches: &ArgMatches<'_>) -> Option<Clash>
+    ensures { result ≡ clash_in (rows_of (found_of matches.now)) }
+{
+    let (from, resume) = (is_given(matches, "from"), is_given(matches, "resume"));
+    let (journal, sync) = (is_given(matches, "journal"), is_set(matches, "sync"));
+    clash_among(from, resume, journal, sync)
+}
+
+/// Returns the files of a session, or `None` if two options do not go together.
 fn session_files<'a>(matches: &ArgMatches<'a>) -> Option<SessionFiles<'a>>
     ensures files { IfSome result (λ files. AreFiles files (rows_of (found_of matches.now))) }
     ensures none { result ≡ None → (files : SessionFiles) → AreFiles files (rows_of (found_of matches.now)) → ⊥ }
 {
-    let from_file = matches.get_str("from");
-    let resume_file = matches.get_str("resume");
-    if starts_twice(from_file, resume_file) {
+    if clash_found(matches).is_some() {
         return None;
     }
     Some(SessionFiles {
         dict: matches.get_str("dict"),
-        from_file,
-        resume_file,
+        from_file: matches.get_str("from"),
+        resume_file: matches.get_str("resume"),
         to_file: matches.get_str("to"),
         save_file: matches.get_str("save"),
+        journal_file: matches.get_str("journal"),
+        is_synced: is_set(matches, "sync"),
     })
 }
 
@@ -304,13 +396,10 @@ fn session_files<'a>(matches: &ArgMatches<'a>) -> Option<SessionFiles<'a>>
 fn is_explained(matches: &ArgMatches<'_>) -> bool
     ensures { result ≡ is_set (first_of (codes "explain") (rows_of (found_of matches.now))) }
 {
-    match matches.get_str("explain") {
-        Some(text) => text == "true",
-        None => false,
-    }
+    is_set(matches, "explain")
 }
 
-/// Returns the call of the parsed arguments, or `None` if a file is missing or both `--from` and `--resume` are given.
+/// Returns the call of the parsed arguments, or `None` if a file is missing or two options do not go together.
 fn call_of<'a>(matches: &ArgMatches<'a>) -> Option<Call<'a>>
     ensures call { IfSome result (λ call. IsCall call (subcommand_rows_of matches.now)) }
     ensures none { result ≡ None → IsNoCall (subcommand_rows_of matches.now) }

@@ -61,6 +61,10 @@ pub enum Failure {
     CannotWrite {
         file: String,
     },
+    #[error("xw: {file}: in use")]
+    InUse {
+        file: String,
+    },
     #[error("xw: {file}: {name}")]
     File {
         file: String,
@@ -86,6 +90,10 @@ pub enum Failure {
     TwoTexts {
         file: String,
     },
+    #[error("xw: {file}: the journal cannot be another file of the call")]
+    SharedJournal {
+        file: String,
+    },
 }
 
 impl Failure {
@@ -98,6 +106,7 @@ impl Failure {
             Failure::Line { .. } => Status::Format,
             Failure::OneFile { .. } => Status::Usage,
             Failure::TwoTexts { .. } => Status::Usage,
+            Failure::SharedJournal { .. } => Status::Usage,
             _ => Status::Failed,
         }
     }
@@ -114,7 +123,8 @@ impl From<AllocError> for Failure {
     }
 }
 
-/// Returns the outcome of answering commands. `before` is the number of lines refused earlier.
+/// Returns the outcome of answering commands. `before` is the number of lines refused earlier. A run that its line handler stopped
+/// did not finish an answer.
 pub fn run_status(end: RunEnd, before: usize) -> Result<Status, Failure>
     ensures { result ≡ run_ended before end }
 {
@@ -122,7 +132,7 @@ pub fn run_status(end: RunEnd, before: usize) -> Result<Status, Failure>
         RunEnd::Done { refused: 0 } if before == 0 => Ok(Status::Accepted),
         RunEnd::Done { .. } => Ok(Status::Refused),
         RunEnd::ReadFailed | RunEnd::Endless => Err(Failure::Input),
-        RunEnd::WriteFailed => Err(Failure::Output),
+        RunEnd::WriteFailed | RunEnd::Stopped => Err(Failure::Output),
         RunEnd::Memory => Err(Failure::Memory),
     }
 }

@@ -4,7 +4,7 @@ ghost use Rattle.xw_grid.specs.Puzzle.{puzzle_view};
 ghost use Rattle.xw_files.specs.Formats.{IsRead};
 ghost use Rattle.xw_files.specs.FaultNames.{read_fault_name, write_fault_name};
 ghost use Rattle.xw_cli.specs.declared.failure.Failure.TheVariants.{Memory};
-ghost use Rattle.xw_cli.specs.Files.{place_if, IsCannotRead, IsCannotWrite, IsFileFault, IsLineFault, IsMalformed, IsUnread, IsRebusTold, AreBytesFor, IsUnfit, IsUnwritten, IsOverList, IsNotApart};
+ghost use Rattle.xw_cli.specs.Files.{place_if, IsCannotRead, IsCannotWrite, IsFileFault, IsLineFault, IsMalformed, IsUnread, IsRebusTold, AreBytesFor, IsUnfit, IsUnwritten, IsOverList, IsOverJournal, AreTextsNotApart, IsJournalNotApart, IsNotApart};
 ghost use Rattle.xw_cli.specs.Places.{read_place, write_place};
 
 use crate::arguments::SessionFiles;
@@ -202,10 +202,19 @@ pub fn write_file<R: Files + AllocGlobal>(rt: &R, file: &str, bytes: &[u8]) -> R
     }
 }
 
-/// Refuses to write over the word list, and to write both the puzzle and the record to one file. Compares the files
-/// themselves, not their names, if both exist.
+/// Refuses to write over the word list, to write both the puzzle and the record to one file, and to use the journal as another file.
+/// Compares the files themselves, not their names, if both exist.
 pub fn keep_apart<R: Files + AllocGlobal>(rt: &R, named: SessionFiles<'_>) -> Result<(), Failure>
     ensures err { IfErr result (λ failure. IsNotApart named.entry failure) }
+{
+    keep_texts_apart(rt, named)?;
+    keep_journal_apart(rt, named)?;
+    Ok(())
+}
+
+/// Refuses to write over the word list, and to write both the puzzle and the record to one file.
+fn keep_texts_apart<R: Files + AllocGlobal>(rt: &R, named: SessionFiles<'_>) -> Result<(), Failure>
+    ensures err { IfErr result (λ failure. AreTextsNotApart named.entry failure) }
 {
     spare(rt, named.dict, named.to_file)?;
     spare(rt, named.dict, named.save_file)?;
@@ -213,6 +222,35 @@ pub fn keep_apart<R: Files + AllocGlobal>(rt: &R, named: SessionFiles<'_>) -> Re
         (Some(to_file), Some(file)) if is_one_file(rt, to_file, file) => {
             let file = String::from_str(rt.alloc(), file)?;
             Err(Failure::TwoTexts { file })
+        }
+        _ => Ok(()),
+    }
+}
+
+/// Refuses to use the journal as another file.
+fn keep_journal_apart<R: Files + AllocGlobal>(
+    rt: &R,
+    named: SessionFiles<'_>,
+) -> Result<(), Failure>
+    ensures err { IfErr result (λ failure. IsJournalNotApart named.entry failure) }
+{
+    spare_journal(rt, named.journal_file, named.dict)?;
+    spare_journal(rt, named.journal_file, named.to_file)?;
+    spare_journal(rt, named.journal_file, named.save_file)
+}
+
+/// Refuses to use the journal as this other file.
+fn spare_journal<R: Files + AllocGlobal>(
+    rt: &R,
+    journal: Option<&str>,
+    other: Option<&str>,
+) -> Result<(), Failure>
+    ensures err { IfErr result (λ failure. (failure ≡ Memory) ⊎ IsOverJournal journal.entry other.entry failure) }
+{
+    match (journal, other) {
+        (Some(file), Some(other)) if is_one_file(rt, file, other) => {
+            let file = String::from_str(rt.alloc(), file)?;
+            Err(Failure::SharedJournal { file })
         }
         _ => Ok(()),
     }

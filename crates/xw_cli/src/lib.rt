@@ -5,6 +5,7 @@ pub mod arguments;
 pub mod explaining;
 pub mod failure;
 pub mod files;
+pub mod journal;
 pub mod names;
 mod perform;
 pub mod place;

@@ -1,20 +1,23 @@
 //! Executes a call.
-ghost use Rattle.std.specs.Prelude.{◌≡◌, ◌⊎◌, ℕ, List, length, Ok, Err, IfOk, IfErr, OnOk, IsOkUnless};
+ghost use Rattle.std.specs.Prelude.{◌≡◌, ◌⊎◌, ℕ, List, length, Some, Ok, Err, IfOk, IfErr, OnOk, IsOkUnless};
 ghost use Rattle.xw_grid.specs.Light.{lights_of};
+ghost use Rattle.xw_journal.specs.Journal.{AnswersJournaled};
 ghost use Rattle.xw_grid.specs.Puzzle.{PuzzleShown, puzzle_view};
+ghost use Rattle.xw_session.specs.Answer.{Answers};
 ghost use Rattle.xw_session.specs.Opening.{empty_puzzle, opened_on, puzzle_of};
 ghost use Rattle.xw_files.specs.Formats.{IsRead};
 ghost use Rattle.xw_files.specs.declared.kind.Kind.{Kind};
 ghost use Rattle.xw_cli.specs.declared.failure.Failure.TheVariants.{Memory};
 ghost use Rattle.xw_cli.specs.declared.failure.Status.TheVariants.{Accepted};
-ghost use Rattle.xw_cli.specs.Files.{AreBytesFor, IfNamed, IsUnread, IsUnwritten};
+ghost use Rattle.xw_cli.specs.Files.{AreBytesFor, IfNamed, IsCannotWrite, IsUnread, IsUnwritten};
 ghost use Rattle.xw_cli.specs.SessionFiles.{IsUnloaded, IsUnsaved};
-ghost use Rattle.xw_cli.specs.Performed.{format_name, described, IsChecked, IsUnchecked, IsConverted, IsUnconverted, HasWords, IsOpened, HasResumed, IsKept, AreAnswered, IsRun, IsEdited, IsUnopened, IsUnresumed, IsUnanswered, IsUnclosed, IsCut, IsUnedited, IsPerformed, MayEnd, IsEnded};
+ghost use Rattle.xw_cli.specs.Performed.{format_name, described, IsChecked, IsUnchecked, IsConverted, IsUnconverted, HasWords, IsOpened, HasResumed, IsKept, AreAnswered, IsRun, IsJournaled, IsEdited, IsUnopened, IsUnresumed, IsUnanswered, IsUnclosed, IsCut, IsCutJournal, IsUnedited, IsPerformed, MayEnd, IsEnded};
 
 use crate::arguments::{Call, SessionFiles};
 use crate::explaining::{show, tell};
 use crate::failure::{Failure, Status, run_status};
 use crate::files;
+use crate::journal::{Locks, appending, cannot_write, resume_journal, sync_entry};
 use crate::session_files::{read_dictionary, resume_file, write_record};
 use std::alloc::Global;
 use std::rt::Files;
@@ -22,11 +25,13 @@ use xw_feas::feasible::Feasible;
 use xw_feas::searchable::Searchable;
 use xw_files::{Kind, Puzzle};
 use xw_grid::{Grid, Lights};
+use xw_journal::{Cause, JournaledSession};
+use xw_lines::RunEnd;
 use xw_session::{Session, Sink, Source, opening};
 use xw_words::Bank;
 
 /// Executes a call, prints a failure if there is one, and returns the exit status.
-pub fn perform<F: Searchable, R: Files + AllocGlobal, I: Source, O: Sink, E: Sink>(
+pub fn perform<F: Searchable, R: Locks + AllocGlobal, I: Source, O: Sink, E: Sink>(
     rt: &R,
     call: Call<'_>,
     input: &mut I,
@@ -43,7 +48,7 @@ pub fn perform<F: Searchable, R: Files + AllocGlobal, I: Source, O: Sink, E: Sin
 }
 
 /// Executes a call.
-fn run<F: Searchable, R: Files + AllocGlobal, I: Source, O: Sink, E: Sink>(
+fn run<F: Searchable, R: Locks + AllocGlobal, I: Source, O: Sink, E: Sink>(
     rt: &R,
     call: Call<'_>,
     input: &mut I,
@@ -67,7 +72,7 @@ fn run<F: Searchable, R: Files + AllocGlobal, I: Source, O: Sink, E: Sink>(
 }
 
 /// Runs a session: opens its files, answers the input, and writes its files.
-fn edit<F: Searchable, R: Files + AllocGlobal, I: Source, O: Sink, E: Sink>(
+fn edit<F: Searchable, R: Locks + AllocGlobal, I: Source, O: Sink, E: Sink>(
     rt: &R,
     named: SessionFiles<'_>,
     explain: bool,
@@ -80,7 +85,68 @@ fn edit<F: Searchable, R: Files + AllocGlobal, I: Source, O: Sink, E: Sink>(
 {
     files::keep_apart(rt, named)?;
     let mut session: Session<F> = open(rt, named, explain, errors)?;
-    answer(rt, &mut session, named, explain, input, output, errors)
+    match named.journal_file {
+        Some(file) => answer_journaled(rt, session, file, named, explain, input, output, errors),
+        None => answer(rt, &mut session, named, explain, input, output, errors),
+    }
+}
+
+/// Replays the journal, answers the input while each change is journaled, and writes the files of the session.
+fn answer_journaled<F: Searchable, R: Locks + AllocGlobal, I: Source, O: Sink, E: Sink>(
+    rt: &R,
+    mut session: Session<F>,
+    file: &str,
+    named: SessionFiles<'_>,
+    explain: bool,
+    input: &mut I,
+    output: &mut O,
+    errors: &mut E,
+) -> Result<Status, Failure>
+    ensures ok { IfOk result (λ status. IsJournaled file.now named.entry session status (I.transcript input.old) (I.transcript input.new) (O.transcript output.old) (O.transcript output.new)) }
+    ensures err { IfErr result (λ failure. IsCutJournal file.now named.entry explain failure) }
+{
+    let alloc = rt.alloc();
+    let (opened, refused) = resume_journal(rt, file, &mut session, errors)?;
+    let journal = appending(alloc, opened, named.is_synced)?;
+    if named.is_synced {
+        // Not every file system can do this.
+        let _ = sync_entry(rt, file);
+    }
+    let mut journaled = JournaledSession::new(alloc, session, journal)?;
+    let answered = converse_journaled(alloc, &mut journaled, file, refused, input, output);
+    let (session, journal) = journaled.into_parts();
+    // This discards the unwritten bytes, since their write failed, and keeps the lock until the journal is replaced.
+    let (_locked, _unwritten) = journal.into_writer().into_parts();
+    close(rt, &session, named, explain, answered)
+}
+
+/// Answers the input of a session with a journal, and returns the status. `before` is the number of lines refused earlier.
+fn converse_journaled<F: Searchable, J: Sink + Drop, I: Source, O: Sink>(
+    alloc: Global,
+    session: &mut JournaledSession<F, J>,
+    file: &str,
+    before: usize,
+    input: &mut I,
+    output: &mut O,
+) -> Result<Status, Failure>
+    ensures ok { IfOk result (λ status. AreAnswered AnswersJournaled before session.old session.new status (I.transcript input.old) (I.transcript input.new) (O.transcript output.old) (O.transcript output.new)) }
+    ensures err { IfErr result (λ failure. IsUnanswered failure ⊎ IsCannotWrite file.now failure) }
+{
+    match session.run_lines(input, output) {
+        RunEnd::Stopped => Err(stopped(alloc, file, session.cause())),
+        end => run_status(end, before),
+    }
+}
+
+/// Returns the failure of a session with a journal that stopped for this cause.
+fn stopped(alloc: Global, file: &str, cause: Option<Cause>) -> Failure
+    ensures memory { cause ≡ Some Cause.Memory → result ≡ Memory }
+    ensures told { (result ≡ Memory) ⊎ IsCannotWrite file.now result }
+{
+    match cause {
+        Some(Cause::Memory) => Failure::Memory,
+        Some(Cause::Journal) | None => cannot_write(alloc, file),
+    }
 }
 
 /// Replays the commands to start with, answers the input, and writes the files of the session.
@@ -108,7 +174,7 @@ fn converse<F: Searchable, I: Source, O: Sink>(
     input: &mut I,
     output: &mut O,
 ) -> Result<Status, Failure>
-    ensures ok { IfOk result (λ status. AreAnswered before session.old session.new status (I.transcript input.old) (I.transcript input.new) (O.transcript output.old) (O.transcript output.new)) }
+    ensures ok { IfOk result (λ status. AreAnswered Answers before session.old session.new status (I.transcript input.old) (I.transcript input.new) (O.transcript output.old) (O.transcript output.new)) }
     ensures err { IfErr result (λ failure. IsUnanswered failure) }
 {
     run_status(session.run_lines(input, output), before)
@@ -185,8 +251,8 @@ fn resume<F: Searchable, R: Files + AllocGlobal, E: Sink>(
     }
 }
 
-/// Writes the files of a session that ended. The record is written however the session ended; the puzzle is written
-/// only if no device and no allocation failed.
+/// Writes the files of a session that ended. The record is written however the session ended. If no device and no allocation failed,
+/// the journal is replaced by the record too, and the puzzle is written.
 fn close<F: Feasible, R: Files + AllocGlobal>(
     rt: &R,
     session: &Session<F>,
@@ -200,6 +266,7 @@ fn close<F: Feasible, R: Files + AllocGlobal>(
     let saved = save(rt, session, named.save_file);
     let status = answered?;
     saved?;
+    save(rt, session, named.journal_file)?;
     if let Some(file) = named.to_file {
         keep(rt, file, session, explain)?;
     }

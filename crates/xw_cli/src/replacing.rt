@@ -41,7 +41,7 @@ fn follow<R: Files + AllocGlobal>(rt: &R, path: &mut PathBuf) -> io::Result<bool
 }
 
 /// Returns the path after following all symbolic links.
-fn followed<R: Files + AllocGlobal>(rt: &R, file: &str) -> io::Result<PathBuf> {
+pub fn followed<R: Files + AllocGlobal>(rt: &R, file: &str) -> io::Result<PathBuf> {
     let mut path = PathBuf::from_str(rt.alloc(), file)?;
     for _ in 0..MOST_LINKS {
         if !follow(rt, &mut path)? {

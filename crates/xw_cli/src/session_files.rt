@@ -100,7 +100,7 @@ pub fn resume_file<R: Files + AllocGlobal, F: Searchable, E: Sink>(
 }
 
 /// Replays the commands in the bytes of a file, as `resume_file`.
-fn resume_text<F: Searchable, E: Sink>(
+pub fn resume_text<F: Searchable, E: Sink>(
     alloc: Global,
     file: &str,
     session: &mut Session<F>,

@@ -1,6 +1,8 @@
-//! Tests of replacing files while file system calls fail, and of the output for help and usage errors.
+//! Tests of replacing files while file system calls fail, of the writer of a journal, and of the output for help and usage errors.
 #![tactic(auto)]
 
+#[cfg(test)]
+mod appended;
 #[cfg(test)]
 mod explained;
 #[cfg(test)]
