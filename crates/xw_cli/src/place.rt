@@ -3,14 +3,15 @@ ghost use Rattle.std.specs.Prelude.{◌≡◌, IfOk, IsOkUnless};
 ghost use Rattle.xw_grid.specs.Light.{lights_of};
 ghost use Rattle.xw_files.specs.Puz.Board.{grid_of_puz};
 ghost use Rattle.xw_files.specs.Text.Place.{text_place as text_place_in};
-ghost use Rattle.xw_cli.specs.Places.{cut_text_place, direction_text, line_place, read_place, text_place, write_place};
+ghost use Rattle.xw_cli.specs.Places.{cut_text_place, line_place, read_place, text_place, write_place};
 
 use crate::failure::Failure;
 use std::alloc::Global;
 use std::fmt;
+use xw_commands::names::Named;
 use xw_files::fault::{Piece, ReadFault, SumName, TextName, WriteFault};
 use xw_files::{TextPlace, grid_of_puz, text_place};
-use xw_grid::cell::{Cell, Direction, LightName};
+use xw_grid::cell::{Cell, LightName};
 use xw_grid::grid::Grid;
 use xw_grid::lights::Lights;
 
@@ -46,7 +47,7 @@ impl fmt::Display for Place {
             Place::Text(TextName::Clue(number)) => write!(f, "clue {number}"),
             Place::Text(TextName::Notes) => f.write_str("notes"),
             Place::Clue(number, light) => {
-                let (light, direction) = (light.number, direction_name(light.direction));
+                let (light, direction) = (light.number, light.direction.name());
                 write!(f, "clue {number} ({light} {direction})")
             }
             Place::Sum(SumName::Cib) => f.write_str("CIB checksum"),
@@ -55,15 +56,6 @@ impl fmt::Display for Place {
             Place::Line(number) => write!(f, "line {number}"),
             Place::End => f.write_str("end of file"),
         }
-    }
-}
-
-fn direction_name(direction: Direction) -> &'static str
-    ensures { result.now ≡ direction_text direction }
-{
-    match direction {
-        Direction::Across => "across",
-        Direction::Down => "down",
     }
 }
 

@@ -5,6 +5,8 @@ ghost use Rattle.xw_words.specs.Dictionary.{row as words_of, entry_at};
 ghost use Rattle.xw_grid.specs.Clue.{clue_at};
 ghost use Rattle.xw_grid.specs.Grid.{entry as entry_of};
 ghost use Rattle.xw_commands.specs.declared.command.Command.TheVariants as commands;
+ghost use Rattle.xw_commands.specs.declared.command.Name.TheVariants as names;
+ghost use Rattle.xw_commands.specs.Name.{word_of};
 ghost use Rattle.xw_lines.specs.Sends.{Sends};
 ghost use Rattle.xw_session.specs.Escape.{escaped_text};
 ghost use Rattle.xw_commands.specs.Names.{direction_name, clue_name};
@@ -14,7 +16,7 @@ ghost use Rattle.xw_session.specs.Record.{command_lines, known_counts, add_comma
 
 use crate::{escape, fields, text};
 use itoa::Buffer;
-use xw_commands::command::{CellArg, Field, TextField, TextMode};
+use xw_commands::command::{CellArg, Field, Name, TextField, TextMode, WithCell, WithWord};
 use xw_commands::names::{CLUE, Named};
 use xw_grid::{Cell, Circles, Clues, Direction, Grid, Side, Symmetry};
 use xw_letters::Letter;
@@ -83,12 +85,12 @@ pub fn known_words(bank: &Bank) -> [usize; LENGTHS]
 /// Writes a command that takes a word.
 fn write_word_command<W: Sink>(
     sink: &mut W,
-    name: &[u8],
+    name: WithWord,
     word: &[Letter],
 ) -> Result<(), WriteFailed>
-    ensures { Sends W.transcript W.failures sink.old sink.new result (line_of (name.now ∷ word.now ∷ [])) }
+    ensures { Sends W.transcript W.failures sink.old sink.new result (line_of (word_of (names.Word name) ∷ word.now ∷ [])) }
 {
-    text::write_spaced(sink, name)?;
+    text::write_spaced(sink, name.name().as_bytes())?;
     text::write_word(sink, word)
 }
 
@@ -102,7 +104,7 @@ fn write_added<W: Sink>(
     ensures { Sends W.transcript W.failures sink.old sink.new result (command_lines (map add_command (drop begun (words_of bank.now.words count)))) }
 {
     for place in begun..bank.known(count) {
-        write_word_command(sink, b"add", bank.word(count, place))?;
+        write_word_command(sink, WithWord::Add, bank.word(count, place))?;
     }
     Ok(())
 }
@@ -120,7 +122,7 @@ fn write_struck_at<W: Sink>(
     if bank.is_active(count, place) {
         return Ok(());
     }
-    write_word_command(sink, b"strike", bank.word(count, place))
+    write_word_command(sink, WithWord::Strike, bank.word(count, place))
 }
 
 /// Writes a `strike` command for each struck word of a length.
@@ -258,7 +260,7 @@ pub fn write_size<W: Sink>(sink: &mut W, grid: &Grid) -> Result<(), WriteFailed>
     text::write_line(
         sink,
         &[
-            b"size",
+            Name::Size.name().as_bytes(),
             width.format(grid.width()).as_bytes(),
             height.format(grid.height()).as_bytes(),
         ],
@@ -268,38 +270,44 @@ pub fn write_size<W: Sink>(sink: &mut W, grid: &Grid) -> Result<(), WriteFailed>
 pub fn write_symmetry<W: Sink>(sink: &mut W, kind: Symmetry) -> Result<(), WriteFailed>
     ensures { Sends W.transcript W.failures sink.old sink.new result (command_lines (commands.Symmetry kind ∷ [])) }
 {
-    text::write_line(sink, &[b"sym", kind.name().as_bytes()])
+    text::write_line(
+        sink,
+        &[Name::Symmetry.name().as_bytes(), kind.name().as_bytes()],
+    )
 }
 
 pub fn write_watch<W: Sink>(sink: &mut W, is_on: bool) -> Result<(), WriteFailed>
     ensures { Sends W.transcript W.failures sink.old sink.new result (command_lines (commands.Watch is_on ∷ [])) }
 {
-    text::write_line(sink, &[b"watch", is_on.name().as_bytes()])
+    text::write_line(
+        sink,
+        &[Name::Watch.name().as_bytes(), is_on.name().as_bytes()],
+    )
 }
 
 /// Writes a command that takes a cell.
-fn write_cell_command<W: Sink>(sink: &mut W, name: &[u8], cell: Cell) -> Result<(), WriteFailed>
-    ensures { Sends W.transcript W.failures sink.old sink.new result (line_of (name.now ∷ at_spot (spot_of cell) [])) }
+fn write_cell_command<W: Sink>(sink: &mut W, name: WithCell, cell: Cell) -> Result<(), WriteFailed>
+    ensures { Sends W.transcript W.failures sink.old sink.new result (line_of (word_of (names.Cell name) ∷ at_spot (spot_of cell) [])) }
 {
-    text::write_spaced(sink, name)?;
+    text::write_spaced(sink, name.name().as_bytes())?;
     text::write_cell(sink, cell)
 }
 
 /// Writes a command that takes a cell and one more word.
 fn write_cell_and_word<W: Sink>(
     sink: &mut W,
-    name: &[u8],
+    name: WithCell,
     cell: Cell,
     word: &[u8],
 ) -> Result<(), WriteFailed>
-    ensures { Sends W.transcript W.failures sink.old sink.new result (line_of (name.now ∷ at_spot (spot_of cell) (word.now ∷ []))) }
+    ensures { Sends W.transcript W.failures sink.old sink.new result (line_of (word_of (names.Cell name) ∷ at_spot (spot_of cell) (word.now ∷ []))) }
 {
+    text::write_spaced(sink, name.name().as_bytes())?;
     let mut row = Buffer::new();
     let mut col = Buffer::new();
     text::write_line(
         sink,
         &[
-            name,
             row.format(cell.row).as_bytes(),
             col.format(cell.col).as_bytes(),
             word,
@@ -313,7 +321,7 @@ fn write_circle<W: Sink>(sink: &mut W, circles: &Circles, cell: Cell) -> Result<
     if !circles.has(cell) {
         return Ok(());
     }
-    write_cell_command(sink, b"circle", cell)
+    write_cell_command(sink, WithCell::Circle, cell)
 }
 
 fn write_bar<W: Sink>(sink: &mut W, grid: &Grid, side: Side, cell: Cell) -> Result<(), WriteFailed>
@@ -322,7 +330,7 @@ fn write_bar<W: Sink>(sink: &mut W, grid: &Grid, side: Side, cell: Cell) -> Resu
     if !grid.is_barred(cell, side) {
         return Ok(());
     }
-    write_cell_and_word(sink, b"bar", cell, side.name().as_bytes())
+    write_cell_and_word(sink, WithCell::Bar, cell, side.name().as_bytes())
 }
 
 fn write_block<W: Sink>(sink: &mut W, grid: &Grid, cell: Cell) -> Result<(), WriteFailed>
@@ -331,7 +339,7 @@ fn write_block<W: Sink>(sink: &mut W, grid: &Grid, cell: Cell) -> Result<(), Wri
     if !grid.is_block(cell) {
         return Ok(());
     }
-    write_cell_command(sink, b"block", cell)
+    write_cell_command(sink, WithCell::Block, cell)
 }
 
 /// Writes the command that enters the letter of a cell, if it has one.
@@ -339,7 +347,7 @@ pub fn write_letter<W: Sink>(sink: &mut W, grid: &Grid, cell: Cell) -> Result<()
     ensures { Sends W.transcript W.failures sink.old sink.new result (command_lines (letter_commands cell (entry_of grid.now cell))) }
 {
     match grid.entry(cell) {
-        Some(letter) => write_cell_and_word(sink, b"set", cell, &[letter.byte()]),
+        Some(letter) => write_cell_and_word(sink, WithCell::Set, cell, &[letter.byte()]),
         None => Ok(()),
     }
 }

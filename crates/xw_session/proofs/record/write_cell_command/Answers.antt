@@ -5,7 +5,8 @@ use Rattle.xw_session.proofs.record.write_cell_command.Goals as goal
 pub returns-in_err-write_spaced : goal.returns-in_err-write_spaced
 returns-in_err-write_spaced g c =
     let e = err_from_is_err_and c.from_residual.result c.from_residual.ensures.1 in
-    rw e.1 (stops-within g.W.Sink.transcript g.W.Sink.failures _ _ _ _ c.in_err-write_spaced.ensures)
+    rw (e.1, ← c.name.ensures, ← c.as_bytes.ensures.value) (stops-within g.W.Sink.transcript g.W.Sink.failures _ _ _ _ c.in_err-write_spaced.ensures)
 
 pub returns : goal.returns
-returns g c = sends-then g.W.Sink.transcript g.W.Sink.failures _ _ _ _ _ _ c.in_ok-write_spaced.ensures c.write_cell.ensures
+returns g c =
+    rw (← c.name.ensures, ← c.as_bytes.ensures.value) (sends-then g.W.Sink.transcript g.W.Sink.failures _ _ _ _ _ _ c.in_ok-write_spaced.ensures c.write_cell.ensures)
