@@ -12,8 +12,7 @@ use Rattle.xw_files.specs.declared.text.place.TextPlace.{TextPlace}
 use Rattle.xw_files.specs.declared.text.place.TextPlace.TheVariants as lines
 use Rattle.xw_files.specs.Puz.Board.{grid_of_puz}
 use Rattle.xw_files.specs.Text.Place.{text_place as text_place_in}
-use Rattle.xw_grid.specs.declared.cell.Direction.{Direction}
-use Rattle.xw_grid.specs.declared.cell.Direction.TheVariants.{Across, Down}
+use Rattle.xw_commands.specs.Names.{direction_name}
 use Rattle.xw_grid.specs.declared.lights.Light.{Light}
 use Rattle.xw_grid.specs.Grid.{Grid}
 use Rattle.xw_grid.specs.Light.{lights_of}
@@ -63,10 +62,6 @@ read_place bytes fault = line_place (text_place_in bytes fault)
 
 -- ---- how a place is printed
 
-abbrev pub direction_text : Direction → List ℕ
-direction_text Across = codes "across"
-direction_text Down = codes "down"
-
 abbrev pub place_text : Place → List ℕ
 place_text (places.Cell cell) = codes "row " ++ decimal cell.row ++ codes ", column " ++ decimal cell.col
 place_text (places.Piece Header) = codes "header"
@@ -76,7 +71,7 @@ place_text (places.Text texts.Author) = codes "author"
 place_text (places.Text texts.Copyright) = codes "copyright"
 place_text (places.Text (texts.Clue k)) = codes "clue " ++ decimal k
 place_text (places.Text texts.Notes) = codes "notes"
-place_text (places.Clue k light) = codes "clue " ++ decimal k ++ codes " (" ++ decimal light.number ++ codes " " ++ direction_text light.direction ++ codes ")"
+place_text (places.Clue k light) = codes "clue " ++ decimal k ++ codes " (" ++ decimal light.number ++ codes " " ++ direction_name light.direction ++ codes ")"
 place_text (places.Sum sums.Cib) = codes "CIB checksum"
 place_text (places.Sum sums.File) = codes "file checksum"
 place_text (places.Sum (sums.Masked k)) = codes "masked byte " ++ decimal k
