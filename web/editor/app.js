@@ -256,7 +256,8 @@ function showTab(name) {
     $(`tab-${tab}`).tabIndex = tab === name ? 0 : -1;
   }
   if (name === 'puzzle') details.refresh().catch(() => {});
-  if (name === 'clues') clues.shown();
+  clues.isShown = name === 'clues';
+  if (clues.isShown) clues.shown();
 }
 
 for (const tab of TABS) {

@@ -9,6 +9,8 @@ export class CluesView {
   #fields = new Map();
   #due = 0;
   #here = null;
+  // whether the tab is in sight
+  isShown = false;
 
   constructor(editor, root, summary, actions) {
     this.#editor = editor;
@@ -70,7 +72,7 @@ export class CluesView {
 
   // Letters come one after another: the words are shown once for those of a frame, and only in sight.
   #wordsSoon() {
-    if (this.#due || !this.#root.offsetParent) return;
+    if (this.#due || !this.isShown) return;
     this.#due = requestAnimationFrame(() => {
       this.#due = 0;
       this.#words();
@@ -79,6 +81,7 @@ export class CluesView {
 
   // Shows what changed while the tab was out of sight.
   shown() {
+    this.isShown = true;
     this.#words();
     this.#mark();
   }
@@ -101,7 +104,7 @@ export class CluesView {
     this.#here = here;
     if (!here) return;
     here.row.classList.add('here');
-    if (!this.#root.offsetParent) return;
+    if (!this.isShown) return;
     if (!this.#root.contains(document.activeElement)) scrollWithin(this.#root, here.row);
   }
 

@@ -67,6 +67,7 @@ export class Editor extends EventTarget {
     try {
       this.engine.start();
       await this.engine.call('load', { bytes: this.module });
+      this.pencil = new Set(this.#now?.pencil ?? this.pencil);
       await this.#open(this.list, this.record);
       refuse(refusalText('Engine'));
     } catch {
@@ -111,27 +112,28 @@ export class Editor extends EventTarget {
     });
   }
 
-  async #edit(lines, { isWhole = true, pencil = null, begin = 0 }) {
+  async #edit(lines, { isWhole = true, pencil = null, isTimed = false }) {
     const answered = this.engine.call('edit', { lines, isWhole });
     const recorded = this.engine.call('record');
     recorded.catch(() => {});
     const told = await answered;
     const refused = told.answers.find(({ refusal }) => refusal)?.refusal ?? null;
     if (refused) {
+      this.pencil = new Set(this.#now.pencil);
       await this.#goTo(this.record);
       return refused;
     }
     this.reason = new Set();
     this.unmatched = new Set();
     if (pencil) this.pencil = pencil;
-    this.#show(lines, told, isWhole, begin);
+    this.#show(lines, told, isWhole, isTimed);
     this.record = await recorded;
     if (isWhole) this.sym = parseRecord(this.record).sym;
     this.#step();
     return null;
   }
 
-  #show(lines, told, isWhole, begin) {
+  #show(lines, told, isWhole, isTimed) {
     if (isWhole) {
       this.board.takeWhole(told);
       this.#afterWhole();
@@ -140,7 +142,7 @@ export class Editor extends EventTarget {
     const cells = new Set(lines.map((line) => this.#takeLetter(line)));
     for (const cell of this.board.takeLeft(told.changed)) cells.add(cell);
     this.board.takeCounts(told.counts);
-    this.#tell('letters', { cells, begin, engine: told.engine });
+    this.#tell('letters', { cells, isTimed, engine: told.engine });
   }
 
   // Takes a line `set R C L` or `clear R C`, and returns the index of the cell.
@@ -148,6 +150,7 @@ export class Editor extends EventTarget {
     const [, row, column, letter = ''] = line.split(' ');
     const index = this.board.index(Number(row), Number(column));
     this.board.cells[index].letter = letter;
+    this.pencil.delete(`${row} ${column}`);
     return index;
   }
 
@@ -257,8 +260,9 @@ export class Editor extends EventTarget {
   }
 
   // Asks lines that change nothing; returns the lines of each answer, or null where it was refused.
+  // Each line is a call of its own, so that a key need not wait for all.
   async ask(...lines) {
-    const answers = await this.engine.call('ask', { lines });
+    const answers = await Promise.all(lines.map((line) => this.engine.call('ask', { line })));
     return answers.map(({ lines: told, refusal }) => (refusal ? null : told));
   }
 
@@ -273,11 +277,20 @@ export class Editor extends EventTarget {
   }
 
   moveTo(index, direction = this.direction) {
+    this.put(index, direction);
+    this.tellMove();
+  }
+
+  // Puts the cursor into a cell. `tellMove` shows it.
+  put(index, direction = this.direction) {
     const cell = this.board.cells[index];
     this.cursor = index;
     this.direction = direction;
     const other = direction === 'across' ? 'down' : 'across';
     if (!cell[direction] && cell[other]) this.direction = other;
+  }
+
+  tellMove() {
     this.#tell('move');
   }
 }

@@ -72,18 +72,30 @@ function known() {
   return Object.keys(NEWER).filter((name) => ask(NEWER[name]).refusal !== 'Command');
 }
 
-// What a light's word leaves, without the command `choices`: each word is placed, the counts are read, and the letters are put back.
-function probe({ light, cells, words }) {
+// How long a call may count words, in milliseconds: a key waits no longer.
+const SLICE = 4;
+
+// What words of a light leave: each is placed, the counts are read, and the letters are put back. It ends when its time is over, with the words
+// that are counted by then.
+function probe({ light, words }) {
+  const end = performance.now() + SLICE;
+  const [, , row, column, letters] = asked('lights').find((line) => line.startsWith(`${light} `)).split(' ');
+  const [down, right] = light.endsWith('down') ? [1, 0] : [0, 1];
+  const cells = Array.from(letters, (letter, at) => ({ place: `${Number(row) + down * at} ${Number(column) + right * at}`, letter }));
   const answers = {};
   for (const word of words) {
-    const { refusal } = ask(`place ${light} ${word}`);
-    if (refusal) continue;
-    const open = asked('lights').map((line) => line.endsWith('.') || /\.[A-Z.]*$/.test(line));
-    const left = asked('counts').map((line) => Number(line.slice(line.lastIndexOf(' ') + 1))).filter((_, at) => open[at]);
-    answers[word] = left.length ? Math.min(...left) : 'done';
-    for (const { place, letter } of cells) ask(letter ? `set ${place} ${letter}` : `clear ${place}`);
+    answers[word] = leftAfter(light, word, cells);
+    if (performance.now() > end) break;
   }
   return answers;
+}
+
+function leftAfter(light, word, cells) {
+  if (ask(`place ${light} ${word}`).refusal) return 0;
+  const open = asked('lights').map((line) => /\.[A-Z.]*$/.test(line));
+  const left = asked('counts').map((line) => Number(line.slice(line.lastIndexOf(' ') + 1))).filter((_, at) => open[at]);
+  for (const { place, letter } of cells) ask(letter === '.' ? `clear ${place}` : `set ${place} ${letter}`);
+  return left.length ? Math.min(...left) : 'done';
 }
 
 const calls = {
@@ -105,7 +117,6 @@ const calls = {
     return { reports: other.reports, commands: known(), words: countWords(words), scored, best, record: latin.decode(xw.record()), ...whole() };
   },
 
-
   // The record of a puzzle file, or of a record itself. The session is not touched.
   read({ puzzle, record }) {
     const other = puzzle ? Xw.open(module, { puzzle }) : Xw.open(module, { record: encode(record) });
@@ -122,14 +133,14 @@ const calls = {
     return { answers, ...told, engine: performance.now() - begin };
   },
 
-  ask({ lines }) {
-    return lines.map(ask);
+  ask({ line }) {
+    return ask(line);
   },
 
-  // The feasible words of a light, with the scores of those that have one.
+  // The feasible words of a light, one on each line, with the scores of those that have one.
   words({ light }) {
     const [, ...words] = asked(`words ${light}`);
-    return { words, scores: scores.size ? words.map((word) => scores.get(word) ?? null) : null };
+    return { words: words.join('\n'), scores: scores.size ? words.map((word) => scores.get(word) ?? null) : null };
   },
 
   probe,
@@ -151,7 +162,28 @@ async function answer({ id, call, sent }) {
   }
 }
 
+// Calls are answered in order. But those that leave all as it was wait until no other is there, so that a key is answered ahead of them.
+const QUERIES = new Set(['ask', 'words', 'probe']);
+
 let last = Promise.resolve();
+const queries = [];
+let isTurning = false;
+const { port1: turn, port2: next } = new MessageChannel();
+
+// Answers one query. What came meanwhile is ahead of the next one.
+turn.onmessage = async () => {
+  await last;
+  await answer(queries.shift());
+  isTurning = queries.length > 0;
+  if (isTurning) next.postMessage(0);
+};
+
 addEventListener('message', ({ data }) => {
-  last = last.then(() => answer(data));
+  if (!QUERIES.has(data.call)) {
+    last = last.then(() => answer(data));
+    return;
+  }
+  queries.push(data);
+  if (!isTurning) next.postMessage(0);
+  isTurning = true;
 });

@@ -78,7 +78,8 @@ export class Filler {
       const most = SLICES.find(([until]) => slice < until)[1];
       this.show({ part: slice / MOST_SLICES, placements });
       const lines = [`autofill ${most} ${this.#seed}${names}`];
-      const [{ lines: told, refusal }] = await this.#editor.inOrder(() => this.#editor.engine.call('ask', { lines }));
+      const { answers } = await this.#editor.inOrder(() => this.#editor.engine.call('edit', { lines, isWhole: false }));
+      const [{ lines: told, refusal }] = answers;
       placements += most;
       if (refusal) return { answer: refusal, placements };
       if (told[0] !== 'limit') return { answer: told[0], placements };

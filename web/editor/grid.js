@@ -1,6 +1,10 @@
 // The grid: its cells, the keys and the mouse.
 import { refusalText, refuse, say } from './messages.js';
 
+// How long a letter waits for the engine's answer, in milliseconds: one frame then shows it with all that it changes. If the answer takes
+// longer, the letter is shown alone.
+const WAIT = 4;
+
 const ARROWS = { ArrowLeft: ['across', -1], ArrowRight: ['across', 1], ArrowUp: ['down', -1], ArrowDown: ['down', 1] };
 
 export class GridView {
@@ -9,6 +13,9 @@ export class GridView {
   #cells = [];
   // what each cell shows
   #painted = [];
+  // cells whose letters are entered but not shown yet, by index
+  #undrawn = new Set();
+  #drawing = null;
   // a corner of the rectangle that is being chosen, by index
   #anchor = null;
   #far = null;
@@ -40,6 +47,7 @@ export class GridView {
 
   draw() {
     const { board, chosen } = this.#editor;
+    this.#undrawn.clear();
     if (!chosen.size) this.#anchor = this.#far = null;
     if (this.#cells.length !== board.cells.length || this.width !== board.width) this.#make(board);
     for (let index = 0; index < this.#cells.length; index++) this.paint(index);
@@ -66,13 +74,19 @@ export class GridView {
   }
 
   #makeCell(row, column) {
-    const cell = document.createElement('div');
-    cell.setAttribute('role', 'gridcell');
-    cell.id = `cell-${row}-${column}`;
-    cell.dataset.index = this.#cells.length;
-    cell.append(...['circle', 'number', 'letter'].map((name) => Object.assign(document.createElement('span'), { className: name })));
-    this.#cells.push(cell);
-    return cell;
+    const root = document.createElement('div');
+    root.setAttribute('role', 'gridcell');
+    root.id = `cell-${row}-${column}`;
+    root.dataset.index = this.#cells.length;
+    const [circle, number, letter] = ['circle', 'number', 'letter'].map((name) => {
+      const part = Object.assign(document.createElement('span'), { className: name });
+      root.append(part);
+      return part;
+    });
+    circle.setAttribute('aria-hidden', 'true');
+    const texts = [number, letter].map((part) => part.appendChild(document.createTextNode('')));
+    this.#cells.push({ root, number: texts[0], letter: texts[1] });
+    return root;
   }
 
   // Shows a cell as the board has it.
@@ -98,13 +112,13 @@ export class GridView {
 
   // Writes what differs from what the cell shows.
   #put(index, now) {
-    const element = this.#cells[index];
-    const old = this.#painted[index] ?? {};
-    if (old.classes !== now.classes) element.className = now.classes;
-    if (old.shade !== now.shade) element.style.setProperty('--shade', now.shade);
-    if (old.number !== now.number) element.children[1].textContent = now.number;
-    if (old.letter !== now.letter) element.children[2].textContent = now.letter;
-    if (old.label !== now.label) element.setAttribute('aria-label', now.label);
+    const { root, number, letter } = this.#cells[index];
+    const old = this.#painted[index] ?? { number: '', letter: '' };
+    if (old.classes !== now.classes) root.className = now.classes;
+    if (old.shade !== now.shade) root.style.setProperty('--shade', now.shade);
+    if (old.number !== now.number) number.data = now.number;
+    if (old.letter !== now.letter) letter.data = now.letter;
+    if (old.label !== now.label) root.setAttribute('aria-label', now.label);
     this.#painted[index] = now;
   }
 
@@ -148,25 +162,33 @@ export class GridView {
     this.wasChosen = editor.chosen.size > 0 || this.#anchor !== null;
     for (const index of new Set([...now, ...this.#marked])) if (index < this.#cells.length) this.paint(index);
     this.#marked = now;
-    this.#root.setAttribute('aria-activedescendant', this.#cells[editor.cursor]?.id ?? '');
+    this.#root.setAttribute('aria-activedescendant', this.#cells[editor.cursor]?.root.id ?? '');
   }
 
-  // Shows what an edit of letters changed, and measures the time from the key.
-  #letters({ cells, begin, engine }) {
+  // Shows what an edit of letters changed.
+  #letters({ cells, isTimed, engine }) {
+    this.#drawLate();
     if (this.isExplained) this.draw();
     this.isExplained = false;
     for (const index of cells) this.paint(index);
-    if (begin) this.#measure(begin, engine);
+    if (isTimed) mark('letter answered', { engine });
   }
 
-  #measure(begin, engine) {
-    this.#root.getBoundingClientRect();
-    performance.measure('letter', { start: begin, end: performance.now(), detail: { engine } });
-    requestAnimationFrame(() => {
-      const channel = new MessageChannel();
-      channel.port1.onmessage = () => performance.measure('letter painted', { start: begin, end: performance.now(), detail: { engine } });
-      channel.port2.postMessage(0);
-    });
+  // Shows a letter that was entered, with the move of the cursor, when the engine answers; or soon, if it has other work.
+  #drawSoon(index) {
+    this.#undrawn.add(index);
+    if (this.#editor.engine.waiting) this.#drawLate();
+    else this.#drawing ??= setTimeout(() => this.#drawLate(), WAIT);
+  }
+
+  #drawLate() {
+    clearTimeout(this.#drawing);
+    this.#drawing = null;
+    if (!this.#undrawn.size) return;
+    for (const index of this.#undrawn) this.paint(index);
+    this.#undrawn.clear();
+    this.#editor.tellMove();
+    mark('letter drawn');
   }
 
   showReason(cells) {
@@ -189,7 +211,7 @@ export class GridView {
 
   // Enters a letter at the cursor, as its key does.
   enter(letter) {
-    this.#letter(letter, 0);
+    this.#letter(letter);
     this.focus();
   }
 
@@ -206,7 +228,7 @@ export class GridView {
   #actionOf(event) {
     const { key, shiftKey } = event;
     if (ARROWS[key]) return () => (shiftKey ? this.#extend(...ARROWS[key]) : this.#arrow(...ARROWS[key]));
-    if (/^[a-zA-Z]$/.test(key)) return () => this.#letter(key.toUpperCase(), event.timeStamp);
+    if (/^[a-zA-Z]$/.test(key)) return () => this.#letter(key.toUpperCase(), true);
     const keys = {
       Tab: () => this.#nextLight(shiftKey ? -1 : 1),
       Enter: () => (shiftKey ? this.#choose() : this.turn()),
@@ -251,27 +273,30 @@ export class GridView {
     return next >= 0 && next < board.cells.length && board.rowOf(next) === board.rowOf(index) ? next : -1;
   }
 
+  // Moves the cursor within its light, without telling.
   #step(step) {
     const editor = this.#editor;
     const next = this.#beside(editor.cursor, editor.direction, step);
     const cells = editor.light?.cells ?? [];
-    if (next >= 0 && (cells.length ? cells.includes(next) : !editor.board.cells[next].block)) editor.moveTo(next);
+    if (next >= 0 && (cells.length ? cells.includes(next) : !editor.board.cells[next].block)) editor.put(next);
   }
 
-  #letter(letter, begin) {
+  // Enters a letter, which is on the board at once, and goes to the engine before anything is drawn. If it is refused, the session puts the
+  // board back.
+  #letter(letter, isTimed = false) {
     const editor = this.#editor;
     const cell = editor.board.cells[editor.cursor];
     if (cell.block) return refuse(refusalText('OnBlock'));
     if (!this.actions.mayEdit()) return;
     const index = editor.cursor;
-    const lines = [`set ${cell.place} ${letter}`];
+    this.#drawSoon(index);
+    const sent = this.#send([`set ${cell.place} ${letter}`], { isWhole: false, isTimed });
     editor.edited = index;
     editor.pencil.delete(cell.place);
-    // the letter is shown at once, and what it changes when the engine answers
     cell.letter = letter;
-    this.paint(index);
     this.#step(1);
-    this.#send(lines, { isWhole: false, begin, index });
+    const next = editor.cursor;
+    sent.then((refused) => refused && editor.cursor === next && editor.moveTo(index));
   }
 
   #send(lines, options = {}) {
@@ -287,12 +312,12 @@ export class GridView {
       return;
     }
     if (!this.actions.mayEdit()) return;
+    this.#drawSoon(index);
+    this.#send([`clear ${cell.place}`], { isWhole: false });
     editor.edited = index;
     editor.pencil.delete(cell.place);
     cell.letter = '';
     if (step) this.#step(step);
-    this.paint(index);
-    this.#send([`clear ${cell.place}`], { isWhole: false });
   }
 
   #stepFreely(step) {
@@ -493,6 +518,12 @@ export class GridView {
     };
     tools[this.tool]();
   }
+}
+
+// Marks a moment for whoever measures the page. Nothing of it is kept.
+function mark(name, detail = null) {
+  performance.mark(name, { detail });
+  performance.clearMarks(name);
 }
 
 // How strongly a cell is shaded that has this many letters left, of 26.

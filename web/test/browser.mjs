@@ -18,16 +18,17 @@ export class Browser {
   #waiting = new Map();
   #events = new Map();
 
-  static async open(program = 'chromium') {
+  // `switches` are further words for the program.
+  static async open(switches = [], program = 'chromium') {
     const browser = new Browser();
-    await browser.#start(program);
+    await browser.#start(program, switches);
     return browser;
   }
 
-  async #start(program) {
+  async #start(program, switches) {
     this.#folder = mkdtempSync(join(tmpdir(), 'xw-browser-'));
     const words = ['--headless=new', '--no-sandbox', '--disable-gpu', '--remote-debugging-port=0', `--user-data-dir=${this.#folder}`, '--hide-scrollbars',
-      '--no-first-run', '--disable-extensions', 'about:blank'];
+      '--no-first-run', '--disable-extensions', ...switches, 'about:blank'];
     this.#process = spawn(program, words, { stdio: ['ignore', 'ignore', 'pipe'] });
     const url = await new Promise((resolve, reject) => {
       let told = '';
@@ -69,6 +70,11 @@ export class Browser {
 
   on(method, listener) {
     this.#events.set(method, [...(this.#events.get(method) ?? []), listener]);
+  }
+
+  // Takes all listeners of an event away.
+  off(method) {
+    this.#events.delete(method);
   }
 
   send(method, params = {}) {
