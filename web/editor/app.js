@@ -5,6 +5,7 @@ import { Editor } from './editor.js';
 import { Files } from './files.js';
 import { Filler } from './fill.js';
 import { GridView } from './grid.js';
+import { whenIdle } from './idle.js';
 import { dropList, keepList, keepSession, keptList, keptSession, onOtherKeeper } from './keep.js';
 import { refusalText, refuse, say, useStatusLine } from './messages.js';
 import { PATTERNS, blankRows, recordOf, rowsOf } from './patterns.js';
@@ -232,12 +233,18 @@ function showFacts() {
   const lacking = board.lights.filter((light) => !board.isEntered(light)).length;
   const letters = lacking ? `${board.entered} of ${board.open} letters` : 'filled';
   const known = list.name ? `${list.name}, ${list.words.toLocaleString('en')} words` : 'no word list';
-  $('facts').textContent = `${board.width} × ${board.height} · ${letters} · ${known}`;
-  $('undo').disabled = !editor.canUndo;
-  $('redo').disabled = !editor.canRedo;
-  $('symmetry').value = editor.sym;
-  $('symmetry').querySelector('[value=quarter]').disabled = board.width !== board.height;
-  document.title = board.texts.get('title') ? `${board.texts.get('title')} – xw` : 'xw: a crossword editor';
+  put($('facts'), 'textContent', `${board.width} × ${board.height} · ${letters} · ${known}`);
+  put($('undo'), 'disabled', !editor.canUndo);
+  put($('redo'), 'disabled', !editor.canRedo);
+  put($('symmetry'), 'value', editor.sym);
+  put($('symmetry').querySelector('[value=quarter]'), 'disabled', board.width !== board.height);
+  const title = board.texts.get('title');
+  put(document, 'title', title ? `${title} – xw` : 'xw: a crossword editor');
+}
+
+// Sets what differs, since the browser draws anew what is set.
+function put(element, name, value) {
+  if (element[name] !== value) element[name] = value;
 }
 
 function toClue(light) {
@@ -466,20 +473,22 @@ menu.addEventListener('keydown', (event) => {
 // The session is kept at each change.
 
 function keep() {
+  isKept = true;
   const { record, pencil, cursor, direction } = editor;
   if (!keepSession({ record, pencil: [...pencil], cursor, direction })) refuse('the browser keeps nothing: save the session as a file');
 }
 
-let keeping = 0;
+let isKept = true;
 editor.addEventListener('step', () => {
-  // after the frame that shows the change
-  keeping ||= setTimeout(() => {
-    keeping = 0;
-    keep();
-    showFacts();
-  }, 20);
+  if (isKept) {
+    whenIdle(() => {
+      keep();
+      showFacts();
+    });
+  }
+  isKept = false;
 });
-addEventListener('pagehide', () => keeping && keep());
+addEventListener('pagehide', () => isKept || keep());
 editor.addEventListener('whole', () => {
   showFacts();
   showChosen();

@@ -3,6 +3,7 @@ import { Board } from './board.js';
 import { Engine } from './engine.js';
 import { parseRecord, transition } from './record.js';
 import { refusalText, refuse } from './messages.js';
+import { whenIdle } from './idle.js';
 
 const MOST_STEPS = 5000;
 
@@ -28,6 +29,8 @@ export class Editor extends EventTarget {
   #future = [];
   #now = null;
   #last = Promise.resolve();
+  // ends a wait for an idle page
+  #hurry = null;
   #restarting = null;
 
   constructor(makeWorker) {
@@ -95,6 +98,7 @@ export class Editor extends EventTarget {
 
   // Does one thing after another, each to its end.
   inOrder(action) {
+    this.#hurry?.();
     const done = this.#last.then(() => this.#restarting).then(action);
     this.#last = done.catch(() => {});
     return done;
@@ -113,10 +117,7 @@ export class Editor extends EventTarget {
   }
 
   async #edit(lines, { isWhole = true, pencil = null, isTimed = false }) {
-    const answered = this.engine.call('edit', { lines, isWhole });
-    const recorded = this.engine.call('record');
-    recorded.catch(() => {});
-    const told = await answered;
+    const told = await this.engine.call('edit', { lines, isWhole });
     const refused = told.answers.find(({ refusal }) => refusal)?.refusal ?? null;
     if (refused) {
       this.pencil = new Set(this.#now.pencil);
@@ -127,10 +128,20 @@ export class Editor extends EventTarget {
     this.unmatched = new Set();
     if (pencil) this.pencil = pencil;
     this.#show(lines, told, isWhole, isTimed);
-    this.record = await recorded;
+    if (!isWhole) await this.#idle();
+    this.record = await this.engine.call('record');
     if (isWhole) this.sym = parseRecord(this.record).sym;
     this.#step();
     return null;
+  }
+
+  // Waits until the page has drawn, or until there is more to do.
+  async #idle() {
+    await new Promise((resolve) => {
+      this.#hurry = resolve;
+      whenIdle(resolve);
+    });
+    this.#hurry = null;
   }
 
   #show(lines, told, isWhole, isTimed) {

@@ -13,6 +13,8 @@ export class GridView {
   #cells = [];
   // what each cell shows
   #painted = [];
+  // what lies over the light of the cursor and over the one that crosses it
+  #bands = ['light-band', 'crossing-band'].map((name) => Object.assign(document.createElement('div'), { className: name }));
   // cells whose letters are entered but not shown yet, by index
   #undrawn = new Set();
   #drawing = null;
@@ -40,8 +42,8 @@ export class GridView {
   #fit() {
     const { board } = this.#editor;
     if (!board.width) return;
-    const room = this.#root.parentElement.getBoundingClientRect();
-    const size = Math.floor(Math.min((room.width - 16) / board.width, (room.height - 16) / board.height, 64));
+    const { clientWidth, clientHeight } = this.#root.parentElement;
+    const size = Math.floor(Math.min((clientWidth - 16) / board.width, (clientHeight - 16) / board.height, 64));
     this.#root.style.setProperty('--cell', `${Math.max(size, 12)}px`);
   }
 
@@ -58,6 +60,7 @@ export class GridView {
   #make(board) {
     this.width = board.width;
     this.#root.style.setProperty('--columns', board.width);
+    this.#root.style.setProperty('--rows', board.height);
     this.#root.setAttribute('aria-rowcount', board.height);
     this.#root.setAttribute('aria-colcount', board.width);
     this.#cells = [];
@@ -70,7 +73,7 @@ export class GridView {
       for (let column = 1; column <= board.width; column++) line.append(this.#makeCell(row, column));
       rows.push(line);
     }
-    this.#root.replaceChildren(...rows);
+    this.#root.replaceChildren(...rows, ...this.#bands);
   }
 
   #makeCell(row, column) {
@@ -105,9 +108,9 @@ export class GridView {
     if (isOpen && !cell.left && !this.isBlank) classes.push('dead');
     if (isOpen && cell.left.length === 1) classes.push('only');
     this.#marksOf(index, classes);
-    const shade = isOpen && cell.left.length > 1 ? shadeOf(cell.left.length) : '0%';
+    if (isOpen && cell.left.length > 1) classes.push(`shade-${shadeOf(cell.left.length)}`);
     const letter = cell.letter || (isOpen && cell.left.length === 1 ? cell.left : '');
-    this.#put(index, { classes: classes.join(' '), shade, letter, number: cell.number, label: this.#nameOf(index) });
+    this.#put(index, { classes: classes.join(' '), letter, number: cell.number, label: this.#nameOf(index) });
   }
 
   // Writes what differs from what the cell shows.
@@ -115,7 +118,6 @@ export class GridView {
     const { root, number, letter } = this.#cells[index];
     const old = this.#painted[index] ?? { number: '', letter: '' };
     if (old.classes !== now.classes) root.className = now.classes;
-    if (old.shade !== now.shade) root.style.setProperty('--shade', now.shade);
     if (old.number !== now.number) number.data = now.number;
     if (old.letter !== now.letter) letter.data = now.letter;
     if (old.label !== now.label) root.setAttribute('aria-label', now.label);
@@ -143,26 +145,42 @@ export class GridView {
 
   #marksOf(index, classes) {
     const editor = this.#editor;
-    const cell = editor.board.cells[index];
     if (index === editor.cursor) classes.push('cursor', editor.direction);
-    else if (cell[editor.direction] && cell[editor.direction] === editor.light) classes.push('in-light');
-    else if (editor.crossing && editor.crossing.cells.includes(index)) classes.push('in-crossing');
-    if (editor.board.through(index).some((light) => editor.chosen.has(light.name))) classes.push('chosen');
+    if (editor.chosen.size && editor.board.through(index).some((light) => editor.chosen.has(light.name))) classes.push('chosen');
     if (this.#isWithin(index)) classes.push('within');
   }
 
-  #marked = new Set();
+  // the cell where the cursor is shown, by index
+  #marked = 0;
 
   // Shows where the cursor is.
   mark() {
     const editor = this.#editor;
-    const { board } = editor;
-    const now = new Set([editor.cursor, ...(editor.light?.cells ?? []), ...(editor.crossing?.cells ?? [])]);
-    if (editor.chosen.size || this.#anchor !== null || this.wasChosen) board.cells.forEach((_, index) => now.add(index));
-    this.wasChosen = editor.chosen.size > 0 || this.#anchor !== null;
-    for (const index of new Set([...now, ...this.#marked])) if (index < this.#cells.length) this.paint(index);
-    this.#marked = now;
-    this.#root.setAttribute('aria-activedescendant', this.#cells[editor.cursor]?.root.id ?? '');
+    const { board, cursor } = editor;
+    const isChosen = editor.chosen.size > 0 || this.#anchor !== null;
+    const cells = isChosen || this.wasChosen ? board.cells.keys() : [this.#marked, cursor];
+    for (const index of cells) if (index < this.#cells.length) this.paint(index);
+    this.wasChosen = isChosen;
+    this.#marked = cursor;
+    this.#cover(this.#bands[0], editor.light);
+    this.#cover(this.#bands[1], editor.crossing);
+    this.#root.setAttribute('aria-activedescendant', this.#cells[cursor]?.root.id ?? '');
+  }
+
+  // Lays a band over a light.
+  #cover(band, light) {
+    const { board } = this.#editor;
+    band.hidden = !light;
+    if (!light) return;
+    const [first] = light.cells;
+    const [columns, rows] = light.direction === 'across' ? [light.cells.length, 1] : [1, light.cells.length];
+    const place = [board.columnOf(first) - 1, board.rowOf(first) - 1, columns, rows].join();
+    if (band.dataset.place === place) return;
+    band.dataset.place = place;
+    const cells = (count) => `calc(var(--cell) * ${count})`;
+    band.style.transform = `translate(${cells(board.columnOf(first) - 1)}, ${cells(board.rowOf(first) - 1)})`;
+    band.style.width = cells(columns);
+    band.style.height = cells(rows);
   }
 
   // Shows what an edit of letters changed.
@@ -526,7 +544,6 @@ function mark(name, detail = null) {
   performance.clearMarks(name);
 }
 
-// How strongly a cell is shaded that has this many letters left, of 26.
-function shadeOf(left) {
-  return `${Math.round(62 * (1 - Math.log(left) / Math.log(26)))}%`;
-}
+// How strongly a cell is shaded that has this many letters left, of 26: from 0 to 8.
+const DEEPEST = 10;
+const shadeOf = (left) => Math.round(DEEPEST * (1 - Math.log(left) / Math.log(26)));

@@ -1,28 +1,40 @@
 // The tab of words: the candidates of the light under the cursor, and the letters of its cell.
+import { whenIdle } from './idle.js';
 import { refuse, refusalText } from './messages.js';
 
-// The most candidates that are listed, and the most words that are counted in one call.
+// The most candidates that are listed, those of them that are listed at once, and the most words that are counted in one call.
 const MOST_LISTED = 200;
-const MOST_COUNTED = 40;
-const MOST_PROBED = 6;
-// how long the cursor rests before words are asked for, in milliseconds
+const FIRST_LISTED = 60;
+const MOST_COUNTED = 16;
+const MOST_PROBED = 8;
+// how long the cursor rests before words are asked for, and how long they may take before the old ones are dimmed, in milliseconds
 const REST = 40;
+const LATE = 250;
+// how long the first candidates stand alone, in milliseconds
+const ALONE = 400;
 
 export class WordsView {
   #editor;
   #elements;
   #timer = null;
   #countTimer = null;
-  #due = 0;
+  #lateTimer = null;
+  #restTimer = null;
   // rises with each change, so that late answers are dropped
   #turn = 0;
   // the name of the light whose candidates are shown
   #listed = '';
   // the cell whose letters are shown, by index
   #lettered = -1;
+  // elements that are used again: boxes of the light's letters, rows of candidates, buttons of letters
+  #boxes = [];
+  #rows = [];
+  #buttons = [];
+  // the words that are listed, and whether their counts are under way
   shown = [];
+  #isCounting = false;
   #words = [];
-  #scores = null;
+  #scores = new Map();
   #left = new Map();
   #at = -1;
   #isDead = false;
@@ -31,63 +43,66 @@ export class WordsView {
     this.#editor = editor;
     this.#elements = elements;
     this.actions = actions;
-    for (const name of ['whole', 'letters', 'move', 'step']) editor.addEventListener(name, () => this.#soon());
+    for (const name of ['whole', 'letters', 'move']) editor.addEventListener(name, () => this.#soon());
     elements.filter.addEventListener('input', () => this.#list());
     elements.filter.addEventListener('keydown', (event) => this.#key(event));
     elements.order.addEventListener('change', () => this.#list());
     elements.list.addEventListener('click', (event) => this.#click(event));
     elements.letters.addEventListener('click', (event) => {
       const letter = event.target.closest('button')?.dataset.letter;
-      if (letter) actions.enter(letter);
+      if (letter && this.#lettered === editor.cursor) actions.enter(letter);
     });
   }
 
   #soon() {
     this.#turn++;
     clearTimeout(this.#timer);
-    this.#timer = setTimeout(() => this.#ask(this.#turn), REST);
-    this.#due ||= requestAnimationFrame(() => {
-      this.#due = 0;
-      this.#head();
-    });
+    this.#timer = setTimeout(() => whenIdle(() => this.#ask(this.#turn)), REST);
+    this.#head();
   }
 
-  // The name of the light, and its letters. The candidates of another light are no longer shown.
+  // The name of the light, and its letters. The candidates of another light stay until those of this one come, but cannot be chosen.
   #head() {
     const { light, board } = this.#editor;
-    if ((light?.name ?? '') !== this.#listed) this.#forget();
-    if (this.#editor.cursor !== this.#lettered) this.#forgetLetters();
     const { name, spelled } = this.#elements;
+    this.#showBusy();
     if (!light) {
-      name.textContent = board.cells[this.#editor.cursor]?.block ? 'A block' : 'No light';
-      spelled.replaceChildren();
+      setText(name, board.cells[this.#editor.cursor]?.block ? 'A block' : 'No light');
+      fit(spelled, this.#boxes, 0, makeBox);
       return;
     }
-    name.textContent = titleOf(light);
-    spelled.replaceChildren(...light.cells.map((index) => this.#box(index)));
+    setText(name, titleOf(light));
+    fit(spelled, this.#boxes, light.cells.length, makeBox);
+    light.cells.forEach((index, at) => this.#box(this.#boxes[at], index));
   }
 
-  #forget() {
-    this.#listed = '';
-    this.#words = [];
-    this.shown = [];
-    this.#elements.list.replaceChildren();
-    this.#elements.summary.textContent = '';
+  #showBusy() {
+    const { list, letters } = this.#elements;
+    const isOther = this.#editor.cursor !== this.#lettered;
+    list.setAttribute('aria-busy', !this.#isCurrent);
+    letters.setAttribute('aria-busy', isOther);
+    clearTimeout(this.#lateTimer);
+    if (isOther || !this.#isCurrent) this.#lateTimer = setTimeout(() => this.#dim(), LATE);
+    else this.#dim();
   }
 
-  #forgetLetters() {
-    this.#lettered = -1;
-    this.#elements.letters.replaceChildren();
-    this.#elements.place.textContent = '';
+  #dim() {
+    this.#elements.list.classList.toggle('late', !this.#isCurrent);
+    this.#elements.letters.classList.toggle('late', this.#editor.cursor !== this.#lettered);
   }
 
-  #box(index) {
+  // Whether what is listed is that of the light under the cursor.
+  get #isCurrent() {
+    return (this.#editor.light?.name ?? '') === this.#listed;
+  }
+
+  #box(box, index) {
     const cell = this.#editor.board.cells[index];
-    const box = document.createElement('span');
-    box.textContent = cell.letter || (cell.left.length === 1 ? cell.left : '·');
-    if (!cell.letter) box.className = cell.left.length === 1 ? 'only' : 'empty';
-    if (index === this.#editor.cursor) box.classList.add('here');
-    return box;
+    const names = [];
+    if (!cell.letter) names.push(cell.left.length === 1 ? 'only' : 'empty');
+    if (index === this.#editor.cursor) names.push('here');
+    setText(box, cell.letter || (cell.left.length === 1 ? cell.left : '·'));
+    setClass(box, names.join(' '));
   }
 
   async #ask(turn) {
@@ -95,18 +110,22 @@ export class WordsView {
     const { light } = editor;
     try {
       if (!light) {
+        this.#left = new Map();
         this.#take([], null);
         await this.#askLetters(turn);
         return;
       }
       const { words, scores } = await editor.engine.call('words', { light: light.name });
       if (turn !== this.#turn) return;
+      const isDead = light.count === 0;
+      const told = isDead ? await this.#matches(light) : words.split('\n').filter(Boolean);
+      if (turn !== this.#turn) return;
       this.#left = new Map();
-      this.#isDead = light.count === 0;
-      if (this.#isDead) this.#take(await this.#matches(light), null);
-      else this.#take(words, scores);
+      this.#isDead = isDead;
+      this.#isCounting = !isDead && told.length > 0;
+      this.#take(told, scores);
       await this.#askLetters(turn);
-      if (!this.#isDead) await this.#count(turn, light);
+      if (!isDead) await this.#count(turn, light);
     } catch (fault) {
       if (!fault.status) throw fault;
     }
@@ -121,8 +140,9 @@ export class WordsView {
   #take(words, scores) {
     this.#listed = this.#editor.light?.name ?? '';
     this.#words = words;
-    this.#scores = scores;
+    this.#scores = new Map(scores ? words.map((word, at) => [word, scores[at]]) : []);
     this.#at = -1;
+    this.#elements.list.scrollTop = 0;
     this.#list();
   }
 
@@ -151,54 +171,56 @@ export class WordsView {
 
   #list() {
     const words = this.#ordered();
+    const { list, legend, filter } = this.#elements;
     this.shown = words.slice(0, MOST_LISTED);
     if (this.#at >= this.shown.length) this.#at = -1;
-    this.#elements.list.replaceChildren(...this.shown.map((word, at) => this.#row(word, at)));
-    this.#elements.list.classList.toggle('dead-end', this.#isDead);
-    this.#elements.legend.textContent = this.#legend();
+    this.#fillRows(FIRST_LISTED);
+    clearTimeout(this.#restTimer);
+    this.#restTimer = setTimeout(() => whenIdle(() => this.#fillRows(MOST_LISTED)), ALONE);
+    list.classList.toggle('dead-end', this.#isDead);
+    this.#showBusy();
+    setText(legend, this.#legend());
     this.#summary(words.length);
     this.#point();
-    if (this.#elements.filter.value && !this.#isDead) this.#countSoon();
+    if (filter.value && !this.#isDead) this.#countSoon();
+  }
+
+  // Fills the rows of the first words.
+  #fillRows(most) {
+    const words = this.shown.slice(0, most);
+    fit(this.#elements.list, this.#rows, words.length, makeRow);
+    words.forEach((word, at) => this.#fillRow(this.#rows[at], word));
   }
 
   #legend() {
     if (!this.#words.length) return '';
+    if (this.#isCounting) return 'counting what each word leaves …';
     return this.#isDead ? 'these agree with the letters of this light alone' : 'the number: words left to the tightest light after it';
   }
 
   #summary(count) {
-    const { light } = this.#editor;
-    const { summary } = this.#elements;
     const all = this.#words.length;
-    if (!light) summary.textContent = '';
-    else if (this.#isDead) summary.textContent = 'no word is left';
-    else if (this.#elements.filter.value) summary.textContent = `${count} of ${all} words`;
-    else summary.textContent = all === 1 ? '1 word' : `${all.toLocaleString('en')} words`;
+    let text = all === 1 ? '1 word' : `${all.toLocaleString('en')} words`;
+    if (!this.#editor.light) text = '';
+    else if (this.#isDead) text = 'no word is left';
+    else if (this.#elements.filter.value) text = `${count} of ${all} words`;
+    setText(this.#elements.summary, text);
   }
 
-  #row(word, at) {
-    const row = document.createElement('li');
-    row.setAttribute('role', 'option');
-    row.id = `word-${at}`;
+  #fillRow(row, word) {
+    const { name, score } = row.parts;
     row.dataset.word = word;
-    const name = document.createElement('span');
-    name.textContent = word;
-    row.append(name);
-    const score = this.#scores?.[this.#words.indexOf(word)];
-    if (score !== null && score !== undefined) row.append(small(score, 'score', 'score'));
+    setText(name, word);
+    setText(score, this.#scores.get(word) ?? '');
     this.#fillLeft(row, word);
-    const strike = small('×', 'strike', 'strike this word: it fits nothing until it is added again (Shift Delete)');
-    row.append(strike);
-    return row;
   }
 
+  // What a word leaves, or a mark where it is not counted yet.
   #fillLeft(row, word) {
     const left = this.#left.get(word);
-    row.querySelector('.left')?.remove();
-    if (left === undefined) return;
-    row.classList.toggle('dead', left === 0);
-    const shown = small(left === 'done' ? 'all done' : left === 0 ? 'dead end' : left, 'left', 'the least number of words that a light has then');
-    row.insertBefore(shown, row.querySelector('.strike'));
+    setClass(row, left === 0 ? 'dead' : '');
+    const shown = { done: 'all done', 0: 'dead end', undefined: this.#isDead ? '' : '·' };
+    setText(row.parts.left, shown[left] ?? left);
   }
 
   // What each of the first words leaves, and then those in sight.
@@ -211,39 +233,40 @@ export class WordsView {
     await this.#probe(turn, light);
   }
 
+  #counted() {
+    this.#isCounting = false;
+    setText(this.#elements.legend, this.#legend());
+  }
+
   #takeLeft(pairs) {
     for (const [word, left] of pairs) this.#left.set(word, left === 'done' ? left : Number(left));
     if (this.#elements.order.value === 'left') {
       this.#list();
       return;
     }
-    for (const row of this.#elements.list.children) {
-      if (this.#left.has(row.dataset.word)) this.#fillLeft(row, row.dataset.word);
-    }
+    const { childElementCount } = this.#elements.list;
+    this.shown.slice(0, childElementCount).forEach((word, at) => this.#left.has(word) && this.#fillLeft(this.#rows[at], word));
   }
 
   // Counts the words in sight, a few in each call, while nothing else is asked.
   async #probe(turn, light) {
-    const { board, engine } = this.#editor;
+    const { engine } = this.#editor;
     while (turn === this.#turn) {
       const words = this.#inSight().filter((word) => !this.#left.has(word)).slice(0, MOST_PROBED);
-      if (!words.length || this.actions.isFilling()) return;
-      const cells = light.cells.map((index) => ({ place: board.cells[index].place, letter: board.cells[index].letter }));
-      const answers = await this.#editor.inOrder(() => (turn === this.#turn ? engine.call('probe', { light: light.name, cells, words }) : {}));
-      if (turn !== this.#turn) return;
-      for (const word of words) answers[word] ??= 0;
-      this.#takeLeft(Object.entries(answers));
+      if (!words.length || this.actions.isFilling()) return this.#counted();
+      const answers = await engine.call('probe', { light: light.name, words });
+      if (turn === this.#turn) this.#takeLeft(Object.entries(answers));
     }
   }
 
   #inSight() {
     const { list } = this.#elements;
-    const rows = [...list.children];
-    if (!rows.length || !list.clientHeight) return [];
-    const height = rows[0].offsetHeight || 24;
-    const columns = Math.max(1, Math.floor(list.clientWidth / rows[0].offsetWidth));
+    const [row] = this.#rows;
+    if (!this.shown.length || !list.clientHeight) return [];
+    const height = row.offsetHeight || 24;
+    const columns = Math.max(1, Math.floor(list.clientWidth / row.offsetWidth));
     const first = Math.floor(list.scrollTop / height) * columns;
-    return rows.slice(first, first + Math.ceil(list.clientHeight / height + 1) * columns).map((row) => row.dataset.word);
+    return this.shown.slice(first, first + Math.ceil(list.clientHeight / height + 1) * columns);
   }
 
   #countSoon() {
@@ -263,18 +286,24 @@ export class WordsView {
     const { board, cursor } = this.#editor;
     const cell = board.cells[cursor];
     const { letters, place } = this.#elements;
-    if (cell.block) return;
+    if (cell.block) {
+      this.#lettered = cursor;
+      setText(place, '');
+      this.#showBusy();
+      letters.classList.remove('none');
+      fit(letters, this.#buttons, 0, makeButton);
+      return;
+    }
     const [lines] = await this.#editor.ask(`tally ${cell.place}`);
     if (turn !== this.#turn) return;
     this.#lettered = cursor;
-    place.textContent = `Row ${board.rowOf(cursor)}, column ${board.columnOf(cursor)}`;
-    if (!lines?.length) {
-      letters.replaceChildren(Object.assign(document.createElement('p'), { textContent: 'No letter is left for this cell.' }));
-      return;
-    }
-    const rows = lines.map((line) => line.split(' '));
+    setText(place, `Row ${board.rowOf(cursor)}, column ${board.columnOf(cursor)}`);
+    this.#showBusy();
+    letters.classList.toggle('none', !lines?.length);
+    const rows = (lines ?? []).map((line) => line.split(' '));
     const most = Math.max(1, ...rows.map(([, across, down]) => Math.max(Number(across) || 0, Number(down) || 0)));
-    letters.replaceChildren(...rows.map(([letter, across, down]) => letterButton(letter, across, down, most)));
+    fit(letters, this.#buttons, rows.length, makeButton);
+    rows.forEach((row, at) => fillButton(this.#buttons[at], ...row, most));
   }
 
   // The keys of the filter.
@@ -287,8 +316,9 @@ export class WordsView {
       this.#point();
     } else if (event.key === 'Enter') {
       event.preventDefault();
-      const word = this.shown[Math.max(0, this.#at)];
+      const word = this.#isCurrent && this.shown[Math.max(0, this.#at)];
       if (word) this.#place(word);
+      else if (!this.#isCurrent) refuse('the words of this light are not there yet');
       else refuse('no candidate passes the filter');
     } else if (event.key === 'Delete' && event.shiftKey) {
       event.preventDefault();
@@ -308,6 +338,7 @@ export class WordsView {
   #point() {
     const { list, filter } = this.#elements;
     for (const row of list.querySelectorAll('[aria-selected=true]')) row.removeAttribute('aria-selected');
+    if (this.#at >= list.childElementCount) this.#fillRows(MOST_LISTED);
     const row = list.children[this.#at];
     if (!row) return filter.removeAttribute('aria-activedescendant');
     row.setAttribute('aria-selected', 'true');
@@ -317,7 +348,7 @@ export class WordsView {
 
   #click(event) {
     const word = event.target.closest('li')?.dataset.word;
-    if (!word) return;
+    if (!word || !this.#isCurrent) return;
     if (event.target.closest('.strike')) this.actions.strike(word);
     else this.#place(word);
   }
@@ -332,25 +363,62 @@ export class WordsView {
 
 export const titleOf = (light) => `${light.number} ${light.direction === 'across' ? 'Across' : 'Down'}`;
 
-function small(text, name, title) {
+// Elements that are used again.
+
+// Gives a parent its first elements, so many; makes those that are lacking.
+function fit(parent, elements, count, make) {
+  while (elements.length < count) elements.push(make(elements.length));
+  while (parent.childElementCount > count) parent.lastElementChild.remove();
+  for (let at = parent.childElementCount; at < count; at++) parent.append(elements[at]);
+}
+
+function setText(element, text) {
+  const spelled = String(text);
+  if (element.firstChild?.data === spelled) return;
+  if (element.firstChild) element.firstChild.data = spelled;
+  else element.append(spelled);
+}
+
+function setClass(element, name) {
+  if (element.className !== name) element.className = name;
+}
+
+const makeBox = () => document.createElement('span');
+
+function makeRow(at) {
+  const row = document.createElement('li');
+  row.setAttribute('role', 'option');
+  row.id = `word-${at}`;
+  row.parts = {
+    name: document.createElement('span'), score: small('score', 'score'), left: small('left', 'the least number of words that a light has then'),
+    strike: small('strike', 'strike this word: it fits nothing until it is added again (Shift Delete)'),
+  };
+  setText(row.parts.strike, '×');
+  row.append(...Object.values(row.parts));
+  return row;
+}
+
+function small(name, title) {
   const element = document.createElement('small');
-  element.textContent = text;
   element.className = name;
   element.title = title;
   return element;
 }
 
-function letterButton(letter, across, down, most) {
+function makeButton() {
   const button = document.createElement('button');
   button.type = 'button';
-  button.dataset.letter = letter;
+  button.append(document.createElement('b'), small('counts', ''));
+  return button;
+}
+
+function fillButton(button, letter, across, down, most) {
   const bar = (count) => `${Math.round((100 * Math.log1p(Number(count) || 0)) / Math.log1p(most))}%`;
+  button.dataset.letter = letter;
   button.style.setProperty('--across', bar(across));
   button.style.setProperty('--down', bar(down));
   button.title = `${letter}: ${across} across, ${down} down`;
   button.setAttribute('aria-label', `enter ${letter}: ${across} words across, ${down} down`);
-  const name = document.createElement('b');
-  name.textContent = letter;
-  button.append(name, small(`${across}→ ${down}↓`, 'counts', ''));
-  return button;
+  setText(button.children[0], letter);
+  setText(button.children[1], `${across}→ ${down}↓`);
 }

@@ -4,7 +4,7 @@
 // frames are told: the first with the letter in its cell, and the first with all that the letter changes in the grid.
 import { Browser } from './browser.mjs';
 
-const CATEGORIES = ['cc', 'benchmark', 'input', 'devtools.timeline', 'blink.user_timing'];
+const CATEGORIES = process.env.CATS ? process.env.CATS.split(',') : ['cc', 'benchmark', 'input', 'devtools.timeline', 'blink.user_timing'];
 
 // Switches with which headless Chromium draws a frame when it is ready. Without them it draws 60 in a second, and a letter waits for its frame.
 export const UNLIMITED = ['--disable-frame-rate-limit', '--disable-gpu-vsync'];

@@ -1,0 +1,10 @@
+// What can wait until the page has drawn and no key is there.
+
+// The longest wait in milliseconds, and how long it waits where the browser does not tell when it is idle.
+const LONGEST = 100;
+const WAIT_BLINDLY = 30;
+
+export function whenIdle(action) {
+  if ('requestIdleCallback' in globalThis) requestIdleCallback(() => action(), { timeout: LONGEST });
+  else setTimeout(action, WAIT_BLINDLY);
+}
