@@ -400,7 +400,7 @@ document.addEventListener('click', (event) => {
 });
 
 const CONTROL_KEYS = { o: 'open', s: 'save-puz', p: 'print', f: 'fill', g: 'another', j: 'hardest' };
-const isText = (element) => element.matches('input:not([type=range]), textarea');
+const isText = (element) => element.matches('input:not([type=range], #typing), textarea');
 
 document.addEventListener('keydown', (event) => {
   const key = event.key.toLowerCase();

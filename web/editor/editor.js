@@ -29,7 +29,8 @@ export class Editor extends EventTarget {
   #future = [];
   #now = null;
   #last = Promise.resolve();
-  // ends a wait for an idle page
+  // how many things are to be done after the present one, and what ends a wait for an idle page
+  #queued = 0;
   #hurry = null;
   #restarting = null;
 
@@ -98,8 +99,12 @@ export class Editor extends EventTarget {
 
   // Does one thing after another, each to its end.
   inOrder(action) {
+    this.#queued++;
     this.#hurry?.();
-    const done = this.#last.then(() => this.#restarting).then(action);
+    const done = this.#last.then(() => this.#restarting).then(() => {
+      this.#queued--;
+      return action();
+    });
     this.#last = done.catch(() => {});
     return done;
   }
@@ -137,6 +142,7 @@ export class Editor extends EventTarget {
 
   // Waits until the page has drawn, or until there is more to do.
   async #idle() {
+    if (this.#queued) return;
     await new Promise((resolve) => {
       this.#hurry = resolve;
       whenIdle(resolve);

@@ -1,5 +1,6 @@
 // The grid: its cells, the keys and the mouse.
 import { refusalText, refuse, say } from './messages.js';
+import { TypingField } from './typing.js';
 
 // How long a letter waits for the engine's answer, in milliseconds: one frame then shows it with all that it changes. If the answer takes
 // longer, the letter is shown alone.
@@ -15,6 +16,7 @@ export class GridView {
   #painted = [];
   // what lies over the light of the cursor and over the one that crosses it
   #bands = ['light-band', 'crossing-band'].map((name) => Object.assign(document.createElement('div'), { className: name }));
+  #typing = new TypingField((key) => this.#actionOf({ key, shiftKey: false })?.());
   // cells whose letters are entered but not shown yet, by index
   #undrawn = new Set();
   #drawing = null;
@@ -31,7 +33,11 @@ export class GridView {
     root.addEventListener('keydown', (event) => this.#key(event));
     root.addEventListener('pointerdown', (event) => this.#pointerDown(event));
     root.addEventListener('pointermove', (event) => this.#pointerMove(event));
-    root.addEventListener('pointerup', () => this.#pointerUp());
+    root.addEventListener('pointerup', (event) => this.#pointerUp(event));
+    root.addEventListener('pointercancel', () => {
+      this.#pressed = null;
+    });
+    root.append(...this.#bands, this.#typing.element);
     editor.addEventListener('whole', () => this.draw());
     editor.addEventListener('letters', ({ detail }) => this.#letters(detail));
     editor.addEventListener('move', () => this.mark());
@@ -73,7 +79,8 @@ export class GridView {
       for (let column = 1; column <= board.width; column++) line.append(this.#makeCell(row, column));
       rows.push(line);
     }
-    this.#root.replaceChildren(...rows, ...this.#bands);
+    for (const row of this.#root.querySelectorAll('.row')) row.remove();
+    this.#root.prepend(...rows);
   }
 
   #makeCell(row, column) {
@@ -164,23 +171,30 @@ export class GridView {
     this.#marked = cursor;
     this.#cover(this.#bands[0], editor.light);
     this.#cover(this.#bands[1], editor.crossing);
+    if (this.#typing.isActive) this.#lay(this.#typing.element, cursor, 1, 1);
     this.#root.setAttribute('aria-activedescendant', this.#cells[cursor]?.root.id ?? '');
   }
 
   // Lays a band over a light.
   #cover(band, light) {
-    const { board } = this.#editor;
     band.hidden = !light;
     if (!light) return;
-    const [first] = light.cells;
-    const [columns, rows] = light.direction === 'across' ? [light.cells.length, 1] : [1, light.cells.length];
-    const place = [board.columnOf(first) - 1, board.rowOf(first) - 1, columns, rows].join();
-    if (band.dataset.place === place) return;
-    band.dataset.place = place;
+    const length = light.cells.length;
+    if (light.direction === 'across') this.#lay(band, light.cells[0], length, 1);
+    else this.#lay(band, light.cells[0], 1, length);
+  }
+
+  // Lays an element over so many columns and rows, from a cell on.
+  #lay(element, first, columns, rows) {
+    const { board } = this.#editor;
+    const [column, row] = [board.columnOf(first) - 1, board.rowOf(first) - 1];
+    const place = [column, row, columns, rows].join();
+    if (element.dataset.place === place) return;
+    element.dataset.place = place;
     const cells = (count) => `calc(var(--cell) * ${count})`;
-    band.style.transform = `translate(${cells(board.columnOf(first) - 1)}, ${cells(board.rowOf(first) - 1)})`;
-    band.style.width = cells(columns);
-    band.style.height = cells(rows);
+    element.style.transform = `translate(${cells(column)}, ${cells(row)})`;
+    element.style.width = cells(columns);
+    element.style.height = cells(rows);
   }
 
   // Shows what an edit of letters changed.
@@ -224,7 +238,7 @@ export class GridView {
   }
 
   focus() {
-    this.#root.focus({ preventScroll: true });
+    if (!this.#typing.isActive) this.#root.focus({ preventScroll: true });
   }
 
   // Enters a letter at the cursor, as its key does.
@@ -492,7 +506,7 @@ export class GridView {
     const index = this.#indexOf(event);
     if (index < 0 || event.button !== 0) return;
     event.preventDefault();
-    this.focus();
+    if (event.pointerType !== 'touch') this.#root.focus({ preventScroll: true });
     if (this.tool) return this.#useTool(index);
     const editor = this.#editor;
     if (event.shiftKey) {
@@ -521,7 +535,12 @@ export class GridView {
     this.mark();
   }
 
-  #pointerUp() {
+  // A tap brings up the keyboard of the screen.
+  #pointerUp(event) {
+    if (event.pointerType === 'touch' && this.#pressed !== null && this.#anchor === null) {
+      this.#typing.focus();
+      this.#lay(this.#typing.element, this.#editor.cursor, 1, 1);
+    }
     this.#pressed = null;
   }
 

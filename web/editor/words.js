@@ -10,6 +10,8 @@ const MOST_PROBED = 8;
 // how long the cursor rests before words are asked for, and how long they may take before the old ones are dimmed, in milliseconds
 const REST = 40;
 const LATE = 250;
+// how often counts are shown while more come, in milliseconds
+const SHOWN_EACH = 150;
 // how long the first candidates stand alone, in milliseconds
 const ALONE = 400;
 
@@ -20,6 +22,7 @@ export class WordsView {
   #countTimer = null;
   #lateTimer = null;
   #restTimer = null;
+  #isHeadDue = false;
   // rises with each change, so that late answers are dropped
   #turn = 0;
   // the name of the light whose candidates are shown
@@ -58,14 +61,17 @@ export class WordsView {
     this.#turn++;
     clearTimeout(this.#timer);
     this.#timer = setTimeout(() => whenIdle(() => this.#ask(this.#turn)), REST);
-    this.#head();
+    this.#showBusy();
+    if (this.#isHeadDue) return;
+    this.#isHeadDue = true;
+    whenIdle(() => this.#head());
   }
 
   // The name of the light, and its letters. The candidates of another light stay until those of this one come, but cannot be chosen.
   #head() {
     const { light, board } = this.#editor;
     const { name, spelled } = this.#elements;
-    this.#showBusy();
+    this.#isHeadDue = false;
     if (!light) {
       setText(name, board.cells[this.#editor.cursor]?.block ? 'A block' : 'No light');
       fit(spelled, this.#boxes, 0, makeBox);
@@ -248,14 +254,20 @@ export class WordsView {
     this.shown.slice(0, childElementCount).forEach((word, at) => this.#left.has(word) && this.#fillLeft(this.#rows[at], word));
   }
 
-  // Counts the words in sight, a few in each call, while nothing else is asked.
+  // Counts the words in sight, a few in each call. They are shown now and then, so that frames are left for keys.
   async #probe(turn, light) {
     const { engine } = this.#editor;
+    let [answers, shownAt] = [{}, performance.now()];
+    const isKnown = (word) => this.#left.has(word) || word in answers;
     while (turn === this.#turn) {
-      const words = this.#inSight().filter((word) => !this.#left.has(word)).slice(0, MOST_PROBED);
-      if (!words.length || this.actions.isFilling()) return this.#counted();
-      const answers = await engine.call('probe', { light: light.name, words });
-      if (turn === this.#turn) this.#takeLeft(Object.entries(answers));
+      const words = this.#inSight().filter((word) => !isKnown(word)).slice(0, MOST_PROBED);
+      const isEnd = !words.length || this.actions.isFilling();
+      if (isEnd || performance.now() - shownAt > SHOWN_EACH) {
+        this.#takeLeft(Object.entries(answers));
+        [answers, shownAt] = [{}, performance.now()];
+      }
+      if (isEnd) return this.#counted();
+      Object.assign(answers, await engine.call('probe', { light: light.name, words }));
     }
   }
 

@@ -107,8 +107,8 @@ export class Browser {
     }
   }
 
-  // Presses a key, such as `a`, `Enter` or `Control+z`.
-  async press(name) {
+  // Presses a key, such as `a`, `Enter` or `Control+z`, and holds it for some milliseconds.
+  async press(name, held = 0) {
     const parts = name.split(/(?<=.)\+/);
     const key = parts.pop();
     const modifiers = parts.reduce((sum, part) => sum + { Alt: 1, Control: 2, Shift: 8 }[part], 0);
@@ -117,6 +117,7 @@ export class Browser {
     const event = { key, code, modifiers, windowsVirtualKeyCode: CODES[key] ?? key.toUpperCase().charCodeAt(0) };
     const text = isPlain ? { text: key } : key === 'Enter' ? { text: '\r' } : {};
     await this.send('Input.dispatchKeyEvent', { type: 'keyDown', ...event, ...text });
+    if (held) await new Promise((resolve) => setTimeout(resolve, held));
     await this.send('Input.dispatchKeyEvent', { type: 'keyUp', ...event });
   }
 
@@ -181,7 +182,7 @@ export class Browser {
 
   async close() {
     const ended = new Promise((resolve) => this.#process.on('exit', resolve));
-    await this.send('Browser.close').catch(() => {});
+    this.send('Browser.close').catch(() => {});
     await ended;
     rmSync(this.#folder, { recursive: true, force: true });
   }

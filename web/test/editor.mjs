@@ -9,7 +9,9 @@ import { mkdirSync, mkdtempSync, readFileSync, readdirSync, rmSync, writeFileSyn
 import { tmpdir } from 'node:os';
 import { join } from 'node:path';
 import { Xw, load } from '../dist/xw.js';
+import { PATTERNS, recordOf, rowsOf } from '../editor/patterns.js';
 import { Browser } from './browser.mjs';
+import { fillOf, largeList, summary, timeOfLetters } from './time.mjs';
 
 const PAGE = new URL('../dist/xw.html', import.meta.url);
 const words = process.argv.slice(2);
@@ -144,6 +146,15 @@ async function another() {
   await page.statusIs(/^filled|no fill/, 60000);
 }
 
+// The time of the letters of a fill that are typed into the first pattern, in medians. letters.mjs measures more.
+async function letterTime(list) {
+  const rows = fillOf(Xw, module, list, recordOf(rowsOf(PATTERNS[0]), 'half'));
+  const told = summary(await timeOfLetters(browser, rows));
+  const [engine, answered, ready, , all] = Object.values(told).map(([median]) => median.toFixed(1));
+  expect(Number(engine) <= 2, `the engine took ${engine} ms`);
+  return `from the key to all that changes in the page ${answered} ms, of it the engine ${engine}; to the frame handed over ${ready}; to the frame shown ${all} (medians)`;
+}
+
 const lightsOf = (bytes) => Xw.open(module, { puzzle: bytes }).line('lights').lines;
 
 const CASES = {
@@ -159,21 +170,8 @@ const CASES = {
   },
 
   async 'the time of a letter'() {
-    await browser.value("performance.clearMeasures('letter'), performance.clearMeasures('letter painted')");
-    for (let time = 0; time < 6; time++) {
-      await browser.click('#cell-7-1');
-      await pause(350);
-      for (const letter of 'cared') {
-        await browser.press(letter);
-        await pause(250);
-      }
-      for (let back = 0; back < 5; back++) await browser.press('Backspace');
-      await pause(200);
-    }
-    const measures = await browser.value("performance.getEntriesByType('measure').map(({ name, duration, detail }) => [name, duration, detail.engine])");
-    const median = (numbers) => [...numbers].sort((a, b) => a - b)[Math.floor(numbers.length / 2)];
-    const of = (name, at) => median(measures.filter(([one]) => one === name).map((measure) => measure[at])).toFixed(1);
-    return `from key to changed cells ${of('letter', 1)} ms, of it the engine ${of('letter', 2)} ms; to the painted frame ${of('letter painted', 1)} ms (medians of ${measures.length / 2})`;
+    await begin(1);
+    return letterTime(readFileSync('/usr/share/dict/american-english', 'latin1').split('\n').filter((word) => /^[a-z]{3,}$/.test(word)).join('\n'));
   },
 
   async 'blocks, bars, circles and symmetry'() {
@@ -242,12 +240,12 @@ const CASES = {
     expect((await page.row(1)).startsWith(word), `${word} is not placed`);
     expect(await browser.value("document.activeElement.id === 'grid'"), 'the grid has not the focus');
     await browser.press('Tab');
-    await browser.until("document.querySelector('#light-name').textContent === '5 Across' && document.querySelector('#candidates li:nth-child(3)')");
+    await browser.until("document.querySelector('#light-name').textContent === '5 Across' && document.querySelector('#candidates[aria-busy=false] li:nth-child(3)')");
     const other = await browser.value("document.querySelector('#candidates li:nth-child(3)').dataset.word");
     await browser.click('#candidates li:nth-child(3)');
     await browser.until(`document.getElementById('cell-1-6').textContent.includes('${other[0]}')`);
     await browser.click('#cell-2-2');
-    await browser.until("document.getElementById('cell-place').textContent === 'Row 2, column 2' && document.querySelector('#letters button')");
+    await browser.until("document.getElementById('cell-place').textContent === 'Row 2, column 2' && document.querySelector('#letters[aria-busy=false] button')");
     const letter = await browser.value("document.querySelector('#letters button').dataset.letter");
     await browser.click('#letters button');
     await browser.until(`document.querySelector('#cell-2-2 .letter').textContent === '${letter}'`);
@@ -441,11 +439,12 @@ const CASES = {
     await page.factsAre(/large.txt, 277,620 words/, 30000);
     const time = Date.now() - begun;
     expect((await page.row(1)).startsWith('TO'), 'the puzzle is lost');
-    await CASES['the time of a letter']().then((told) => console.log(`    ${told}`));
+    await begin(1);
+    const told = await letterTime(readFileSync(path, 'latin1'));
     await browser.go(PAGE.href);
     await ready();
     await page.factsAre(/large.txt, 277,620 words/);
-    return `loaded in ${time} ms`;
+    return `loaded in ${time} ms; ${told}`;
   },
 
   async 'a list with scores'() {
@@ -528,20 +527,6 @@ const CASES = {
     }
   },
 };
-
-// Words of Debian's lists that are installed, and made-up ones as far as these do not reach.
-function largeList() {
-  const found = new Set();
-  const folder = '/usr/share/dict';
-  const files = existsSync(folder) ? readdirSync(folder).filter((name) => /^(american|british)-english/.test(name)).sort() : [];
-  for (const file of files) {
-    for (const word of readFileSync(join(folder, file), 'latin1').split('\n')) if (/^[a-z]{3,}$/.test(word) && found.size < 277620) found.add(word);
-  }
-  for (let number = 1; found.size < 277620; number++) {
-    found.add(Array.from({ length: 3 + (number % 12) }, (_, at) => 'etaoinshrdlu'[Math.floor(number / 7 ** (at % 6)) % 12]).join('') + 'abcdefghij'[number % 10]);
-  }
-  return [...found];
-}
 
 async function run(name) {
   const begun = Date.now();

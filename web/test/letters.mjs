@@ -1,75 +1,62 @@
-// The time of a letter, from its key to the frame that shows it.
+// The time of a letter in the editor, over a list of 277,620 words, in a 15 by 15 and a 21 by 21.
 //
-// It is Chromium's own: its trace has the time stamp of the key event, the marks of the page, and for each frame when it was presented. Two
-// frames are told: the first with the letter in its cell, and the first with all that the letter changes in the grid.
+//   node --experimental-websocket web/test/letters.mjs [--runs N] [--page FILE]
+//
+// It needs what editor.mjs needs. Each row is a run of 60 letters or more: medians, and 90th percentiles behind the stroke, in milliseconds from
+// the time stamp of the key event (time.mjs says of what). At the end stands the least of the medians of the runs.
+import { mkdtempSync, readFileSync, rmSync, writeFileSync } from 'node:fs';
+import { tmpdir } from 'node:os';
+import { join } from 'node:path';
+import { Xw, load } from '../dist/xw.js';
+import { PATTERNS, recordOf, rowsOf } from '../editor/patterns.js';
 import { Browser } from './browser.mjs';
+import { UNLIMITED, fillOf, largeList, summary, timeOfLetters } from './time.mjs';
 
-const CATEGORIES = process.env.CATS ? process.env.CATS.split(',') : ['cc', 'benchmark', 'input', 'devtools.timeline', 'blink.user_timing'];
+const words = process.argv.slice(2);
+const option = (name, other) => (words.includes(name) ? words[words.indexOf(name) + 1] : other);
+const page = option('--page', new URL('../dist/xw.html', import.meta.url).pathname);
+const runs = Number(option('--runs', 5));
 
-// Switches with which headless Chromium draws a frame when it is ready. Without them it draws 60 in a second, and a letter waits for its frame.
-export const UNLIMITED = ['--disable-frame-rate-limit', '--disable-gpu-vsync'];
+const room = mkdtempSync(join(tmpdir(), 'xw-letters-'));
+const list = largeList().join('\n');
+writeFileSync(join(room, 'large.txt'), list);
+const module = await load(readFileSync(new URL('../dist/xw.wasm', import.meta.url)));
+const grids = ['American 15 × 15', 'American 21 × 21'].map((name) => {
+  const record = recordOf(rowsOf(PATTERNS.find((pattern) => pattern.name === name)), 'half');
+  const file = join(room, `${parseInt(name.slice(-2), 10)}.xw`);
+  writeFileSync(file, record);
+  return { name, file, fill: fillOf(Xw, module, list, record) };
+});
 
-const median = (numbers) => quantile(numbers, 0.5);
-
-function quantile(numbers, part) {
-  const sorted = [...numbers].sort((a, b) => a - b);
-  return sorted[Math.min(sorted.length - 1, Math.floor(sorted.length * part))];
+async function measure(browser, { name, file, fill }, what) {
+  const medians = [];
+  for (let run = 0; run < runs; run++) {
+    await browser.choose('#picker', file);
+    await browser.until(`/^${fill[0].length} .* 0 of/.test(document.getElementById('facts').textContent)`);
+    await new Promise((resolve) => setTimeout(resolve, 500));
+    const told = summary(await timeOfLetters(browser, fill));
+    medians.push(Object.entries(told).map(([, [median]]) => median));
+    const parts = Object.entries(told).map(([part, numbers]) => `${part} ${numbers.map((number) => number.toFixed(1)).join('/')}`);
+    console.log(`${name}, ${what}: ${parts.join(', ')}`);
+  }
+  const least = medians[0].map((_, at) => Math.min(...medians.map((run) => run[at])).toFixed(1));
+  console.log(`${name}, ${what}: the least of ${runs} medians: engine ${least[0]}, answered ${least[1]}, ready ${least[2]}, letter ${least[3]}, all ${least[4]}`);
 }
 
-// What the trace has of an action.
-async function traced(browser, action) {
-  const events = [];
-  const ended = new Promise((resolve) => {
-    browser.on('Tracing.dataCollected', ({ value }) => events.push(...value));
-    browser.on('Tracing.tracingComplete', resolve);
-  });
-  await browser.send('Tracing.start', { transferMode: 'ReportEvents', traceConfig: { includedCategories: CATEGORIES } });
-  await action();
-  await browser.send('Tracing.end');
-  await ended;
-  browser.off('Tracing.dataCollected');
-  browser.off('Tracing.tracingComplete');
-  return events.sort((a, b) => a.ts - b.ts);
-}
-
-// The frames of the page that were presented: when each took over what the page had drawn, and when it was seen.
-function framesOf(events, pid) {
-  const frames = [];
-  const open = new Map();
-  for (const { name, ph, id2, pid: from, ts } of events) {
-    const id = id2?.local;
-    if (from !== pid || !id) continue;
-    if (name === 'PipelineReporter' && ph === 'b') open.set(id, {});
-    const frame = open.get(id);
-    if (!frame) continue;
-    if (name === 'Commit' && ph === 'b') frame.commit = ts;
-    if (name === 'SubmitCompositorFrameToPresentationCompositorFrame' && ph === 'e') frame.shown = ts;
-    if (name === 'PipelineReporter' && ph === 'e') {
-      open.delete(id);
-      if (frame.commit && frame.shown) frames.push(frame);
+try {
+  for (const [what, switches] of (process.env.ONLY ? [['frames when they are ready', UNLIMITED]] : 0) || [['60 frames a second', []], ['frames when they are ready', UNLIMITED]]) {
+    const browser = await Browser.open(switches);
+    try {
+      await browser.view(1280, 800);
+      await browser.go(`file://${page}`);
+      await browser.until("/words$/.test(document.getElementById('facts').textContent)", 30000);
+      await browser.choose('#picker', join(room, 'large.txt'));
+      await browser.until("/277,620 words/.test(document.getElementById('facts').textContent)", 30000);
+      for (const grid of grids) await measure(browser, grid, what);
+    } finally {
+      await browser.close();
     }
   }
-  return frames.sort((a, b) => a.commit - b.commit);
+} finally {
+  rmSync(room, { recursive: true, force: true });
 }
-
-// The letters of a trace, each in milliseconds from the time stamp of its key: until the page had drawn it, until the page had drawn what it
-// changes, and until the frames that show these; and what of that the engine took.
-function lettersOf(events) {
-  const marks = events.filter(({ name }) => name === 'letter drawn' || name === 'letter answered');
-  const pid = marks[0]?.pid;
-  const frames = framesOf(events, pid);
-  const shownAfter = (ts) => frames.find(({ commit }) => commit >= ts)?.shown;
-  const keys = events.filter(({ name, ph, args, pid: from }) => name === 'EventTiming' && ph === 'b' && from === pid && args.data.type === 'keydown');
-  return keys.flatMap(({ ts }, at) => {
-    const end = keys[at + 1]?.ts ?? Infinity;
-    const [drawn, answered] = ['letter drawn', 'letter answered'].map((name) => marks.find((mark) => mark.name === name && mark.ts > ts && mark.ts < end));
-    if (!drawn || !answered) return [];
-    const since = (time) => (time - ts) / 1000;
-    return [{
-      drawn: since(drawn.ts), answered: since(answered.ts), letter: since(shownAfter(drawn.ts)), all: since(shownAfter(answered.ts)),
-      engine: JSON.parse(answered.args.data.detail).engine,
-    }];
-  });
-}
-
-export { traced, lettersOf, framesOf, median, quantile };
