@@ -90,9 +90,9 @@ export class Board {
     });
   }
 
-  takeCounts(lines) {
-    lines.forEach((line, at) => {
-      this.lights[at].count = Number(line.slice(line.lastIndexOf(' ') + 1));
+  takeCounts(counts) {
+    counts.forEach((count, at) => {
+      this.lights[at].count = count;
     });
   }
 

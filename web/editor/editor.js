@@ -121,7 +121,7 @@ export class Editor extends EventTarget {
     });
   }
 
-  async #edit(lines, { isWhole = true, pencil = null, isTimed = false }) {
+  async #edit(lines, { isWhole = true, pencil = null }) {
     const told = await this.engine.call('edit', { lines, isWhole });
     const refused = told.answers.find(({ refusal }) => refusal)?.refusal ?? null;
     if (refused) {
@@ -132,7 +132,7 @@ export class Editor extends EventTarget {
     this.reason = new Set();
     this.unmatched = new Set();
     if (pencil) this.pencil = pencil;
-    this.#show(lines, told, isWhole, isTimed);
+    this.#show(lines, told, isWhole);
     if (!isWhole) await this.#idle();
     this.record = await this.engine.call('record');
     if (isWhole) this.sym = parseRecord(this.record).sym;
@@ -150,7 +150,7 @@ export class Editor extends EventTarget {
     this.#hurry = null;
   }
 
-  #show(lines, told, isWhole, isTimed) {
+  #show(lines, told, isWhole) {
     if (isWhole) {
       this.board.takeWhole(told);
       this.#afterWhole();
@@ -159,7 +159,7 @@ export class Editor extends EventTarget {
     const cells = new Set(lines.map((line) => this.#takeLetter(line)));
     for (const cell of this.board.takeLeft(told.changed)) cells.add(cell);
     this.board.takeCounts(told.counts);
-    this.#tell('letters', { cells, isTimed, engine: told.engine });
+    this.#tell('letters', { cells, engine: told.engine });
   }
 
   // Takes a line `set R C L` or `clear R C`, and returns the index of the cell.

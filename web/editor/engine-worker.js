@@ -29,10 +29,13 @@ function ask(line) {
 
 const asked = (line) => ask(line).lines;
 
+// The number of words of each light.
+const counts = () => Uint32Array.from(asked('counts'), (line) => Number(line.slice(line.lastIndexOf(' ') + 1)));
+
 // All that the grid shows.
 function whole() {
   return {
-    show: asked('show'), lights: asked('lights'), cells: asked('cells'), counts: asked('counts'), circles: asked('circles'), texts: asked('texts'),
+    show: asked('show'), lights: asked('lights'), cells: asked('cells'), counts: counts(), circles: asked('circles'), texts: asked('texts'),
   };
 }
 
@@ -93,7 +96,7 @@ function probe({ light, words }) {
 function leftAfter(light, word, cells) {
   if (ask(`place ${light} ${word}`).refusal) return 0;
   const open = asked('lights').map((line) => /\.[A-Z.]*$/.test(line));
-  const left = asked('counts').map((line) => Number(line.slice(line.lastIndexOf(' ') + 1))).filter((_, at) => open[at]);
+  const left = counts().filter((_, at) => open[at]);
   for (const { place, letter } of cells) ask(letter === '.' ? `clear ${place}` : `set ${place} ${letter}`);
   return left.length ? Math.min(...left) : 'done';
 }
@@ -129,7 +132,7 @@ const calls = {
   edit({ lines, isWhole }) {
     const begin = performance.now();
     const answers = lines.map(ask);
-    const told = isWhole ? whole() : { changed: answers.flatMap((answer) => answer.lines), counts: asked('counts') };
+    const told = isWhole ? whole() : { changed: answers.flatMap((answer) => answer.lines), counts: counts() };
     return { answers, ...told, engine: performance.now() - begin };
   },
 

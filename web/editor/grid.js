@@ -198,12 +198,12 @@ export class GridView {
   }
 
   // Shows what an edit of letters changed.
-  #letters({ cells, isTimed, engine }) {
+  #letters({ cells, engine }) {
     this.#drawLate();
     if (this.isExplained) this.draw();
     this.isExplained = false;
     for (const index of cells) this.paint(index);
-    if (isTimed) mark('letter answered', { engine });
+    mark('letter answered', { detail: { engine } });
   }
 
   // Shows a letter that was entered, with the move of the cursor, when the engine answers; or soon, if it has other work.
@@ -260,7 +260,7 @@ export class GridView {
   #actionOf(event) {
     const { key, shiftKey } = event;
     if (ARROWS[key]) return () => (shiftKey ? this.#extend(...ARROWS[key]) : this.#arrow(...ARROWS[key]));
-    if (/^[a-zA-Z]$/.test(key)) return () => this.#letter(key.toUpperCase(), true);
+    if (/^[a-zA-Z]$/.test(key)) return () => this.#letter(key.toUpperCase(), event.timeStamp);
     const keys = {
       Tab: () => this.#nextLight(shiftKey ? -1 : 1),
       Enter: () => (shiftKey ? this.#choose() : this.turn()),
@@ -315,14 +315,15 @@ export class GridView {
 
   // Enters a letter, which is on the board at once, and goes to the engine before anything is drawn. If it is refused, the session puts the
   // board back.
-  #letter(letter, isTimed = false) {
+  #letter(letter, typedAt) {
     const editor = this.#editor;
     const cell = editor.board.cells[editor.cursor];
     if (cell.block) return refuse(refusalText('OnBlock'));
     if (!this.actions.mayEdit()) return;
     const index = editor.cursor;
     this.#drawSoon(index);
-    const sent = this.#send([`set ${cell.place} ${letter}`], { isWhole: false, isTimed });
+    const sent = this.#send([`set ${cell.place} ${letter}`], { isWhole: false });
+    if (typedAt) mark('letter typed', { startTime: typedAt });
     editor.edited = index;
     editor.pencil.delete(cell.place);
     cell.letter = letter;
@@ -558,8 +559,8 @@ export class GridView {
 }
 
 // Marks a moment for whoever measures the page. Nothing of it is kept.
-function mark(name, detail = null) {
-  performance.mark(name, { detail });
+function mark(name, options = {}) {
+  performance.mark(name, options);
   performance.clearMarks(name);
 }
 

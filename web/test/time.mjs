@@ -1,5 +1,5 @@
-// The time of a letter, from its key to the frame that shows it, as Chromium tells it: its trace has the time stamp of the key event, the marks
-// that the page sets, and for each frame when it took over what the page had drawn and when it was presented.
+// The time of a letter, from its key to the frame that shows it, as Chromium tells it: its trace has the marks that the
+// page sets, one of them at the time stamp of the key event, and for each frame when it took over what the page had drawn and when it was presented.
 import { existsSync, readdirSync, readFileSync } from 'node:fs';
 
 const CATEGORIES = ['cc', 'benchmark', 'input', 'devtools.timeline', 'blink.user_timing'];
@@ -67,14 +67,12 @@ function framesOf(events, page) {
 //   `all`       until the frame is presented that is the first with all that the letter changes,
 // and `engine`, what of that the engine took.
 function lettersOf(events) {
-  const marks = events.filter(({ name }) => name === 'letter drawn' || name === 'letter answered');
-  const page = marks[0]?.pid;
-  const frames = framesOf(events, page);
-  const keys = events.filter(({ name, ph, args, pid }) => name === 'EventTiming' && ph === 'b' && pid === page && args.data.type === 'keydown');
+  const named = (wanted) => events.filter(({ name }) => name === wanted);
+  const [keys, ...marks] = ['letter typed', 'letter drawn', 'letter answered'].map(named);
+  const frames = framesOf(events, keys[0]?.pid);
   return keys.flatMap(({ ts }, at) => {
     const end = keys[at + 1]?.ts ?? Infinity;
-    const within = (name) => marks.find((mark) => mark.name === name && mark.ts > ts && mark.ts < end);
-    const [drawn, answered] = [within('letter drawn'), within('letter answered')];
+    const [drawn, answered] = marks.map((some) => some.find((mark) => mark.ts > ts && mark.ts < end));
     const [first, all] = [drawn, answered].map((mark) => mark && frames.find(({ ready }) => ready >= mark.ts));
     if (!first || !all) return [];
     const since = (time) => (time - ts) / 1000;
@@ -101,6 +99,8 @@ export async function timeOfLetters(browser, rows, count = 60) {
       }
       typed += word.length;
     }
+    // the last frame
+    await pause(300);
   });
   const letters = lettersOf(events);
   if (letters.length < 0.95 * typed) throw new Error(`the trace has ${letters.length} of ${typed} letters`);
