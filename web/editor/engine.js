@@ -34,6 +34,7 @@ export class Engine {
   }
 
   #take({ id, value, fault }) {
+    if (!this.#waiting.has(id)) return;
     const { resolve, reject } = this.#waiting.get(id);
     this.#waiting.delete(id);
     if (!fault) return resolve(value);

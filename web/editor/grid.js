@@ -518,8 +518,9 @@ export class GridView {
     this.#pressed = index;
     const isSame = index === editor.cursor;
     const wasDead = !editor.board.cells[index].block && !editor.board.cells[index].left && !this.isBlank;
-    if (isSame) this.turn();
-    else editor.moveTo(index);
+    // the first tap only brings up the keyboard
+    if (!isSame) editor.moveTo(index);
+    else if (event.pointerType !== 'touch' || this.#typing.isActive) this.turn();
     if (wasDead) this.actions.why();
   }
 

@@ -157,6 +157,26 @@ export class Browser {
     await this.#mouse('mouseReleased', end, 0, 0);
   }
 
+  // Taps with a finger.
+  async tap(selector) {
+    const place = await this.#middle(selector);
+    await this.send('Input.dispatchTouchEvent', { type: 'touchStart', touchPoints: [place] });
+    await this.send('Input.dispatchTouchEvent', { type: 'touchEnd', touchPoints: [] });
+  }
+
+  // Types a text as a keyboard on a screen does, which tells no keys.
+  async insert(text) {
+    for (const character of text) {
+      await this.send('Input.dispatchKeyEvent', { type: 'rawKeyDown', key: 'Unidentified', windowsVirtualKeyCode: 229 });
+      await this.send('Input.insertText', { text: character });
+    }
+  }
+
+  // Deletes as such a keyboard does.
+  async erase() {
+    await this.send('Input.dispatchKeyEvent', { type: 'rawKeyDown', key: 'Unidentified', windowsVirtualKeyCode: 229, commands: ['deleteBackward'] });
+  }
+
   // Gives files to an input of the page.
   async choose(selector, ...paths) {
     const { root } = await this.send('DOM.getDocument');
@@ -164,8 +184,10 @@ export class Browser {
     await this.send('DOM.setFileInputFiles', { nodeId, files: paths });
   }
 
-  async view(width, height, scheme = 'light') {
-    await this.send('Emulation.setDeviceMetricsOverride', { width, height, deviceScaleFactor: 1, mobile: false });
+  // A window of this size, or with `isTouched` a screen that is touched.
+  async view(width, height, { scheme = 'light', isTouched = false } = {}) {
+    await this.send('Emulation.setDeviceMetricsOverride', { width, height, deviceScaleFactor: isTouched ? 2 : 1, mobile: isTouched });
+    await this.send('Emulation.setTouchEmulationEnabled', { enabled: isTouched });
     await this.send('Emulation.setEmulatedMedia', { features: [{ name: 'prefers-color-scheme', value: scheme }] });
   }
 

@@ -155,6 +155,16 @@ async function letterTime(list) {
   return `from the key to all that changes in the page ${answered} ms, of it the engine ${engine}; to the frame handed over ${ready}; to the frame shown ${all} (medians)`;
 }
 
+// Changes the next edit on its way to the worker into what an expression makes of its message.
+const changeNextEdit = (changed) => browser.value(`(() => {
+  const post = Worker.prototype.postMessage;
+  Worker.prototype.postMessage = function (message, transfer) {
+    if (message.call !== 'edit') return post.call(this, message, transfer);
+    Worker.prototype.postMessage = post;
+    post.call(this, ${changed}, transfer);
+  };
+})()`);
+
 const lightsOf = (bytes) => Xw.open(module, { puzzle: bytes }).line('lights').lines;
 
 const CASES = {
@@ -470,14 +480,7 @@ const CASES = {
     await begin(1);
     await browser.type('rote');
     await page.factsAre(/· 4 of/);
-    await browser.value(`(() => {
-      const post = Worker.prototype.postMessage;
-      Worker.prototype.postMessage = function (message, transfer) {
-        if (message.call !== 'edit') return post.call(this, message, transfer);
-        Worker.prototype.postMessage = post;
-        post.call(this, { ...message, call: 'nonsense' }, transfer);
-      };
-    })()`);
+    await changeNextEdit("{ ...message, call: 'nonsense' }");
     await browser.type('s');
     await page.statusIs(/the engine failed/);
     await browser.until("document.querySelector('#cell-1-4 .letter').textContent === 'E'");
@@ -486,6 +489,94 @@ const CASES = {
     await browser.type('a');
     await browser.until("document.querySelector('#cell-2-1 .letter').textContent === 'A'");
     await page.factsAre(/· 5 of/);
+  },
+
+  async 'a letter that the engine refuses'() {
+    await begin(1);
+    await browser.type('lard');
+    await browser.click('#fill');
+    await page.statusIs(/^filled/, 60000);
+    await browser.click('#cell-4-2');
+    if (await browser.value("document.querySelector('.cursor').classList.contains('down')")) await browser.press('Enter');
+    const before = await shown();
+    // no letter of an open cell is refused, so the command is changed on its way into one that is
+    await changeNextEdit("{ ...message, sent: { ...message.sent, lines: ['set 99 99 Q'] } }");
+    await browser.press('q');
+    await page.statusIs(/that cell is outside the grid/);
+    expect((await shown()) === before, 'the grid is not as it was');
+    await page.cursorAt('4-2');
+    await browser.press('z');
+    await browser.until("document.querySelector('#cell-4-2 .letter').textContent === 'Z' && !document.getElementById('cell-4-2').classList.contains('pencil')");
+    await browser.press('Control+z');
+    await browser.until("document.querySelector('#cell-4-2 .letter').textContent !== 'Z'");
+    await browser.click('#cell-4-2');
+    expect((await shown()) === before, 'undo does not lead back');
+
+    // all that the cells show
+    function shown() {
+      return browser.value("[...document.querySelectorAll('.cell')].map((cell) => `${cell.className} ${cell.textContent} ${cell.ariaLabel}`).join()");
+    }
+  },
+
+  async 'a key while choices are counted'() {
+    await begin(1);
+    // notes when an edit goes to the worker, and the answers that come back
+    await browser.value(`(() => {
+      const post = Worker.prototype.postMessage;
+      Worker.prototype.postMessage = function (message, transfer) {
+        window.engineWorker ??= this;
+        if (message.call === 'edit') window.told?.push('key');
+        post.call(this, message, transfer);
+      };
+    })()`);
+    await browser.press('s');
+    await browser.until("document.querySelector('#candidates[aria-busy=false] .left') && !document.getElementById('legend').textContent.startsWith('counting')");
+    await browser.value(`(() => {
+      window.told = [];
+      window.engineWorker.addEventListener('message', ({ data }) => window.told.push(data.id));
+      for (let query = 0; query < 40; query++) window.engineWorker.postMessage({ id: 'choices', call: 'ask', sent: { line: 'choices 5 across 40' } });
+    })()`);
+    await browser.press('p');
+    await browser.until("window.told.filter((id) => id === 'choices').length === 40");
+    const told = await browser.value('window.told');
+    const [sent, answered] = [told.indexOf('key'), told.findIndex((id) => typeof id === 'number')];
+    const [ahead, behind] = [answered - sent - 1, told.length - answered - 1];
+    expect(sent >= 0 && ahead <= 2 && behind > 10, `${ahead} queries were answered ahead of the key, and ${behind} after it`);
+    await browser.go(PAGE.href);
+    await ready();
+    return `${ahead} of ${ahead + behind} queries that waited were answered ahead of the key`;
+  },
+
+  async 'a screen that is touched'() {
+    await begin(1);
+    await browser.view(390, 844, { isTouched: true });
+    try {
+      await browser.tap('#cell-1-1');
+      await browser.until("document.activeElement.id === 'typing'");
+      await browser.insert('ro');
+      await page.cursorAt('1-3');
+      await browser.until("document.querySelector('#cell-1-2 .letter').textContent === 'O'");
+      await browser.erase();
+      await page.cursorAt('1-2');
+      await browser.until("document.querySelector('#cell-1-2 .letter').textContent === ''");
+      await browser.insert('A');
+      await browser.tap('#cell-1-1');
+      await browser.until("document.querySelector('#cell-1-1.cursor.across')");
+      await browser.tap('#cell-1-1');
+      await browser.until("document.querySelector('#cell-1-1.cursor.down')");
+      await browser.insert('re');
+      await page.cursorAt('3-1');
+      expect((await page.row(1)).startsWith('RA') && (await page.row(2)).startsWith('E'), `the rows are ${await page.row(1)}, ${await page.row(2)}`);
+      await pause(400);
+      await picture('touch');
+      await browser.until("document.querySelector('#candidates[aria-busy=false] li')");
+      const word = await browser.value("document.querySelector('#candidates li').dataset.word");
+      await browser.tap('#candidates li');
+      await browser.until(`document.querySelector('#cell-4-1 .letter').textContent === '${word[3]}'`);
+      expect(await browser.value("document.activeElement.id !== 'typing'"), 'the keyboard comes up over the candidates');
+    } finally {
+      await browser.view(1400, 900);
+    }
   },
 
   async 'files dropped on the page, and a session saved and opened'() {
