@@ -268,7 +268,11 @@ function showTab(name) {
 }
 
 for (const tab of TABS) {
-  $(`tab-${tab}`).addEventListener('click', () => showTab(tab));
+  $(`tab-${tab}`).addEventListener('click', (event) => {
+    showTab(tab);
+    // after a click, other than after Enter, letters go to the grid again
+    if (event.detail) grid.focus();
+  });
   $(`tab-${tab}`).addEventListener('keydown', (event) => {
     const step = { ArrowRight: 1, ArrowLeft: -1 }[event.key];
     if (!step) return;

@@ -321,13 +321,13 @@ export class GridView {
     if (cell.block) return refuse(refusalText('OnBlock'));
     if (!this.actions.mayEdit()) return;
     const index = editor.cursor;
-    this.#drawSoon(index);
     const sent = this.#send([`set ${cell.place} ${letter}`], { isWhole: false });
     if (typedAt) mark('letter typed', { startTime: typedAt });
     editor.edited = index;
     editor.pencil.delete(cell.place);
     cell.letter = letter;
     this.#step(1);
+    this.#drawSoon(index);
     const next = editor.cursor;
     sent.then((refused) => refused && editor.cursor === next && editor.moveTo(index));
   }
@@ -345,12 +345,12 @@ export class GridView {
       return;
     }
     if (!this.actions.mayEdit()) return;
-    this.#drawSoon(index);
     this.#send([`clear ${cell.place}`], { isWhole: false });
     editor.edited = index;
     editor.pencil.delete(cell.place);
     cell.letter = '';
     if (step) this.#step(step);
+    this.#drawSoon(index);
   }
 
   #stepFreely(step) {
