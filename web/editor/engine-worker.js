@@ -1,4 +1,4 @@
-// The engine in a worker: it answers the messages of engine.js one after another.
+// The engine in a worker: it answers the messages of engine.js, edits in order and ahead of queries that wait.
 import { Fault, Xw, load } from '../xw.js';
 
 // Texts are bytes to the engine. The page reads them as Windows-1252, the character set of .puz files, in which each byte is a character.

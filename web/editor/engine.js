@@ -1,4 +1,4 @@
-// The engine as the page sees it: calls that are answered in order by the worker.
+// The engine as the page sees it: calls that the worker answers. Edits are answered in order, and may overtake queries.
 
 export class EngineFault extends Error {
   constructor({ status, answer }) {

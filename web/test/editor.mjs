@@ -3,7 +3,8 @@
 //   node --experimental-websocket web/test/editor.mjs [--pictures DIR] [--xw PROGRAM] [CASE..]
 //
 // It needs web/dist/xw.html (./build web), Debian's packages chromium, nodejs and wamerican, and a Node with WebSocket (20.10 with the option
-// above, or 22). With --xw the saved .puz is checked by the program. It is not part of the gate.
+// above, or 22). With --xw the saved .puz is checked by the program. letters.mjs measures the time of a letter at length. Neither is part of the
+// gate.
 import { execFileSync } from 'node:child_process';
 import { mkdirSync, mkdtempSync, readFileSync, readdirSync, rmSync, writeFileSync, existsSync } from 'node:fs';
 import { tmpdir } from 'node:os';
