@@ -481,6 +481,8 @@ const CASES = {
     await begin(1);
     await browser.type('rote');
     await page.factsAre(/· 4 of/);
+    // the grid counts a letter before the engine has it: the fifth edit is to fail
+    await browser.until("/set 1 4 E/.test(localStorage.getItem('xw-editor'))");
     await changeNextEdit("{ ...message, call: 'nonsense' }");
     await browser.type('s');
     await page.statusIs(/the engine failed/);
