@@ -88,8 +88,6 @@ room_prop : (lights : List Light) (counts : ℕ → ℕ) (net : Net) → IsProp 
 room_prop lights counts net x y = λ i. record {
   rows = Π_prop (λ light. Π_prop (λ below. le_prop)) x.rows y.rows i;
   base = Π_prop (λ light. Π_prop (λ below. le_prop)) x.base y.base i;
-  queue = le_prop x.queue y.queue i;
-  stack = le_prop x.stack y.stack i;
 }
 
 -- a settled net has room for its lights

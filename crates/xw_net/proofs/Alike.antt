@@ -1,6 +1,6 @@
 -- A net with more room is settled for the same states.
-use Rattle.std.proofs.Common.{◌≡◌, ℕ, ◌<◌, ◌≤◌, Bool, false, not, List, [], ◌∷◌, ◌++◌, Some, None, length, get_or, count_by, map, sym, ap, ◌∙◌, subst, arith}
-use Rattle.std.specs.Prelude.{All, Option, vec_len, vec_capacity}
+use Rattle.std.proofs.Common.{◌≡◌, ℕ, Bool, false, List, [], ◌∷◌, ◌++◌, Some, None, length, get_or, map, sym, ap, ◌∙◌, subst, arith}
+use Rattle.std.specs.Prelude.{Option, vec_len}
 use Rattle.std.specs.List.{range_with_len}
 use Rattle.xw_bits.specs.Bits.{RowOfBits}
 use Rattle.xw_words.specs.Dictionary.{Dictionary}
@@ -12,7 +12,8 @@ use Rattle.xw_feas.specs.Standing.{HasRows}
 use Rattle.xw_net.specs.Marks.{IsHolding, IsSettledNet}
 use Rattle.xw_net.specs.Room.{AreRoomier, IsRoomier}
 use Rattle.xw_net.specs.Nets.{marks_of, bits_for, word_stands, letter_stands, held_in, restart_in, pending_in, queued_in, IsShaped, IsChained}
-use Rattle.xw_net.specs.Spread.{is_marked, bits_in}
+use Rattle.xw_net.specs.Spread.{bits_in}
+use Rattle.xw_net.specs.Worklist.{is_marked, IsRoomierList}
 use Rattle.xw_net.specs.Filled.{IsQuiet, IsFilled}
 use Rattle.xw_net.specs.Net.{row_flags, flags_of, sets_of, HasRoomIn, IsAlike}
 use Rattle.xw_net.specs.declared.net.Net.{Net}
@@ -27,11 +28,9 @@ bits_same old new more light = bits_are new light ∙ more.bits light ∙ sym (b
 record IsLarger (old new : Net) : Type 0 where
   rows : AreRoomier old.rows.items new.rows.items
   base : AreRoomier old.base.items new.base.items
-  queue : new.queue.items ≡ old.queue.items
-  queue_room : vec_capacity old.queue ≤ vec_capacity new.queue
-  stack : new.stack.items ≡ old.stack.items
-  stack_room : vec_capacity old.stack ≤ vec_capacity new.stack
-  rest : new ≡ record old { rows = new.rows; base = new.base; queue = new.queue; stack = new.stack; spare = new.spare }
+  queue : IsRoomierList old.queue new.queue
+  chain : IsRoomierList old.chain new.chain
+  rest : new ≡ record old { rows = new.rows; base = new.base; queue = new.queue; chain = new.chain; spare = new.spare }
 
 module _ (old new : Net) (larger : IsLarger old new) where
   words_same : (light choice : ℕ) → word_stands new light choice ≡ word_stands old light choice
@@ -48,7 +47,7 @@ module _ (old new : Net) (larger : IsLarger old new) where
     held = λ slot letter. ap (λ (net : Net). held_in net slot letter) larger.rest t;
     restart = λ slot letter. ap (λ (net : Net). restart_in net slot letter) larger.rest t;
     pending = λ slot letter. ap (λ (net : Net). pending_in net slot letter) larger.rest t;
-    queued = λ light. ap (λ (net : Net). queued_in net light) larger.rest t;
+    queued = λ light. ap (λ marks. get_or marks light false) larger.queue.marks t;
   }
 
   shaped : (board : Board) → IsShaped board old → IsShaped board new
@@ -60,26 +59,22 @@ module _ (old new : Net) (larger : IsLarger old new) where
     held = ap (λ (net : Net). vec_len net.held) larger.rest ∙ is.held;
     restart = ap (λ (net : Net). vec_len net.restart) larger.rest ∙ is.restart;
     pending = ap (λ (net : Net). vec_len net.pending) larger.rest ∙ is.pending;
-    is_queued = omega (arith, is.is_queued, ap (λ (net : Net). vec_len net.is_queued) larger.rest);
-    queue = subst (λ q. All (λ light. light < length board.lights) q) (sym larger.queue) is.queue;
-    room = omega (arith, is.room, ap length larger.queue, old.queue.ok.0, new.queue.ok.0, larger.queue_room, ap (λ (net : Net). count_by (λ queued. not queued) net.is_queued.items) larger.rest);
+    queue = ap length larger.queue.marks ∙ is.queue;
   }
 
   chained : (board : Board) → IsChained board old → IsChained board new
   chained board is = record {
     base = omega (arith, is.base, larger.base.long, old.base.ok.0, new.base.ok.0);
-    is_marked = omega (arith, is.is_marked, ap (λ (net : Net). vec_len net.is_marked) larger.rest);
-    stack = subst (λ q. All (λ light. light < length board.lights) q) (sym larger.stack) is.stack;
-    room = omega (arith, is.room, ap length larger.stack, old.stack.ok.0, new.stack.ok.0, larger.stack_room, ap (λ (net : Net). count_by (λ mark. not mark) net.is_marked.items) larger.rest);
+    chain = ap length larger.chain.marks ∙ is.chain;
   }
 
   quiet : IsQuiet old → IsQuiet new
   unfolding queued_in
   quiet is = record {
-    queue = larger.queue ∙ is.queue;
-    queued = λ light. ap (λ (net : Net). queued_in net light) larger.rest ∙ is.queued light;
-    stack = larger.stack ∙ is.stack;
-    marked = λ light. ap (λ (net : Net). is_marked net.is_marked.items light) larger.rest ∙ is.marked light;
+    queue = larger.queue.lights ∙ is.queue;
+    queued = λ light. ap (λ marks. get_or marks light false) larger.queue.marks ∙ is.queued light;
+    stack = larger.chain.lights ∙ is.stack;
+    marked = λ light. ap (λ marks. is_marked marks light) larger.chain.marks ∙ is.marked light;
   }
 
   filled : (board : Board) (dictionary : Dictionary) → IsFilled board dictionary old → IsFilled board dictionary new
@@ -120,13 +115,11 @@ module _ (old new : Net) (larger : IsLarger old new) where
   room_same lights counts None has = record {
     rows = λ light lt. omega (arith, has.rows light lt, larger.rows.room light);
     base = λ light lt. omega (arith, has.base light lt, larger.base.room light);
-    queue = omega (arith, has.queue, larger.queue_room);
-    stack = omega (arith, has.stack, larger.stack_room);
   }
   room_same lights counts (Some spare) has = record {
     arrays = has.arrays;
-    queue = omega (arith, has.queue, larger.queue_room);
-    stack = omega (arith, has.stack, larger.stack_room);
+    queue = omega (arith, has.queue, larger.queue.room);
+    chain = omega (arith, has.chain, larger.chain.room);
   }
 
   alike : IsAlike old new
@@ -147,9 +140,7 @@ larger_of old new spare more = record {
   rows = more.rows;
   base = more.base;
   queue = more.queue;
-  queue_room = more.queue_room;
-  stack = more.stack;
-  stack_room = more.stack_room;
+  chain = more.chain;
   rest = ap (λ (net : Net). record net { spare = spare }) more.rest;
 }
 

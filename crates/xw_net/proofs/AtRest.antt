@@ -14,13 +14,13 @@ use Rattle.xw_feas.specs.Board.{board_of, light_at}
 use Rattle.xw_feas.proofs.BoardLemmas.{length-lights}
 use Rattle.xw_feas.proofs.FormedLemmas.{length-light_at}
 use Rattle.xw_net.specs.Nets.{queued_in}
-use Rattle.xw_net.specs.Spread.{is_marked, bits_in}
+use Rattle.xw_net.specs.Spread.{bits_in}
+use Rattle.xw_net.specs.Worklist.{is_marked}
 use Rattle.xw_net.specs.Room.{size_at, row_at}
 use Rattle.xw_net.specs.Filled.{IsWholeNet, IsQuiet, IsFilled}
 use Rattle.xw_net.specs.Fit.{AreNear, IsAtRest}
 use Rattle.xw_net.specs.Net.{known_counts, StoodFor, IsSettledFor}
 use Rattle.xw_net.specs.declared.net.Net.{Net}
-use Rattle.xw_net.proofs.Quiet.{quiet_queue_room, quiet_stack_room}
 use Rattle.xw_net.proofs.Rooms.{bits_are}
 
 module _ (grid : Grid) (dictionary : Dictionary) (net : Net) (whole : IsWholeNet (board_of grid) (row dictionary) net) (quiet : IsQuiet net) where
@@ -39,13 +39,11 @@ module _ (grid : Grid) (dictionary : Dictionary) (net : Net) (whole : IsWholeNet
         restart = omega (arith, shaped.restart, shaped.letters);
         pending = omega (arith, shaped.pending, shaped.letters);
         queue = quiet.queue;
-        queued_long = omega (arith, shaped.is_queued, length-lights grid);
+        queued_long = omega (arith, shaped.queue, length-lights grid);
         is_queued = quiet.queued;
-        queue_room = quiet_queue_room net quiet (board_of grid) shaped;
         stack = quiet.stack;
-        marked_long = omega (arith, chained.is_marked, length-lights grid);
+        marked_long = omega (arith, chained.chain, length-lights grid);
         is_marked = quiet.marked;
-        stack_room = quiet_stack_room net quiet (board_of grid) chained;
       }
 
 module _ (grid : Grid) (dictionary : Dictionary) (net : Net) (filled : IsFilled (board_of grid) dictionary net) where
@@ -78,13 +76,11 @@ rest_prop lights cells net x y = λ i. record {
   restart = Coded-set coded_ℕ _ _ x.restart y.restart i;
   pending = Coded-set coded_ℕ _ _ x.pending y.pending i;
   queue = Coded-set (coded_list coded_ℕ) _ _ x.queue y.queue i;
-  queued_long = le_prop x.queued_long y.queued_long i;
-  is_queued = Π_prop (λ light. Bool-set (is_marked net.is_queued.items light) false) x.is_queued y.is_queued i;
-  queue_room = le_prop x.queue_room y.queue_room i;
+  queued_long = Coded-set coded_ℕ _ _ x.queued_long y.queued_long i;
+  is_queued = Π_prop (λ light. Bool-set (is_marked net.queue.marks light) false) x.is_queued y.is_queued i;
   stack = Coded-set (coded_list coded_ℕ) _ _ x.stack y.stack i;
-  marked_long = le_prop x.marked_long y.marked_long i;
-  is_marked = Π_prop (λ light. Bool-set (is_marked net.is_marked.items light) false) x.is_marked y.is_marked i;
-  stack_room = le_prop x.stack_room y.stack_room i;
+  marked_long = Coded-set coded_ℕ _ _ x.marked_long y.marked_long i;
+  is_marked = Π_prop (λ light. Bool-set (is_marked net.chain.marks light) false) x.is_marked y.is_marked i;
 }
 
 near_prop : (lights : List Light) (counts : ℕ → ℕ) (rows : List RowOfBits) → IsProp (AreNear lights counts rows)

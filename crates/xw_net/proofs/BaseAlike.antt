@@ -1,21 +1,19 @@
 -- Lights with the same entries have equal base rows in the nets of two states.
-use Rattle.std.proofs.Common.{◌≡◌, ℕ, ◌<◌, Bool, true, false, not, ◌&&◌, List, [], ◌∷◌, Some, None, length, map, get_or, refl, sym, ap, ◌∙◌, subst, arith}
+use Rattle.std.proofs.Common.{◌≡◌, ℕ, ◌<◌, Bool, true, false, not, ◌&&◌, List, [], ◌∷◌, None, length, map, get_or, refl, sym, ap, ◌∙◌, arith}
 use Rattle.std.specs.Prelude.{Option, is_some}
 use Rattle.std.specs.List.{list_all}
 use Rattle.std.specs.Coded.{Coded-set, coded_bool, coded_list}
 use Rattle.std.proofs.Math.Logic.{∥∥₁_elim}
 use Rattle.std.proofs.lemmas.List.{ext_get_or, get_or-map, length-map}
-use Rattle.xw_bits.specs.Bits.{RowOfBits}
 use Rattle.xw_words.specs.Dictionary.{Dictionary, Entry, row}
 use Rattle.xw_grid.specs.Light.{lights_of}
 use Rattle.xw_feas.specs.Board.{Board, board_of, entry, light_at, allows, agrees, is_wholly_entered}
 use Rattle.xw_feas.specs.State.{State}
 use Rattle.xw_feas.proofs.BoardLemmas.{length-lights}
 use Rattle.xw_net.specs.Base.{is_base_word, base_bits}
-use Rattle.xw_net.specs.Copy.{entries_in, AreBaseRowsAlike}
+use Rattle.xw_net.specs.Copy.{entries_in}
 use Rattle.xw_net.specs.Net.{IsSettledFor}
 use Rattle.xw_net.specs.Room.{row_at}
-use Rattle.xw_net.specs.Spread.{bits_in}
 use Rattle.xw_net.specs.declared.net.Net.{Net}
 use Rattle.xw_net.proofs.Rooms.{bits_are}
 

@@ -1,9 +1,8 @@
 -- An empty net has no words and no letters.
-use Rattle.std.proofs.Common.{◌≡◌, ℕ, ◌+◌, ◌-◌, ◌*◌, ◌^◌, ◌<◌, ◌≤◌, ◌++◌, Bool, true, false, not, List, [], ◌∷◌, length, get_or, count_by, sym, ap, subst, ◌∙◌, inl, inr, arith}
-use Rattle.std.specs.Prelude.{All, replicate}
+use Rattle.std.proofs.Common.{◌≡◌, ℕ, ◌+◌, ◌-◌, ◌*◌, ◌^◌, ◌<◌, ◌≤◌, ◌++◌, Bool, true, false, List, [], ◌∷◌, length, get_or, sym, ap, ◌∙◌, inl, inr, arith}
+use Rattle.std.specs.Prelude.{replicate}
 use Rattle.std.proofs.lemmas.Bool.{cases_lt}
 use Rattle.std.proofs.lemmas.List.{get_or-replicate, get_or_past, length-replicate, replicate_more}
-use Rattle.std.proofs.lemmas.List.Sums.{count_by-le-length}
 use Rattle.std.proofs.lemmas.List.Elements.{All-get_or}
 use Rattle.std.proofs.lemmas.Nat.{mul-le}
 use Rattle.xw_bits.specs.Bits.{RowOfBits}
@@ -20,7 +19,8 @@ use Rattle.xw_net.specs.Marks.{IsPlace, cell_at, slot_at}
 use Rattle.xw_net.specs.Room.{counts_of, size_at, no_row, AreFalse, HaveRoom, HasRoom}
 use Rattle.xw_net.specs.Blank.{IsBlank}
 use Rattle.xw_net.specs.Nets.{bits_for, word_stands, held_in, pending_in, queued_in}
-use Rattle.xw_net.specs.Spread.{is_marked, bits_in}
+use Rattle.xw_net.specs.Spread.{bits_in}
+use Rattle.xw_net.specs.Worklist.{is_marked}
 use Rattle.xw_net.specs.Filled.{HasRowRoom, IsFresh}
 use Rattle.xw_net.specs.declared.net.Net.{Net}
 use Rattle.xw_net.proofs.Quiet.{all_false}
@@ -90,19 +90,16 @@ module _ (grid : Grid) (is_grid : IsGrid grid) (dictionary : Dictionary) (is_dic
 
   not_queued : (light : ℕ) → queued_in net light ≡ false
   unfolding queued_in
-  not_queued light = ap (λ (flags : List Bool). get_or flags light false) blank.is_queued ∙ all_false (length (lights_of grid)) light
+  not_queued light = ap (λ (flags : List Bool). get_or flags light false) blank.queue.marks ∙ all_false (length (lights_of grid)) light
 
-  not_marked : (light : ℕ) → is_marked net.is_marked.items light ≡ false
+  not_marked : (light : ℕ) → is_marked net.chain.marks light ≡ false
   unfolding is_marked
-  not_marked light = ap (λ (flags : List Bool). get_or flags light false) blank.is_marked ∙ all_false (length (lights_of grid)) light
+  not_marked light = ap (λ (flags : List Bool). get_or flags light false) blank.chain.marks ∙ all_false (length (lights_of grid)) light
 
   row_room : (rows : List RowOfBits) → HaveRoom (lights_of grid) (counts_of (row dictionary)) rows → HasRowRoom (board_of grid) (row dictionary) rows
   row_room rows have light lt =
       let within = in_lights light lt in
       omega (arith, have light within, ap (λ n. length (row dictionary n)) (length-light_at grid light within))
-
-  flags_few : (flags : List Bool) → flags ≡ replicate (length (lights_of grid)) false → count_by (λ flag. not flag) flags ≤ length (lights_of grid)
-  flags_few flags are = omega (arith, count_by-le-length (λ flag. not flag) flags, ap (λ (f : List Bool). length f) are, length-replicate (length (lights_of grid)) false)
 
   pub blank_fresh : IsFresh (board_of grid) (row dictionary) net
   blank_fresh = record {
@@ -115,15 +112,11 @@ module _ (grid : Grid) (is_grid : IsGrid grid) (dictionary : Dictionary) (is_dic
         held = omega (arith, length-open_cells grid, ap (λ (f : List ℕ). length f) blank.held, length-replicate (52 * length grid.squares) far_on);
         restart = omega (arith, length-open_cells grid, ap (λ (f : List ℕ). length f) blank.restart, length-replicate (2 * length grid.squares) none);
         pending = omega (arith, length-open_cells grid, ap (λ (f : List ℕ). length f) blank.pending, length-replicate (2 * length grid.squares) none);
-        is_queued = omega (arith, length-lights grid, ap (λ (f : List Bool). length f) blank.is_queued, length-replicate (length (lights_of grid)) false);
-        queue = subst (λ q. All (λ light. light < length (board_of grid).lights) q) (sym blank.queue) (λ i d lt. absurd (omega arith));
-        room = omega (arith, ap (λ (f : List ℕ). length f) blank.queue, flags_few net.is_queued.items blank.is_queued, room.queue);
+        queue = omega (arith, length-lights grid, ap (λ (f : List Bool). length f) blank.queue.marks, length-replicate (length (lights_of grid)) false);
       };
       chained = record {
         base = omega (arith, length-lights grid, blank.base.long);
-        is_marked = omega (arith, length-lights grid, ap (λ (f : List Bool). length f) blank.is_marked, length-replicate (length (lights_of grid)) false);
-        stack = subst (λ q. All (λ light. light < length (board_of grid).lights) q) (sym blank.stack) (λ i d lt. absurd (omega arith));
-        room = omega (arith, ap (λ (f : List ℕ). length f) blank.stack, flags_few net.is_marked.items blank.is_marked, room.stack);
+        chain = omega (arith, length-lights grid, ap (λ (f : List Bool). length f) blank.chain.marks, length-replicate (length (lights_of grid)) false);
       };
       bits = long_bits net.rows.items blank.rows;
       base = record {
@@ -136,5 +129,5 @@ module _ (grid : Grid) (is_grid : IsGrid grid) (dictionary : Dictionary) (is_dic
     words = no_word;
     held = far;
     pending = not_pending;
-    quiet = record { queue = blank.queue; queued = not_queued; stack = blank.stack; marked = not_marked };
+    quiet = record { queue = blank.queue.lights; queued = not_queued; stack = blank.chain.lights; marked = not_marked };
   }

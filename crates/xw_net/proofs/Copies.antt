@@ -1,6 +1,6 @@
 -- A copy of a net is settled for the same states.
 use Rattle.std.proofs.Common.{◌≡◌, ℕ, ◌+◌, ◌-◌, ◌*◌, ◌<◌, ◌≤◌, Bool, false, List, [], ◌∷◌, ◌++◌, length, get_or, refl, sym, ap, ◌∙◌, subst, inl, inr, arith}
-use Rattle.std.specs.Prelude.{vec_len, vec_capacity}
+use Rattle.std.specs.Prelude.{vec_len}
 use Rattle.std.specs.Coded.{Coded-set, coded_ℕ, le_prop}
 use Rattle.std.proofs.Math.Logic.{∥∥₁_elim}
 use Rattle.std.proofs.lemmas.Bool.{cases_lt, false_from_ne_true}
@@ -26,7 +26,8 @@ use Rattle.xw_net.specs.Marks.{IsHolding, IsSettledNet}
 use Rattle.xw_net.specs.Net.{row_flags, flags_of, sets_of, known_counts, IsSettledFor}
 use Rattle.xw_net.specs.Nets.{marks_of, bits_for, word_stands, letter_stands, held_in, restart_in, pending_in, queued_in}
 use Rattle.xw_net.specs.Room.{counts_of, HaveBits, HasRoom}
-use Rattle.xw_net.specs.Spread.{bits_in, is_marked}
+use Rattle.xw_net.specs.Spread.{bits_in}
+use Rattle.xw_net.specs.Worklist.{is_marked}
 use Rattle.xw_net.specs.declared.net.Net.{Net}
 use Rattle.xw_net.proofs.AtRest.{whole_rest, rest_prop}
 use Rattle.xw_net.proofs.Blanks.{blank_fresh}
@@ -74,8 +75,6 @@ reusable_prop lights counts cells net x y = λ i. record {
   room = record {
     rows = Π_prop (λ light. Π_prop (λ lt. le_prop)) x.room.rows y.room.rows i;
     base = Π_prop (λ light. Π_prop (λ lt. le_prop)) x.room.base y.room.base i;
-    queue = le_prop x.room.queue y.room.queue i;
-    stack = le_prop x.room.stack y.room.stack i;
   };
   pending = Π_prop (λ slot. Π_prop (λ letter. Bool-set (pending_in net slot letter) false)) x.pending y.pending i;
   past = Π_prop (λ light. Π_prop (λ choice. Π_prop (λ beyond. Bool-set (word_stands net light choice) false))) x.past y.past i;
@@ -167,14 +166,12 @@ module _ (lights : List Light) (net old new : Net) (can : CanCopy lights net old
         held = omega (arith, one.held, ap length copied.held, net.held.ok.0, new.held.ok.0);
         restart = omega (arith, one.restart, ap length copied.restart, net.restart.ok.0, new.restart.ok.0);
         pending = ap (λ (net : Net). vec_len net.pending) copied.rest ∙ other.pending;
-        queue = ap (λ (net : Net). net.queue.items) copied.rest ∙ other.queue;
-        queued_long = omega (arith, other.queued_long, ap (λ (net : Net). vec_len net.is_queued) copied.rest);
+        queue = ap (λ (net : Net). net.queue.lights) copied.rest ∙ other.queue;
+        queued_long = omega (arith, other.queued_long, ap (λ (net : Net). length net.queue.marks) copied.rest);
         is_queued = none_queued;
-        queue_room = omega (arith, other.queue_room, ap (λ (net : Net). vec_len net.is_queued) copied.rest, ap (λ (net : Net). vec_capacity net.queue) copied.rest);
-        stack = ap (λ (net : Net). net.stack.items) copied.rest ∙ other.stack;
-        marked_long = omega (arith, other.marked_long, ap (λ (net : Net). vec_len net.is_marked) copied.rest);
-        is_marked = λ light. ap (λ (net : Net). is_marked net.is_marked.items light) copied.rest ∙ other.is_marked light;
-        stack_room = omega (arith, other.stack_room, ap (λ (net : Net). vec_len net.is_marked) copied.rest, ap (λ (net : Net). vec_capacity net.stack) copied.rest);
+        stack = ap (λ (net : Net). net.chain.lights) copied.rest ∙ other.stack;
+        marked_long = omega (arith, other.marked_long, ap (λ (net : Net). length net.chain.marks) copied.rest);
+        is_marked = λ light. ap (λ (net : Net). is_marked net.chain.marks light) copied.rest ∙ other.is_marked light;
       }
 
   flags_same : flags_of lights new ≡ flags_of lights net

@@ -1,6 +1,6 @@
 -- A net keeps what it stands for when another light is noted as emptied.
-use Rattle.std.proofs.Common.{◌≡◌, ℕ, ◌+◌, ◌*◌, ◌≤◌, ◌<◌, not, length, count_by, sym, ap, subst, ◌∙◌, arith}
-use Rattle.std.specs.Prelude.{vec_capacity, vec_len, All}
+use Rattle.std.proofs.Common.{◌≡◌, ◌*◌, ◌≤◌, length, sym, ap, subst, arith}
+use Rattle.std.specs.Prelude.{vec_len}
 use Rattle.xw_net.specs.Room.{row_at}
 use Rattle.xw_net.specs.Nets.{IsLeft, IsShaped}
 use Rattle.xw_feas.specs.Board.{Board}
@@ -9,12 +9,10 @@ use Rattle.xw_net.specs.declared.net.Net.{Net}
 pub left_noted : (net new : Net) → new ≡ record net { emptied = new.emptied } → IsLeft net new
 left_noted net new same = record {
   base = ap (λ (n : Net). n.base) same;
-  stack = ap (λ (n : Net). n.stack) same;
-  is_marked = ap (λ (n : Net). n.is_marked) same;
+  chain = ap (λ (n : Net). n.chain) same;
   spare = ap (λ (n : Net). n.spare) same;
   long = ap (λ (n : Net). length n.rows.items) same;
   rows = λ light. omega (arith, ap (λ (n : Net). (row_at n.rows.items light).room) same);
-  queue = omega (arith, ap (λ (n : Net). vec_capacity n.queue) same);
 }
 
 pub shaped_noted : (board : Board) (net new : Net) → new ≡ record net { emptied = new.emptied } → IsShaped board net → IsShaped board new
@@ -26,7 +24,5 @@ shaped_noted board net new same shaped = record {
   held = subst (λ (n : Net). vec_len n.held ≡ 52 * length board.open_cells) (sym same) shaped.held;
   restart = subst (λ (n : Net). vec_len n.restart ≡ 2 * length board.open_cells) (sym same) shaped.restart;
   pending = subst (λ (n : Net). vec_len n.pending ≡ 2 * length board.open_cells) (sym same) shaped.pending;
-  is_queued = subst (λ (n : Net). length board.lights ≤ vec_len n.is_queued) (sym same) shaped.is_queued;
-  queue = subst (λ (n : Net). All (λ light. light < length board.lights) n.queue.items) (sym same) shaped.queue;
-  room = subst (λ (n : Net). vec_len n.queue + count_by (λ queued. not queued) n.is_queued.items ≤ vec_capacity n.queue) (sym same) shaped.room;
+  queue = subst (λ (n : Net). length n.queue.marks ≡ length board.lights) (sym same) shaped.queue;
 }

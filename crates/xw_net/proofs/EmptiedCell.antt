@@ -1,10 +1,10 @@
 -- What holds of a net after a light without words lost all letters of a cell.
-use Rattle.std.proofs.Common.{◌≡◌, ◌⊎◌, ℕ, zero, suc, ◌+◌, ◌*◌, ◌<◌, Bool, true, false, not, ◌&&◌, ◌||◌, eqb, List, [], ◌∷◌, ◌++◌, get_or, refl, sym, ap, ◌∙◌, subst, inl, inr}
+use Rattle.std.proofs.Common.{◌≡◌, ◌⊎◌, ℕ, zero, suc, ◌+◌, ◌*◌, Bool, true, false, not, ◌&&◌, ◌||◌, eqb, List, [], ◌∷◌, ◌++◌, get_or, refl, sym, ap, ◌∙◌, inl, inr}
 use Rattle.std.proofs.lemmas.Bool.{and_parts, or_cases, eqb-true}
 use Rattle.xw_letters.specs.Letter.{IsLetter}
 use Rattle.xw_words.specs.Dictionary.{Dictionary, Entry}
-use Rattle.xw_feas.specs.Board.{Board, light_at, IsCrossing}
-use Rattle.xw_net.specs.Marks.{Marks, side_of, IsPlace, IsSlot, IsPosition, IsHeld, IsHolding, Drops, LeavesPending, cell_at}
+use Rattle.xw_feas.specs.Board.{Board, light_at}
+use Rattle.xw_net.specs.Marks.{Marks, side_of, IsPlace, IsSlot, IsPosition, IsHeld, IsHolding, LeavesPending, cell_at}
 use Rattle.xw_net.specs.Marks.LeavesPending.{crossed, alone}
 use Rattle.xw_net.specs.Due.{Measure, IsUnderway, and_light}
 use Rattle.xw_net.specs.Nets.{marks_of, bits_for, word_stands, letter_stands, held_in, restart_in, pending_in, queued_in}
@@ -31,7 +31,7 @@ unfolding word_stands
 no_words net light unentered clear choice = ap (λ flag. get_or (bits_for net light ++ flag ∷ []) choice false) unentered ∙ all_clear (bits_for net light) clear choice
 
 module _ (board : Board) (entries : ℕ → List Entry) (dictionary : Dictionary) (position : IsPosition board entries dictionary) (old new : Net) (i q : ℕ) (place : IsPlace board i q)
-    (same : new ≡ record old { letters = new.letters; pending = new.pending; queue = new.queue; is_queued = new.is_queued })
+    (same : new ≡ record old { letters = new.letters; pending = new.pending; queue = new.queue })
     (letters : (cell letter : ℕ) → letter_stands new cell letter ≡ (letter_stands old cell letter && not (eqb cell (cell_at board i q))))
     (leaves : LeavesPending board i q (letter_stands old (cell_at board i q)) (marks_of old) (marks_of new)) where
   words : (j k : ℕ) → word_stands new j k ≡ word_stands old j k

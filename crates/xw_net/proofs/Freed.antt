@@ -1,21 +1,21 @@
 -- Letters that come back at the cells of removed lights.
-use Rattle.std.proofs.Common.{◌≡◌, ℕ, ◌+◌, Bool, List, refl, sym, ◌∙◌, subst, inl, inr, arith}
+use Rattle.std.proofs.Common.{◌≡◌, ℕ, ◌+◌, List, refl, sym, ◌∙◌, subst, inl, inr, arith}
 use Rattle.std.specs.Prelude.{◌⊎◌}
 use Rattle.std.proofs.lemmas.Option.{slice_get_within}
 use Rattle.std.proofs.lemmas.Bool.{cases_eq}
 use Rattle.xw_grid.specs.declared.lights.Light.{Light}
 use Rattle.xw_grid.specs.Grid.{Grid}
 use Rattle.xw_feas.specs.Board.{Board}
-use Rattle.xw_net.specs.Spread.{HasSeeds}
+use Rattle.xw_net.specs.Worklist.{ListOfLights, HasSeeds}
+use Rattle.xw_net.proofs.Worklists.{grows_none, grows_more}
 use Rattle.xw_net.specs.Gone.{IsAlong, IsAmong, IsGone, IsFreed, IsFreedAt, Raises}
 use Rattle.xw_net.proofs.Same.{none_new}
 
 module _ (board : Board) where
-  pub raises_none : (freed : ℕ → Type 0) (letters : List ℕ) (marks : List Bool) (stack : List ℕ) → HasSeeds marks stack → ((cell : ℕ) → freed cell → ⊥) → Raises board freed letters letters marks marks stack stack
-  raises_none freed letters marks stack seeds none = record {
+  pub raises_none : (freed : ℕ → Type 0) (letters : List ℕ) (chain : ListOfLights) → HasSeeds chain → ((cell : ℕ) → freed cell → ⊥) → Raises board freed letters chain letters chain
+  raises_none freed letters chain seeds none = record {
     letters_len = refl;
-    marks_len = refl;
-    more = λ light h. h;
+    grows = grows_none chain;
     seeds = seeds;
     all = λ cell is. absurd (none cell is);
     stay = λ cell letter may stood. stood;
@@ -23,13 +23,12 @@ module _ (board : Board) where
     within = λ member start reached. start;
   }
 
-  pub raises_more : (first second both : ℕ → Type 0) (letters letters' letters'' : List ℕ) (marks marks' marks'' : List Bool) (stack stack' stack'' : List ℕ)
+  pub raises_more : (first second both : ℕ → Type 0) (letters letters' letters'' : List ℕ) (chain chain' chain'' : ListOfLights)
       → ((cell : ℕ) → first cell → both cell) → ((cell : ℕ) → second cell → both cell) → ((cell : ℕ) → both cell → first cell ⊎ second cell)
-      → Raises board first letters letters' marks marks' stack stack' → Raises board second letters' letters'' marks' marks'' stack' stack'' → Raises board both letters letters'' marks marks'' stack stack''
-  raises_more first second both letters letters' letters'' marks marks' marks'' stack stack' stack'' early late split a b = record {
+      → Raises board first letters chain letters' chain' → Raises board second letters' chain' letters'' chain'' → Raises board both letters chain letters'' chain''
+  raises_more first second both letters letters' letters'' chain chain' chain'' early late split a b = record {
     letters_len = b.letters_len ∙ a.letters_len;
-    marks_len = b.marks_len ∙ a.marks_len;
-    more = λ light h. b.more light (a.more light h);
+    grows = grows_more chain chain' chain'' a.grows b.grows;
     seeds = b.seeds;
     all = λ cell is. elim (split cell is) [
       | inl before ↦ λ letter may. b.stay cell letter may (a.all cell before letter may)
@@ -38,22 +37,21 @@ module _ (board : Board) where
     stay = λ cell letter may stood. b.stay cell letter may (a.stay cell letter may stood);
     spread = λ start h. b.spread start (a.spread start h);
     within = λ member start reached.
-        b.within member (a.within member start (λ cell light place is lacks here at. reached cell light place (early cell is) lacks here at))
-        (λ cell light place is lacks here at. reached cell light place (late cell is) (λ all. lacks (λ letter may. a.stay cell letter may (all letter may))) here at);
+        b.within member (a.within member start (λ light is. reached light (is.0, early is.0 is.1, is.2, is.3)))
+        (λ light is. reached light (is.0, late is.0 is.1, (λ all. is.2 (λ letter may. a.stay is.0 letter may (all letter may))), is.3));
   }
 
-  pub raises_as : (some other : ℕ → Type 0) (letters letters' : List ℕ) (marks marks' : List Bool) (stack stack' : List ℕ)
+  pub raises_as : (some other : ℕ → Type 0) (letters letters' : List ℕ) (chain chain' : ListOfLights)
       → ((cell : ℕ) → some cell → other cell) → ((cell : ℕ) → other cell → some cell)
-      → Raises board some letters letters' marks marks' stack stack' → Raises board other letters letters' marks marks' stack stack'
-  raises_as some other letters letters' marks marks' stack stack' to from a = record {
+      → Raises board some letters chain letters' chain' → Raises board other letters chain letters' chain'
+  raises_as some other letters letters' chain chain' to from a = record {
     letters_len = a.letters_len;
-    marks_len = a.marks_len;
-    more = a.more;
+    grows = a.grows;
     seeds = a.seeds;
     all = λ cell is. a.all cell (from cell is);
     stay = a.stay;
     spread = a.spread;
-    within = λ member start reached. a.within member start (λ cell light place is lacks here at. reached cell light place (to cell is) lacks here at);
+    within = λ member start reached. a.within member start (λ light is. reached light (is.0, to is.0 is.1, is.2, is.3));
   }
 
 -- ---- one more position or light

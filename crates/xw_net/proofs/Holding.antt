@@ -18,7 +18,8 @@ use Rattle.xw_net.specs.Revival.{IsMatching, same_light}
 use Rattle.xw_net.specs.Marks.{IsPlace, slot_at, side_of, known, puts, IsSettledNet}
 use Rattle.xw_net.specs.Nets.{marks_of, held_in, pending_in}
 use Rattle.xw_net.specs.Renumber.{same_before}
-use Rattle.xw_net.specs.Spread.{is_marked}
+use Rattle.xw_feas.proofs.BoardLemmas.{length-lights}
+use Rattle.xw_net.specs.Worklist.{is_marked}
 use Rattle.xw_net.specs.Marks.{IsHolding}
 use Rattle.xw_net.specs.Begin.{may_have}
 use Rattle.xw_net.specs.Forget.{nowhere, lose, lost_from, Forgets}
@@ -46,10 +47,10 @@ module _ (before now : State) (action : Action) (change : Change) (is : IsChange
     (opening : IsOpening now.grid (board_of now.grid) (lights_of now.grid) (row now.words) change (arrays_of net) (arrays_of opened))
     (forgets : Forgets (board_of now.grid) (λ light. lost_from change.word (same_before change.before.now (lights_of now.grid) light) (length (light_at (board_of now.grid) light)) (length (row now.words (length (light_at (board_of now.grid) light)))))
     net.held.items opened.held.items net.pending.items opened.pending.items)
-    (has_not : (light : ℕ) → light < length (board_of now.grid).lights → is_marked opened.is_marked.items light ≡ false
+    (has_not : (light : ℕ) → light < length (board_of now.grid).lights → is_marked opened.chain.marks light ≡ false
     → may_have change.word (length (light_at (board_of now.grid) light)) (base_bits (board_of now.grid) (light_at (board_of now.grid) light) (row now.words (length (light_at (board_of now.grid) light)))) ≡ false) where
   abbrev seed : ℕ → Bool
-  seed = is_marked opened.is_marked.items
+  seed = is_marked opened.chain.marks
 
   abbrev size : ℕ → ℕ
   size light = length (light_at (board_of now.grid) light)
@@ -93,7 +94,7 @@ module _ (before now : State) (action : Action) (change : Change) (is : IsChange
     ]
 
     by_match : (o : Option ℕ) → same_light before.grid now.grid light ≡ o → lost light ≡ nowhere
-    by_match None at = absurd (both_ways _ no_seed (opening.new_marked light in_board (ap (λ ls. same_before ls (lights_of now.grid) light) is.lights ∙ at)))
+    by_match None at = absurd (both_ways _ no_seed (opening.new_marked light (omega (arith, in_board, length-lights now.grid), ap (λ ls. same_before ls (lights_of now.grid) light) is.lights ∙ at)))
     by_match (Some other) at = ap (λ o. lost_from change.word o (length (light_at (board_of now.grid) light)) (known (board_of now.grid) now.words light)) at ∙ by_cases change.word refl where
       by_cases : (word : Option (ℕ × ℕ)) → change.word ≡ word → lost_from change.word (Some other) (length (light_at (board_of now.grid) light)) (known (board_of now.grid) now.words light) ≡ nowhere
       by_cases word e = ap (λ w. lost_from w (Some other) (length (light_at (board_of now.grid) light)) (known (board_of now.grid) now.words light)) e ∙ by_word other word e

@@ -26,6 +26,7 @@ pub mod Rooms
 mod Rowwise
 pub mod Renumbers
 pub mod BaseLemmas
+pub mod Worklists
 pub mod SpreadLemmas
 pub mod LitLemmas
 pub mod BaseLetters

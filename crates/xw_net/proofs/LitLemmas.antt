@@ -1,39 +1,14 @@
 -- Putting words back, light by light.
-use Rattle.std.proofs.Common.{◌≡◌, ℕ, ◌<◌, Bool, true, false, cond, List, [], ◌∷◌, ◌++◌, length, get_or, set, refl, subst, sym, ap, ◌∙◌, inl, inr}
-use Rattle.std.specs.Prelude.{Contains}
-use Rattle.std.proofs.lemmas.Bool.{cases_eq, cases_Bool, both_ways, cond-true, cond-false}
+use Rattle.std.proofs.Common.{◌≡◌, ℕ, ◌<◌, Bool, true, false, List, length, get_or, set, refl, subst, sym, ap, ◌∙◌, inl, inr}
+use Rattle.std.proofs.lemmas.Bool.{cases_eq, cases_Bool, both_ways}
 use Rattle.std.proofs.lemmas.List.{get_or-set_same, get_or-set_other, length-set}
-use Rattle.std.proofs.lemmas.List.Elements.{Contains-push, Contains-append_left}
 use Rattle.xw_bits.specs.Bits.{RowOfBits}
 use Rattle.xw_letters.specs.Letter.{is_capital}
 use Rattle.xw_feas.specs.Board.{Board, light_at, is_wholly_entered}
 use Rattle.xw_feas.specs.Flags.{set_has}
 use Rattle.xw_net.specs.Marks.{slot_at}
-use Rattle.xw_net.specs.Spread.{is_marked, is_waiting, Grows, bits_in, Lit, IsLit, IsListed, none_waits}
-
--- a queued light is in the queue
-pub listed_mark : (queued : List Bool) (queue : List ℕ) (o : ℕ) (queue' : List ℕ) → queue' ≡ cond (is_marked queued o) queue (queue ++ o ∷ [])
-    → IsListed queued queue → IsListed (set queued o true) queue'
-unfolding is_marked
-listed_mark queued queue o queue' is listed i h =
-    elim (cases_Bool (get_or queued o false)) [
-      | inl m ↦
-          let same : queue' ≡ queue = is ∙ cond-true (get_or queued o false) queue (queue ++ o ∷ []) m in
-          subst (λ q. Contains q i) (sym same) (listed i (was m))
-      | inr m ↦
-          let more : queue' ≡ queue ++ o ∷ [] = is ∙ cond-false (get_or queued o false) queue (queue ++ o ∷ []) m in
-          subst (λ q. Contains q i) (sym more)
-          (elim (cases_eq i o) [
-            | inl e ↦ subst (λ n. Contains (queue ++ o ∷ []) n) (sym e) (Contains-push queue o)
-            | inr n ↦ Contains-append_left queue (o ∷ []) i (listed i (sym (get_or-set_other queued o i true false n) ∙ h))
-          ])
-    ]
-  where
-    was : get_or queued o false ≡ true → get_or queued i false ≡ true
-    was m = elim (cases_eq i o) [
-      | inl e ↦ ap (λ n. get_or queued n false) e ∙ m
-      | inr n ↦ sym (get_or-set_other queued o i true false n) ∙ h
-    ]
+use Rattle.xw_net.specs.Spread.{bits_in, Lit, IsLit, none_waits}
+use Rattle.xw_net.specs.Worklist.{ListOfLights, is_marked, is_waiting, Grows}
 
 module _ (board : Board) (base : List RowOfBits) (start : Lit) where
   -- at the start the marked lights are on the stack
@@ -55,9 +30,9 @@ module _ (board : Board) (base : List RowOfBits) (start : Lit) where
   }
 
   -- more lights are marked, and put on the stack
-  pub lit_grows : (now : Lit) (marks marks' : List Bool) (stack stack' : List ℕ) → Grows marks stack marks' stack'
-      → IsLit board base start now (is_marked marks) (is_waiting stack) → IsLit board base start now (is_marked marks') (is_waiting stack')
-  lit_grows now marks marks' stack stack' grows lit = record {
+  pub lit_grows : (now : Lit) (chain chain' : ListOfLights) → Grows chain chain'
+      → IsLit board base start now (is_marked chain.marks) (is_waiting chain.lights) → IsLit board base start now (is_marked chain'.marks) (is_waiting chain'.lights)
+  lit_grows now chain chain' grows lit = record {
     rows_on = λ i lt m quiet. let before = grows.fresh i m quiet in lit.rows_on i lt before.0 before.1;
     rows_off = λ i m. lit.rows_off i (unmarked i m);
     entered_on = λ i lt m quiet. let before = grows.fresh i m quiet in lit.entered_on i lt before.0 before.1;
@@ -73,9 +48,9 @@ module _ (board : Board) (base : List RowOfBits) (start : Lit) where
     queued_long = lit.queued_long;
   }
     where
-      unmarked : (i : ℕ) → is_marked marks' i ≡ false → is_marked marks i ≡ false
-      unmarked i h = elim (cases_Bool (is_marked marks i)) [
-        | inl m ↦ absurd (both_ways (is_marked marks' i) h (grows.more i m))
+      unmarked : (i : ℕ) → is_marked chain'.marks i ≡ false → is_marked chain.marks i ≡ false
+      unmarked i h = elim (cases_Bool (is_marked chain.marks i)) [
+        | inl m ↦ absurd (both_ways (is_marked chain'.marks i) h (grows.more i m))
         | inr m ↦ m
       ]
 

@@ -81,7 +81,7 @@ module _ (was now : State) (cells : ℕ) (old mid new : Net) (turned : IsTurned 
       ∙ fitted_bit (length (row now.words (size_at (lights_of now.grid) light))) (row_at all other).bits place
       ∙ ap (λ bits. get_or bits place false) (sym (row_bits all other))
 
-  same_rest : new ≡ record old { rows = new.rows; base = new.base; entered = mid.entered; is_queued = mid.is_queued; is_marked = mid.is_marked; spare = None }
+  same_rest : new ≡ record old { rows = new.rows; base = new.base; entered = mid.entered; queue = mid.queue; chain = mid.chain; spare = None }
   same_rest = rest ∙ ap (λ (n : Net). record n { rows = new.rows; base = new.base }) turned.rest
 
   stays_in : (light choice : ℕ) → word_stands new light choice ≡ true → light < length (board_of now.grid).lights

@@ -1,8 +1,6 @@
 -- From the vectors of a net to its marks.
-use Rattle.std.proofs.Common.{◌≡◌, ℕ, suc, ◌+◌, ◌-◌, ◌*◌, ◌<◌, Bool, true, false, eqb, List, [], ◌∷◌, ◌++◌, length, get_or, refl, ap, ◌∙◌, subst, inl, inr, arith}
-use Rattle.std.specs.Prelude.{All}
-use Rattle.std.specs.List.{list_any}
-use Rattle.std.proofs.lemmas.Bool.{or_cases, eqb-true, both_ways}
+use Rattle.std.proofs.Common.{◌≡◌, ℕ, ◌+◌, ◌-◌, ◌*◌, ◌<◌, Bool, true, false, List, [], ◌∷◌, ◌++◌, length, get_or, refl, ap, ◌∙◌}
+use Rattle.std.proofs.lemmas.Bool.{or_cases}
 use Rattle.xw_bits.specs.Bits.{RowOfBits}
 use Rattle.xw_words.specs.Dictionary.{Dictionary, row}
 use Rattle.xw_letters.specs.LetterSet.{has}
@@ -12,25 +10,17 @@ use Rattle.xw_feas.specs.Flags.{set_has}
 use Rattle.xw_net.specs.declared.net.Net.{Net}
 use Rattle.xw_net.specs.Base.{base_bits}
 use Rattle.xw_net.specs.Nets.{marks_of, word_stands, letter_stands, held_in, restart_in, pending_in, queued_in}
-use Rattle.xw_net.specs.Spread.{is_waiting, none_waits, no_places, bits_in, Lit, IsLit, IsSpread}
+use Rattle.xw_net.specs.Spread.{none_waits, no_places, bits_in, Lit, lit, IsLit, IsSpread}
+use Rattle.xw_net.specs.Worklist.{ListOfLights}
 use Rattle.xw_net.specs.Brought.{IsBase, IsBrought}
 
--- a waiting light is on the stack
-pub waiting_within : (stack : List ℕ) (n light : ℕ) → All (λ other. other < n) stack → is_waiting stack light ≡ true → light < n
-unfolding is_waiting
-waiting_within [] n light all h = absurd (both_ways false refl h)
-waiting_within (x ∷ xs) n light all h = elim (or_cases (eqb x light) (list_any (λ other. eqb other light) xs) h) [
-  | inl here ↦ subst (λ l. l < n) (eqb-true x light here) (all 0 0 (omega arith))
-  | inr later ↦ waiting_within xs n light (λ k d lt. all (suc k) d (omega arith)) later
-]
-
+-- the arrays of a net that a revival changes
 abbrev pub lit_of : Net → Lit
-lit_of net = record { rows = net.rows.items; entered = net.entered.items; restart = net.restart.items; queued = net.is_queued.items }
+lit_of net = lit net.rows.items net.entered.items net.restart.items net.queue
 
-pub lit_same : (rows rows' : List RowOfBits) (entered entered' : List Bool) (restart restart' : List ℕ) (queued queued' : List Bool)
-    → rows ≡ rows' → entered ≡ entered' → restart ≡ restart' → queued ≡ queued'
-    → ◌≡◌ {A = Lit} (record { rows = rows; entered = entered; restart = restart; queued = queued }) (record { rows = rows'; entered = entered'; restart = restart'; queued = queued' })
-lit_same rows rows' entered entered' restart restart' queued queued' a b c d = cc
+pub lit_same : (rows rows' : List RowOfBits) (entered entered' : List Bool) (restart restart' : List ℕ) (queue : ListOfLights)
+    → rows ≡ rows' → entered ≡ entered' → restart ≡ restart' → lit rows entered restart queue ≡ lit rows' entered' restart' queue
+lit_same rows rows' entered entered' restart restart' queue a b c = cc
 
 module _ (board : Board) (dictionary : Dictionary) (base : List RowOfBits) (old new : Net) (chain : ℕ → Bool)
     (is_base : IsBase board dictionary base) (in_board : (light : ℕ) → chain light ≡ true → light < length board.lights)

@@ -24,7 +24,8 @@ use Rattle.xw_net.specs.Marks.{known}
 use Rattle.xw_net.specs.Nets.{word_stands}
 use Rattle.xw_net.specs.Filled.{IsFilled}
 use Rattle.xw_net.specs.Renumber.{same_before}
-use Rattle.xw_net.specs.Spread.{is_marked, bits_in, HasAll}
+use Rattle.xw_net.specs.Spread.{bits_in, HasAll}
+use Rattle.xw_net.specs.Worklist.{is_marked}
 use Rattle.xw_net.specs.Brought.{IsBase}
 use Rattle.xw_net.specs.Begin.{IsNarrowedRow, is_long, may_have, AreBaseBut, IsPrepared}
 use Rattle.xw_net.specs.Opened.{arrays_of, IsOpening, IsMoved}
@@ -32,7 +33,8 @@ use Rattle.xw_net.proofs.Exact.{exact_base}
 use Rattle.xw_net.proofs.Same.{same_is_matching, same_is_whole}
 use Rattle.xw_net.proofs.Kept.{HaveSameEntries, entered_same}
 use Rattle.xw_net.proofs.BaseLemmas.{base_bit, length-base_bits}
-use Rattle.xw_net.proofs.NetLemmas.{waiting_within}
+use Rattle.xw_feas.proofs.BoardLemmas.{length-lights}
+use Rattle.xw_net.proofs.Worklists.{marked_below}
 use Rattle.xw_net.proofs.Edits.{with_words-Ok}
 use Rattle.xw_net.proofs.Started.{empty_not_whole}
 use Rattle.xw_net.proofs.Listed.{inside_sized}
@@ -68,10 +70,10 @@ module _ (before now : State) (action : Action) (change : Change) (is : IsChange
     (entered_kept : opened.entered.items ≡ net.entered.items)
     (inside : (listed : Cell × Option ℕ) → Contains change.cells.now listed → is_inside now.grid listed.0 ≡ true) where
   abbrev seed : ℕ → Bool
-  seed = is_marked opened.is_marked.items
+  seed = is_marked opened.chain.marks
 
   abbrev queued : ℕ → Bool
-  queued = is_marked opened.is_queued.items
+  queued = is_marked opened.queue.marks
 
   matching : IsMatching (board_of before.grid) (board_of now.grid) (same_light before.grid now.grid)
   matching = same_is_matching before.grid now.grid is.width
@@ -90,10 +92,10 @@ module _ (before now : State) (action : Action) (change : Change) (is : IsChange
   is_new light at = ap (λ ls. same_before ls (lights_of now.grid) light) is.lights ∙ at
 
   pub new_queued : (light : ℕ) → light < length (board_of now.grid).lights → same_light before.grid now.grid light ≡ None → queued light ≡ true
-  new_queued light in_board at = opening.new_queued light in_board (is_new light at)
+  new_queued light in_board at = opening.new_queued light (omega (arith, in_board, length-lights now.grid), is_new light at)
 
   pub new_seeds : (light : ℕ) → light < length (board_of now.grid).lights → same_light before.grid now.grid light ≡ None → seed light ≡ true
-  new_seeds light in_board at = opening.new_marked light in_board (is_new light at)
+  new_seeds light in_board at = opening.new_marked light (omega (arith, in_board, length-lights now.grid), is_new light at)
 
   -- ---- base rows
 
@@ -110,7 +112,7 @@ module _ (before now : State) (action : Action) (change : Change) (is : IsChange
       ∙ ap (λ g. is_base_word (board_of g) (light_at (board_of g) light) (entry_at (row before.words (length (light_at (board_of g) light))) k)) (sym grid)
       ∙ ap (is_base_word (board_of now.grid) (light_at (board_of now.grid) light)) (same_entry (row before.words (length (light_at (board_of now.grid) light))) (row now.words (length (light_at (board_of now.grid) light))) k (sym kept))
 
-  pub opened_prepared : IsPrepared (board_of now.grid) (row now.words) change.word net.rows.items opened.rows.items net.base.items opened.base.items (is_marked opened.is_queued.items) (is_marked opened.is_marked.items)
+  pub opened_prepared : IsPrepared (board_of now.grid) (row now.words) change.word net.rows.items opened.rows.items net.base.items opened.base.items (is_marked opened.queue.marks) (is_marked opened.chain.marks)
   opened_prepared = opening.prepared base_but
 
   short_known : (light other : ℕ) → light < length (board_of now.grid).lights → same_light before.grid now.grid light ≡ Some other → is_long change.word (length (light_at (board_of now.grid) light)) ≡ false → known (board_of now.grid) now.words light ≡ known (board_of before.grid) before.words other
@@ -127,7 +129,7 @@ module _ (before now : State) (action : Action) (change : Change) (is : IsChange
 
   -- a queued light is on the board
   queued_in_board : (light : ℕ) → queued light ≡ true → light < length (board_of now.grid).lights
-  queued_in_board light on = waiting_within opened.queue.items (length (board_of now.grid).lights) light opening.in_queue (sym (opening.listed light) ∙ on)
+  queued_in_board light on = let below = marked_below opened.queue.marks light on in omega (arith, below, opening.size)
 
   pub opened_lights : (light choice : ℕ) → word_stands opened light choice ≡ true → light < length (board_of now.grid).lights
   unfolding word_stands

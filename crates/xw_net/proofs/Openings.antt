@@ -1,9 +1,7 @@
 -- The state at the start of an update.
-use Rattle.std.proofs.Common.{◌≡◌, ℕ, ◌+◌, ◌-◌, ◌*◌, ◌<◌, Bool, true, false, eqb, List, [], ◌∷◌, length, Some, None, refl, sym, ◌∙◌, ap, subst, inl, inr, arith}
+use Rattle.std.proofs.Common.{◌≡◌, ℕ, ◌+◌, ◌-◌, ◌*◌, ◌<◌, Bool, true, false, List, length, Some, None, refl, sym, ◌∙◌, ap, subst, inl, inr, arith}
 use Rattle.std.specs.Prelude.{Option, Contains, slice_index, slice_get}
-use Rattle.std.proofs.lemmas.Bool.{cases_Bool, both_ways, or_cases, eqb-true}
-use Rattle.std.specs.List.{list_any}
-use Rattle.xw_net.proofs.Edits.{contains_later}
+use Rattle.std.proofs.lemmas.Bool.{cases_Bool, both_ways}
 use Rattle.std.proofs.lemmas.Option.{get_or_from_slice_get}
 use Rattle.xw_words.specs.Dictionary.{row}
 use Rattle.xw_grid.specs.declared.cell.Cell.{Cell}
@@ -26,14 +24,17 @@ use Rattle.xw_net.specs.Marks.{IsPlace, cell_at}
 use Rattle.xw_net.specs.Nets.{marks_of, word_stands, letter_stands, restart_in, queued_in}
 use Rattle.xw_net.specs.Filled.{IsFilled}
 use Rattle.xw_net.specs.Renumber.{same_before}
-use Rattle.xw_net.specs.Spread.{is_marked, is_waiting, HasAll}
+use Rattle.xw_net.specs.Spread.{HasAll}
+use Rattle.xw_net.specs.Worklist.{is_marked, is_waiting}
 use Rattle.xw_net.specs.Brought.{IsBegun}
 use Rattle.xw_net.specs.Marks.{IsHolding}
 use Rattle.xw_net.specs.Base.{base_bits}
 use Rattle.xw_net.specs.Begin.{may_have, IsStarted, IsPrepared}
 use Rattle.xw_net.specs.Forget.{lost_from, Forgets}
 use Rattle.xw_net.specs.Gone.{IsFreed}
-use Rattle.xw_net.specs.Opened.{arrays_of, IsOpening, IsMoved, IsOpened}
+use Rattle.xw_net.specs.Opened.{arrays_of, IsTouched, MayGain, IsOpening, IsMoved, IsOpened}
+use Rattle.xw_net.specs.Opened.IsTouched.{by_light, by_cell, by_word}
+use Rattle.xw_net.specs.Opened.MayGain.{if_touched, if_queued, if_freed}
 use Rattle.xw_net.proofs.Same.{same_is_matching, same_is_whole}
 use Rattle.xw_net.proofs.Carried.{carried_ready}
 use Rattle.xw_net.proofs.Started.{started_begun, started_carried}
@@ -41,15 +42,6 @@ use Rattle.xw_net.proofs.Changed.{changed_started, new_within, edited_within, lo
 use Rattle.xw_net.proofs.Filling.{filled_was_open}
 use Rattle.xw_net.proofs.Holding.{opened_held, opened_pending, opened_hits}
 use Rattle.xw_net.proofs.Opening.{listed_inside, opened_prepared, new_queued, new_seeds, opened_base, opened_lights, opened_words_on, opened_words_off, opened_words_calm, opened_has_not, opened_freed}
-
--- a waiting light is in the list
-pub waiting_contained : (queue : List ℕ) (light : ℕ) → is_waiting queue light ≡ true → Contains queue light
-unfolding is_waiting
-waiting_contained [] light h = absurd (both_ways false refl h)
-waiting_contained (x ∷ xs) light h = elim (or_cases (eqb x light) (list_any (λ other. eqb other light) xs) h) [
-  | inl here ↦ (0, omega arith, eqb-true x light here)
-  | inr later ↦ contains_later light x xs (waiting_contained xs light later)
-]
 
 module _ (before now : State) (action : Action) (change : Change) (is : IsChange before now action change) (settled net opened : Net)
     (filled : IsFilled (board_of before.grid) before.words settled) (holding : IsHolding (board_of before.grid) before.words (marks_of settled)) (moved : IsMoved before now settled net)
@@ -64,22 +56,22 @@ module _ (before now : State) (action : Action) (change : Change) (is : IsChange
   inside_before : (listed : Cell × Option ℕ) → Contains change.cells.now listed → is_inside before.grid listed.0 ≡ true
   inside_before = listed_inside before now action change is settled net opened filled moved opening entered_kept inside
 
-  prepared : IsPrepared (board_of now.grid) (row now.words) change.word net.rows.items opened.rows.items net.base.items opened.base.items (is_marked opened.is_queued.items) (is_marked opened.is_marked.items)
+  prepared : IsPrepared (board_of now.grid) (row now.words) change.word net.rows.items opened.rows.items net.base.items opened.base.items (is_marked opened.queue.marks) (is_marked opened.chain.marks)
   prepared = opened_prepared before now action change is settled net opened filled moved opening entered_kept inside
 
-  has_not : (light : ℕ) → light < length (board_of now.grid).lights → is_marked opened.is_marked.items light ≡ false
+  has_not : (light : ℕ) → light < length (board_of now.grid).lights → is_marked opened.chain.marks light ≡ false
       → may_have change.word (length (light_at (board_of now.grid) light)) (base_bits (board_of now.grid) (light_at (board_of now.grid) light) (row now.words (length (light_at (board_of now.grid) light)))) ≡ false
   has_not = opened_has_not before now action change is settled net opened filled moved opening entered_kept inside
 
-  started : IsStarted (board_of before.grid) (board_of now.grid) before.words now.words (same_light before.grid now.grid) (marks_of settled) (marks_of opened) (is_marked opened.is_marked.items)
+  started : IsStarted (board_of before.grid) (board_of now.grid) before.words now.words (same_light before.grid now.grid) (marks_of settled) (marks_of opened) (is_marked opened.chain.marks)
   unfolding letter_stands restart_in queued_in is_marked
   started =
-      changed_started before now action change is (marks_of settled) (marks_of opened) (is_marked opened.is_marked.items) (is_waiting opened.stack.items) filled.exact inside_before
+      changed_started before now action change is (marks_of settled) (marks_of opened) (is_marked opened.chain.marks) (is_waiting opened.chain.lights) filled.exact inside_before
       opening.edited
       (new_queued before now action change is settled net opened filled moved opening entered_kept inside)
       (new_seeds before now action change is settled net opened filled moved opening entered_kept inside)
       prepared.calm prepared.seeds
-      (subst (λ ls. Rattle.xw_net.specs.Spread.IsSpread (board_of now.grid) (set_has ls) (set_has opened.letters.items) (is_marked opened.is_marked.items) (is_waiting opened.stack.items) Rattle.xw_net.specs.Spread.no_places) moved.letters opening.spread)
+      (subst (λ ls. Rattle.xw_net.specs.Spread.IsSpread (board_of now.grid) (set_has ls) (set_has opened.letters.items) (is_marked opened.chain.marks) (is_waiting opened.chain.lights) Rattle.xw_net.specs.Spread.no_places) moved.letters opening.spread)
       (λ listed has fill. filled_was_open before now action change is listed has (inside_before listed has) (inside listed has) fill)
       (opened_lights before now action change is settled net opened filled moved opening entered_kept inside)
       (opened_words_on before now action change is settled net opened filled moved opening entered_kept inside)
@@ -91,16 +83,16 @@ module _ (before now : State) (action : Action) (change : Change) (is : IsChange
       (opened_pending before now action change is settled net opened filled.settled holding moved opening forgets has_not)
       (opened_hits before now action change is settled net opened filled.settled holding moved opening forgets has_not)
 
-  begun : IsBegun (board_of before.grid) (board_of now.grid) before.words now.words (same_light before.grid now.grid) (word_stands settled) (letter_stands settled) (word_stands opened) (letter_stands opened) (is_marked opened.is_marked.items)
-  begun = started_begun (board_of before.grid) (board_of now.grid) before.words now.words (same_light before.grid now.grid) (marks_of settled) (marks_of opened) (is_marked opened.is_marked.items) matching filled.exact started
+  begun : IsBegun (board_of before.grid) (board_of now.grid) before.words now.words (same_light before.grid now.grid) (word_stands settled) (letter_stands settled) (word_stands opened) (letter_stands opened) (is_marked opened.chain.marks)
+  begun = started_begun (board_of before.grid) (board_of now.grid) before.words now.words (same_light before.grid now.grid) (marks_of settled) (marks_of opened) (is_marked opened.chain.marks) matching filled.exact started
 
   -- ---- the region
 
-  none_queued : (member : ℕ → Bool) (light : ℕ) → is_marked net.is_queued.items light ≡ true → member light ≡ true
-  none_queued member light on = absurd (both_ways (is_marked net.is_queued.items light) (moved.is_queued light) on)
+  none_queued : (member : ℕ → Bool) (light : ℕ) → is_marked net.queue.marks light ≡ true → member light ≡ true
+  none_queued member light on = absurd (both_ways (is_marked net.queue.marks light) (moved.is_queued light) on)
 
-  none_marked : (member : ℕ → Bool) (light : ℕ) → is_marked net.is_marked.items light ≡ true → member light ≡ true
-  none_marked member light on = absurd (both_ways (is_marked net.is_marked.items light) (moved.is_marked light) on)
+  none_marked : (member : ℕ → Bool) (light : ℕ) → is_marked net.chain.marks light ≡ true → member light ≡ true
+  none_marked member light on = absurd (both_ways (is_marked net.chain.marks light) (moved.is_marked light) on)
 
   -- each light through a freed cell where a letter is missing is in the region
   freed_within : (member : List ℕ → Bool) → IsRegion before now action member → (cell light place : ℕ) → IsFreed now.grid change.before.now (lights_of now.grid) (length change.before.now) cell
@@ -141,22 +133,27 @@ module _ (before now : State) (action : Action) (change : Change) (is : IsChange
         let never : None ≡ Some light' = sym freed.gone.none ∙ ap (λ ls. same_before (lights_of now.grid) ls freed.other) is.lights ∙ found in
         cc
 
+  -- each light that the edit touches is in the region
+  touched_within : (member : List ℕ → Bool) → IsRegion before now action member → (light : ℕ) → IsTouched now.grid (board_of now.grid) (lights_of now.grid) change light → member (light_at (board_of now.grid) light) ≡ true
+  touched_within member region light (by_light at) = new_within before now action change is member region light (omega (arith, at.0, length-lights now.grid)) (sym (ap (λ ls. same_before ls (lights_of now.grid) light) is.lights) ∙ at.1)
+  touched_within member region light (by_cell at) = edited_within before now action change is member region at.0 light at.2.0 at.1 at.2.1 at.2.2
+  touched_within member region light (by_word at) = long_within before now action change is member region (length (light_at (board_of now.grid) light)) at.0 light at.1 at.2 refl
+
+  -- so is each light that may gain words or letters
+  gain_within : (member : List ℕ → Bool) → IsRegion before now action member → (light : ℕ) → MayGain now.grid (board_of now.grid) (lights_of now.grid) change (arrays_of net) light → member (light_at (board_of now.grid) light) ≡ true
+  gain_within member region light (if_touched at) = touched_within member region light at
+  gain_within member region light (if_queued on) = none_queued (λ l. member (light_at (board_of now.grid) l)) light on
+  gain_within member region light (if_freed at) = freed_within member region at.0 light at.3.0 at.1 at.2 at.3.1 at.3.2
+
   pub opens : IsOpened before now action settled opened
   opens = record {
     is_base = opened_base before now action change is settled net opened filled moved opening entered_kept inside;
     begun = begun;
-    ready = carried_ready (board_of before.grid) (board_of now.grid) before.words now.words (same_light before.grid now.grid) (marks_of settled) (marks_of opened) (is_marked opened.is_marked.items)
+    ready = carried_ready (board_of before.grid) (board_of now.grid) before.words now.words (same_light before.grid now.grid) (marks_of settled) (marks_of opened) (is_marked opened.chain.marks)
         is.formed_now.board is.formed_now.dictionary matching filled.settled begun
-        (started_carried (board_of before.grid) (board_of now.grid) before.words now.words (same_light before.grid now.grid) (marks_of settled) (marks_of opened) (is_marked opened.is_marked.items) matching filled.exact started);
+        (started_carried (board_of before.grid) (board_of now.grid) before.words now.words (same_light before.grid now.grid) (marks_of settled) (marks_of opened) (is_marked opened.chain.marks) matching filled.exact started);
     queued_within = λ member region.
-        opening.queued_within (λ light. member (light_at (board_of now.grid) light)) (none_queued (λ light. member (light_at (board_of now.grid) light)))
-        (λ light in_board at. new_within before now action change is member region light in_board (sym (ap (λ ls. same_before ls (lights_of now.grid) light) is.lights) ∙ at))
-        (edited_within before now action change is member region)
-        (long_within before now action change is member region);
+        opening.queued_within (λ light. member (light_at (board_of now.grid) light)) (none_queued (λ light. member (light_at (board_of now.grid) light))) (touched_within member region);
     within = λ member region.
-        opening.within (λ light. member (light_at (board_of now.grid) light)) (none_queued (λ light. member (light_at (board_of now.grid) light))) (none_marked (λ light. member (light_at (board_of now.grid) light)))
-        (λ light in_board at. new_within before now action change is member region light in_board (sym (ap (λ ls. same_before ls (lights_of now.grid) light) is.lights) ∙ at))
-        (freed_within member region)
-        (edited_within before now action change is member region)
-        (long_within before now action change is member region);
+        opening.within (λ light. member (light_at (board_of now.grid) light)) (none_marked (λ light. member (light_at (board_of now.grid) light))) (gain_within member region);
   }

@@ -1,6 +1,6 @@
 -- Matching the lights after an edit with those before that have the same cells.
 use Rattle.std.proofs.Common.{◌≡◌, ℕ, ◌<◌, ◌≤◌, true, false, List, length, get_or, Some, None, refl, sym, ◌∙◌, ap, subst, arith}
-use Rattle.std.specs.Prelude.{Option, slice_get, option_and_then, vec_capacity}
+use Rattle.std.specs.Prelude.{Option, slice_get, option_and_then}
 use Rattle.std.proofs.lemmas.List.Quantifiers.{position-Some}
 use Rattle.std.proofs.lemmas.Option.{get_or_from_slice_get, slice_get_within}
 use Rattle.xw_grid.specs.declared.lights.Light.{Light}
@@ -114,10 +114,8 @@ whole_after before after are counts old new is whole = record {
   base = moved_bits before after are counts old.base.items new.base.items is.base whole.base;
 }
 
-pub room_after : (before after : List Light) → AreLights after → (counts : ℕ → ℕ) (old new : Net) → IsRenumbered before after counts old new → length after ≤ vec_capacity new.queue → length after ≤ vec_capacity new.stack → HasRoom before counts old → HasRoom after counts new
-room_after before after are counts old new is queue stack room = record {
+pub room_after : (before after : List Light) → AreLights after → (counts : ℕ → ℕ) (old new : Net) → IsRenumbered before after counts old new → HasRoom before counts old → HasRoom after counts new
+room_after before after are counts old new is room = record {
   rows = moved_room before after are counts old.rows.items new.rows.items is.rows room.rows;
   base = moved_room before after are counts old.base.items new.base.items is.base room.base;
-  queue = queue;
-  stack = stack;
 }

@@ -1,7 +1,5 @@
 -- The arrays of a net at rest have the right sizes.
-use Rattle.std.proofs.Common.{◌≡◌, ℕ, ◌*◌, ◌<◌, not, List, [], length, sym, ◌∙◌, ap, subst, arith}
-use Rattle.std.specs.Prelude.{All}
-use Rattle.std.proofs.lemmas.List.Sums.{count_by-le-length}
+use Rattle.std.proofs.Common.{◌≡◌, ℕ, ◌*◌, ◌<◌, List, length, sym, ◌∙◌, ap, subst, arith}
 use Rattle.xw_bits.specs.Bits.{RowOfBits}
 use Rattle.xw_words.specs.Dictionary.{Entry}
 use Rattle.xw_grid.specs.Grid.{Grid}
@@ -13,15 +11,13 @@ use Rattle.xw_feas.proofs.FormedLemmas.{length-light_at}
 use Rattle.xw_net.specs.declared.net.Net.{Net}
 use Rattle.xw_net.specs.Room.{counts_of, size_at, HaveBits, HaveRoom}
 use Rattle.xw_net.specs.Nets.{IsShaped, IsChained, HasBits}
-use Rattle.xw_net.specs.Spread.{bits_in, HasSeeds}
+use Rattle.xw_net.specs.Spread.{bits_in}
+use Rattle.xw_net.specs.Worklist.{HasSeeds}
 use Rattle.xw_net.specs.Brought.{HasBase}
 use Rattle.xw_net.specs.Filled.{HasRowRoom}
 use Rattle.xw_net.specs.Fit.{IsAtRest}
-use Rattle.xw_net.proofs.SpreadLemmas.{waiting-none}
+use Rattle.xw_net.proofs.Worklists.{waiting-none}
 use Rattle.xw_net.proofs.Moving.{row_bits}
-
-none_in : (n : ℕ) (xs : List ℕ) → xs ≡ [] → All (λ light. light < n) xs
-none_in n xs none k d below = absurd (omega (arith, below, ap length none))
 
 module _ (grid : Grid) (lights : List Light) (cells : ℕ) (net : Net) (are : lights ≡ lights_of grid) (many : cells ≡ length grid.squares) (rest : IsAtRest lights cells net) where
   lights_long : length lights ≡ length (board_of grid).lights
@@ -39,17 +35,13 @@ module _ (grid : Grid) (lights : List Light) (cells : ℕ) (net : Net) (are : li
     held = rest.held ∙ ap (λ n. 52 * n) cells_long;
     restart = rest.restart ∙ ap (λ n. 2 * n) cells_long;
     pending = rest.pending ∙ ap (λ n. 2 * n) cells_long;
-    is_queued = omega (arith, rest.queued_long, lights_long);
-    queue = none_in (length (board_of grid).lights) net.queue.items rest.queue;
-    room = omega (arith, ap length rest.queue, count_by-le-length not net.is_queued.items, rest.queue_room);
+    queue = omega (arith, rest.queued_long, lights_long);
   }
 
   pub rest_chained : IsChained (board_of grid) net
   rest_chained = record {
     base = omega (arith, rest.base, lights_long);
-    is_marked = omega (arith, rest.marked_long, lights_long);
-    stack = none_in (length (board_of grid).lights) net.stack.items rest.stack;
-    room = omega (arith, ap length rest.stack, count_by-le-length not net.is_marked.items, rest.stack_room);
+    chain = omega (arith, rest.marked_long, lights_long);
   }
 
   bits_here : (entries : ℕ → List Entry) (rows : List RowOfBits) → HaveBits lights (counts_of entries) rows → (light : ℕ) → light < length (board_of grid).lights → length (bits_in rows light) ≡ length (entries (length (light_at (board_of grid) light)))
@@ -70,8 +62,8 @@ module _ (grid : Grid) (lights : List Light) (cells : ℕ) (net : Net) (are : li
   pub rest_base : (entries : ℕ → List Entry) → HaveBits lights (counts_of entries) net.base.items → HasBase (board_of grid) entries net.base.items
   rest_base entries have = record { rows = omega (arith, rest.base, lights_long); bits = bits_here entries net.base.items have }
 
-  pub rest_queued : HasSeeds net.is_queued.items net.queue.items
-  rest_queued light = rest.is_queued light ∙ sym (waiting-none net.queue.items light rest.queue)
+  pub rest_queued : HasSeeds net.queue
+  rest_queued light = rest.is_queued light ∙ sym (waiting-none net.queue.lights light rest.queue)
 
-  pub rest_marked : HasSeeds net.is_marked.items net.stack.items
-  rest_marked light = rest.is_marked light ∙ sym (waiting-none net.stack.items light rest.stack)
+  pub rest_marked : HasSeeds net.chain
+  rest_marked light = rest.is_marked light ∙ sym (waiting-none net.chain.lights light rest.stack)

@@ -102,7 +102,7 @@ module _ (board : Board) (entries : ℕ → List Entry) (dictionary : Dictionary
       (in_entered : i < length old.entered.items)
       (entered_are : new.entered.items ≡ set old.entered.items i (get_or old.entered.items i false && not (has pending (unwrap_or (entry board (cell_at board i q)) 65))))
       (in_pending : slot_at board i q < length old.pending.items) (pending_are : new.pending.items ≡ set old.pending.items (slot_at board i q) 0)
-      (letters_same : new.letters ≡ old.letters) (held_same : new.held ≡ old.held) (restart_same : new.restart ≡ old.restart) (queued_same : new.is_queued ≡ old.is_queued)
+      (letters_same : new.letters ≡ old.letters) (held_same : new.held ≡ old.held) (restart_same : new.restart ≡ old.restart) (queued_same : new.queue ≡ old.queue)
       (pending_is : pending ≡ get_or old.pending.items (slot_at board i q) 0) (alive_is : alive ≡ get_or old.letters.items (cell_at board i q) 0)
       (strikes : AreApart pending alive → Strikes (entries (length (light_at board i))) q pending alive (λ w. get_or first.bits w false) (λ w. get_or second.bits w false)) where
     bits_now : bits_for new i ≡ second.bits
@@ -205,7 +205,7 @@ module _ (board : Board) (entries : ℕ → List Entry) (dictionary : Dictionary
           letters = λ x b. ap (λ v. set_has v.items x b) letters_same;
           held = λ s b. ap (λ v. get_or v.items (26 * s + (b - 65)) 0) held_same;
           restart = λ s b. ap (λ v. set_has v.items s b) restart_same;
-          queued = λ j. ap (λ v. get_or v.items j false) queued_same;
+          queued = λ j. ap (λ list. get_or list.marks j false) queued_same;
           cleared = pending_cleared;
           pending_rest = pending_rest;
         }

@@ -20,7 +20,6 @@ use Rattle.xw_net.specs.Layout.{layout_of}
 use Rattle.xw_net.specs.Room.{size_at, HasRoom}
 use Rattle.xw_net.specs.Net.{row_flags, flags_of, flags_at, sets_of, IsSettledOn, StandsFor, known_counts}
 use Rattle.xw_net.specs.declared.net.Net.{Net}
-use Rattle.xw_net.proofs.Quiet.{quiet_queue_room, quiet_stack_room}
 
 -- the flags of a light are its bits, and the flag of its entered word
 pub flags_are : (lights : List Light) (net : Net) (light : ℕ) → light < length lights → flags_at lights net light ≡ row_flags net light
@@ -63,8 +62,6 @@ pub whole_room : (grid : Grid) (dictionary : Dictionary) (net : Net) → IsWhole
 whole_room grid dictionary net whole quiet = record {
   rows = λ light lt. omega (arith, whole.room light (in_board light lt), long light lt);
   base = λ light lt. omega (arith, whole.base_room light (in_board light lt), long light lt);
-  queue = omega (arith, quiet_queue_room net quiet (board_of grid) whole.shaped, whole.shaped.is_queued, length-lights grid);
-  stack = omega (arith, quiet_stack_room net quiet (board_of grid) whole.chained, whole.chained.is_marked, length-lights grid);
 } where
   in_board : (light : ℕ) → light < length (lights_of grid) → light < length (board_of grid).lights
   in_board light lt = omega (arith, lt, length-lights grid)

@@ -1,10 +1,8 @@
--- Marks that spread from light to light, with the letters that come back.
-use Rattle.std.proofs.Common.{◌≡◌, ℕ, ◌+◌, ◌<◌, Bool, true, false, ◌||◌, eqb, leb, cond, List, [], ◌∷◌, ◌++◌, length, get_or, set, refl, subst, sym, ap, ◌∙◌, inl, inr, arith}
+-- Letters that come back along a chain of lights.
+use Rattle.std.proofs.Common.{◌≡◌, ℕ, ◌+◌, ◌<◌, Bool, true, false, eqb, leb, cond, List, [], ◌∷◌, ◌++◌, length, set, refl, subst, sym, ap, ◌∙◌, inl, inr, arith}
 use Rattle.std.specs.Prelude.{filter, bytes_eq}
-use Rattle.std.specs.List.{list_any}
-use Rattle.std.proofs.lemmas.Bool.{and_parts, and_from, or_left, or_right, or_cases, cases_eq, cases_lt, cases_Bool, both_ways, eq-eqb, eqb-true, le-leb, leb-true, cond-true, cond-false, false_from_ne_true}
-use Rattle.std.proofs.lemmas.List.{get_or-set_same, get_or-set_other, set_past}
-use Rattle.std.proofs.lemmas.List.Folds.{list_any-append}
+use Rattle.std.proofs.lemmas.Bool.{and_parts, and_from, or_left, or_right, cases_eq, cases_Bool, both_ways, eq-eqb, eqb-true, le-leb, leb-true, false_from_ne_true}
+use Rattle.std.proofs.lemmas.List.{get_or-set_same, get_or-set_other}
 use Rattle.std.proofs.lemmas.Slice.Eq.{bytes_eq-Decides}
 use Rattle.xw_letters.specs.Letter.{alphabet}
 use Rattle.xw_letters.specs.LetterSet.{has, letters_in}
@@ -12,120 +10,9 @@ use Rattle.xw_feas.specs.Board.{Board}
 use Rattle.xw_feas.specs.Feasible.{may_stand}
 use Rattle.xw_feas.specs.Flags.{set_has}
 use Rattle.xw_net.specs.Marks.{IsPlace, cell_at}
-use Rattle.xw_net.specs.Spread.{is_marked, is_waiting, Grows, HasAll, IsSpread, places_from, no_places, none_waits, HasSeeds}
-
--- ---- marks, and the stack of waiting lights
-
-or_false : (t : Bool) → (t || false) ≡ t
-or_false true = refl
-or_false false = refl
-
-pub waiting-push : (stack : List ℕ) (o i : ℕ) → is_waiting (stack ++ o ∷ []) i ≡ (is_waiting stack i || eqb o i)
-unfolding is_waiting
-waiting-push stack o i = list_any-append (λ n. eqb n i) stack (o ∷ []) ∙ ap (λ t. list_any (λ n. eqb n i) stack || t) (or_false (eqb o i))
-
-pub waiting-none : (stack : List ℕ) (i : ℕ) → stack ≡ [] → is_waiting stack i ≡ false
-unfolding is_waiting
-waiting-none stack i empty = ap (λ l. is_waiting l i) empty
-
--- a marked light stays marked
-pub marked_more : (marks : List Bool) (o i : ℕ) → is_marked marks i ≡ true → is_marked (set marks o true) i ≡ true
-unfolding is_marked
-marked_more marks o i h =
-    elim (cases_eq i o) [
-      | inl e ↦
-          elim (cases_lt o (length marks)) [
-            | inl lt ↦ ap (λ n. get_or (set marks o true) n false) e ∙ get_or-set_same marks o true false lt
-            | inr past ↦ ap (λ l. get_or l i false) (set_past marks o true past) ∙ h
-          ]
-      | inr n ↦ get_or-set_other marks o i true false n ∙ h
-    ]
-
-pub marked_now : (marks : List Bool) (o : ℕ) → o < length marks → is_marked (set marks o true) o ≡ true
-unfolding is_marked
-marked_now marks o lt = get_or-set_same marks o true false lt
-
-pub marked_before : (marks : List Bool) (o i : ℕ) → (i ≡ o → ⊥) → is_marked (set marks o true) i ≡ true → is_marked marks i ≡ true
-unfolding is_marked
-marked_before marks o i n h = sym (get_or-set_other marks o i true false n) ∙ h
-
--- the stack after a light was marked
-abbrev pub IsPushed : List Bool → List ℕ → ℕ → List ℕ → Type 0
-IsPushed marks stack o stack' = stack' ≡ cond (is_marked marks o) stack (stack ++ o ∷ [])
-
-still_waits : (marks : List Bool) (stack : List ℕ) (o : ℕ) (stack' : List ℕ) (n : ℕ) → IsPushed marks stack o stack' → is_waiting stack n ≡ true → is_waiting stack' n ≡ true
-still_waits marks stack o stack' n is w =
-    elim (cases_Bool (is_marked marks o)) [
-      | inl m ↦ ap (λ l. is_waiting l n) (is ∙ cond-true (is_marked marks o) stack (stack ++ o ∷ []) m) ∙ w
-      | inr m ↦ ap (λ l. is_waiting l n) (is ∙ cond-false (is_marked marks o) stack (stack ++ o ∷ []) m) ∙ waiting-push stack o n ∙ or_left (is_waiting stack n) (eqb o n) w
-    ]
-
-pub grows_mark : (marks : List Bool) (stack : List ℕ) (o : ℕ) (stack' : List ℕ) → o < length marks → IsPushed marks stack o stack' → Grows marks stack (set marks o true) stack'
-grows_mark marks stack o stack' lt is = record {
-  more = λ i h. marked_more marks o i h;
-  fresh = λ i h quiet.
-      let quiet_before : is_waiting stack i ≡ false = false_from_ne_true (is_waiting stack i) (λ w. both_ways (is_waiting stack' i) quiet (still_waits marks stack o stack' i is w)) in
-      elim (cases_eq i o) [
-        | inr n ↦ (marked_before marks o i n h, quiet_before)
-        | inl e ↦
-            elim (cases_Bool (is_marked marks o)) [
-              | inl m ↦ (ap (is_marked marks) e ∙ m, quiet_before)
-              | inr m ↦
-                  absurd (both_ways (is_waiting stack' i) quiet
-                  (ap (λ l. is_waiting l i) (is ∙ cond-false (is_marked marks o) stack (stack ++ o ∷ []) m)
-                  ∙ waiting-push stack o i ∙ or_right (is_waiting stack i) (eqb o i) (eq-eqb o i (sym e))))
-            ]
-      ];
-  waits = λ waits i h.
-      elim (cases_Bool (is_marked marks o)) [
-        | inl m ↦ marked_more marks o i (waits i (sym (ap (λ l. is_waiting l i) (is ∙ cond-true (is_marked marks o) stack (stack ++ o ∷ []) m)) ∙ h))
-        | inr m ↦
-            elim (or_cases (is_waiting stack i) (eqb o i)
-            (sym (ap (λ l. is_waiting l i) (is ∙ cond-false (is_marked marks o) stack (stack ++ o ∷ []) m) ∙ waiting-push stack o i) ∙ h)) [
-              | inl w ↦ marked_more marks o i (waits i w)
-              | inr e ↦ ap (is_marked (set marks o true)) (sym (eqb-true o i e)) ∙ marked_now marks o lt
-            ]
-      ];
-}
-
-pub grows_none : (marks : List Bool) (stack : List ℕ) → Grows marks stack marks stack
-grows_none marks stack = record { more = λ i h. h; fresh = λ i h w. (h, w); waits = λ waits. waits }
-
-pub grows_more : (marks : List Bool) (stack : List ℕ) (marks' : List Bool) (stack' : List ℕ) (marks'' : List Bool) (stack'' : List ℕ)
-    → Grows marks stack marks' stack' → Grows marks' stack' marks'' stack'' → Grows marks stack marks'' stack''
-grows_more marks stack marks' stack' marks'' stack'' first second = record {
-  more = λ i h. second.more i (first.more i h);
-  fresh = λ i h w. let mid = second.fresh i h w in first.fresh i mid.0 mid.1;
-  waits = λ waits. second.waits (first.waits waits);
-}
-
--- the waiting lights are still the marked ones
-pub seeds_grow : (marks : List Bool) (stack : List ℕ) (marks' : List Bool) (stack' : List ℕ) → Grows marks stack marks' stack' → HasSeeds marks stack → HasSeeds marks' stack'
-seeds_grow marks stack marks' stack' grows seeds light =
-    elim (cases_Bool (is_marked marks' light)) [
-      | inl m ↦
-          elim (cases_Bool (is_waiting stack' light)) [
-            | inl w ↦ m ∙ sym w
-            | inr quiet ↦ let before = grows.fresh light m quiet in absurd (both_ways (is_waiting stack light) before.1 (sym (seeds light) ∙ before.0))
-          ]
-      | inr n ↦
-          n ∙ sym (false_from_ne_true (is_waiting stack' light) (λ w. both_ways (is_marked marks' light) n (grows.waits (λ i h. seeds i ∙ h) light w)))
-    ]
-
--- after a pop, every light left on the stack was on it
-pub waits_pop : (stack stack' : List ℕ) (o i : ℕ) → stack ≡ stack' ++ o ∷ [] → is_waiting stack' i ≡ true → is_waiting stack i ≡ true
-waits_pop stack stack' o i is h = ap (λ l. is_waiting l i) is ∙ waiting-push stack' o i ∙ or_left (is_waiting stack' i) (eqb o i) h
-
-pub waits_top : (stack stack' : List ℕ) (o : ℕ) → stack ≡ stack' ++ o ∷ [] → is_waiting stack o ≡ true
-waits_top stack stack' o is = ap (λ l. is_waiting l o) is ∙ waiting-push stack' o o ∙ or_right (is_waiting stack' o) (eqb o o) (eq-eqb o o refl)
-
--- after a pop, only the top light has left the stack
-pub quiet_pop : (stack stack' : List ℕ) (o i : ℕ) → stack ≡ stack' ++ o ∷ [] → (i ≡ o → ⊥) → is_waiting stack' i ≡ false → is_waiting stack i ≡ false
-quiet_pop stack stack' o i is n h =
-    false_from_ne_true (is_waiting stack i) (λ w. elim (or_cases (is_waiting stack' i) (eqb o i) (sym (ap (λ l. is_waiting l i) is ∙ waiting-push stack' o i) ∙ w)) [
-      | inl waits ↦ both_ways (is_waiting stack' i) h waits
-      | inr e ↦ n (sym (eqb-true o i e))
-    ])
+use Rattle.xw_net.specs.Spread.{HasAll, IsSpread, places_from, no_places, none_waits}
+use Rattle.xw_net.specs.Worklist.{ListOfLights, is_marked, is_waiting, Grows}
+use Rattle.xw_net.proofs.Worklists.{quiet_pop}
 
 -- ---- sets of letters by cell
 
@@ -147,9 +34,9 @@ same_set common may same = (bytes_eq-Decides (letters_in common) (letters_in may
 
 module _ (board : Board) (old : ℕ → ℕ → Bool) where
   -- more lights are marked
-  pub spread_grows : (new : ℕ → ℕ → Bool) (marks marks' : List Bool) (stack stack' : List ℕ) (coming : ℕ → ℕ → Bool) → Grows marks stack marks' stack'
-      → IsSpread board old new (is_marked marks) (is_waiting stack) coming → IsSpread board old new (is_marked marks') (is_waiting stack') coming
-  spread_grows new marks marks' stack stack' coming grows spread = record {
+  pub spread_grows : (new : ℕ → ℕ → Bool) (chain chain' : ListOfLights) (coming : ℕ → ℕ → Bool) → Grows chain chain'
+      → IsSpread board old new (is_marked chain.marks) (is_waiting chain.lights) coming → IsSpread board old new (is_marked chain'.marks) (is_waiting chain'.lights) coming
+  spread_grows new chain chain' coming grows spread = record {
     on = λ i q here m quiet later. let before = grows.fresh i m quiet in spread.on i q here before.0 before.1 later;
     reaches = λ i q l here now not_old. grows.more i (spread.reaches i q l here now not_old);
     from = spread.from;

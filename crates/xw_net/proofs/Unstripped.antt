@@ -6,7 +6,7 @@ use Rattle.xw_feas.specs.Board.{Board}
 use Rattle.xw_net.specs.Marks.{IsHolding, IsReady}
 use Rattle.xw_net.specs.Room.{row_at}
 use Rattle.xw_net.specs.Nets.{marks_of, pending_in, word_stands, letter_stands, held_in, restart_in, queued_in, IsShaped, IsChained, HasBits}
-use Rattle.xw_net.specs.Spread.{is_marked}
+use Rattle.xw_net.specs.Worklist.{is_marked}
 use Rattle.xw_net.specs.Brought.{HasBase, IsBase, IsBrought}
 use Rattle.xw_net.specs.Filled.{IsWholeNet, IsUnstripped}
 use Rattle.xw_net.specs.declared.net.Net.{Net}
@@ -16,11 +16,11 @@ use Rattle.xw_net.proofs.HeldWords.{same_holding}
 -- with no light marked
 module _ (board : Board) (dictionary : Dictionary) (old back new : Net) where
   pub brought_unstripped : IsWholeNet board (row dictionary) old → IsBase board dictionary old.base.items
-      → IsShaped board new → IsChained board new → HasBits board (row dictionary) back → back.base ≡ old.base → back.stack.items ≡ []
+      → IsShaped board new → IsChained board new → HasBits board (row dictionary) back → back.base ≡ old.base → new.chain.lights ≡ []
       → ((light : ℕ) → (row_at old.rows.items light).room ≤ (row_at back.rows.items light).room)
       → (chain : ℕ → Bool) → IsBrought board dictionary (marks_of old) (marks_of back) chain
       → IsReady board dictionary (marks_of back) → IsHolding board dictionary (marks_of old) → ((slot letter : ℕ) → pending_in old slot letter ≡ false)
-      → new ≡ record back { is_marked = new.is_marked } → ((light : ℕ) → is_marked new.is_marked.items light ≡ false)
+      → new ≡ record back { chain = new.chain } → ((light : ℕ) → is_marked new.chain.marks light ≡ false)
       → IsUnstripped board dictionary new
   unfolding word_stands letter_stands held_in restart_in pending_in queued_in
   brought_unstripped whole is_base shaped chained bits base stack room chain brought ready holding pending same marked =
@@ -38,6 +38,6 @@ module _ (board : Board) (dictionary : Dictionary) (old back new : Net) where
         ready = subst (λ (net : Net). IsReady board dictionary (marks_of net)) (sym same) ready;
         holding = subst (λ (net : Net). IsHolding board dictionary (marks_of net)) (sym same) (same_holding board dictionary (marks_of old) (marks_of back) brought.held holding);
         pending = λ slot letter. ap (λ (net : Net). pending_in net slot letter) same ∙ brought.pending slot letter ∙ pending slot letter;
-        stack = ap (λ (net : Net). vec_items net.stack) same ∙ stack;
+        stack = stack;
         marked = marked;
       }

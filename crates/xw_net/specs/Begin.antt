@@ -3,6 +3,7 @@ use Rattle.std.specs.Prelude.{◌≡◌, ℕ, ◌+◌, ◌<◌, Bool, true, fals
 use Rattle.xw_bits.specs.Bits.{RowOfBits}
 use Rattle.xw_letters.specs.Letter.{is_capital}
 use Rattle.xw_words.specs.Dictionary.{Entry, Dictionary}
+use Rattle.xw_feas.specs.Flags.{set_has}
 use Rattle.xw_feas.specs.Board.{Board, entry, light_at, is_wholly_entered}
 use Rattle.xw_feas.specs.Feasible.{may_stand}
 use Rattle.xw_net.specs.Base.{base_bits, IsBaseBut}
@@ -10,7 +11,12 @@ use Rattle.xw_feas.specs.Known.{spellings, actives}
 use Rattle.xw_feas.specs.Choices.{is_base_at}
 use Rattle.xw_net.specs.Revival.{StandsOn}
 use Rattle.xw_net.specs.Marks.{Marks, IsPlace, cell_at, slot_at, known, puts}
-use Rattle.xw_net.specs.Spread.{HasAll, bits_in}
+use Rattle.xw_grid.specs.declared.cell.Cell.{Cell}
+use Rattle.xw_grid.specs.declared.lights.Light.{Light}
+use Rattle.xw_grid.specs.Grid.{Grid, index_of}
+use Rattle.xw_net.specs.Renumber.{same_before}
+use Rattle.xw_net.specs.Spread.{HasAll, IsThrough, bits_in}
+use Rattle.xw_net.specs.Worklist.{ListOfLights, is_marked}
 
 -- whether an empty cell got a letter
 abbrev pub is_fill : Board → ℕ → Option ℕ → Bool
@@ -39,6 +45,30 @@ is_read board word in_queue light = in_queue light || is_long word (length (ligh
 abbrev pub is_seed : Board → Option (ℕ × ℕ) → List ℕ → List Bool → Bool
 is_seed board word cells bits = is_wholly_entered board cells || may_have word (length cells) bits
 
+-- the light has the length of the changed word
+abbrev pub HasLength : Board → Option (ℕ × ℕ) → ℕ → Type 0
+HasLength board word light = (place : ℕ) × (word ≡ Some (length (light_at board light), place)) × (light < length board.lights)
+
+-- no light before the edit has the cells of this one
+abbrev pub IsNewLight : List Light → List Light → ℕ → Type 0
+IsNewLight before lights light = (light < length lights) × (same_before before lights light ≡ None)
+
+-- the changed word may concern the light
+abbrev pub MayConcern : Board → Option (ℕ × ℕ) → List RowOfBits → List RowOfBits → ℕ → Type 0
+MayConcern board word base words light = has_changed word (length (light_at board light)) (bits_in base light) (bits_in words light) ≡ true
+
+-- a light of the board that the changed word may concern
+abbrev pub IsConcerned : Board → Option (ℕ × ℕ) → List RowOfBits → List RowOfBits → ℕ → Type 0
+IsConcerned board word base words light = (light < length board.lights) × MayConcern board word base words light
+
+-- the light is a seed if it is queued
+abbrev pub IsSeed : Board → Option (ℕ × ℕ) → List RowOfBits → ℕ → Type 0
+IsSeed board word base light = is_seed board word (light_at board light) (bits_in base light) ≡ true
+
+-- a queued light of the board that is a seed
+abbrev pub IsQueuedSeed : Board → Option (ℕ × ℕ) → List RowOfBits → ListOfLights → ℕ → Type 0
+IsQueuedSeed board word base queue light = (light < length board.lights) × (is_marked queue.marks light ≡ true) × IsSeed board word base light
+
 -- the row keeps only base words. If the changed word has the light's length, only that word need be
 -- removed
 pub record IsNarrowedRow (word : Option (ℕ × ℕ)) (word_len : ℕ) (bits base bits' : List Bool) : Type 0 where
@@ -56,6 +86,24 @@ module _ (board : Board) where
     pub queued : (light place : ℕ) → IsPlace board light place → cell_at board light place ≡ cell → in_queue light ≡ true
     pub all : is_fill board cell old ≡ false → HasAll board letters cell
     pub marked : is_fill board cell old ≡ false → (light place : ℕ) → IsPlace board light place → cell_at board light place ≡ cell → in_chain light ≡ true
+
+  -- a cell stays such a cell
+  abbrev pub StaysEdited : List ℕ → ListOfLights → ListOfLights → List ℕ → ListOfLights → ListOfLights → ℕ → Option ℕ → Type 0
+  StaysEdited letters queue chain letters' queue' chain' cell old =
+      IsEdited (set_has letters) (is_marked queue.marks) (is_marked chain.marks) cell old → IsEdited (set_has letters') (is_marked queue'.marks) (is_marked chain'.marks) cell old
+
+  -- the queued lights keep only base words in their rows
+  abbrev pub AreNarrowed : Option (ℕ × ℕ) → List RowOfBits → (ℕ → Bool) → List RowOfBits → List RowOfBits → Type 0
+  AreNarrowed word base in_queue rows rows' =
+      (light : ℕ) → light < length board.lights → in_queue light ≡ true → IsNarrowedRow word (length (light_at board light)) (bits_in rows light) (bits_in base light) (bits_in rows' light)
+
+-- a light through a cell that the edit wrote
+abbrev pub IsThroughListed : Grid → Board → List (Cell × Option ℕ) → ℕ → Type 0
+IsThroughListed grid board cells light = (listed : Cell × Option ℕ) × Contains cells listed × IsThrough board (index_of grid listed.0) light
+
+-- the state at all cells that the edit wrote
+abbrev pub AreEdited : Grid → Board → List (Cell × Option ℕ) → (ℕ → ℕ → Bool) → (ℕ → Bool) → (ℕ → Bool) → Type 0
+AreEdited grid board cells letters in_queue in_chain = (listed : Cell × Option ℕ) → Contains cells listed → IsEdited board letters in_queue in_chain (index_of grid listed.0) listed.1
 
 -- the state at which a revival starts: the lights that the edit touches are queued, and those that
 -- may get words back are seeds

@@ -1,7 +1,8 @@
 -- An empty net.
-use Rattle.std.specs.Prelude.{◌≡◌, ℕ, ◌-◌, ◌*◌, ◌^◌, false, List, [], length, replicate, None}
+use Rattle.std.specs.Prelude.{◌≡◌, ℕ, ◌-◌, ◌*◌, ◌^◌, false, List, length, replicate, None}
 use Rattle.xw_grid.specs.declared.lights.Light.{Light}
 use Rattle.xw_net.specs.Room.{AreFalse}
+use Rattle.xw_net.specs.Worklist.{IsIdle}
 use Rattle.xw_net.specs.declared.net.Net.{Net}
 
 -- a net with no words and no letters, for these lights, numbers of known words by length, and
@@ -15,8 +16,6 @@ pub record IsBlank (lights : List Light) (counts : ℕ → ℕ) (cells : ℕ) (n
   pub held : net.held.items ≡ replicate (52 * cells) (2 ^ 64 - 1)
   pub restart : net.restart.items ≡ replicate (2 * cells) 0
   pub pending : net.pending.items ≡ replicate (2 * cells) 0
-  pub queue : net.queue.items ≡ []
-  pub is_queued : net.is_queued.items ≡ replicate (length lights) false
-  pub stack : net.stack.items ≡ []
-  pub is_marked : net.is_marked.items ≡ replicate (length lights) false
+  pub queue : IsIdle (length lights) net.queue
+  pub chain : IsIdle (length lights) net.chain
   pub spare : net.spare ≡ None

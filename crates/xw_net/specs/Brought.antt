@@ -27,6 +27,11 @@ unfoldable pub base_cost : Board → (ℕ → List Entry) → (ℕ → Bool) →
 base_cost board entries member =
     sum_to (λ light. if member light then (length (light_at board light) + 1) * chunks_of (length (entries (length (light_at board light)))) else 0) (length board.lights)
 
+-- the ticks spent are at most the cost of the lights that were read
+abbrev pub CostsAtMost : Board → (ℕ → List Entry) → (ℕ → Bool) → ℕ → ℕ → Type 0
+CostsAtMost board entries is_read ticks ticks' =
+    (member : ℕ → Bool) → ((light : ℕ) → light < length board.lights → is_read light ≡ true → member light ≡ true) → ticks' ≤ ticks + base_cost board entries member
+
 -- the marks after words and letters came back along a chain of lights
 pub record IsBrought (board : Board) (dictionary : Dictionary) (old new : Marks) (chain : ℕ → Bool) : Type 0 where
   pub lights : (light : ℕ) → chain light ≡ true → light < length board.lights

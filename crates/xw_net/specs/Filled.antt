@@ -8,7 +8,7 @@ use Rattle.xw_feas.specs.Choices.{IsExact}
 use Rattle.xw_net.specs.Marks.{IsPlace, slot_at, IsHolding, IsReady, IsSettledNet}
 use Rattle.xw_net.specs.Room.{row_at}
 use Rattle.xw_net.specs.Nets.{marks_of, word_stands, letter_stands, held_in, pending_in, queued_in, IsShaped, IsChained, HasBits}
-use Rattle.xw_net.specs.Spread.{is_marked}
+use Rattle.xw_net.specs.Worklist.{is_marked}
 use Rattle.xw_net.specs.Brought.{HasBase, IsBase}
 use Rattle.xw_net.specs.declared.net.Net.{Net}
 
@@ -31,10 +31,10 @@ pub record IsWholeNet (board : Board) (entries : ℕ → List Entry) (net : Net)
 
 -- no light is queued, and no light is marked
 pub record IsQuiet (net : Net) : Type 0 where
-  pub queue : net.queue.items ≡ []
+  pub queue : net.queue.lights ≡ []
   pub queued : (light : ℕ) → queued_in net light ≡ false
-  pub stack : net.stack.items ≡ []
-  pub marked : (light : ℕ) → is_marked net.is_marked.items light ≡ false
+  pub stack : net.chain.lights ≡ []
+  pub marked : (light : ℕ) → is_marked net.chain.marks light ≡ false
 
 -- no words are in the net, no supports are held, and nothing is pending
 pub record IsFresh (board : Board) (entries : ℕ → List Entry) (net : Net) : Type 0 where
@@ -51,8 +51,8 @@ pub record IsUnstripped (board : Board) (dictionary : Dictionary) (net : Net) : 
   pub ready : IsReady board dictionary (marks_of net)
   pub holding : IsHolding board dictionary (marks_of net)
   pub pending : (slot letter : ℕ) → pending_in net slot letter ≡ false
-  pub stack : net.stack.items ≡ []
-  pub marked : (light : ℕ) → is_marked net.is_marked.items light ≡ false
+  pub stack : net.chain.lights ≡ []
+  pub marked : (light : ℕ) → is_marked net.chain.marks light ≡ false
 
 -- the net has exactly what is feasible, and is ready for the next edit
 pub record IsFilled (board : Board) (dictionary : Dictionary) (net : Net) : Type 0 where

@@ -1,11 +1,11 @@
 -- A net is adapted to the lights and the known words after an edit.
-use Rattle.std.specs.Prelude.{◌≡◌, ℕ, ◌+◌, ◌*◌, ◌^◌, ◌<◌, ◌≤◌, Bool, true, false, List, [], ◌∷◌, ◌++◌, length, nat_lt, Option, Some, None, slice_index_or, vec_len, vec_capacity, if◌then◌else◌}
+use Rattle.std.specs.Prelude.{◌≡◌, ℕ, ◌+◌, ◌*◌, ◌^◌, ◌<◌, ◌≤◌, Bool, true, false, List, [], ◌∷◌, ◌++◌, length, nat_lt, Option, Some, None, slice_index_or, vec_len, if◌then◌else◌}
 use Rattle.xw_bits.specs.Bits.{RowOfBits}
 use Rattle.xw_grid.specs.declared.lights.Light.{Light}
 use Rattle.xw_net.specs.Room.{size_at, row_at, HasRoom, HasSpare}
 use Rattle.xw_net.specs.Renumber.{same_before}
 use Rattle.xw_net.specs.Nets.{word_stands}
-use Rattle.xw_net.specs.Spread.{is_marked}
+use Rattle.xw_net.specs.Worklist.{is_marked}
 use Rattle.xw_net.specs.declared.net.Net.{Net}
 use Rattle.xw_net.specs.declared.room.Spare.{Spare}
 
@@ -36,14 +36,12 @@ pub record IsAtRest (lights : List Light) (cells : ℕ) (net : Net) : Type 0 whe
   pub held : vec_len net.held ≡ 52 * cells
   pub restart : vec_len net.restart ≡ 2 * cells
   pub pending : vec_len net.pending ≡ 2 * cells
-  pub queue : net.queue.items ≡ []
-  pub queued_long : length lights ≤ vec_len net.is_queued
-  pub is_queued : (light : ℕ) → is_marked net.is_queued.items light ≡ false
-  pub queue_room : vec_len net.is_queued ≤ vec_capacity net.queue
-  pub stack : net.stack.items ≡ []
-  pub marked_long : length lights ≤ vec_len net.is_marked
-  pub is_marked : (light : ℕ) → is_marked net.is_marked.items light ≡ false
-  pub stack_room : vec_len net.is_marked ≤ vec_capacity net.stack
+  pub queue : net.queue.lights ≡ []
+  pub queued_long : length net.queue.marks ≡ length lights
+  pub is_queued : (light : ℕ) → is_marked net.queue.marks light ≡ false
+  pub stack : net.chain.lights ≡ []
+  pub marked_long : length net.chain.marks ≡ length lights
+  pub is_marked : (light : ℕ) → is_marked net.chain.marks light ≡ false
 
 -- the net has room for the lights after an edit: in spare arrays, or in its own if the lights stay
 abbrev pub HasRoomBetween : List Light → List Light → (ℕ → ℕ) → Net → Option Spare → Type 0
@@ -56,4 +54,4 @@ pub record IsTurned (before after : List Light) (old new : Net) : Type 0 where
   pub base : (light other : ℕ) → light < length after → same_before before after light ≡ Some other → (row_at new.base.items light).bits ≡ (row_at old.base.items other).bits
   pub entered : (light other : ℕ) → light < length after → same_before before after light ≡ Some other → slice_index_or new.entered.items light false ≡ slice_index_or old.entered.items other false
   pub lights : ((light choice : ℕ) → word_stands old light choice ≡ true → light < length before) → (light choice : ℕ) → word_stands new light choice ≡ true → light < length after
-  pub rest : new ≡ record old { rows = new.rows; base = new.base; entered = new.entered; is_queued = new.is_queued; is_marked = new.is_marked; spare = None }
+  pub rest : new ≡ record old { rows = new.rows; base = new.base; entered = new.entered; queue = new.queue; chain = new.chain; spare = None }

@@ -1,13 +1,13 @@
 -- Removed lights, and letters that come back at their cells.
-use Rattle.std.specs.Prelude.{◌≡◌, ℕ, ◌<◌, Bool, true, List, length, slice_get, Some, None}
+use Rattle.std.specs.Prelude.{◌≡◌, ℕ, ◌<◌, true, List, length, slice_get, Some, None}
 use Rattle.xw_grid.specs.declared.lights.Light.{Light}
 use Rattle.xw_grid.specs.Grid.{Grid, index_of, is_inside}
 use Rattle.xw_grid.specs.Light.{step}
 use Rattle.xw_feas.specs.Board.{Board}
 use Rattle.xw_feas.specs.Feasible.{may_stand}
 use Rattle.xw_feas.specs.Flags.{set_has}
-use Rattle.xw_net.specs.Marks.{IsPlace, cell_at}
-use Rattle.xw_net.specs.Spread.{is_marked, is_waiting, no_places, HasAll, HasSeeds, IsSpread}
+use Rattle.xw_net.specs.Spread.{HasAll, IsThrough, KeepsSpread}
+use Rattle.xw_net.specs.Worklist.{ListOfLights, Grows, HasSeeds, MarksOnly}
 use Rattle.xw_net.specs.Renumber.{same_before}
 
 -- the cell is that of a light at a position
@@ -40,16 +40,21 @@ pub record IsFreedAt (grid : Grid) (before after : List Light) (other cell : ℕ
   pub gone : IsGone before after other light
   pub among : IsAmong grid light light.size cell
 
+-- an allowed letter is missing at the cell
+abbrev pub IsLacking : Board → List ℕ → ℕ → Type 0
+IsLacking board letters cell = ¬ HasAll board (set_has letters) cell
+
+-- a light through a freed cell where an allowed letter is missing
+abbrev pub IsThroughFreed : Board → (ℕ → Type 0) → List ℕ → ℕ → Type 0
+IsThroughFreed board freed letters light = (cell : ℕ) × freed cell × IsLacking board letters cell × IsThrough board cell light
+
 -- the freed cells have all letters that they allow, and the lights through a cell that got a letter
 -- back are marked
-pub record Raises (board : Board) (freed : ℕ → Type 0) (letters letters' : List ℕ) (marks marks' : List Bool) (stack stack' : List ℕ) : Type 0 where
+pub record Raises (board : Board) (freed : ℕ → Type 0) (letters : List ℕ) (chain : ListOfLights) (letters' : List ℕ) (chain' : ListOfLights) : Type 0 where
   pub letters_len : length letters' ≡ length letters
-  pub marks_len : length marks' ≡ length marks
-  pub more : (light : ℕ) → is_marked marks light ≡ true → is_marked marks' light ≡ true
-  pub seeds : HasSeeds marks' stack'
+  pub grows : Grows chain chain'
+  pub seeds : HasSeeds chain'
   pub all : (cell : ℕ) → freed cell → HasAll board (set_has letters') cell
   pub stay : (cell letter : ℕ) → may_stand board cell letter ≡ true → set_has letters cell letter ≡ true → set_has letters' cell letter ≡ true
-  pub spread : (start : ℕ → ℕ → Bool) → IsSpread board start (set_has letters) (is_marked marks) (is_waiting stack) no_places → IsSpread board start (set_has letters') (is_marked marks') (is_waiting stack') no_places
-  pub within : (member : ℕ → Bool) → ((light : ℕ) → is_marked marks light ≡ true → member light ≡ true)
-      → ((cell light place : ℕ) → freed cell → ¬ HasAll board (set_has letters) cell → IsPlace board light place → cell_at board light place ≡ cell → member light ≡ true)
-      → (light : ℕ) → is_marked marks' light ≡ true → member light ≡ true
+  pub spread : KeepsSpread board letters chain letters' chain'
+  pub within : MarksOnly (IsThroughFreed board freed letters) chain chain'

@@ -9,6 +9,7 @@ pub mod Nets
 pub mod Renumber
 pub mod Blank
 pub mod Base
+pub mod Worklist
 pub mod Spread
 pub mod Brought
 pub mod Filled

@@ -1,11 +1,12 @@
 -- The marks that the arrays of a net represent, and the sizes of these arrays.
-use Rattle.std.specs.Prelude.{◌≡◌, ℕ, ◌+◌, ◌-◌, ◌*◌, ◌^◌, ◌<◌, ◌≤◌, Bool, true, false, not, List, [], ◌∷◌, ◌++◌, Option, Some, None, length, slice_get, slice_index, slice_index_or, count_by, vec_len, vec_capacity, All, Contains}
+use Rattle.std.specs.Prelude.{◌≡◌, ℕ, ◌+◌, ◌-◌, ◌*◌, ◌^◌, ◌<◌, ◌≤◌, Bool, true, false, List, [], ◌∷◌, ◌++◌, Option, Some, None, length, slice_get, slice_index, slice_index_or, vec_len}
 use Rattle.xw_bits.specs.Bits.{RowOfBits}
 use Rattle.xw_words.specs.Dictionary.{Entry}
 use Rattle.xw_feas.specs.Board.{Board, light_at}
 use Rattle.xw_feas.specs.Flags.{set_has, set_sum}
 use Rattle.xw_net.specs.Marks.{Marks, IsPlace, cell_at, slot_at}
 use Rattle.xw_net.specs.Room.{row_at}
+use Rattle.xw_net.specs.Worklist.{is_waiting}
 use Rattle.xw_net.specs.declared.place.Place.{Place}
 use Rattle.xw_net.specs.declared.net.Net.{Net}
 
@@ -41,13 +42,13 @@ pending_in net slot letter = set_has net.pending.items slot letter
 
 -- whether a light is queued
 unfoldable pub queued_in : Net → ℕ → Bool
-queued_in net light = slice_index_or net.is_queued.items light false
+queued_in net light = slice_index_or net.queue.marks light false
 
 -- the marks that a net represents
 abbrev pub marks_of : Net → Marks
 marks_of net = record { words = word_stands net; letters = letter_stands net; held = held_in net; restart = restart_in net; pending = pending_in net; queued = queued_in net }
 
--- the arrays have the right sizes, and the queue has room for every light that is not queued
+-- the arrays have the right sizes
 pub record IsShaped (board : Board) (net : Net) : Type 0 where
   pub few_cells : length board.open_cells < 2 ^ 32
   pub rows : length board.lights ≤ vec_len net.rows
@@ -56,27 +57,20 @@ pub record IsShaped (board : Board) (net : Net) : Type 0 where
   pub held : vec_len net.held ≡ 52 * length board.open_cells
   pub restart : vec_len net.restart ≡ 2 * length board.open_cells
   pub pending : vec_len net.pending ≡ 2 * length board.open_cells
-  pub is_queued : length board.lights ≤ vec_len net.is_queued
-  pub queue : All (λ light. light < length board.lights) net.queue.items
-  pub room : vec_len net.queue + count_by (λ queued. not queued) net.is_queued.items ≤ vec_capacity net.queue
+  pub queue : length net.queue.marks ≡ length board.lights
 
--- the arrays for a chain have the right sizes, and the stack has room for every light that is not
--- marked
+-- the arrays for a chain have the right sizes
 pub record IsChained (board : Board) (net : Net) : Type 0 where
   pub base : length board.lights ≤ vec_len net.base
-  pub is_marked : length board.lights ≤ vec_len net.is_marked
-  pub stack : All (λ light. light < length board.lights) net.stack.items
-  pub room : vec_len net.stack + count_by (λ mark. not mark) net.is_marked.items ≤ vec_capacity net.stack
+  pub chain : length net.chain.marks ≡ length board.lights
 
 -- what stripping leaves as it is; no room is lost
 pub record IsLeft (old new : Net) : Type 0 where
   pub base : new.base ≡ old.base
-  pub stack : new.stack ≡ old.stack
-  pub is_marked : new.is_marked ≡ old.is_marked
+  pub chain : new.chain ≡ old.chain
   pub spare : new.spare ≡ old.spare
   pub long : length new.rows.items ≡ length old.rows.items
   pub rows : (light : ℕ) → (row_at old.rows.items light).room ≤ (row_at new.rows.items light).room
-  pub queue : vec_capacity old.queue ≤ vec_capacity new.queue
 
 -- each light's row has a bit for each known word
 abbrev pub HasBits : Board → (ℕ → List Entry) → Net → Type 0
@@ -93,7 +87,7 @@ pub record IsThere (board : Board) (here : Place) : Type 0 where
 
 -- the light is in the queue if its flag is set
 abbrev pub Waits : Net → ℕ → Type 0
-Waits net light = queued_in net light ≡ true → Contains net.queue.items light
+Waits net light = queued_in net light ≡ true → is_waiting net.queue.lights light ≡ true
 
 -- each light whose flag is set is in the queue
 abbrev pub IsQueue : Net → Type 0
@@ -101,4 +95,4 @@ IsQueue net = (light : ℕ) → Waits net light
 
 -- a number that decreases with each step of stripping
 abbrev pub left_of : Net → ℕ
-left_of net = 2 * set_sum net.letters.items + vec_len net.queue
+left_of net = 2 * set_sum net.letters.items + length net.queue.lights

@@ -1,10 +1,9 @@
 -- The first part of an update: from a settled net before an edit to the start of the revival.
-use Rattle.std.specs.Prelude.{◌≡◌, ℕ, ◌<◌, Bool, true, false, All, List, [], length, slice_index_or, Option, Some, None, IsTrue, Contains}
+use Rattle.std.specs.Prelude.{◌≡◌, ℕ, ◌<◌, Bool, true, false, List, [], length, slice_index_or, Some, IsTrue}
 use Rattle.xw_bits.specs.Bits.{RowOfBits}
 use Rattle.xw_words.specs.Dictionary.{Entry}
-use Rattle.xw_grid.specs.declared.cell.Cell.{Cell}
 use Rattle.xw_grid.specs.declared.lights.Light.{Light}
-use Rattle.xw_grid.specs.Grid.{Grid, index_of}
+use Rattle.xw_grid.specs.Grid.{Grid}
 use Rattle.xw_feas.specs.Board.{Board, board_of, light_at}
 use Rattle.xw_feas.specs.Flags.{set_has}
 use Rattle.xw_feas.specs.State.{State, Action}
@@ -12,60 +11,58 @@ use Rattle.xw_net.specs.declared.net.Net.{Net}
 use Rattle.xw_net.specs.declared.change.Change.{Change}
 use Rattle.xw_net.specs.Revival.{same_light}
 use Rattle.xw_net.specs.Region.{IsRegion}
-use Rattle.xw_net.specs.Marks.{IsPlace, cell_at, known}
+use Rattle.xw_net.specs.Marks.{known}
 use Rattle.xw_net.specs.Nets.{marks_of, word_stands, letter_stands}
-use Rattle.xw_net.specs.Spread.{is_marked, is_waiting, no_places, HasAll, HasSeeds, IsSpread, bits_in}
-use Rattle.xw_net.specs.Renumber.{same_before}
+use Rattle.xw_net.specs.Spread.{no_places, HasAll, IsSpread, bits_in}
+use Rattle.xw_net.specs.Worklist.{ListOfLights, is_marked, is_waiting, HasSeeds, Grows, MarksAll, MarksOnly}
 use Rattle.xw_net.specs.Brought.{IsBase, IsBegun, IsReadyBut}
-use Rattle.xw_net.specs.Begin.{IsEdited, AreBaseBut, IsPrepared}
-use Rattle.xw_net.specs.Gone.{IsFreed}
+use Rattle.xw_net.specs.Begin.{IsNewLight, IsThroughListed, HasLength, AreEdited, AreBaseBut, IsPrepared}
+use Rattle.xw_net.specs.Gone.{IsFreed, IsThroughFreed}
 
 -- the arrays that the start of an update writes
 pub record Arrays : Type 0 where
   pub rows : List RowOfBits
   pub base : List RowOfBits
   pub letters : List ℕ
-  pub is_queued : List Bool
-  pub queue : List ℕ
-  pub is_marked : List Bool
-  pub stack : List ℕ
+  pub queue : ListOfLights
+  pub chain : ListOfLights
 
 -- these arrays of a net
 abbrev pub arrays_of : Net → Arrays
-arrays_of net = record {
-  rows = net.rows.items;
-  base = net.base.items;
-  letters = net.letters.items;
-  is_queued = net.is_queued.items;
-  queue = net.queue.items;
-  is_marked = net.is_marked.items;
-  stack = net.stack.items;
-}
+arrays_of net = record { rows = net.rows.items; base = net.base.items; letters = net.letters.items; queue = net.queue; chain = net.chain }
+
+-- the edit may take words or letters from the light: it is new, an edited cell is in it, or it has
+-- the length of the changed word
+pub data IsTouched (grid : Grid) (board : Board) (lights : List Light) (change : Change) (light : ℕ) : Type 0 where
+  by_light : IsNewLight change.before.now lights light → IsTouched grid board lights change light
+  by_cell : IsThroughListed grid board change.cells.now light → IsTouched grid board lights change light
+  by_word : HasLength board change.word light → IsTouched grid board lights change light
+
+-- the edit may give words or letters to the light: it is touched, was queued, or a letter is missing
+-- at a cell of it that was in a removed light
+pub data MayGain (grid : Grid) (board : Board) (lights : List Light) (change : Change) (old : Arrays) (light : ℕ) : Type 0 where
+  if_touched : IsTouched grid board lights change light → MayGain grid board lights change old light
+  if_queued : is_marked old.queue.marks light ≡ true → MayGain grid board lights change old light
+  if_freed : IsThroughFreed board (IsFreed grid change.before.now lights (length change.before.now)) old.letters light → MayGain grid board lights change old light
 
 -- what the start of an update has written, by the description of the edit
 pub record IsOpening (grid : Grid) (board : Board) (lights : List Light) (entries : ℕ → List Entry) (change : Change) (old new : Arrays) : Type 0 where
-  pub in_queue : All (λ light. light < length board.lights) new.queue
-  pub listed : HasSeeds new.is_queued new.queue
-  pub new_queued : (light : ℕ) → light < length board.lights → same_before change.before.now lights light ≡ None → is_marked new.is_queued light ≡ true
-  pub new_marked : (light : ℕ) → light < length board.lights → same_before change.before.now lights light ≡ None → is_marked new.is_marked light ≡ true
-  pub edited : (listed : Cell × Option ℕ) → Contains change.cells.now listed → IsEdited board (set_has new.letters) (is_marked new.is_queued) (is_marked new.is_marked) (index_of grid listed.0) listed.1
-  pub spread : IsSpread board (set_has old.letters) (set_has new.letters) (is_marked new.is_marked) (is_waiting new.stack) no_places
+  pub size : length new.queue.marks ≡ length board.lights
+  -- exactly the marked lights are in the queue and in the chain
+  pub queue : Grows old.queue new.queue
+  pub listed : HasSeeds new.queue
+  pub chain : Grows old.chain new.chain
+  pub seeds : HasSeeds new.chain
+  -- the new lights and those through edited cells are queued, and those that may gain are marked
+  pub new_queued : MarksAll (IsNewLight change.before.now lights) new.queue
+  pub new_marked : MarksAll (IsNewLight change.before.now lights) new.chain
+  pub edited : AreEdited grid board change.cells.now (set_has new.letters) (is_marked new.queue.marks) (is_marked new.chain.marks)
+  pub spread : IsSpread board (set_has old.letters) (set_has new.letters) (is_marked new.chain.marks) (is_waiting new.chain.lights) no_places
   pub freed : (cell : ℕ) → IsFreed grid change.before.now lights (length change.before.now) cell → HasAll board (set_has new.letters) cell
-  pub prepared : AreBaseBut board entries change.word old.base → IsPrepared board entries change.word old.rows new.rows old.base new.base (is_marked new.is_queued) (is_marked new.is_marked)
-  pub queued_within : (member : ℕ → Bool)
-      → ((light : ℕ) → is_marked old.is_queued light ≡ true → member light ≡ true)
-      → ((light : ℕ) → light < length board.lights → same_before change.before.now lights light ≡ None → member light ≡ true)
-      → ((listed : Cell × Option ℕ) (light place : ℕ) → Contains change.cells.now listed → IsPlace board light place → cell_at board light place ≡ index_of grid listed.0 → member light ≡ true)
-      → ((len place light : ℕ) → change.word ≡ Some (len, place) → light < length board.lights → length (light_at board light) ≡ len → member light ≡ true)
-      → (light : ℕ) → is_marked new.is_queued light ≡ true → member light ≡ true
-  pub within : (member : ℕ → Bool)
-      → ((light : ℕ) → is_marked old.is_queued light ≡ true → member light ≡ true)
-      → ((light : ℕ) → is_marked old.is_marked light ≡ true → member light ≡ true)
-      → ((light : ℕ) → light < length board.lights → same_before change.before.now lights light ≡ None → member light ≡ true)
-      → ((cell light place : ℕ) → IsFreed grid change.before.now lights (length change.before.now) cell → ¬ HasAll board (set_has old.letters) cell → IsPlace board light place → cell_at board light place ≡ cell → member light ≡ true)
-      → ((listed : Cell × Option ℕ) (light place : ℕ) → Contains change.cells.now listed → IsPlace board light place → cell_at board light place ≡ index_of grid listed.0 → member light ≡ true)
-      → ((len place light : ℕ) → change.word ≡ Some (len, place) → light < length board.lights → length (light_at board light) ≡ len → member light ≡ true)
-      → (light : ℕ) → is_marked new.is_marked light ≡ true → member light ≡ true
+  pub prepared : AreBaseBut board entries change.word old.base → IsPrepared board entries change.word old.rows new.rows old.base new.base (is_marked new.queue.marks) (is_marked new.chain.marks)
+  -- no other light is
+  pub queued_within : MarksOnly (IsTouched grid board lights change) old.queue new.queue
+  pub within : MarksOnly (MayGain grid board lights change old) old.chain new.chain
 
 module _ (before now : State) where
   -- a settled net was adapted to the lights after an edit: each light that stays has its data,
@@ -82,16 +79,16 @@ module _ (before now : State) where
     pub held : net.held.items ≡ settled.held.items
     pub restart : net.restart.items ≡ settled.restart.items
     pub pending : net.pending.items ≡ settled.pending.items
-    pub queue : net.queue.items ≡ []
-    pub is_queued : (light : ℕ) → is_marked net.is_queued.items light ≡ false
-    pub stack : net.stack.items ≡ []
-    pub is_marked : (light : ℕ) → is_marked net.is_marked.items light ≡ false
+    pub queue : net.queue.lights ≡ []
+    pub is_queued : (light : ℕ) → is_marked net.queue.marks light ≡ false
+    pub stack : net.chain.lights ≡ []
+    pub is_marked : (light : ℕ) → is_marked net.chain.marks light ≡ false
 
   -- the net is ready for the revival: its base rows are up to date, the marked lights are seeds,
   -- every other light is ready for stripping, and all queued and marked lights are in the region
   pub record IsOpened (action : Action) (settled net : Net) : Type 0 where
     pub is_base : IsBase (board_of now.grid) now.words net.base.items
-    pub begun : IsBegun (board_of before.grid) (board_of now.grid) before.words now.words (same_light before.grid now.grid) (word_stands settled) (letter_stands settled) (word_stands net) (letter_stands net) (is_marked net.is_marked.items)
-    pub ready : IsReadyBut (board_of now.grid) now.words (marks_of net) (is_marked net.is_marked.items)
-    pub queued_within : (member : List ℕ → Bool) → IsRegion before now action member → (light : ℕ) → is_marked net.is_queued.items light ≡ true → IsTrue (member (light_at (board_of now.grid) light))
-    pub within : (member : List ℕ → Bool) → IsRegion before now action member → (light : ℕ) → is_marked net.is_marked.items light ≡ true → IsTrue (member (light_at (board_of now.grid) light))
+    pub begun : IsBegun (board_of before.grid) (board_of now.grid) before.words now.words (same_light before.grid now.grid) (word_stands settled) (letter_stands settled) (word_stands net) (letter_stands net) (is_marked net.chain.marks)
+    pub ready : IsReadyBut (board_of now.grid) now.words (marks_of net) (is_marked net.chain.marks)
+    pub queued_within : (member : List ℕ → Bool) → IsRegion before now action member → (light : ℕ) → is_marked net.queue.marks light ≡ true → IsTrue (member (light_at (board_of now.grid) light))
+    pub within : (member : List ℕ → Bool) → IsRegion before now action member → (light : ℕ) → is_marked net.chain.marks light ≡ true → IsTrue (member (light_at (board_of now.grid) light))

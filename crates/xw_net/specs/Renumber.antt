@@ -1,5 +1,5 @@
 -- How the data of lights moves to their indices after an edit.
-use Rattle.std.specs.Prelude.{◌≡◌, ℕ, ◌<◌, ◌≤◌, Bool, false, List, length, replicate, slice_get, slice_index_or, Option, Some, None, option_and_then}
+use Rattle.std.specs.Prelude.{◌≡◌, ℕ, ◌<◌, ◌≤◌, Bool, false, List, [], length, replicate, slice_get, slice_index_or, Option, Some, None, option_and_then}
 use Rattle.xw_bits.specs.Bits.{RowOfBits}
 use Rattle.xw_grid.specs.declared.lights.Light.{Light}
 use Rattle.xw_grid.specs.Grid.{Grid}
@@ -49,5 +49,5 @@ module _ (before after : List Light) where
     pub rows : AreRowsMoved counts old.rows.items new.rows.items
     pub base : AreRowsMoved counts old.base.items new.base.items
     pub entered : AreFlagsMoved old.entered.items new.entered.items
-    pub is_queued : new.is_queued.items ≡ replicate (length after) false
-    pub is_marked : new.is_marked.items ≡ replicate (length after) false
+    pub queue : new.queue ≡ record old.queue { marks = replicate (length after) false; lights = [] }
+    pub chain : new.chain ≡ record old.chain { marks = replicate (length after) false; lights = [] }

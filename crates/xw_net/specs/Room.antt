@@ -1,9 +1,10 @@
 -- The arrays for the lights of a grid, and their room.
-use Rattle.std.specs.Prelude.{◌≡◌, ℕ, ◌+◌, ◌<◌, ◌≤◌, Bool, false, List, [], ◌∷◌, ◌++◌, ◌==◌, if◌then◌else◌, length, replicate, slice_index_or, vec_capacity}
+use Rattle.std.specs.Prelude.{◌≡◌, ℕ, ◌+◌, ◌<◌, ◌≤◌, Bool, false, List, [], ◌∷◌, ◌++◌, ◌==◌, if◌then◌else◌, length, replicate, slice_index_or}
 use Rattle.xw_bits.specs.Bits.{RowOfBits}
 use Rattle.xw_words.specs.Dictionary.{Entry}
 use Rattle.xw_grid.specs.declared.lights.Light.{Light}
 use Rattle.xw_grid.specs.Light.{no_light}
+use Rattle.xw_net.specs.Worklist.{IsRoomierList}
 use Rattle.xw_net.specs.declared.net.Net.{Net}
 use Rattle.xw_net.specs.declared.room.Spare.{Spare}
 
@@ -49,11 +50,9 @@ pub record AreRoomier (old new : List RowOfBits) : Type 0 where
 pub record IsRoomier (old new : Net) : Type 0 where
   pub rows : AreRoomier old.rows.items new.rows.items
   pub base : AreRoomier old.base.items new.base.items
-  pub queue : new.queue.items ≡ old.queue.items
-  pub queue_room : vec_capacity old.queue ≤ vec_capacity new.queue
-  pub stack : new.stack.items ≡ old.stack.items
-  pub stack_room : vec_capacity old.stack ≤ vec_capacity new.stack
-  pub rest : new ≡ record old { rows = new.rows; base = new.base; queue = new.queue; stack = new.stack }
+  pub queue : IsRoomierList old.queue new.queue
+  pub chain : IsRoomierList old.chain new.chain
+  pub rest : new ≡ record old { rows = new.rows; base = new.base; queue = new.queue; chain = new.chain }
 
 -- for these lights and numbers of known words:
 module _ (lights : List Light) (counts : ℕ → ℕ) where
@@ -86,19 +85,17 @@ module _ (lights : List Light) (counts : ℕ → ℕ) where
   pub record HasRoom (net : Net) : Type 0 where
     pub rows : HaveRoom net.rows.items
     pub base : HaveRoom net.base.items
-    pub queue : length lights ≤ vec_capacity net.queue
-    pub stack : length lights ≤ vec_capacity net.stack
 
   -- the spare arrays are empty arrays for these lights
   pub record IsSpare (spare : Spare) : Type 0 where
     pub rows : AreEmpty spare.rows.items
     pub base : AreEmpty spare.base.items
     pub entered : spare.entered.items ≡ replicate (length lights) false
-    pub is_queued : spare.is_queued.items ≡ replicate (length lights) false
-    pub is_marked : spare.is_marked.items ≡ replicate (length lights) false
+    pub queue_marks : spare.queue_marks.items ≡ replicate (length lights) false
+    pub chain_marks : spare.chain_marks.items ≡ replicate (length lights) false
 
-  -- the net has spare arrays for these lights, and room for them in its queue and stack
+  -- the net has spare arrays for these lights, and room for them in its queue and chain
   pub record HasSpare (net : Net) (spare : Spare) : Type 0 where
     pub arrays : IsSpare spare
-    pub queue : length lights ≤ vec_capacity net.queue
-    pub stack : length lights ≤ vec_capacity net.stack
+    pub queue : length lights ≤ net.queue.room
+    pub chain : length lights ≤ net.chain.room

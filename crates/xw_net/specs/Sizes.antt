@@ -11,7 +11,7 @@ rows_waiting (Some spare) = length spare.rows.items ∷ length spare.base.items 
 -- the lengths of the other spare arrays; 0 if there are none
 abbrev pub lists_waiting : Option Spare → List ℕ
 lists_waiting None = 0 ∷ 0 ∷ 0 ∷ []
-lists_waiting (Some spare) = length spare.entered.items ∷ length spare.is_queued.items ∷ length spare.is_marked.items ∷ []
+lists_waiting (Some spare) = length spare.entered.items ∷ length spare.queue_marks.items ∷ length spare.chain_marks.items ∷ []
 
 -- the lengths of the arrays of bit rows
 abbrev pub row_lists : Net → List ℕ
@@ -21,5 +21,5 @@ row_lists net = length net.rows.items ∷ length net.base.items ∷ rows_waiting
 abbrev pub other_lists : Net → List ℕ
 other_lists net =
     length net.entered.items ∷ length net.letters.items ∷ length net.held.items ∷ length net.restart.items
-    ∷ length net.pending.items ∷ length net.queue.items ∷ length net.is_queued.items ∷ length net.stack.items
-    ∷ length net.is_marked.items ∷ lists_waiting net.spare
+    ∷ length net.pending.items ∷ length net.queue.lights ∷ length net.queue.marks ∷ length net.chain.lights
+    ∷ length net.chain.marks ∷ lists_waiting net.spare

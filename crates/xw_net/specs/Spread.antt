@@ -1,6 +1,5 @@
 -- How words and letters come back along a chain of lights.
-use Rattle.std.specs.Prelude.{◌≡◌, ℕ, ◌<◌, Bool, true, false, ◌&&◌, ◌||◌, nat_le, ◌==◌, List, length, slice_get, slice_index_or, Contains}
-use Rattle.std.specs.List.{list_any}
+use Rattle.std.specs.Prelude.{◌≡◌, ℕ, ◌<◌, Bool, true, false, ◌&&◌, ◌||◌, nat_le, ◌==◌, List, length, slice_get, slice_index_or}
 use Rattle.xw_bits.specs.Bits.{RowOfBits}
 use Rattle.xw_letters.specs.Letter.{is_capital}
 use Rattle.xw_feas.specs.Board.{Board, light_at, is_wholly_entered}
@@ -8,24 +7,7 @@ use Rattle.xw_feas.specs.Feasible.{may_stand}
 use Rattle.xw_feas.specs.Flags.{set_has}
 use Rattle.xw_net.specs.Marks.{IsPlace, cell_at, slot_at}
 use Rattle.xw_net.specs.Nets.{bits_at}
-
--- whether a light is marked; the marked lights are those on the chain
-unfoldable pub is_marked : List Bool → ℕ → Bool
-is_marked marks light = slice_index_or marks light false
-
--- whether a light is on the stack; there it waits until the revival processes it
-unfoldable pub is_waiting : List ℕ → ℕ → Bool
-is_waiting stack light = list_any (λ other. other == light) stack
-
--- exactly the marked lights are on the stack
-abbrev pub HasSeeds : List Bool → List ℕ → Type 0
-HasSeeds marks stack = (light : ℕ) → is_marked marks light ≡ is_waiting stack light
-
--- some lights were marked, and each of them was put on the stack
-pub record Grows (marks : List Bool) (stack : List ℕ) (marks' : List Bool) (stack' : List ℕ) : Type 0 where
-  pub more : (light : ℕ) → is_marked marks light ≡ true → is_marked marks' light ≡ true
-  pub fresh : (light : ℕ) → is_marked marks' light ≡ true → is_waiting stack' light ≡ false → (is_marked marks light ≡ true) × (is_waiting stack light ≡ false)
-  pub waits : ((light : ℕ) → is_waiting stack light ≡ true → is_marked marks light ≡ true) → (light : ℕ) → is_waiting stack' light ≡ true → is_marked marks' light ≡ true
+use Rattle.xw_net.specs.Worklist.{ListOfLights, is_marked, is_waiting}
 
 -- the positions of a light from one on
 abbrev pub places_from : ℕ → ℕ → ℕ → ℕ → Bool
@@ -47,7 +29,15 @@ pub record Lit : Type 0 where
   pub restart : List ℕ
   pub queued : List Bool
 
+-- these arrays, with the marks of the queue
+abbrev pub lit : List RowOfBits → List Bool → List ℕ → ListOfLights → Lit
+lit rows entered restart queue = record { rows = rows; entered = entered; restart = restart; queued = queue.marks }
+
 module _ (board : Board) where
+  -- a light through the cell
+  abbrev pub IsThrough : ℕ → ℕ → Type 0
+  IsThrough cell light = (place : ℕ) × IsPlace board light place × (cell_at board light place ≡ cell)
+
   -- the cell has all letters that it allows
   abbrev pub HasAll : (ℕ → ℕ → Bool) → ℕ → Type 0
   HasAll letters cell = (letter : ℕ) → may_stand board cell letter ≡ true → letters cell letter ≡ true
@@ -63,12 +53,30 @@ module _ (board : Board) where
     pub from : (cell letter : ℕ) → new cell letter ≡ true → (old cell letter || may_stand board cell letter) ≡ true
     pub stay : (cell letter : ℕ) → may_stand board cell letter ≡ true → old cell letter ≡ true → new cell letter ≡ true
 
+  -- the same of the arrays before and after a step, with the positions that are still to come
+  abbrev pub SpreadsOn : (ℕ → ℕ → Bool) → (ℕ → ℕ → Bool) → List ℕ → ListOfLights → (ℕ → ℕ → Bool) → List ℕ → ListOfLights → Type 0
+  SpreadsOn start coming letters chain coming' letters' chain' =
+      IsSpread start (set_has letters) (is_marked chain.marks) (is_waiting chain.lights) coming → IsSpread start (set_has letters') (is_marked chain'.marks) (is_waiting chain'.lights) coming'
+
+  -- letters came back in a step between lights, and the chain grew
+  abbrev pub KeepsSpread : List ℕ → ListOfLights → List ℕ → ListOfLights → Type 0
+  KeepsSpread letters chain letters' chain' = (start : ℕ → ℕ → Bool) → SpreadsOn start no_places letters chain no_places letters' chain'
+
   -- a set that contains, with a light, every light through a cell of it where a letter may come
   -- back
   abbrev pub IsReachClosed : (ℕ → ℕ → Bool) → (ℕ → Bool) → Type 0
   IsReachClosed letters member =
       (light place other other_place : ℕ) → IsPlace board light place → IsPlace board other other_place
       → cell_at board other other_place ≡ cell_at board light place → ¬ HasAll letters (cell_at board light place) → member light ≡ true → member other ≡ true
+
+  -- the chain grew only within each such set that contains the lights that were marked
+  abbrev pub Reaches : (ℕ → ℕ → Bool) → ListOfLights → ListOfLights → Type 0
+  Reaches letters chain chain' =
+      (member : ℕ → Bool) → IsReachClosed letters member → ((light : ℕ) → is_marked chain.marks light ≡ true → member light ≡ true) → (light : ℕ) → is_marked chain'.marks light ≡ true → member light ≡ true
+
+  -- the same of one step
+  abbrev pub ReachesFrom : (ℕ → ℕ → Bool) → (ℕ → ℕ → Bool) → List ℕ → ListOfLights → ListOfLights → Type 0
+  ReachesFrom start coming letters chain chain' = IsSpread start (set_has letters) (is_marked chain.marks) (is_waiting chain.lights) coming → Reaches start chain chain'
 
   -- the words that came back while the chain grows: each marked light that is no longer on the
   -- stack has the words of its base row, and is queued
@@ -92,6 +100,6 @@ module _ (board : Board) where
 abbrev pub none_waits : ℕ → Bool
 none_waits light = false
 
--- each queued light is in the queue
-abbrev pub IsListed : List Bool → List ℕ → Type 0
-IsListed queued queue = (light : ℕ) → slice_index_or queued light false ≡ true → Contains queue light
+-- each marked light is on the list
+abbrev pub IsListed : ListOfLights → Type 0
+IsListed list = (light : ℕ) → is_marked list.marks light ≡ true → is_waiting list.lights light ≡ true

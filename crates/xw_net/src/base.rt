@@ -1,17 +1,19 @@
 //! The base words of a light, as a row of bits with one bit for each known word of the light's
 //! length.
-ghost use Rattle.std.specs.Prelude.{◌≡◌, ℕ, ◌+◌, ◌*◌, ◌<◌, ◌≤◌, ◌&&◌, Bool, true, false, length, slice_index, slice_index_or, All, Some, IfSome, IfNone};
+ghost use Rattle.std.specs.Prelude.{◌≡◌, ℕ, ◌+◌, ◌*◌, ◌<◌, ◌≤◌, ◌&&◌, true, false, length, slice_index, slice_index_or, All, Some, IfSome, IfNone};
 ghost use Rattle.xw_bits.specs.Bits.{has_bit};
 ghost use Rattle.xw_words.specs.Columns.{is_active};
 ghost use Rattle.xw_words.specs.Dictionary.{Entry, entry_at};
 ghost use Rattle.xw_feas.specs.Board.{light_at, entry, agrees, is_wholly_entered};
 ghost use Rattle.xw_net.specs.Base.{base_bits, is_base_word, has_entry, IsBaseBut};
 ghost use Rattle.xw_net.specs.Region.{chunks_of};
-ghost use Rattle.xw_net.specs.Spread.{is_marked, bits_in};
+ghost use Rattle.xw_net.specs.Spread.{bits_in};
+ghost use Rattle.xw_net.specs.Worklist.{is_marked};
 ghost use Rattle.xw_net.specs.Room.{row_at};
-ghost use Rattle.xw_net.specs.Brought.{HasBase, base_cost};
+ghost use Rattle.xw_net.specs.Brought.{HasBase, CostsAtMost};
 ghost use Rattle.xw_net.specs.Begin.{is_long as is_long_of, is_read as is_read_of};
 
+use crate::worklist::Worklist;
 use xw_bits::bit_row::BitRow;
 use xw_feas::board::{Board, Cells, has_all_entries};
 use xw_letters::letter_set::LetterSet;
@@ -260,12 +262,12 @@ fn is_long(board: &Board<'_>, word: Option<(usize, usize)>, light: usize) -> boo
 }
 
 /// Whether the edit can have changed the base row of a light.
-fn is_read(board: &Board<'_>, word: Option<(usize, usize)>, marks: &[bool], light: usize) -> bool
+fn is_read(board: &Board<'_>, word: Option<(usize, usize)>, list: &Worklist, light: usize) -> bool
     requires light { light < length board.now.lights }
-    requires marks { light < length marks.now }
-    ensures { result ≡ is_read_of board.now word (is_marked marks.now) light }
+    requires list { light < length list.now.marks }
+    ensures { result ≡ is_read_of board.now word (is_marked list.now.marks) light }
 {
-    marks[light] || is_long(board, word, light)
+    list.contains(light) || is_long(board, word, light)
 }
 
 /// Updates the base row of each light that is marked or has the length of the changed word.
@@ -273,22 +275,22 @@ pub fn read_marked<R: Rows>(
     rows: &mut R,
     board: &Board<'_>,
     word: Option<(usize, usize)>,
-    marks: &[bool],
+    list: &Worklist,
     base: &mut [BitRow],
 )
     requires long { (light : ℕ) → light < length board.now.lights → All (λ (entry : Entry). length entry.word ≡ length (light_at board.now light)) (R.entries rows.old (length (light_at board.now light))) }
-    requires marks { length board.now.lights ≤ length marks.now }
+    requires list { length board.now.lights ≤ length list.now.marks }
     requires base { HasBase board.now (R.entries rows.old) base.old }
     ensures entries { R.entries rows.new ≡ R.entries rows.old }
     ensures risen { R.ticks rows.old ≤ R.ticks rows.new }
     ensures base { HasBase board.now (R.entries rows.old) base.new }
-    ensures on { (light : ℕ) → light < length board.now.lights → is_read_of board.now word (is_marked marks.now) light ≡ true → IsBaseBut board.now (light_at board.now light) (R.entries rows.old (length (light_at board.now light))) word (bits_in base.old light) → bits_in base.new light ≡ base_bits board.now (light_at board.now light) (R.entries rows.old (length (light_at board.now light))) }
-    ensures off { (light : ℕ) → is_read_of board.now word (is_marked marks.now) light ≡ false → bits_in base.new light ≡ bits_in base.old light }
+    ensures on { (light : ℕ) → light < length board.now.lights → is_read_of board.now word (is_marked list.now.marks) light ≡ true → IsBaseBut board.now (light_at board.now light) (R.entries rows.old (length (light_at board.now light))) word (bits_in base.old light) → bits_in base.new light ≡ base_bits board.now (light_at board.now light) (R.entries rows.old (length (light_at board.now light))) }
+    ensures off { (light : ℕ) → is_read_of board.now word (is_marked list.now.marks) light ≡ false → bits_in base.new light ≡ bits_in base.old light }
     ensures row_room { (other : ℕ) → (row_at base.old other).room ≤ (row_at base.new other).room }
-    ensures cost { (member : ℕ → Bool) → ((light : ℕ) → light < length board.now.lights → is_read_of board.now word (is_marked marks.now) light ≡ true → member light ≡ true) → R.ticks rows.new ≤ R.ticks rows.old + base_cost board.now (R.entries rows.old) member }
+    ensures cost { CostsAtMost board.now (R.entries rows.old) (is_read_of board.now word (is_marked list.now.marks)) (R.ticks rows.old) (R.ticks rows.new) }
 {
     for light in 0..board.light_count() {
-        if !is_read(board, word, marks, light) {
+        if !is_read(board, word, list, light) {
             continue;
         }
         read_row(rows, board, word, light, base);

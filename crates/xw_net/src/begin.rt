@@ -1,32 +1,27 @@
 //! The start of an update: finds the lights that an edit touches directly. It queues the lights
 //! that may lose words or letters, and marks as seeds the lights that may gain some.
-ghost use Rattle.std.specs.Prelude.{◌≡◌, ℕ, ◌+◌, ◌*◌, ◌^◌, ◌<◌, ◌≤◌, Bool, true, false, not, ◌&&◌, All, Contains, Option, List, None, Some, IfSome, slice_get, length, vec_len, vec_capacity, count_by, slice_index_or};
+ghost use Rattle.std.specs.Prelude.{◌≡◌, ℕ, ◌+◌, ◌*◌, ◌^◌, ◌<◌, ◌≤◌, true, false, ◌&&◌, Contains, Option, length};
 ghost use Rattle.xw_grid.specs.declared.cell.Cell.{Cell as CellOfGrid};
 ghost use Rattle.xw_grid.specs.Grid.{index_of, is_inside};
-ghost use Rattle.xw_feas.specs.Board.{light_at, entry};
+ghost use Rattle.xw_feas.specs.Board.{light_at};
 ghost use Rattle.xw_feas.specs.Feasible.{may_stand};
 ghost use Rattle.xw_feas.specs.Flags.{set_has};
-ghost use Rattle.xw_net.specs.Marks.{IsPlace, cell_at};
-ghost use Rattle.xw_net.specs.Spread.{is_marked, is_waiting, no_places, IsSpread, HasAll, HasSeeds, Grows, bits_in};
-ghost use Rattle.xw_net.specs.Begin.{is_fill, IsEdited, may_have, is_seed as is_seed_of, has_changed, is_read, IsNarrowedRow, AreBaseBut, IsPrepared};
-ghost use Rattle.xw_net.specs.Brought.{HasBase, base_cost};
-ghost use Rattle.xw_net.specs.Gone.{IsFreed};
+ghost use Rattle.xw_net.specs.Spread.{IsThrough, KeepsSpread, bits_in};
+ghost use Rattle.xw_net.specs.Begin.{IsEdited, StaysEdited, AreEdited, IsThroughListed, HasLength, IsSeed, IsQueuedSeed, MayConcern, IsConcerned, may_have, is_seed as is_seed_of, has_changed, is_read, IsNarrowedRow, AreNarrowed, AreBaseBut, IsPrepared};
+ghost use Rattle.xw_net.specs.Brought.{HasBase, CostsAtMost};
+ghost use Rattle.xw_net.specs.Filled.{AreLong};
 ghost use Rattle.xw_net.specs.Room.{row_at};
-ghost use Rattle.xw_words.specs.Dictionary.{Entry};
-ghost use Rattle.xw_grid.specs.Light.{place_with_cells};
-ghost use Rattle.std.specs.Option.{option_and_then};
+ghost use Rattle.xw_net.specs.Worklist.{is_marked, Grows, Adds, MarksOnly};
 
 use crate::base::read_marked;
-use crate::change::Change;
-use crate::gone::raise_gone;
 use crate::narrow::narrow_row;
-use crate::seeds::{free_cell, mark_found, mark_new, mark_through};
+use crate::seeds::{free_cell, mark_through};
 use crate::spread::letters_allowed;
+use crate::worklist::Worklist;
 use xw_bits::bit_row::BitRow;
 use xw_feas::board::{Board, has_all_entries};
 use xw_grid::cell::Cell;
 use xw_grid::grid::Grid;
-use xw_grid::lights::Lights;
 use xw_letters::letter::Letter;
 use xw_letters::letter_set::LetterSet;
 use xw_words::rows::Rows;
@@ -51,43 +46,26 @@ fn edit_cell(
     cell: usize,
     old: Option<Letter>,
     letters: &mut [LetterSet],
-    is_queued: &mut [bool],
-    queue: &mut Vec<usize>,
-    marks: &mut [bool],
-    stack: &mut Vec<usize>,
+    queue: &mut Worklist,
+    chain: &mut Worklist,
 )
     requires cell { cell < length board.now.open_cells }
     requires letters { length letters.old ≡ length board.now.open_cells }
-    requires is_queued { length board.now.lights ≤ length is_queued.old }
-    requires queue { All (λ other. other < length board.now.lights) queue.old.items }
-    requires queue_room { vec_len queue.old + count_by (λ mark. not mark) is_queued.old ≤ vec_capacity queue.old }
-    requires marks { length board.now.lights ≤ length marks.old }
-    requires stack { All (λ other. other < length board.now.lights) stack.old.items }
-    requires room { vec_len stack.old + count_by (λ mark. not mark) marks.old ≤ vec_capacity stack.old }
+    requires queue { length board.now.lights ≤ length queue.old.marks }
+    requires chain { length board.now.lights ≤ length chain.old.marks }
     ensures len { length letters.new ≡ length letters.old }
-    ensures is_queued { length is_queued.new ≡ length is_queued.old }
-    ensures queue { All (λ other. other < length board.now.lights) queue.new.items }
-    ensures queue_room { vec_len queue.new + count_by (λ mark. not mark) is_queued.new ≤ vec_capacity queue.new }
-    ensures listed { HasSeeds is_queued.old queue.old.items → HasSeeds is_queued.new queue.new.items }
-    ensures more_queued { (light : ℕ) → is_marked is_queued.old light ≡ true → is_marked is_queued.new light ≡ true }
-    ensures marks { length marks.new ≡ length marks.old }
-    ensures stack { All (λ other. other < length board.now.lights) stack.new.items }
-    ensures room { vec_len stack.new + count_by (λ mark. not mark) marks.new ≤ vec_capacity stack.new }
-    ensures capacity { vec_capacity stack.old ≤ vec_capacity stack.new }
-    ensures seeds { HasSeeds marks.old stack.old.items → HasSeeds marks.new stack.new.items }
-    ensures more { (light : ℕ) → is_marked marks.old light ≡ true → is_marked marks.new light ≡ true }
-    ensures edited { IsEdited board.now (set_has letters.new) (is_marked is_queued.new) (is_marked marks.new) cell old }
-    ensures stays { (other : ℕ) (entry : Option ℕ) → IsEdited board.now (set_has letters.old) (is_marked is_queued.old) (is_marked marks.old) other entry → IsEdited board.now (set_has letters.new) (is_marked is_queued.new) (is_marked marks.new) other entry }
-    ensures others { (other letter : ℕ) → (other ≡ cell → ⊥) → set_has letters.new other letter ≡ set_has letters.old other letter }
-    ensures spread { (start : ℕ → ℕ → Bool) → IsSpread board.now start (set_has letters.old) (is_marked marks.old) (is_waiting stack.old.items) no_places → IsSpread board.now start (set_has letters.new) (is_marked marks.new) (is_waiting stack.new.items) no_places }
-    ensures queued_within { (member : ℕ → Bool) → ((light : ℕ) → is_marked is_queued.old light ≡ true → member light ≡ true) → ((light place : ℕ) → IsPlace board.now light place → cell_at board.now light place ≡ cell → member light ≡ true) → (light : ℕ) → is_marked is_queued.new light ≡ true → member light ≡ true }
-    ensures within { (member : ℕ → Bool) → ((light : ℕ) → is_marked marks.old light ≡ true → member light ≡ true) → ((light place : ℕ) → IsPlace board.now light place → cell_at board.now light place ≡ cell → member light ≡ true) → (light : ℕ) → is_marked marks.new light ≡ true → member light ≡ true }
+    ensures queue { Adds (IsThrough board.now cell) queue.old queue.new }
+    ensures grows { Grows chain.old chain.new }
+    ensures within { MarksOnly (IsThrough board.now cell) chain.old chain.new }
+    ensures edited { IsEdited board.now (set_has letters.new) (is_marked queue.new.marks) (is_marked chain.new.marks) cell old }
+    ensures stays { (other : ℕ) (entry : Option ℕ) → StaysEdited board.now letters.old queue.old chain.old letters.new queue.new chain.new other entry }
+    ensures spread { KeepsSpread board.now letters.old chain.old letters.new chain.new }
 {
-    mark_through(board, cell, is_queued, queue);
+    mark_through(board, cell, queue);
     if old.is_none() && board.entry(cell).is_some() {
         narrow_cell(board, cell, letters);
     } else {
-        free_cell(board, cell, letters, marks, stack);
+        free_cell(board, cell, letters, chain);
     }
 }
 
@@ -105,47 +83,31 @@ fn place_in(grid: &Grid, cell: Cell) -> usize
 
 /// Calls `edit_cell` for each cell that an edit wrote. The cells come with their entry before the
 /// edit.
-fn edit_cells(
+pub(crate) fn edit_cells(
     grid: &Grid,
     board: &Board<'_>,
     cells: &[(Cell, Option<Letter>)],
     letters: &mut [LetterSet],
-    is_queued: &mut [bool],
-    queue: &mut Vec<usize>,
-    marks: &mut [bool],
-    stack: &mut Vec<usize>,
+    queue: &mut Worklist,
+    chain: &mut Worklist,
 )
     requires cells { length grid.now.squares ≡ length board.now.open_cells }
     requires inside { (listed : CellOfGrid × Option ℕ) → Contains cells.now listed → is_inside grid.now listed.0 ≡ true }
     requires letters { length letters.old ≡ length board.now.open_cells }
-    requires is_queued { length board.now.lights ≤ length is_queued.old }
-    requires queue { All (λ other. other < length board.now.lights) queue.old.items }
-    requires queue_room { vec_len queue.old + count_by (λ mark. not mark) is_queued.old ≤ vec_capacity queue.old }
-    requires marks { length board.now.lights ≤ length marks.old }
-    requires stack { All (λ other. other < length board.now.lights) stack.old.items }
-    requires room { vec_len stack.old + count_by (λ mark. not mark) marks.old ≤ vec_capacity stack.old }
+    requires queue { length board.now.lights ≤ length queue.old.marks }
+    requires chain { length board.now.lights ≤ length chain.old.marks }
     ensures len { length letters.new ≡ length letters.old }
-    ensures is_queued { length is_queued.new ≡ length is_queued.old }
-    ensures queue { All (λ other. other < length board.now.lights) queue.new.items }
-    ensures queue_room { vec_len queue.new + count_by (λ mark. not mark) is_queued.new ≤ vec_capacity queue.new }
-    ensures listed { HasSeeds is_queued.old queue.old.items → HasSeeds is_queued.new queue.new.items }
-    ensures more_queued { (light : ℕ) → is_marked is_queued.old light ≡ true → is_marked is_queued.new light ≡ true }
-    ensures marks { length marks.new ≡ length marks.old }
-    ensures stack { All (λ other. other < length board.now.lights) stack.new.items }
-    ensures room { vec_len stack.new + count_by (λ mark. not mark) marks.new ≤ vec_capacity stack.new }
-    ensures capacity { vec_capacity stack.old ≤ vec_capacity stack.new }
-    ensures seeds { HasSeeds marks.old stack.old.items → HasSeeds marks.new stack.new.items }
-    ensures more { (light : ℕ) → is_marked marks.old light ≡ true → is_marked marks.new light ≡ true }
-    ensures edited { (listed : CellOfGrid × Option ℕ) → Contains cells.now listed → IsEdited board.now (set_has letters.new) (is_marked is_queued.new) (is_marked marks.new) (index_of grid.now listed.0) listed.1 }
-    ensures others { (other letter : ℕ) → ((listed : CellOfGrid × Option ℕ) → Contains cells.now listed → index_of grid.now listed.0 ≡ other → ⊥) → set_has letters.new other letter ≡ set_has letters.old other letter }
-    ensures spread { (start : ℕ → ℕ → Bool) → IsSpread board.now start (set_has letters.old) (is_marked marks.old) (is_waiting stack.old.items) no_places → IsSpread board.now start (set_has letters.new) (is_marked marks.new) (is_waiting stack.new.items) no_places }
-    ensures queued_within { (member : ℕ → Bool) → ((light : ℕ) → is_marked is_queued.old light ≡ true → member light ≡ true) → ((listed : CellOfGrid × Option ℕ) (light place : ℕ) → Contains cells.now listed → IsPlace board.now light place → cell_at board.now light place ≡ index_of grid.now listed.0 → member light ≡ true) → (light : ℕ) → is_marked is_queued.new light ≡ true → member light ≡ true }
-    ensures within { (member : ℕ → Bool) → ((light : ℕ) → is_marked marks.old light ≡ true → member light ≡ true) → ((listed : CellOfGrid × Option ℕ) (light place : ℕ) → Contains cells.now listed → IsPlace board.now light place → cell_at board.now light place ≡ index_of grid.now listed.0 → member light ≡ true) → (light : ℕ) → is_marked marks.new light ≡ true → member light ≡ true }
+    ensures queue { Grows queue.old queue.new }
+    ensures queued_within { MarksOnly (IsThroughListed grid.now board.now cells.now) queue.old queue.new }
+    ensures chain { Grows chain.old chain.new }
+    ensures within { MarksOnly (IsThroughListed grid.now board.now cells.now) chain.old chain.new }
+    ensures edited { AreEdited grid.now board.now cells.now (set_has letters.new) (is_marked queue.new.marks) (is_marked chain.new.marks) }
+    ensures spread { KeepsSpread board.now letters.old chain.old letters.new chain.new }
 {
     for at in 0..cells.len() {
         let (cell, old) = cells[at];
         let cell = place_in(grid, cell);
-        edit_cell(board, cell, old, letters, is_queued, queue, marks, stack);
+        edit_cell(board, cell, old, letters, queue, chain);
     }
 }
 
@@ -180,35 +142,23 @@ fn touch_light(
     base: &[BitRow],
     light: usize,
     rows: &mut [BitRow],
-    marks: &mut [bool],
-    stack: &mut Vec<usize>,
+    chain: &mut Worklist,
 )
     requires light { light < length board.now.lights }
     requires base { light < length base.now }
     requires rows { light < length rows.old }
     requires bits { length (bits_in rows.old light) ≡ length (bits_in base.now light) }
-    requires marks { length board.now.lights ≤ length marks.old }
-    requires stack { All (λ other. other < length board.now.lights) stack.old.items }
-    requires room { vec_len stack.old + count_by (λ mark. not mark) marks.old ≤ vec_capacity stack.old }
+    requires chain { light < length chain.old.marks }
     ensures len { length rows.new ≡ length rows.old }
     ensures row_room { (other : ℕ) → (row_at rows.old other).room ≤ (row_at rows.new other).room }
     ensures here { IsNarrowedRow word (length (light_at board.now light)) (bits_in rows.old light) (bits_in base.now light) (bits_in rows.new light) }
     ensures others { (other : ℕ) → (other ≡ light → ⊥) → bits_in rows.new other ≡ bits_in rows.old other }
-    ensures marks { length marks.new ≡ length marks.old }
-    ensures stack { All (λ other. other < length board.now.lights) stack.new.items }
-    ensures room { vec_len stack.new + count_by (λ mark. not mark) marks.new ≤ vec_capacity stack.new }
-    ensures capacity { vec_capacity stack.old ≤ vec_capacity stack.new }
-    ensures grows { Grows marks.old stack.old.items marks.new stack.new.items }
-    ensures marked { is_seed_of board.now word (light_at board.now light) (bits_in base.now light) ≡ true → is_marked marks.new light ≡ true }
-    ensures within { (member : ℕ → Bool) → ((other : ℕ) → is_marked marks.old other ≡ true → member other ≡ true) → member light ≡ true → (other : ℕ) → is_marked marks.new other ≡ true → member other ≡ true }
+    ensures chain { Adds (λ other. (other ≡ light) × IsSeed board.now word base.now other) chain.old chain.new }
 {
     narrow_row(board, word, base, light, rows);
-    let found = if is_seed(board, word, base, light) {
-        Some(light)
-    } else {
-        None
-    };
-    mark_found(found, marks, stack);
+    if is_seed(board, word, base, light) {
+        chain.insert(light);
+    }
 }
 
 /// Calls `touch_light` for each queued light.
@@ -216,35 +166,26 @@ fn touch_lights(
     board: &Board<'_>,
     word: Option<(usize, usize)>,
     base: &[BitRow],
-    is_queued: &[bool],
+    queue: &Worklist,
     rows: &mut [BitRow],
-    marks: &mut [bool],
-    stack: &mut Vec<usize>,
+    chain: &mut Worklist,
 )
     requires base { length board.now.lights ≤ length base.now }
-    requires is_queued { length board.now.lights ≤ length is_queued.now }
+    requires queue { length board.now.lights ≤ length queue.now.marks }
     requires rows { length board.now.lights ≤ length rows.old }
     requires bits { (light : ℕ) → light < length board.now.lights → length (bits_in rows.old light) ≡ length (bits_in base.now light) }
-    requires marks { length board.now.lights ≤ length marks.old }
-    requires stack { All (λ other. other < length board.now.lights) stack.old.items }
-    requires room { vec_len stack.old + count_by (λ mark. not mark) marks.old ≤ vec_capacity stack.old }
+    requires chain { length board.now.lights ≤ length chain.old.marks }
     ensures len { length rows.new ≡ length rows.old }
     ensures row_room { (other : ℕ) → (row_at rows.old other).room ≤ (row_at rows.new other).room }
-    ensures on { (light : ℕ) → light < length board.now.lights → is_marked is_queued.now light ≡ true → IsNarrowedRow word (length (light_at board.now light)) (bits_in rows.old light) (bits_in base.now light) (bits_in rows.new light) }
-    ensures off { (light : ℕ) → is_marked is_queued.now light ≡ false → bits_in rows.new light ≡ bits_in rows.old light }
-    ensures marks { length marks.new ≡ length marks.old }
-    ensures stack { All (λ other. other < length board.now.lights) stack.new.items }
-    ensures room { vec_len stack.new + count_by (λ mark. not mark) marks.new ≤ vec_capacity stack.new }
-    ensures capacity { vec_capacity stack.old ≤ vec_capacity stack.new }
-    ensures grows { Grows marks.old stack.old.items marks.new stack.new.items }
-    ensures marked { (light : ℕ) → light < length board.now.lights → is_marked is_queued.now light ≡ true → is_seed_of board.now word (light_at board.now light) (bits_in base.now light) ≡ true → is_marked marks.new light ≡ true }
-    ensures within { (member : ℕ → Bool) → ((light : ℕ) → is_marked marks.old light ≡ true → member light ≡ true) → ((light : ℕ) → is_marked is_queued.now light ≡ true → member light ≡ true) → (light : ℕ) → is_marked marks.new light ≡ true → member light ≡ true }
+    ensures on { AreNarrowed board.now word base.now (is_marked queue.now.marks) rows.old rows.new }
+    ensures off { (light : ℕ) → is_marked queue.now.marks light ≡ false → bits_in rows.new light ≡ bits_in rows.old light }
+    ensures chain { Adds (IsQueuedSeed board.now word base.now queue.now) chain.old chain.new }
 {
     for light in 0..board.light_count() {
-        if !is_queued[light] {
+        if !queue.contains(light) {
             continue;
         }
-        touch_light(board, word, base, light, rows, marks, stack);
+        touch_light(board, word, base, light, rows, chain);
     }
 }
 
@@ -263,25 +204,17 @@ fn queue_if_changed(
     light: usize,
     base: &[BitRow],
     words: &[BitRow],
-    is_queued: &mut [bool],
-    queue: &mut Vec<usize>,
+    queue: &mut Worklist,
 )
     requires light { light < length board.now.lights }
     requires base { light < length base.now }
     requires words { light < length words.now }
-    requires is_queued { length board.now.lights ≤ length is_queued.old }
-    requires queue_room { vec_len queue.old + count_by (λ mark. not mark) is_queued.old ≤ vec_capacity queue.old }
-    requires queue { All (λ other. other < length board.now.lights) queue.old.items }
-    ensures is_queued { length is_queued.new ≡ length is_queued.old }
-    ensures queue { All (λ other. other < length board.now.lights) queue.new.items }
-    ensures queue_room { vec_len queue.new + count_by (λ mark. not mark) is_queued.new ≤ vec_capacity queue.new }
-    ensures grows { Grows is_queued.old queue.old.items is_queued.new queue.new.items }
-    ensures queued { has_changed word (length (light_at board.now light)) (bits_in base.now light) (bits_in words.now light) ≡ true → is_marked is_queued.new light ≡ true }
-    ensures within { (member : ℕ → Bool) → ((other : ℕ) → is_marked is_queued.old other ≡ true → member other ≡ true) → (has_changed word (length (light_at board.now light)) (bits_in base.now light) (bits_in words.now light) ≡ true → member light ≡ true) → (other : ℕ) → is_marked is_queued.new other ≡ true → member other ≡ true }
+    requires queue { light < length queue.old.marks }
+    ensures { Adds (λ other. (other ≡ light) × MayConcern board.now word base.now words.now other) queue.old queue.new }
 {
     let len = board.light(light).len();
     if has_changed_word(word, len, &base[light], &words[light]) {
-        mark_found(Some(light), is_queued, queue);
+        queue.insert(light);
     }
 }
 
@@ -291,169 +224,52 @@ fn queue_changed(
     word: Option<(usize, usize)>,
     base: &[BitRow],
     words: &[BitRow],
-    is_queued: &mut [bool],
-    queue: &mut Vec<usize>,
+    queue: &mut Worklist,
 )
     requires base { length board.now.lights ≤ length base.now }
     requires words { length board.now.lights ≤ length words.now }
-    requires is_queued { length board.now.lights ≤ length is_queued.old }
-    requires queue_room { vec_len queue.old + count_by (λ mark. not mark) is_queued.old ≤ vec_capacity queue.old }
-    requires queue { All (λ other. other < length board.now.lights) queue.old.items }
-    ensures is_queued { length is_queued.new ≡ length is_queued.old }
-    ensures queue { All (λ other. other < length board.now.lights) queue.new.items }
-    ensures queue_room { vec_len queue.new + count_by (λ mark. not mark) is_queued.new ≤ vec_capacity queue.new }
-    ensures grows { Grows is_queued.old queue.old.items is_queued.new queue.new.items }
-    ensures queued { (light : ℕ) → light < length board.now.lights → has_changed word (length (light_at board.now light)) (bits_in base.now light) (bits_in words.now light) ≡ true → is_marked is_queued.new light ≡ true }
-    ensures within { (member : ℕ → Bool) → ((light : ℕ) → is_marked is_queued.old light ≡ true → member light ≡ true) → ((light : ℕ) → light < length board.now.lights → has_changed word (length (light_at board.now light)) (bits_in base.now light) (bits_in words.now light) ≡ true → member light ≡ true) → (light : ℕ) → is_marked is_queued.new light ≡ true → member light ≡ true }
+    requires queue { length board.now.lights ≤ length queue.old.marks }
+    ensures { Adds (IsConcerned board.now word base.now words.now) queue.old queue.new }
 {
     if word.is_none() {
         return;
     }
     for light in 0..board.light_count() {
-        queue_if_changed(board, word, light, base, words, is_queued, queue);
+        queue_if_changed(board, word, light, base, words, queue);
     }
 }
 
 /// Updates the base rows as far as they can have changed, queues the lights that the changed word
 /// may concern, and removes from the queued lights the words that are not base words. Marks as
 /// seeds the lights that may get words back.
-fn prepare<R: Rows>(
+pub(crate) fn prepare<R: Rows>(
     rows: &mut R,
     board: &Board<'_>,
     word: Option<(usize, usize)>,
-    is_queued: &mut [bool],
-    queue: &mut Vec<usize>,
+    queue: &mut Worklist,
     base: &mut [BitRow],
     words: &mut [BitRow],
-    marks: &mut [bool],
-    stack: &mut Vec<usize>,
+    chain: &mut Worklist,
 )
-    requires long { (light : ℕ) → light < length board.now.lights → All (λ (entry : Entry). length entry.word ≡ length (light_at board.now light)) (R.entries rows.old (length (light_at board.now light))) }
+    requires long { AreLong board.now (R.entries rows.old) }
     requires base { HasBase board.now (R.entries rows.old) base.old }
-    requires is_queued { length board.now.lights ≤ length is_queued.old }
-    requires queue { All (λ other. other < length board.now.lights) queue.old.items }
-    requires queue_room { vec_len queue.old + count_by (λ mark. not mark) is_queued.old ≤ vec_capacity queue.old }
+    requires queue { length board.now.lights ≤ length queue.old.marks }
     requires words { HasBase board.now (R.entries rows.old) words.old }
-    requires marks { length board.now.lights ≤ length marks.old }
-    requires stack { All (λ other. other < length board.now.lights) stack.old.items }
-    requires room { vec_len stack.old + count_by (λ mark. not mark) marks.old ≤ vec_capacity stack.old }
+    requires chain { length board.now.lights ≤ length chain.old.marks }
     ensures entries { R.entries rows.new ≡ R.entries rows.old }
     ensures risen { R.ticks rows.old ≤ R.ticks rows.new }
     ensures base { HasBase board.now (R.entries rows.old) base.new }
     ensures words { HasBase board.now (R.entries rows.old) words.new }
-    ensures words_len { length words.new ≡ length words.old }
     ensures words_room { (other : ℕ) → (row_at words.old other).room ≤ (row_at words.new other).room }
     ensures base_room { (other : ℕ) → (row_at base.old other).room ≤ (row_at base.new other).room }
-    ensures is_queued { length is_queued.new ≡ length is_queued.old }
-    ensures queue { All (λ other. other < length board.now.lights) queue.new.items }
-    ensures queue_room { vec_len queue.new + count_by (λ mark. not mark) is_queued.new ≤ vec_capacity queue.new }
-    ensures queue_grows { Grows is_queued.old queue.old.items is_queued.new queue.new.items }
-    ensures marks { length marks.new ≡ length marks.old }
-    ensures stack { All (λ other. other < length board.now.lights) stack.new.items }
-    ensures room { vec_len stack.new + count_by (λ mark. not mark) marks.new ≤ vec_capacity stack.new }
-    ensures capacity { vec_capacity stack.old ≤ vec_capacity stack.new }
-    ensures grows { Grows marks.old stack.old.items marks.new stack.new.items }
-    ensures prepared { AreBaseBut board.now (R.entries rows.old) word base.old → IsPrepared board.now (R.entries rows.old) word words.old words.new base.old base.new (is_marked is_queued.new) (is_marked marks.new) }
-    ensures queued_within { (member : ℕ → Bool) → ((light : ℕ) → is_marked is_queued.old light ≡ true → member light ≡ true) → ((len place light : ℕ) → word ≡ Some (len, place) → light < length board.now.lights → length (light_at board.now light) ≡ len → member light ≡ true) → (light : ℕ) → is_marked is_queued.new light ≡ true → member light ≡ true }
-    ensures within { (member : ℕ → Bool) → ((light : ℕ) → is_marked marks.old light ≡ true → member light ≡ true) → ((light : ℕ) → is_marked is_queued.new light ≡ true → member light ≡ true) → (light : ℕ) → is_marked marks.new light ≡ true → member light ≡ true }
-    ensures cost { (member : ℕ → Bool) → ((light : ℕ) → light < length board.now.lights → is_read board.now word (is_marked is_queued.new) light ≡ true → member light ≡ true) → R.ticks rows.new ≤ R.ticks rows.old + base_cost board.now (R.entries rows.old) member }
+    ensures queue { Grows queue.old queue.new }
+    ensures queued_within { MarksOnly (HasLength board.now word) queue.old queue.new }
+    ensures chain { Grows chain.old chain.new }
+    ensures within { MarksOnly (λ light. is_marked queue.new.marks light ≡ true) chain.old chain.new }
+    ensures prepared { AreBaseBut board.now (R.entries rows.old) word base.old → IsPrepared board.now (R.entries rows.old) word words.old words.new base.old base.new (is_marked queue.new.marks) (is_marked chain.new.marks) }
+    ensures cost { CostsAtMost board.now (R.entries rows.old) (is_read board.now word (is_marked queue.new.marks)) (R.ticks rows.old) (R.ticks rows.new) }
 {
-    read_marked(rows, board, word, is_queued, base);
-    queue_changed(board, word, base, words, is_queued, queue);
-    touch_lights(board, word, base, is_queued, words, marks, stack);
-}
-
-/// Prepares the arrays, which already match the lights after the edit, for a revival. It queues the
-/// lights that the edit touches. It marks as seeds the lights that may get words back, and the
-/// lights through a cell of a removed light that gets a letter back.
-pub fn begin<R: Rows>(
-    rows: &mut R,
-    grid: &Grid,
-    board: &Board<'_>,
-    lights: &Lights,
-    change: &Change<'_>,
-    stays: bool,
-    base: &mut [BitRow],
-    words: &mut [BitRow],
-    letters: &mut [LetterSet],
-    is_queued: &mut [bool],
-    queue: &mut Vec<usize>,
-    marks: &mut [bool],
-    stack: &mut Vec<usize>,
-)
-    requires cells { length grid.now.squares ≡ length board.now.open_cells }
-    requires inside { (listed : CellOfGrid × Option ℕ) → Contains change.now.cells.now listed → is_inside grid.now listed.0 ≡ true }
-    requires lights { length lights.now ≡ length board.now.lights }
-    requires stays { stays ≡ true → lights.now ≡ change.now.before.now }
-    requires long { (light : ℕ) → light < length board.now.lights → All (λ (entry : Entry). length entry.word ≡ length (light_at board.now light)) (R.entries rows.old (length (light_at board.now light))) }
-    requires base { HasBase board.now (R.entries rows.old) base.old }
-    requires words { HasBase board.now (R.entries rows.old) words.old }
-    requires letters { length letters.old ≡ length board.now.open_cells }
-    requires is_queued { length board.now.lights ≤ length is_queued.old }
-    requires queue { All (λ other. other < length board.now.lights) queue.old.items }
-    requires queue_room { vec_len queue.old + count_by (λ mark. not mark) is_queued.old ≤ vec_capacity queue.old }
-    requires queued { HasSeeds is_queued.old queue.old.items }
-    requires marks { length board.now.lights ≤ length marks.old }
-    requires stack { All (λ other. other < length board.now.lights) stack.old.items }
-    requires room { vec_len stack.old + count_by (λ mark. not mark) marks.old ≤ vec_capacity stack.old }
-    requires seeds { HasSeeds marks.old stack.old.items }
-    ensures entries { R.entries rows.new ≡ R.entries rows.old }
-    ensures risen { R.ticks rows.old ≤ R.ticks rows.new }
-    ensures base { HasBase board.now (R.entries rows.old) base.new }
-    ensures words { HasBase board.now (R.entries rows.old) words.new }
-    ensures words_len { length words.new ≡ length words.old }
-    ensures words_room { (other : ℕ) → (row_at words.old other).room ≤ (row_at words.new other).room }
-    ensures base_room { (other : ℕ) → (row_at base.old other).room ≤ (row_at base.new other).room }
-    ensures letters { length letters.new ≡ length letters.old }
-    ensures is_queued { length is_queued.new ≡ length is_queued.old }
-    ensures queue { All (λ other. other < length board.now.lights) queue.new.items }
-    ensures queue_room { vec_len queue.new + count_by (λ mark. not mark) is_queued.new ≤ vec_capacity queue.new }
-    ensures listed { HasSeeds is_queued.new queue.new.items }
-    ensures marks { length marks.new ≡ length marks.old }
-    ensures stack { All (λ other. other < length board.now.lights) stack.new.items }
-    ensures room { vec_len stack.new + count_by (λ mark. not mark) marks.new ≤ vec_capacity stack.new }
-    ensures capacity { vec_capacity stack.old ≤ vec_capacity stack.new }
-    ensures seeds { HasSeeds marks.new stack.new.items }
-    ensures new_queued { (light : ℕ) → light < length board.now.lights → option_and_then (place_with_cells change.now.before.now) (slice_get lights.now light) ≡ None → is_marked is_queued.new light ≡ true }
-    ensures new_marked { (light : ℕ) → light < length board.now.lights → option_and_then (place_with_cells change.now.before.now) (slice_get lights.now light) ≡ None → is_marked marks.new light ≡ true }
-    ensures edited { (listed : CellOfGrid × Option ℕ) → Contains change.now.cells.now listed → IsEdited board.now (set_has letters.new) (is_marked is_queued.new) (is_marked marks.new) (index_of grid.now listed.0) listed.1 }
-    ensures spread { IsSpread board.now (set_has letters.old) (set_has letters.new) (is_marked marks.new) (is_waiting stack.new.items) no_places }
-    ensures freed { (cell : ℕ) → IsFreed grid.now change.now.before.now lights.now (length change.now.before.now) cell → HasAll board.now (set_has letters.new) cell }
-    ensures prepared { AreBaseBut board.now (R.entries rows.old) change.now.word base.old → IsPrepared board.now (R.entries rows.old) change.now.word words.old words.new base.old base.new (is_marked is_queued.new) (is_marked marks.new) }
-    ensures queued_within { (member : ℕ → Bool) → ((light : ℕ) → is_marked is_queued.old light ≡ true → member light ≡ true) → ((light : ℕ) → light < length board.now.lights → option_and_then (place_with_cells change.now.before.now) (slice_get lights.now light) ≡ None → member light ≡ true) → ((listed : CellOfGrid × Option ℕ) (light place : ℕ) → Contains change.now.cells.now listed → IsPlace board.now light place → cell_at board.now light place ≡ index_of grid.now listed.0 → member light ≡ true) → ((len place light : ℕ) → change.now.word ≡ Some (len, place) → light < length board.now.lights → length (light_at board.now light) ≡ len → member light ≡ true) → (light : ℕ) → is_marked is_queued.new light ≡ true → member light ≡ true }
-    ensures within { (member : ℕ → Bool) → ((light : ℕ) → is_marked is_queued.old light ≡ true → member light ≡ true) → ((light : ℕ) → is_marked marks.old light ≡ true → member light ≡ true) → ((light : ℕ) → light < length board.now.lights → option_and_then (place_with_cells change.now.before.now) (slice_get lights.now light) ≡ None → member light ≡ true) → ((cell light place : ℕ) → IsFreed grid.now change.now.before.now lights.now (length change.now.before.now) cell → ¬ HasAll board.now (set_has letters.old) cell → IsPlace board.now light place → cell_at board.now light place ≡ cell → member light ≡ true) → ((listed : CellOfGrid × Option ℕ) (light place : ℕ) → Contains change.now.cells.now listed → IsPlace board.now light place → cell_at board.now light place ≡ index_of grid.now listed.0 → member light ≡ true) → ((len place light : ℕ) → change.now.word ≡ Some (len, place) → light < length board.now.lights → length (light_at board.now light) ≡ len → member light ≡ true) → (light : ℕ) → is_marked marks.new light ≡ true → member light ≡ true }
-    ensures cost { (member : ℕ → Bool) → ((light : ℕ) → light < length board.now.lights → is_read board.now change.now.word (is_marked is_queued.new) light ≡ true → member light ≡ true) → R.ticks rows.new ≤ R.ticks rows.old + base_cost board.now (R.entries rows.old) member }
-{
-    mark_new(lights, change.before, stays, is_queued, queue, marks, stack);
-    raise_gone(
-        grid,
-        board,
-        lights,
-        change.before,
-        stays,
-        letters,
-        marks,
-        stack,
-    );
-    edit_cells(
-        grid,
-        board,
-        change.cells,
-        letters,
-        is_queued,
-        queue,
-        marks,
-        stack,
-    );
-    prepare(
-        rows,
-        board,
-        change.word,
-        is_queued,
-        queue,
-        base,
-        words,
-        marks,
-        stack,
-    );
+    read_marked(rows, board, word, queue, base);
+    queue_changed(board, word, base, words, queue);
+    touch_lights(board, word, base, queue, words, chain);
 }

@@ -1,6 +1,7 @@
 //! Creates an empty net.
 use crate::net::Net;
 use crate::room::{NOWHERE, make_flags, make_held, make_rows, make_sets};
+use crate::worklist::Worklist;
 use std::alloc::{AllocError, Global};
 use xw_grid::grid::Grid;
 use xw_grid::lights::Lights;
@@ -35,10 +36,8 @@ impl Net {
             held: make_held(alloc, 52 * cells)?,
             restart: make_sets(alloc, 2 * cells)?,
             pending: make_sets(alloc, 2 * cells)?,
-            queue: Vec::with_capacity(alloc, count)?,
-            is_queued: make_flags(alloc, count)?,
-            stack: Vec::with_capacity(alloc, count)?,
-            is_marked: make_flags(alloc, count)?,
+            queue: Worklist::new(alloc, count)?,
+            chain: Worklist::new(alloc, count)?,
             spare: None,
             emptied: NOWHERE,
         })

@@ -50,8 +50,8 @@ impl Net {
         ensures filled { (dictionary : Dictionary) → IsPosition board.now (R.entries rows.old) dictionary → IsFilled board.now dictionary self.new }
     {
         fill_letters(board, &mut self.letters);
-        mark_all(board, &mut self.is_marked, &mut self.stack);
-        read_marked(rows, board, None, &self.is_marked, &mut self.base);
+        mark_all(board, &mut self.chain);
+        read_marked(rows, board, None, &self.chain, &mut self.base);
         self.bring_back(board);
         self.unmark();
         self.strip_queued(rows, board);

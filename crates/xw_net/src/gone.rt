@@ -1,9 +1,10 @@
 //! Restores letters at the cells of lights that an edit removed.
-ghost use Rattle.std.specs.Prelude.{◌≡◌, ℕ, ◌+◌, ◌<◌, ◌≤◌, true, not, All, None, IfSome, length, vec_len, vec_capacity, count_by};
-ghost use Rattle.xw_net.specs.Spread.{HasSeeds};
+ghost use Rattle.std.specs.Prelude.{◌≡◌, ℕ, ◌<◌, ◌≤◌, true, None, IfSome, length};
+ghost use Rattle.xw_net.specs.Worklist.{HasSeeds};
 ghost use Rattle.xw_net.specs.Gone.{IsAlong, IsAmong, IsFreed, IsFreedAt, Raises};
 
 use crate::seeds::raise_cell;
+use crate::worklist::Worklist;
 use xw_feas::board::Board;
 use xw_grid::grid::Grid;
 use xw_grid::lights::{Light, Lights};
@@ -29,22 +30,16 @@ fn raise_at(
     light: &Light,
     k: u32,
     letters: &mut [LetterSet],
-    marks: &mut [bool],
-    stack: &mut Vec<usize>,
+    chain: &mut Worklist,
 )
     requires cells { length grid.now.squares ≡ length board.now.open_cells }
     requires letters { length letters.old ≡ length board.now.open_cells }
-    requires marks { length board.now.lights ≤ length marks.old }
-    requires room { vec_len stack.old + count_by (λ mark. not mark) marks.old ≤ vec_capacity stack.old }
-    requires waiting { All (λ other. other < length board.now.lights) stack.old.items }
-    requires seeds { HasSeeds marks.old stack.old.items }
-    ensures room { vec_len stack.new + count_by (λ mark. not mark) marks.new ≤ vec_capacity stack.new }
-    ensures capacity { vec_capacity stack.old ≤ vec_capacity stack.new }
-    ensures waiting { All (λ other. other < length board.now.lights) stack.new.items }
-    ensures raises { Raises board.now (IsAlong grid.now light.now k) letters.old letters.new marks.old marks.new stack.old.items stack.new.items }
+    requires chain { length board.now.lights ≤ length chain.old.marks }
+    requires seeds { HasSeeds chain.old }
+    ensures { Raises board.now (IsAlong grid.now light.now k) letters.old chain.old letters.new chain.new }
 {
     if let Some(cell) = place_along(grid, light, k) {
-        raise_cell(board, cell, letters, marks, stack);
+        raise_cell(board, cell, letters, chain);
     }
 }
 
@@ -54,22 +49,16 @@ fn raise_along(
     board: &Board<'_>,
     light: &Light,
     letters: &mut [LetterSet],
-    marks: &mut [bool],
-    stack: &mut Vec<usize>,
+    chain: &mut Worklist,
 )
     requires cells { length grid.now.squares ≡ length board.now.open_cells }
     requires letters { length letters.old ≡ length board.now.open_cells }
-    requires marks { length board.now.lights ≤ length marks.old }
-    requires room { vec_len stack.old + count_by (λ mark. not mark) marks.old ≤ vec_capacity stack.old }
-    requires waiting { All (λ other. other < length board.now.lights) stack.old.items }
-    requires seeds { HasSeeds marks.old stack.old.items }
-    ensures room { vec_len stack.new + count_by (λ mark. not mark) marks.new ≤ vec_capacity stack.new }
-    ensures capacity { vec_capacity stack.old ≤ vec_capacity stack.new }
-    ensures waiting { All (λ other. other < length board.now.lights) stack.new.items }
-    ensures raises { Raises board.now (IsAmong grid.now light.now light.now.size) letters.old letters.new marks.old marks.new stack.old.items stack.new.items }
+    requires chain { length board.now.lights ≤ length chain.old.marks }
+    requires seeds { HasSeeds chain.old }
+    ensures { Raises board.now (IsAmong grid.now light.now light.now.size) letters.old chain.old letters.new chain.new }
 {
     for k in 0..light.size {
-        raise_at(grid, board, light, k, letters, marks, stack);
+        raise_at(grid, board, light, k, letters, chain);
     }
 }
 
@@ -82,22 +71,16 @@ fn raise_if_gone(
     before: &Lights,
     other: usize,
     letters: &mut [LetterSet],
-    marks: &mut [bool],
-    stack: &mut Vec<usize>,
+    chain: &mut Worklist,
 )
     requires cells { length grid.now.squares ≡ length board.now.open_cells }
     requires letters { length letters.old ≡ length board.now.open_cells }
-    requires marks { length board.now.lights ≤ length marks.old }
-    requires room { vec_len stack.old + count_by (λ mark. not mark) marks.old ≤ vec_capacity stack.old }
-    requires waiting { All (λ other. other < length board.now.lights) stack.old.items }
-    requires seeds { HasSeeds marks.old stack.old.items }
-    ensures room { vec_len stack.new + count_by (λ mark. not mark) marks.new ≤ vec_capacity stack.new }
-    ensures capacity { vec_capacity stack.old ≤ vec_capacity stack.new }
-    ensures waiting { All (λ other. other < length board.now.lights) stack.new.items }
-    ensures raises { Raises board.now (IsFreedAt grid.now before.now lights.now other) letters.old letters.new marks.old marks.new stack.old.items stack.new.items }
+    requires chain { length board.now.lights ≤ length chain.old.marks }
+    requires seeds { HasSeeds chain.old }
+    ensures { Raises board.now (IsFreedAt grid.now before.now lights.now other) letters.old chain.old letters.new chain.new }
 {
     match (before.same(other, lights), before.get(other)) {
-        (None, Some(light)) => raise_along(grid, board, &light, letters, marks, stack),
+        (None, Some(light)) => raise_along(grid, board, &light, letters, chain),
         _ => {}
     }
 }
@@ -112,25 +95,19 @@ pub(crate) fn raise_gone(
     before: &Lights,
     stays: bool,
     letters: &mut [LetterSet],
-    marks: &mut [bool],
-    stack: &mut Vec<usize>,
+    chain: &mut Worklist,
 )
     requires stays { stays ≡ true → lights.now ≡ before.now }
     requires cells { length grid.now.squares ≡ length board.now.open_cells }
     requires letters { length letters.old ≡ length board.now.open_cells }
-    requires marks { length board.now.lights ≤ length marks.old }
-    requires room { vec_len stack.old + count_by (λ mark. not mark) marks.old ≤ vec_capacity stack.old }
-    requires waiting { All (λ other. other < length board.now.lights) stack.old.items }
-    requires seeds { HasSeeds marks.old stack.old.items }
-    ensures room { vec_len stack.new + count_by (λ mark. not mark) marks.new ≤ vec_capacity stack.new }
-    ensures capacity { vec_capacity stack.old ≤ vec_capacity stack.new }
-    ensures waiting { All (λ other. other < length board.now.lights) stack.new.items }
-    ensures raises { Raises board.now (IsFreed grid.now before.now lights.now (length before.now)) letters.old letters.new marks.old marks.new stack.old.items stack.new.items }
+    requires chain { length board.now.lights ≤ length chain.old.marks }
+    requires seeds { HasSeeds chain.old }
+    ensures { Raises board.now (IsFreed grid.now before.now lights.now (length before.now)) letters.old chain.old letters.new chain.new }
 {
     if stays {
         return;
     }
     for other in 0..before.len() {
-        raise_if_gone(grid, board, lights, before, other, letters, marks, stack);
+        raise_if_gone(grid, board, lights, before, other, letters, chain);
     }
 }

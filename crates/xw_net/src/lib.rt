@@ -30,6 +30,7 @@ mod spread;
 mod support;
 mod tally;
 mod unmoved;
+mod worklist;
 
 pub use change::Change;
 pub use net::Net;

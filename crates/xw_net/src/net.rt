@@ -1,6 +1,5 @@
 //! The net, and its stripping: removing words and letters without support.
-ghost use Rattle.std.specs.Prelude.{◌≡◌, ℕ, ◌+◌, ◌<◌, ◌≤◌, true, false, not, ◌||◌, ◌++◌, [], ◌∷◌, length, vec_len, vec_capacity, count_by, slice_index_or, slice_set, if◌then◌else◌, All, IfSome, IfNone};
-ghost use Rattle.std.specs.List.Sorted.{IsPermutation};
+ghost use Rattle.std.specs.Prelude.{◌≡◌, ℕ, ◌+◌, ◌<◌, ◌≤◌, true, false, ◌||◌};
 ghost use Rattle.xw_letters.specs.Letter.{IsLetter};
 ghost use Rattle.xw_letters.specs.LetterSet.{has};
 ghost use Rattle.xw_words.specs.Dictionary.{Dictionary};
@@ -9,6 +8,7 @@ ghost use Rattle.xw_feas.specs.Board.{light_at};
 use crate::place::{Place, place_of, side};
 use crate::room::{NOWHERE, Spare};
 use crate::support::{find_support, strike_row};
+use crate::worklist::Worklist;
 use std::alloc::Global;
 use xw_bits::bit_row::BitRow;
 use xw_feas::board::Board;
@@ -42,50 +42,14 @@ pub struct Net {
     /// For each slot, the letters that were removed from the cell, and whose words are still to be
     /// removed from the light.
     pub(crate) pending: Vec<LetterSet>,
-    /// The lights to process, with `is_queued` as a flag for each light.
-    pub(crate) queue: Vec<usize>,
-    pub(crate) is_queued: Vec<bool>,
-    /// The marked lights to process in a revival, with `is_marked` as a flag for each light.
-    pub(crate) stack: Vec<usize>,
-    pub(crate) is_marked: Vec<bool>,
+    /// The lights to process.
+    pub(crate) queue: Worklist,
+    /// The lights of the chain along which a revival goes. They stay marked until it ends.
+    pub(crate) chain: Worklist,
     /// The arrays reserved for the lights after the next edit.
     pub(crate) spare: Option<Spare>,
     /// The first light whose words the last edit removed, as a hint for searches; `NOWHERE` if there is none.
     pub(crate) emptied: usize,
-}
-
-/// Queues the light if it is not queued.
-fn enqueue(is_queued: &mut [bool], queue: &mut Vec<usize>, light: usize)
-    requires light { light < length is_queued.old }
-    requires room { vec_len queue.old + count_by (λ queued. not queued) is_queued.old ≤ vec_capacity queue.old }
-    ensures is_queued { is_queued.new ≡ slice_set is_queued.old light true }
-    ensures queue { queue.new.items ≡ (if slice_index_or is_queued.old light false then queue.old.items else queue.old.items ++ light ∷ []) }
-    ensures room { vec_len queue.new + count_by (λ queued. not queued) is_queued.new ≤ vec_capacity queue.new }
-    ensures capacity { vec_capacity queue.old ≤ vec_capacity queue.new }
-{
-    if !is_queued[light] {
-        is_queued[light] = true;
-        let _ = queue.push(light);
-    }
-}
-
-/// Takes a light from the queue. `turn` moves through the queue from start to end and over again,
-/// so a light that is queued late waits for the earlier ones.
-fn take_turn(queue: &mut Vec<usize>, turn: &mut usize) -> Option<usize>
-    ensures taken { IfSome result (λ light. IsPermutation queue.old.items (light ∷ queue.new.items)) }
-    ensures none { IfNone result (queue.old.items ≡ []) }
-    ensures left { IfNone result (queue.new.items ≡ []) }
-    ensures capacity { vec_capacity queue.new ≡ vec_capacity queue.old }
-{
-    if queue.is_empty() {
-        return None;
-    }
-    if *turn >= queue.len() {
-        *turn = 0;
-    }
-    let light = queue.swap_remove(*turn);
-    *turn += 1;
-    Some(light)
 }
 
 /// The letters of two sets.
@@ -102,7 +66,7 @@ fn with_all(set: LetterSet, more: LetterSet) -> LetterSet
 }
 
 impl Net {
-    ghost use Rattle.std.specs.Prelude.{◌≡◌, ℕ, ◌+◌, ◌-◌, ◌*◌, ◌<◌, ◌≤◌, ◌⊎◌, Bool, true, false, not, [], ◌||◌, ◌&&◌, ◌==◌, length, slice_index_or, slice_set, vec_len, vec_capacity, count_by, Contains};
+    ghost use Rattle.std.specs.Prelude.{◌≡◌, ℕ, ◌+◌, ◌-◌, ◌*◌, ◌<◌, ◌≤◌, ◌⊎◌, Bool, true, false, not, [], ◌||◌, ◌&&◌, ◌==◌, length, slice_index_or, Contains};
     ghost use Rattle.xw_letters.specs.Letter.{IsLetter};
     ghost use Rattle.xw_letters.specs.LetterSet.{has};
     ghost use Rattle.xw_words.specs.Dictionary.{Dictionary};
@@ -112,6 +76,7 @@ impl Net {
     ghost use Rattle.xw_net.specs.Due.{Measure, IsUnderway, IsClosed, HasQueued, and_light, set_cost};
     ghost use Rattle.xw_net.specs.Nets.{marks_of, word_stands, letter_stands, pending_in, queued_in, IsShaped, IsLeft, HasBits, IsThere, IsQueue, Waits, left_of};
     ghost use Rattle.xw_net.specs.Filled.{IsUnstripped, IsFilled};
+    ghost use Rattle.xw_net.specs.Worklist.{is_waiting};
 
     /// Removes from a light the words with a pending letter at a position.
     fn strike_place<R: Rows>(&mut self, rows: &mut R, board: &Board<'_>, light: usize, place: usize)
@@ -126,7 +91,6 @@ impl Net {
         ensures letters { self.new.letters ≡ self.old.letters }
         ensures held { self.new.held ≡ self.old.held }
         ensures queue { self.new.queue ≡ self.old.queue }
-        ensures is_queued { self.new.is_queued ≡ self.old.is_queued }
         ensures cleared { (letter : ℕ) → pending_in self.new (slot_at board.now light place) letter ≡ false }
         ensures less { (slot letter : ℕ) → pending_in self.old slot letter ≡ false → pending_in self.new slot letter ≡ false }
         ensures kept { (dictionary : Dictionary) (measure : Measure) → IsPosition board.now (R.entries rows.old) dictionary → queued_in self.old light ≡ true → measure.member light ≡ true → IsUnderway board.now dictionary measure (marks_of self.old) (queued_in self.old) (R.ticks rows.old) → IsUnderway board.now dictionary measure (marks_of self.new) (queued_in self.new) (R.ticks rows.new) }
@@ -162,7 +126,6 @@ impl Net {
         ensures letters { self.new.letters ≡ self.old.letters }
         ensures held { self.new.held ≡ self.old.held }
         ensures queue { self.new.queue ≡ self.old.queue }
-        ensures is_queued { self.new.is_queued ≡ self.old.is_queued }
         ensures cleared { (place letter : ℕ) → IsPlace board.now light place → pending_in self.new (slot_at board.now light place) letter ≡ false }
         ensures less { (slot letter : ℕ) → pending_in self.old slot letter ≡ false → pending_in self.new slot letter ≡ false }
         ensures kept { (dictionary : Dictionary) (measure : Measure) → IsPosition board.now (R.entries rows.old) dictionary → queued_in self.old light ≡ true → measure.member light ≡ true → IsUnderway board.now dictionary measure (marks_of self.old) (queued_in self.old) (R.ticks rows.old) → IsUnderway board.now dictionary measure (marks_of self.new) (queued_in self.new) (R.ticks rows.new) }
@@ -183,15 +146,15 @@ impl Net {
         requires cell { cell < length board.now.open_cells }
         ensures shaped { IsShaped board.now self.new }
         ensures rest { IsLeft self.old self.new }
-        ensures same { self.new ≡ record self.old { pending = self.new.pending; queue = self.new.queue; is_queued = self.new.is_queued } }
+        ensures same { self.new ≡ record self.old { pending = self.new.pending; queue = self.new.queue } }
         ensures pending { (slot other : ℕ) → pending_in self.new slot other ≡ (pending_in self.old slot other || ((slot == 2 * cell + side_of (light_at board.now light)) && (other == letter))) }
         ensures queued { (other : ℕ) → queued_in self.new other ≡ (queued_in self.old other || (other == light)) }
         ensures waits { (other : ℕ) → Waits self.old other → Waits self.new other }
-        ensures longer { vec_len self.new.queue ≤ vec_len self.old.queue + 1 }
+        ensures longer { length self.new.queue.lights ≤ length self.old.queue.lights + 1 }
     {
         let slot = 2 * cell + side(&board.light(light));
         self.pending[slot].insert(letter);
-        enqueue(&mut self.is_queued, &mut self.queue, light);
+        self.queue.insert(light);
     }
 
     /// Removes a letter from a cell, and makes it pending for the crossing light.
@@ -201,7 +164,7 @@ impl Net {
         requires stood { letter_stands self.old here.cell letter ≡ true }
         ensures shaped { IsShaped board.now self.new }
         ensures rest { IsLeft self.old self.new }
-        ensures same { self.new ≡ record self.old { letters = self.new.letters; pending = self.new.pending; queue = self.new.queue; is_queued = self.new.is_queued } }
+        ensures same { self.new ≡ record self.old { letters = self.new.letters; pending = self.new.pending; queue = self.new.queue } }
         ensures fewer { left_of self.new ≤ left_of self.old }
         ensures waits { (other : ℕ) → Waits self.old other → Waits self.new other }
         ensures drops { Drops board.now here.light here.place letter (marks_of self.old) (marks_of self.new) }
@@ -220,16 +183,16 @@ impl Net {
         requires cell { cell < length board.now.open_cells }
         ensures shaped { IsShaped board.now self.new }
         ensures rest { IsLeft self.old self.new }
-        ensures same { self.new ≡ record self.old { pending = self.new.pending; queue = self.new.queue; is_queued = self.new.is_queued } }
+        ensures same { self.new ≡ record self.old { pending = self.new.pending; queue = self.new.queue } }
         ensures pending { (slot letter : ℕ) → pending_in self.new slot letter ≡ (pending_in self.old slot letter || ((slot == 2 * cell + side_of (light_at board.now light)) && has gone letter)) }
         ensures queued { (other : ℕ) → queued_in self.new other ≡ (queued_in self.old other || (other == light)) }
         ensures waits { (other : ℕ) → Waits self.old other → Waits self.new other }
-        ensures longer { vec_len self.new.queue ≤ vec_len self.old.queue + 1 }
+        ensures longer { length self.new.queue.lights ≤ length self.old.queue.lights + 1 }
     {
         let slot = 2 * cell + side(&board.light(light));
         let pending = self.pending[slot];
         self.pending[slot] = with_all(pending, gone);
-        enqueue(&mut self.is_queued, &mut self.queue, light);
+        self.queue.insert(light);
     }
 
     /// Removes all letters of a cell, and makes them pending for the crossing light. `_first` is one
@@ -240,7 +203,7 @@ impl Net {
         requires stood { letter_stands self.old here.cell _first ≡ true }
         ensures shaped { IsShaped board.now self.new }
         ensures rest { IsLeft self.old self.new }
-        ensures same { self.new ≡ record self.old { letters = self.new.letters; pending = self.new.pending; queue = self.new.queue; is_queued = self.new.is_queued } }
+        ensures same { self.new ≡ record self.old { letters = self.new.letters; pending = self.new.pending; queue = self.new.queue } }
         ensures fewer { left_of self.new ≤ left_of self.old }
         ensures waits { (other : ℕ) → Waits self.old other → Waits self.new other }
         ensures letters { (cell letter : ℕ) → letter_stands self.new cell letter ≡ (letter_stands self.old cell letter && not (cell == cell_at board.now here.light here.place)) }
@@ -345,12 +308,13 @@ impl Net {
         }
     }
 
-    /// Processes a light from the queue.
+    /// Processes a light that was taken from the queue.
     fn see_to<R: Rows>(&mut self, rows: &mut R, board: &Board<'_>, light: usize)
         requires shaped { IsShaped board.now self.old }
         requires bits { HasBits board.now (R.entries rows.old) self.old }
         requires light { light < length board.now.lights }
-        requires room { vec_len self.old.queue + count_by (λ queued. not queued) self.old.is_queued.items < vec_capacity self.old.queue }
+        requires queued { queued_in self.old light ≡ true }
+        requires taken { is_waiting self.old.queue.lights light ≡ false }
         ensures entries { R.entries rows.new ≡ R.entries rows.old }
         ensures risen { R.ticks rows.old ≤ R.ticks rows.new }
         ensures shaped { IsShaped board.now self.new }
@@ -362,11 +326,9 @@ impl Net {
         ensures pending { (slot other : ℕ) → pending_in self.new slot other ≡ true → (pending_in self.old slot other ≡ true) ⊎ IsSlot board.now slot }
         ensures kept { (dictionary : Dictionary) (measure : Measure) → IsPosition board.now (R.entries rows.old) dictionary → IsUnderway board.now dictionary measure (marks_of self.old) (queued_in self.old) (R.ticks rows.old) → IsUnderway board.now dictionary measure (marks_of self.new) (queued_in self.new) (R.ticks rows.new) }
     {
-        if self.is_queued[light] {
-            self.strike_light(rows, board, light);
-            self.is_queued[light] = false;
-            self.keep_light(rows, board, light);
-        }
+        self.strike_light(rows, board, light);
+        self.queue.release(light);
+        self.keep_light(rows, board, light);
     }
 
     /// Notes a light that has no letter left at its first cell, unless one was noted before.
@@ -396,7 +358,7 @@ impl Net {
         ensures rest { IsLeft self.old self.new }
         ensures bits { HasBits board.now (R.entries rows.old) self.new }
         ensures holding { (dictionary : Dictionary) → IsPosition board.now (R.entries rows.old) dictionary → IsHolding board.now dictionary (marks_of self.old) → IsHolding board.now dictionary (marks_of self.new) }
-        ensures empty { self.new.queue.items ≡ [] }
+        ensures empty { self.new.queue.lights ≡ [] }
         ensures none_queued { (light : ℕ) → queued_in self.new light ≡ false }
         ensures none_pending { (dictionary : Dictionary) → IsPosition board.now (R.entries rows.old) dictionary → IsReady board.now dictionary (marks_of self.old) → ((slot letter : ℕ) → pending_in self.old slot letter ≡ true → IsSlot board.now slot) → (slot letter : ℕ) → pending_in self.new slot letter ≡ false }
         ensures settled { (dictionary : Dictionary) → IsPosition board.now (R.entries rows.old) dictionary → IsReady board.now dictionary (marks_of self.old) → IsSettledNet board.now dictionary (marks_of self.new) }
@@ -406,7 +368,7 @@ impl Net {
     {
         self.emptied = NOWHERE;
         let mut turn = 0;
-        while let Some(light) = take_turn(&mut self.queue, &mut turn) {
+        while let Some(light) = self.queue.take_turn(&mut turn) {
             self.see_to(rows, board, light);
             self.note_emptied(board, light);
         }

@@ -93,8 +93,8 @@ impl Spare {
         ensures rows { AreRowsMoved before.now after.now (counts_of (R.entries words.now)) rows.old self.new.rows.items }
         ensures base { AreRowsMoved before.now after.now (counts_of (R.entries words.now)) base.old self.new.base.items }
         ensures entered { AreFlagsMoved before.now after.now entered.now self.new.entered.items }
-        ensures is_queued { self.new.is_queued ≡ self.old.is_queued }
-        ensures is_marked { self.new.is_marked ≡ self.old.is_marked }
+        ensures queue { self.new.queue_marks ≡ self.old.queue_marks }
+        ensures chain { self.new.chain_marks ≡ self.old.chain_marks }
     {
         move_rows(words, rows, &mut self.rows, before, after);
         move_rows(words, base, &mut self.base, before, after);
@@ -103,7 +103,7 @@ impl Spare {
 }
 
 impl Net {
-    ghost use Rattle.std.specs.Prelude.{◌≡◌, ◌≤◌, [], length, vec_len};
+    ghost use Rattle.std.specs.Prelude.{◌≡◌, ◌≤◌, length, vec_len};
     ghost use Rattle.xw_feas.specs.Board.{Board};
     ghost use Rattle.xw_net.specs.Nets.{IsShaped, IsChained};
     ghost use Rattle.xw_net.specs.Filled.{IsQuiet};
@@ -124,12 +124,12 @@ impl Net {
         requires spare { HasSpare after.now (counts_of (R.entries words.now)) self.old spare }
         requires after { AreLights after.now }
         ensures renumbered { IsRenumbered before.now after.now (counts_of (R.entries words.now)) self.old self.new }
-        ensures rest { self.new ≡ record self.old { rows = self.new.rows; base = self.new.base; entered = self.new.entered; is_queued = self.new.is_queued; is_marked = self.new.is_marked } }
+        ensures rest { self.new ≡ record self.old { rows = self.new.rows; base = self.new.base; entered = self.new.entered; queue = self.new.queue; chain = self.new.chain } }
         ensures whole { IsWhole before.now (counts_of (R.entries words.now)) self.old → IsWhole after.now (counts_of (R.entries words.now)) self.new }
         ensures room { HasRoom before.now (counts_of (R.entries words.now)) self.old → HasRoom after.now (counts_of (R.entries words.now)) self.new }
-        ensures shaped { (was board : Board) → IsShaped was self.old → self.old.queue.items ≡ [] → length board.open_cells ≡ length was.open_cells → length board.lights ≡ length after.now → IsShaped board self.new }
-        ensures chained { (was board : Board) → IsChained was self.old → self.old.stack.items ≡ [] → length board.lights ≡ length after.now → IsChained board self.new }
-        ensures quiet { IsQuiet self.old → IsQuiet self.new }
+        ensures shaped { (was board : Board) → IsShaped was self.old → length board.open_cells ≡ length was.open_cells → length board.lights ≡ length after.now → IsShaped board self.new }
+        ensures chained { (was board : Board) → IsChained was self.old → length board.lights ≡ length after.now → IsChained board self.new }
+        ensures quiet { IsQuiet self.new }
     {
         let mut spare = spare;
         spare.take_over(
@@ -143,7 +143,7 @@ impl Net {
         self.rows = spare.rows;
         self.base = spare.base;
         self.entered = spare.entered;
-        self.is_queued = spare.is_queued;
-        self.is_marked = spare.is_marked;
+        self.queue.renew(spare.queue_marks);
+        self.chain.renew(spare.chain_marks);
     }
 }

@@ -1,6 +1,6 @@
 //! Reserves room for an edit before it is made.
 use crate::net::Net;
-use crate::room::{Spare, push_bits, reserve_list, reserve_rows};
+use crate::room::{Spare, push_bits, reserve_rows};
 use std::alloc::{AllocError, Global};
 use xw_feas::edit::Refusal;
 use xw_grid::fault::GridFault;
@@ -16,7 +16,7 @@ impl Net {
     ghost use Rattle.xw_net.specs.Room.{counts_of, with_word, IsRoomier, HaveBitRoom, HaveBitMore, IsWhole, HasRoom, HasSpare};
 
     /// Creates spare arrays for these lights, which replace those of the net, and reserves room in
-    /// the queue and the stack.
+    /// the queue and the chain.
     pub(crate) fn reserve_lights(
         &mut self,
         alloc: Global,
@@ -26,8 +26,8 @@ impl Net {
         ensures spare { IfOk result (λ spare. HasSpare lights.now (counts_of (words_of bank.now.words)) self.new spare) }
         ensures same { IsRoomier self.old self.new }
     {
-        reserve_list(&mut self.queue, lights.len())?;
-        reserve_list(&mut self.stack, lights.len())?;
+        self.queue.reserve(lights.len())?;
+        self.chain.reserve(lights.len())?;
         Spare::of(alloc, lights, bank)
     }
 
@@ -43,8 +43,6 @@ impl Net {
         ensures room { OnOk result (HasRoom lights.now (with_word len (counts_of (words_of bank.now.words))) self.new) }
         ensures same { IsRoomier self.old self.new }
     {
-        reserve_list(&mut self.queue, lights.len())?;
-        reserve_list(&mut self.stack, lights.len())?;
         reserve_rows(&mut self.rows, lights, bank, len)?;
         reserve_rows(&mut self.base, lights, bank, len)
     }

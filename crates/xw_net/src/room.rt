@@ -1,5 +1,5 @@
 //! Allocates the arrays of a net.
-ghost use Rattle.std.specs.Prelude.{◌≡◌, ℕ, ◌+◌, ◌-◌, ◌*◌, ◌^◌, ◌<◌, ◌≤◌, false, [], length, replicate, vec_capacity, IfOk, OnOk};
+ghost use Rattle.std.specs.Prelude.{◌≡◌, ℕ, ◌+◌, ◌-◌, ◌*◌, ◌^◌, ◌<◌, ◌≤◌, false, [], length, replicate, IfOk, OnOk};
 ghost use Rattle.xw_words.specs.Dictionary.{row as words_of};
 ghost use Rattle.xw_net.specs.Room.{counts_of, with_word, size_at as size_of_light, row_at, AreFalse, AreEmpty, AreRoomier, HaveRoom, HaveBitRoom, HaveBitMore};
 
@@ -152,18 +152,6 @@ pub(crate) fn make_held(alloc: Global, count: usize) -> Result<Vec<usize>, Alloc
     vec![in alloc; NOWHERE; count]
 }
 
-/// Reserves room for `count` lights in total.
-pub(crate) fn reserve_list(list: &mut Vec<usize>, count: usize) -> Result<(), AllocError>
-    ensures items { list.new.items ≡ list.old.items }
-    ensures room { OnOk result (count ≤ vec_capacity list.new) }
-    ensures more { vec_capacity list.old ≤ vec_capacity list.new }
-{
-    if list.len() < count {
-        list.reserve_exact(count - list.len())?;
-    }
-    Ok(())
-}
-
 /// Reserves room in each light's row for the known words, and for one more of length `grown`.
 pub(crate) fn reserve_rows(
     rows: &mut [BitRow],
@@ -204,8 +192,8 @@ pub(crate) struct Spare {
     pub(crate) rows: Vec<BitRow>,
     pub(crate) base: Vec<BitRow>,
     pub(crate) entered: Vec<bool>,
-    pub(crate) is_queued: Vec<bool>,
-    pub(crate) is_marked: Vec<bool>,
+    pub(crate) queue_marks: Vec<bool>,
+    pub(crate) chain_marks: Vec<bool>,
 }
 
 impl Spare {
@@ -222,8 +210,8 @@ impl Spare {
             rows: make_empty_rows(alloc, lights, bank)?,
             base: make_empty_rows(alloc, lights, bank)?,
             entered: make_flags(alloc, count)?,
-            is_queued: make_flags(alloc, count)?,
-            is_marked: make_flags(alloc, count)?,
+            queue_marks: make_flags(alloc, count)?,
+            chain_marks: make_flags(alloc, count)?,
         })
     }
 }

@@ -1,8 +1,10 @@
 //! Updates a net after an edit.
-use crate::begin::begin;
+use crate::begin::{edit_cells, prepare};
 use crate::change::Change;
 use crate::forget::forget_lights;
+use crate::gone::raise_gone;
 use crate::net::Net;
+use crate::seeds::mark_new;
 use crate::unmoved::are_same;
 use xw_feas::board::Board;
 use xw_grid::grid::Grid;
@@ -10,7 +12,7 @@ use xw_grid::lights::Lights;
 use xw_words::rows::Rows;
 
 impl Net {
-    ghost use Rattle.std.specs.Prelude.{◌≡◌, ℕ, ◌+◌, ◌<◌, ◌≤◌, Bool, true, false, List, Option, None, Contains, length, vec_len, vec_capacity};
+    ghost use Rattle.std.specs.Prelude.{◌≡◌, ℕ, ◌+◌, ◌≤◌, Bool, true, false, List, Option, None, Contains, length, vec_len};
     ghost use Rattle.xw_words.specs.Dictionary.{Dictionary};
     ghost use Rattle.xw_grid.specs.declared.cell.Cell.{Cell as CellOfGrid};
     ghost use Rattle.xw_grid.specs.Grid.{is_inside};
@@ -24,14 +26,82 @@ impl Net {
     ghost use Rattle.xw_net.specs.Region.{IsRegion, cost};
     ghost use Rattle.xw_net.specs.Cost.{revival_cost, stripping_cost};
     ghost use Rattle.xw_net.specs.Nets.{word_stands, letter_stands, pending_in, IsShaped, IsChained, HasBits, IsQueue, IsLeft};
-    ghost use Rattle.xw_net.specs.Spread.{is_marked, HasSeeds};
-    ghost use Rattle.xw_net.specs.Brought.{HasBase, base_cost};
+    ghost use Rattle.xw_net.specs.Worklist.{is_marked, HasSeeds};
+    ghost use Rattle.xw_net.specs.Brought.{HasBase, CostsAtMost};
     ghost use Rattle.xw_net.specs.Filled.{AreLong, HasRowRoom, IsUnstripped, IsFilled};
     ghost use Rattle.xw_net.specs.Change.{IsChange, AreReadsOf};
     ghost use Rattle.xw_net.specs.Net.{StoodFor, IsSettledFor, IsRevivedFor};
-    ghost use Rattle.xw_net.specs.Opened.{IsMoved, IsOpened};
+    ghost use Rattle.xw_net.specs.Opened.{arrays_of, IsOpening, IsMoved, IsOpened};
     ghost use Rattle.xw_net.specs.Begin.{is_read};
 
+    /// Queues the lights that the edit touches. Marks as seeds the lights that may get words back,
+    /// and the lights through a cell of a removed light that gets a letter back.
+    fn open<R: Rows>(
+        &mut self,
+        rows: &mut R,
+        grid: &Grid,
+        board: &Board<'_>,
+        lights: &Lights,
+        change: &Change<'_>,
+        stays: bool,
+    )
+        requires cells { length grid.now.squares ≡ length board.now.open_cells }
+        requires inside { (listed : CellOfGrid × Option ℕ) → Contains change.now.cells.now listed → is_inside grid.now listed.0 ≡ true }
+        requires lights { length lights.now ≡ length board.now.lights }
+        requires stays { stays ≡ true → lights.now ≡ change.now.before.now }
+        requires long { AreLong board.now (R.entries rows.old) }
+        requires shaped { IsShaped board.now self.old }
+        requires chained { IsChained board.now self.old }
+        requires bits { HasBits board.now (R.entries rows.old) self.old }
+        requires base { HasBase board.now (R.entries rows.old) self.old.base.items }
+        requires queued { HasSeeds self.old.queue }
+        requires seeds { HasSeeds self.old.chain }
+        ensures entries { R.entries rows.new ≡ R.entries rows.old }
+        ensures risen { R.ticks rows.old ≤ R.ticks rows.new }
+        ensures bits { HasBits board.now (R.entries rows.old) self.new }
+        ensures base { HasBase board.now (R.entries rows.old) self.new.base.items }
+        ensures row_room { (other : ℕ) → (row_at self.old.rows.items other).room ≤ (row_at self.new.rows.items other).room }
+        ensures base_room { (other : ℕ) → (row_at self.old.base.items other).room ≤ (row_at self.new.base.items other).room }
+        ensures shaped { IsShaped board.now self.new }
+        ensures chained { IsChained board.now self.new }
+        ensures rest { self.new ≡ record self.old { rows = self.new.rows; base = self.new.base; letters = self.new.letters; queue = self.new.queue; chain = self.new.chain } }
+        ensures opening { IsOpening grid.now board.now lights.now (R.entries rows.old) change.now (arrays_of self.old) (arrays_of self.new) }
+        ensures cost { CostsAtMost board.now (R.entries rows.old) (is_read board.now change.now.word (is_marked self.new.queue.marks)) (R.ticks rows.old) (R.ticks rows.new) }
+    {
+        mark_new(
+            lights,
+            change.before,
+            stays,
+            &mut self.queue,
+            &mut self.chain,
+        );
+        raise_gone(
+            grid,
+            board,
+            lights,
+            change.before,
+            stays,
+            &mut self.letters,
+            &mut self.chain,
+        );
+        edit_cells(
+            grid,
+            board,
+            change.cells,
+            &mut self.letters,
+            &mut self.queue,
+            &mut self.chain,
+        );
+        prepare(
+            rows,
+            board,
+            change.word,
+            &mut self.queue,
+            &mut self.base,
+            &mut self.rows,
+            &mut self.chain,
+        );
+    }
     /// Prepares a net, which is already adapted to the lights after an edit, for the revival.
     pub(crate) fn begin<R: Rows>(
         &mut self,
@@ -49,8 +119,8 @@ impl Net {
         requires chained { IsChained board.now self.old }
         requires bits { HasBits board.now (R.entries rows.old) self.old }
         requires base { HasBase board.now (R.entries rows.old) self.old.base.items }
-        requires queued { HasSeeds self.old.is_queued.items self.old.queue.items }
-        requires seeds { HasSeeds self.old.is_marked.items self.old.stack.items }
+        requires queued { HasSeeds self.old.queue }
+        requires seeds { HasSeeds self.old.chain }
         ensures entries { R.entries rows.new ≡ R.entries rows.old }
         ensures risen { R.ticks rows.old ≤ R.ticks rows.new }
         ensures shaped { IsShaped board.now self.new }
@@ -58,10 +128,8 @@ impl Net {
         ensures bits { HasBits board.now (R.entries rows.old) self.new }
         ensures base { HasBase board.now (R.entries rows.old) self.new.base.items }
         ensures queue { IsQueue self.new }
-        ensures seeds { HasSeeds self.new.is_marked.items self.new.stack.items }
+        ensures seeds { HasSeeds self.new.chain }
         ensures spare { self.new.spare ≡ self.old.spare }
-        ensures capacity { vec_capacity self.old.stack ≤ vec_capacity self.new.stack }
-        ensures marks { vec_len self.new.is_marked ≡ vec_len self.old.is_marked }
         ensures pending { (slot letter : ℕ) → pending_in self.old slot letter ≡ false → pending_in self.new slot letter ≡ false }
         ensures row_room { (other : ℕ) → (row_at self.old.rows.items other).room ≤ (row_at self.new.rows.items other).room }
         ensures base_room { (other : ℕ) → (row_at self.old.base.items other).room ≤ (row_at self.new.base.items other).room }
@@ -71,7 +139,7 @@ impl Net {
             IsFilled (board_of before.grid) before.words settled →
             IsMoved before (record { grid = grid.now; words = words }) settled self.old →
             IsOpened before (record { grid = grid.now; words = words }) action settled self.new }
-        ensures cost { (member : ℕ → Bool) → ((light : ℕ) → light < length board.now.lights → is_read board.now change.now.word (is_marked self.new.is_queued.items) light ≡ true → member light ≡ true) → R.ticks rows.new ≤ R.ticks rows.old + base_cost board.now (R.entries rows.old) member }
+        ensures cost { CostsAtMost board.now (R.entries rows.old) (is_read board.now change.now.word (is_marked self.new.queue.marks)) (R.ticks rows.old) (R.ticks rows.new) }
     {
         let stays = are_same(lights, change.before);
         forget_lights(
@@ -83,21 +151,7 @@ impl Net {
             &mut self.held,
             &mut self.pending,
         );
-        begin(
-            rows,
-            grid,
-            board,
-            lights,
-            change,
-            stays,
-            &mut self.base,
-            &mut self.rows,
-            &mut self.letters,
-            &mut self.is_queued,
-            &mut self.queue,
-            &mut self.is_marked,
-            &mut self.stack,
-        );
+        self.open(rows, grid, board, lights, change, stays);
     }
     /// Revives a net that is already adapted to the lights after an edit.
     fn revive_moved<R: Rows>(
@@ -116,9 +170,8 @@ impl Net {
         requires chained { IsChained board.now self.old }
         requires bits { HasBits board.now (R.entries rows.old) self.old }
         requires base { HasBase board.now (R.entries rows.old) self.old.base.items }
-        requires queued { HasSeeds self.old.is_queued.items self.old.queue.items }
-        requires seeds { HasSeeds self.old.is_marked.items self.old.stack.items }
-        requires stack_room { vec_len self.old.is_marked ≤ vec_capacity self.old.stack }
+        requires queued { HasSeeds self.old.queue }
+        requires seeds { HasSeeds self.old.chain }
         ensures entries { R.entries rows.new ≡ R.entries rows.old }
         ensures risen { R.ticks rows.old ≤ R.ticks rows.new }
         ensures shaped { IsShaped board.now self.new }

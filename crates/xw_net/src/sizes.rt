@@ -30,8 +30,8 @@ fn waiting_lists(spare: &Option<Spare>) -> [usize; 3]
         None => [0; 3],
         Some(spare) => [
             spare.entered.len(),
-            spare.is_queued.len(),
-            spare.is_marked.len(),
+            spare.queue_marks.len(),
+            spare.chain_marks.len(),
         ],
     }
 }
@@ -52,9 +52,7 @@ impl Net {
             restart,
             pending,
             queue,
-            is_queued,
-            stack,
-            is_marked,
+            chain,
             spare,
             emptied: _,
         } = self;
@@ -69,9 +67,9 @@ impl Net {
                 restart.len(),
                 pending.len(),
                 queue.len(),
-                is_queued.len(),
-                stack.len(),
-                is_marked.len(),
+                queue.size(),
+                chain.len(),
+                chain.size(),
                 waiting_entered,
                 waiting_queued,
                 waiting_marked,

@@ -1,36 +1,21 @@
 //! The revival: puts words and letters back along a chain of lights.
-ghost use Rattle.xw_net.specs.Room.{row_at};
-ghost use Rattle.std.specs.Prelude.{◌≡◌, ℕ, ◌+◌, ◌*◌, ◌^◌, ◌<◌, ◌≤◌, Bool, true, false, not, ◌++◌, [], ◌∷◌, IsTrue, IsFalse, All, Contains, length, vec_len, vec_capacity, count_by, slice_index, slice_index_or, slice_set, if◌then◌else◌};
+ghost use Rattle.std.specs.Prelude.{◌≡◌, ℕ, ◌+◌, ◌*◌, ◌^◌, ◌<◌, ◌≤◌, Bool, true, false, [], IsTrue, IsFalse, length, slice_index_or, slice_set};
 ghost use Rattle.xw_letters.specs.Letter.{is_capital};
 ghost use Rattle.xw_letters.specs.LetterSet.{has};
-ghost use Rattle.xw_feas.specs.Board.{light_at, is_wholly_entered};
+ghost use Rattle.xw_feas.specs.Board.{light_at};
 ghost use Rattle.xw_feas.specs.Feasible.{may_stand};
 ghost use Rattle.xw_feas.specs.Flags.{set_has};
 ghost use Rattle.xw_net.specs.Marks.{IsPlace, cell_at, slot_at};
-ghost use Rattle.xw_net.specs.Spread.{is_marked, is_waiting, Grows, places_from, no_places, bits_in, HasAll, IsSpread, IsReachClosed, Lit, IsLit, IsListed, none_waits, HasSeeds};
+ghost use Rattle.xw_net.specs.Room.{row_at};
+ghost use Rattle.xw_net.specs.Spread.{places_from, no_places, bits_in, HasAll, IsThrough, IsSpread, SpreadsOn, ReachesFrom, Reaches, Lit, lit, IsLit, IsListed, none_waits};
+ghost use Rattle.xw_net.specs.Worklist.{is_marked, HasSeeds, Grows, MarksAll, MarksOnly};
 
 use crate::net::Net;
 use crate::place::place_of;
-use crate::seeds::clear_marks;
+use crate::worklist::Worklist;
 use xw_bits::bit_row::BitRow;
 use xw_feas::board::{Board, allowed, has_all_entries};
 use xw_letters::letter_set::LetterSet;
-
-/// Marks a light and pushes it on the stack, unless it is marked.
-pub(crate) fn mark(marks: &mut [bool], stack: &mut Vec<usize>, light: usize)
-    requires light { light < length marks.old }
-    requires room { vec_len stack.old + count_by (λ mark. not mark) marks.old ≤ vec_capacity stack.old }
-    ensures marks { marks.new ≡ slice_set marks.old light true }
-    ensures stack { stack.new.items ≡ (if is_marked marks.old light then stack.old.items else stack.old.items ++ light ∷ []) }
-    ensures room { vec_len stack.new + count_by (λ mark. not mark) marks.new ≤ vec_capacity stack.new }
-    ensures capacity { vec_capacity stack.old ≤ vec_capacity stack.new }
-    ensures left { vec_len stack.new + count_by (λ mark. not mark) marks.new ≡ vec_len stack.old + count_by (λ mark. not mark) marks.old }
-{
-    if !marks[light] {
-        marks[light] = true;
-        let _ = stack.push(light);
-    }
-}
 
 /// The letters that a cell allows.
 pub(crate) fn letters_allowed(board: &Board<'_>, cell: usize) -> LetterSet
@@ -55,28 +40,15 @@ pub(crate) fn raise(letters: &mut [LetterSet], cell: usize, may: LetterSet) -> b
 }
 
 /// Marks the light that crosses another at a position, if there is one.
-fn mark_crossing(
-    board: &Board<'_>,
-    light: usize,
-    place: usize,
-    marks: &mut [bool],
-    stack: &mut Vec<usize>,
-)
+fn mark_crossing(board: &Board<'_>, light: usize, place: usize, chain: &mut Worklist)
     requires place { IsPlace board.now light place }
-    requires marks { length board.now.lights ≤ length marks.old }
-    requires room { vec_len stack.old + count_by (λ mark. not mark) marks.old ≤ vec_capacity stack.old }
-    requires waiting { All (λ other. other < length board.now.lights) stack.old.items }
-    ensures marks { length marks.new ≡ length marks.old }
-    ensures room { vec_len stack.new + count_by (λ mark. not mark) marks.new ≤ vec_capacity stack.new }
-    ensures capacity { vec_capacity stack.old ≤ vec_capacity stack.new }
-    ensures left { vec_len stack.new + count_by (λ mark. not mark) marks.new ≡ vec_len stack.old + count_by (λ mark. not mark) marks.old }
-    ensures waiting { All (λ other. other < length board.now.lights) stack.new.items }
-    ensures grows { Grows marks.old stack.old.items marks.new stack.new.items }
-    ensures marked { is_marked marks.old light ≡ true → (other other_place : ℕ) → IsPlace board.now other other_place → cell_at board.now other other_place ≡ cell_at board.now light place → is_marked marks.new other ≡ true }
-    ensures within { (member : ℕ → Bool) → ((other : ℕ) → is_marked marks.old other ≡ true → member other ≡ true) → ((other other_place : ℕ) → IsPlace board.now other other_place → cell_at board.now other other_place ≡ cell_at board.now light place → member other ≡ true) → (other : ℕ) → is_marked marks.new other ≡ true → member other ≡ true }
+    requires chain { length board.now.lights ≤ length chain.old.marks }
+    ensures grows { Grows chain.old chain.new }
+    ensures marked { is_marked chain.old.marks light ≡ true → MarksAll (IsThrough board.now (cell_at board.now light place)) chain.new }
+    ensures within { MarksOnly (IsThrough board.now (cell_at board.now light place)) chain.old chain.new }
 {
     if let Some(other) = board.crossing(light, place) {
-        mark(marks, stack, other);
+        chain.insert(other);
     }
 }
 
@@ -87,61 +59,40 @@ fn raise_place(
     light: usize,
     place: usize,
     letters: &mut [LetterSet],
-    marks: &mut [bool],
-    stack: &mut Vec<usize>,
+    chain: &mut Worklist,
 )
     requires few { length board.now.open_cells < 2 ^ 32 }
     requires place { IsPlace board.now light place }
     requires letters { length letters.old ≡ length board.now.open_cells }
-    requires marks { length board.now.lights ≤ length marks.old }
-    requires room { vec_len stack.old + count_by (λ mark. not mark) marks.old ≤ vec_capacity stack.old }
-    requires waiting { All (λ other. other < length board.now.lights) stack.old.items }
-    requires marked { is_marked marks.old light ≡ true }
+    requires chain { length board.now.lights ≤ length chain.old.marks }
+    requires marked { is_marked chain.old.marks light ≡ true }
     ensures letters { length letters.new ≡ length letters.old }
-    ensures marks { length marks.new ≡ length marks.old }
-    ensures room { vec_len stack.new + count_by (λ mark. not mark) marks.new ≤ vec_capacity stack.new }
-    ensures capacity { vec_capacity stack.old ≤ vec_capacity stack.new }
-    ensures left { vec_len stack.new + count_by (λ mark. not mark) marks.new ≡ vec_len stack.old + count_by (λ mark. not mark) marks.old }
-    ensures waiting { All (λ other. other < length board.now.lights) stack.new.items }
-    ensures grows { Grows marks.old stack.old.items marks.new stack.new.items }
+    ensures grows { Grows chain.old chain.new }
     ensures all { HasAll board.now (set_has letters.new) (cell_at board.now light place) }
-    ensures spread { (start : ℕ → ℕ → Bool) (coming : _) → IsSpread board.now start (set_has letters.old) (is_marked marks.old) (is_waiting stack.old.items) coming → IsSpread board.now start (set_has letters.new) (is_marked marks.new) (is_waiting stack.new.items) coming }
-    ensures within { (start : ℕ → ℕ → Bool) (coming : _) (member : ℕ → Bool) → IsSpread board.now start (set_has letters.old) (is_marked marks.old) (is_waiting stack.old.items) coming → IsReachClosed board.now start member → ((other : ℕ) → is_marked marks.old other ≡ true → member other ≡ true) → (other : ℕ) → is_marked marks.new other ≡ true → member other ≡ true }
+    ensures spread { (start : ℕ → ℕ → Bool) (coming : _) → SpreadsOn board.now start coming letters.old chain.old coming letters.new chain.new }
+    ensures within { (start : ℕ → ℕ → Bool) (coming : _) → ReachesFrom board.now start coming letters.old chain.old chain.new }
 {
     let cell = place_of(board, light, place).cell;
     if raise(letters, cell, letters_allowed(board, cell)) {
-        mark_crossing(board, light, place, marks, stack);
+        mark_crossing(board, light, place, chain);
     }
 }
 
 /// Gives the cells of a light all letters that they allow, and marks the lights that cross it where
 /// a letter comes back.
-fn raise_light(
-    board: &Board<'_>,
-    light: usize,
-    letters: &mut [LetterSet],
-    marks: &mut [bool],
-    stack: &mut Vec<usize>,
-)
+fn raise_light(board: &Board<'_>, light: usize, letters: &mut [LetterSet], chain: &mut Worklist)
     requires few { length board.now.open_cells < 2 ^ 32 }
     requires light { light < length board.now.lights }
     requires letters { length letters.old ≡ length board.now.open_cells }
-    requires marks { length board.now.lights ≤ length marks.old }
-    requires room { vec_len stack.old + count_by (λ mark. not mark) marks.old ≤ vec_capacity stack.old }
-    requires waiting { All (λ other. other < length board.now.lights) stack.old.items }
-    requires marked { is_marked marks.old light ≡ true }
+    requires chain { length board.now.lights ≤ length chain.old.marks }
+    requires marked { is_marked chain.old.marks light ≡ true }
     ensures letters { length letters.new ≡ length letters.old }
-    ensures marks { length marks.new ≡ length marks.old }
-    ensures room { vec_len stack.new + count_by (λ mark. not mark) marks.new ≤ vec_capacity stack.new }
-    ensures capacity { vec_capacity stack.old ≤ vec_capacity stack.new }
-    ensures left { vec_len stack.new + count_by (λ mark. not mark) marks.new ≡ vec_len stack.old + count_by (λ mark. not mark) marks.old }
-    ensures waiting { All (λ other. other < length board.now.lights) stack.new.items }
-    ensures grows { Grows marks.old stack.old.items marks.new stack.new.items }
-    ensures spread { (start : ℕ → ℕ → Bool) → IsSpread board.now start (set_has letters.old) (is_marked marks.old) (is_waiting stack.old.items) (places_from light 0) → IsSpread board.now start (set_has letters.new) (is_marked marks.new) (is_waiting stack.new.items) no_places }
-    ensures within { (start : ℕ → ℕ → Bool) (member : ℕ → Bool) → IsSpread board.now start (set_has letters.old) (is_marked marks.old) (is_waiting stack.old.items) (places_from light 0) → IsReachClosed board.now start member → ((other : ℕ) → is_marked marks.old other ≡ true → member other ≡ true) → (other : ℕ) → is_marked marks.new other ≡ true → member other ≡ true }
+    ensures grows { Grows chain.old chain.new }
+    ensures spread { (start : ℕ → ℕ → Bool) → SpreadsOn board.now start (places_from light 0) letters.old chain.old no_places letters.new chain.new }
+    ensures within { (start : ℕ → ℕ → Bool) → ReachesFrom board.now start (places_from light 0) letters.old chain.old chain.new }
 {
     for place in 0..board.light(light).len() {
-        raise_place(board, light, place, letters, marks, stack);
+        raise_place(board, light, place, letters, chain);
     }
 }
 
@@ -182,8 +133,7 @@ fn bring_words(
     rows: &mut [BitRow],
     entered: &mut [bool],
     restart: &mut [LetterSet],
-    is_queued: &mut [bool],
-    queue: &mut Vec<usize>,
+    queue: &mut Worklist,
 )
     requires few { length board.now.open_cells < 2 ^ 32 }
     requires light { light < length board.now.lights }
@@ -192,23 +142,19 @@ fn bring_words(
     requires bits { length (bits_in rows.old light) ≡ length (bits_in base.now light) }
     requires entered { light < length entered.old }
     requires slots { length restart.old ≡ 2 * length board.now.open_cells }
-    requires is_queued { light < length is_queued.old }
-    requires queue { All (λ other. other < length board.now.lights) queue.old.items }
-    requires room { vec_len queue.old + count_by (λ queued. not queued) is_queued.old ≤ vec_capacity queue.old }
-    ensures queue { All (λ other. other < length board.now.lights) queue.new.items }
-    ensures room { vec_len queue.new + count_by (λ queued. not queued) is_queued.new ≤ vec_capacity queue.new }
-    ensures listed { IsListed is_queued.old queue.old.items → IsListed is_queued.new queue.new.items }
+    requires queue { light < length queue.old.marks }
+    ensures listed { IsListed queue.old → IsListed queue.new }
     ensures row_room { (other : ℕ) → (row_at rows.old other).room ≤ (row_at rows.new other).room }
     ensures lit { (start : Lit) (marked waiting left : ℕ → Bool) →
         marked light ≡ true →
         ((other : ℕ) → (other ≡ light → ⊥) → left other ≡ false → waiting other ≡ false) →
-        IsLit board.now base.now start record { rows = rows.old; entered = entered.old; restart = restart.old; queued = is_queued.old } marked waiting →
-        IsLit board.now base.now start record { rows = rows.new; entered = entered.new; restart = restart.new; queued = is_queued.new } marked left }
+        IsLit board.now base.now start (lit rows.old entered.old restart.old queue.old) marked waiting →
+        IsLit board.now base.now start (lit rows.new entered.new restart.new queue.new) marked left }
 {
     bring_row(base, light, rows);
     entered[light] = has_all_entries(board, &board.light(light));
     restart_light(board, light, restart);
-    mark(is_queued, queue, light);
+    queue.insert(light);
 }
 
 /// Puts words and letters back along the chain that starts at the marked lights: all base words of
@@ -221,10 +167,8 @@ pub(crate) fn spread(
     entered: &mut [bool],
     letters: &mut [LetterSet],
     restart: &mut [LetterSet],
-    is_queued: &mut [bool],
-    queue: &mut Vec<usize>,
-    marks: &mut [bool],
-    stack: &mut Vec<usize>,
+    queue: &mut Worklist,
+    chain: &mut Worklist,
 )
     requires few { length board.now.open_cells < 2 ^ 32 }
     requires base { length board.now.lights ≤ length base.now }
@@ -233,36 +177,28 @@ pub(crate) fn spread(
     requires entered { length board.now.lights ≤ length entered.old }
     requires letters { length letters.old ≡ length board.now.open_cells }
     requires slots { length restart.old ≡ 2 * length board.now.open_cells }
-    requires is_queued { length board.now.lights ≤ length is_queued.old }
-    requires queue { All (λ other. other < length board.now.lights) queue.old.items }
-    requires queue_room { vec_len queue.old + count_by (λ queued. not queued) is_queued.old ≤ vec_capacity queue.old }
-    requires marks { length board.now.lights ≤ length marks.old }
-    requires waiting { All (λ other. other < length board.now.lights) stack.old.items }
-    requires room { vec_len stack.old + count_by (λ mark. not mark) marks.old ≤ vec_capacity stack.old }
-    requires seeds { HasSeeds marks.old stack.old.items }
+    requires queue { length board.now.lights ≤ length queue.old.marks }
+    requires chain { length chain.old.marks ≡ length board.now.lights }
+    requires seeds { HasSeeds chain.old }
     ensures letters { length letters.new ≡ length letters.old }
-    ensures queue { All (λ other. other < length board.now.lights) queue.new.items }
-    ensures queue_room { vec_len queue.new + count_by (λ queued. not queued) is_queued.new ≤ vec_capacity queue.new }
-    ensures listed { IsListed is_queued.old queue.old.items → IsListed is_queued.new queue.new.items }
-    ensures marks { length marks.new ≡ length marks.old }
-    ensures stack { stack.new.items ≡ [] }
+    ensures listed { IsListed queue.old → IsListed queue.new }
     ensures row_room { (other : ℕ) → (row_at rows.old other).room ≤ (row_at rows.new other).room }
-    ensures room { vec_len stack.new + count_by (λ mark. not mark) marks.new ≤ vec_capacity stack.new }
-    ensures capacity { vec_capacity stack.old ≤ vec_capacity stack.new }
-    ensures more { (light : ℕ) → is_marked marks.old light ≡ true → is_marked marks.new light ≡ true }
-    ensures words { IsLit board.now base.now record { rows = rows.old; entered = entered.old; restart = restart.old; queued = is_queued.old } record { rows = rows.new; entered = entered.new; restart = restart.new; queued = is_queued.new } (is_marked marks.new) none_waits }
-    ensures spread { IsSpread board.now (set_has letters.old) (set_has letters.new) (is_marked marks.new) none_waits no_places }
-    ensures within { (member : ℕ → Bool) → IsReachClosed board.now (set_has letters.old) member → ((light : ℕ) → is_marked marks.old light ≡ true → member light ≡ true) → (light : ℕ) → is_marked marks.new light ≡ true → member light ≡ true }
+    ensures empty { chain.new.lights ≡ [] }
+    ensures size { length chain.new.marks ≡ length chain.old.marks }
+    ensures more { (light : ℕ) → is_marked chain.old.marks light ≡ true → is_marked chain.new.marks light ≡ true }
+    ensures words { IsLit board.now base.now (lit rows.old entered.old restart.old queue.old) (lit rows.new entered.new restart.new queue.new) (is_marked chain.new.marks) none_waits }
+    ensures spread { IsSpread board.now (set_has letters.old) (set_has letters.new) (is_marked chain.new.marks) none_waits no_places }
+    ensures within { Reaches board.now (set_has letters.old) chain.old chain.new }
 {
-    while let Some(light) = stack.pop() {
-        bring_words(board, base, light, rows, entered, restart, is_queued, queue);
-        raise_light(board, light, letters, marks, stack);
+    while let Some(light) = chain.take_last() {
+        bring_words(board, base, light, rows, entered, restart, queue);
+        raise_light(board, light, letters, chain);
     }
 }
 
 impl Net {
     ghost use Rattle.xw_net.specs.Room.{row_at};
-    ghost use Rattle.std.specs.Prelude.{◌≡◌, ℕ, ◌+◌, ◌<◌, ◌≤◌, Bool, true, false, not, [], List, Option, IsTrue, All, length, vec_len, vec_capacity, count_by};
+    ghost use Rattle.std.specs.Prelude.{◌≡◌, ℕ, ◌≤◌, Bool, true, false, [], List, Option, IsTrue, length};
     ghost use Rattle.xw_words.specs.Dictionary.{Dictionary, Entry};
     ghost use Rattle.xw_feas.specs.Board.{Board as BoardOfPlaces, board_of, light_at};
     ghost use Rattle.xw_feas.specs.Choices.{CoversSupported, IsExact};
@@ -272,7 +208,8 @@ impl Net {
     ghost use Rattle.xw_net.specs.Region.{IsRegion};
     ghost use Rattle.xw_net.specs.Marks.{IsPosition, IsReady};
     ghost use Rattle.xw_net.specs.Nets.{marks_of, word_stands, letter_stands, IsShaped, IsChained, HasBits, IsQueue};
-    ghost use Rattle.xw_net.specs.Spread.{is_marked, HasSeeds, IsReachClosed};
+    ghost use Rattle.xw_net.specs.Spread.{Reaches};
+    ghost use Rattle.xw_net.specs.Worklist.{is_marked, HasSeeds};
     ghost use Rattle.xw_net.specs.Brought.{HasBase, IsBase, IsBrought, IsBegun, IsReadyBut};
 
     /// Puts words and letters back along the chain that starts at the marked lights.
@@ -280,34 +217,32 @@ impl Net {
         requires shaped { IsShaped board.now self.old }
         requires chained { IsChained board.now self.old }
         requires bits { (entries : ℕ → List Entry) × HasBits board.now entries self.old × HasBase board.now entries self.old.base.items }
-        requires seeds { HasSeeds self.old.is_marked.items self.old.stack.items }
+        requires seeds { HasSeeds self.old.chain }
         ensures shaped { IsShaped board.now self.new }
         ensures chained { IsChained board.now self.new }
         ensures bits { (entries : ℕ → List Entry) → HasBits board.now entries self.old → HasBits board.now entries self.new }
         ensures queue { IsQueue self.old → IsQueue self.new }
         ensures base { self.new.base ≡ self.old.base }
         ensures spare { self.new.spare ≡ self.old.spare }
-        ensures stack { self.new.stack.items ≡ [] }
-        ensures capacity { vec_capacity self.old.stack ≤ vec_capacity self.new.stack }
-        ensures marks { vec_len self.new.is_marked ≡ vec_len self.old.is_marked }
+        ensures empty { self.new.chain.lights ≡ [] }
         ensures row_room { (other : ℕ) → (row_at self.old.rows.items other).room ≤ (row_at self.new.rows.items other).room }
-        ensures seeded { (light : ℕ) → is_marked self.old.is_marked.items light ≡ true → is_marked self.new.is_marked.items light ≡ true }
-        ensures brought { (dictionary : Dictionary) → IsBase board.now dictionary self.old.base.items → IsBrought board.now dictionary (marks_of self.old) (marks_of self.new) (is_marked self.new.is_marked.items) }
-        ensures within { (member : ℕ → Bool) → IsReachClosed board.now (letter_stands self.old) member → ((light : ℕ) → is_marked self.old.is_marked.items light ≡ true → member light ≡ true) → (light : ℕ) → is_marked self.new.is_marked.items light ≡ true → member light ≡ true }
+        ensures seeded { (light : ℕ) → is_marked self.old.chain.marks light ≡ true → is_marked self.new.chain.marks light ≡ true }
+        ensures brought { (dictionary : Dictionary) → IsBase board.now dictionary self.old.base.items → IsBrought board.now dictionary (marks_of self.old) (marks_of self.new) (is_marked self.new.chain.marks) }
+        ensures within { Reaches board.now (letter_stands self.old) self.old.chain self.new.chain }
         ensures revived { (before : BoardOfPlaces) (old new : Dictionary) (same : ℕ → Option ℕ) (words letters : ℕ → ℕ → Bool) →
             IsBase board.now new self.old.base.items →
-            IsBegun before board.now old new same words letters (word_stands self.old) (letter_stands self.old) (is_marked self.old.is_marked.items) →
+            IsBegun before board.now old new same words letters (word_stands self.old) (letter_stands self.old) (is_marked self.old.chain.marks) →
             IsRevived before board.now old new same words letters (word_stands self.new) (letter_stands self.new) }
         ensures covers { (before : BoardOfPlaces) (old new : Dictionary) (same : ℕ → Option ℕ) (words letters : ℕ → ℕ → Bool) →
             IsBase board.now new self.old.base.items →
             IsMatching before board.now same →
             IsExact before old words letters →
-            IsBegun before board.now old new same words letters (word_stands self.old) (letter_stands self.old) (is_marked self.old.is_marked.items) →
+            IsBegun before board.now old new same words letters (word_stands self.old) (letter_stands self.old) (is_marked self.old.chain.marks) →
             CoversSupported board.now new (word_stands self.new) (letter_stands self.new) }
         ensures ready { (entries : ℕ → List Entry) (dictionary : Dictionary) →
             IsPosition board.now entries dictionary →
             IsBase board.now dictionary self.old.base.items →
-            IsReadyBut board.now dictionary (marks_of self.old) (is_marked self.old.is_marked.items) →
+            IsReadyBut board.now dictionary (marks_of self.old) (is_marked self.old.chain.marks) →
             CoversSupported board.now dictionary (word_stands self.new) (letter_stands self.new) →
             IsReady board.now dictionary (marks_of self.new) }
         ensures region { (before after : State) (action : Action) (member : List ℕ → Bool) (words letters : ℕ → ℕ → Bool) →
@@ -315,8 +250,8 @@ impl Net {
             IsRegion before after action member →
             IsExact (board_of before.grid) before.words words letters →
             ((cell letter : ℕ) → IsTrue (may_stand board.now cell letter) → IsTrue (letters cell letter) → IsTrue (letter_stands self.old cell letter)) →
-            ((light : ℕ) → is_marked self.old.is_marked.items light ≡ true → IsTrue (member (light_at board.now light))) →
-            (light : ℕ) → is_marked self.new.is_marked.items light ≡ true → IsTrue (member (light_at board.now light)) }
+            ((light : ℕ) → is_marked self.old.chain.marks light ≡ true → IsTrue (member (light_at board.now light))) →
+            (light : ℕ) → is_marked self.new.chain.marks light ≡ true → IsTrue (member (light_at board.now light)) }
     {
         spread(
             board,
@@ -325,21 +260,18 @@ impl Net {
             &mut self.entered,
             &mut self.letters,
             &mut self.restart,
-            &mut self.is_queued,
             &mut self.queue,
-            &mut self.is_marked,
-            &mut self.stack,
+            &mut self.chain,
         );
     }
     /// Unmarks the lights of a finished chain, so that the next one starts with none.
     pub(crate) fn unmark(&mut self)
-        requires stack { self.old.stack.items ≡ [] }
-        requires room { vec_len self.old.is_marked ≤ vec_capacity self.old.stack }
-        ensures marked { (light : ℕ) → is_marked self.new.is_marked.items light ≡ false }
-        ensures rest { self.new ≡ record self.old { is_marked = self.new.is_marked } }
+        ensures empty { self.new.chain.lights ≡ [] }
+        ensures marked { (light : ℕ) → is_marked self.new.chain.marks light ≡ false }
+        ensures rest { self.new ≡ record self.old { chain = self.new.chain } }
         ensures shaped { (board : BoardOfPlaces) → IsShaped board self.old → IsShaped board self.new }
         ensures chained { (board : BoardOfPlaces) → IsChained board self.old → IsChained board self.new }
     {
-        clear_marks(&mut self.is_marked);
+        self.chain.clear();
     }
 }

@@ -4,7 +4,8 @@ use Rattle.xw_feas.specs.Board.{light_at}
 use Rattle.xw_net.specs.Base.{base_bits, IsBaseBut}
 use Rattle.xw_net.specs.Begin.{is_read}
 use Rattle.xw_net.specs.Region.{chunks_of}
-use Rattle.xw_net.specs.Spread.{is_marked, bits_in}
+use Rattle.xw_net.specs.Spread.{bits_in}
+use Rattle.xw_net.specs.Worklist.{is_marked}
 use Rattle.xw_net.proofs.CostLemmas.{cost_here, cost_more, cost_in, cost_all}
 use Rattle.xw_net.proofs.base.read_marked.Goals as goal
 
@@ -17,7 +18,7 @@ loop-light-preserved-then-not-is_read g c =
       base = inv.base;
       later = λ light le. inv.later light (omega (arith, le));
       on = λ light lt m but. elim (cases_eq light c.loop-light.light) [
-        | inl e ↦ absurd (both_ways (is_read c.args.board.now c.args.word (is_marked c.args.marks.now) light) (ap (is_read c.args.board.now c.args.word (is_marked c.args.marks.now)) e ∙ sym c.is_read.ensures ∙ c.if-not-is_read.true) m)
+        | inl e ↦ absurd (both_ways (is_read c.args.board.now c.args.word (is_marked c.args.list.now.marks) light) (ap (is_read c.args.board.now c.args.word (is_marked c.args.list.now.marks)) e ∙ sym c.is_read.ensures ∙ c.if-not-is_read.true) m)
         | inr n ↦ inv.on light (omega arith) m but
       ];
       row_room = inv.row_room;
@@ -56,7 +57,7 @@ loop-light-preserved g c =
       ];
       row_room = λ other. omega (arith, inv.row_room other, k.ensures.row_room other);
       off = λ light m.
-          k.ensures.others light (λ e. both_ways (is_read c.args.board.now c.args.word (is_marked c.args.marks.now) light) m (ap (is_read c.args.board.now c.args.word (is_marked c.args.marks.now)) e ∙ sym c.is_read.ensures ∙ c.if-not-is_read.false))
+          k.ensures.others light (λ e. both_ways (is_read c.args.board.now c.args.word (is_marked c.args.list.now.marks) light) m (ap (is_read c.args.board.now c.args.word (is_marked c.args.list.now.marks)) e ∙ sym c.is_read.ensures ∙ c.if-not-is_read.false))
           ∙ inv.off light m;
       spent = λ member has.
           let same_cost : chunks_of (length (g.R.Rows.entries c.loop-light.rows (length (light_at c.args.board.now c.loop-light.light)))) ≡ chunks_of (length (g.R.Rows.entries c.args.rows.now (length (light_at c.args.board.now c.loop-light.light)))) =

@@ -1,9 +1,10 @@
-use Rattle.std.proofs.Common.{◌≡◌, true, false, length, get_or, refl, subst, sym, ap, ◌∙◌, inl, inr, arith}
+use Rattle.std.proofs.Common.{◌≡◌, ◌<◌, ◌+◌, ℕ, true, false, length, refl, subst, sym, ap, ◌∙◌, inl, inr, arith}
 use Rattle.std.proofs.lemmas.Bool.{cases_eq, both_ways}
 use Rattle.xw_feas.specs.Board.{light_at}
-use Rattle.xw_net.specs.Spread.{is_marked, bits_in}
-use Rattle.xw_net.specs.Begin.{is_seed, IsNarrowedRow}
-use Rattle.xw_net.proofs.SpreadLemmas.{grows_none, grows_more}
+use Rattle.xw_net.specs.Spread.{bits_in}
+use Rattle.xw_net.specs.Worklist.{ListOfLights, is_marked, Adds}
+use Rattle.xw_net.specs.Begin.{IsSeed, IsQueuedSeed, IsNarrowedRow}
+use Rattle.xw_net.proofs.Worklists.{adds_start, adds_next, adds_as, adds_none}
 use Rattle.xw_net.proofs.begin.touch_lights.Goals as goal
 
 pub loop-light-init : goal.loop-light-init
@@ -13,45 +14,44 @@ loop-light-init c = record {
   on = λ light lt queued. absurd (omega arith);
   rest = λ light past. refl;
   off = λ light off. refl;
-  marks_len = refl;
-  stack_in = c.requires.stack;
-  room = c.requires.room;
-  capacity = omega arith;
-  grows = grows_none c.args.marks.now c.args.stack.now.items;
-  marked = λ light lt queued seed. absurd (omega arith);
-  within = λ member start queued. start;
+  chain = adds_start (λ other. (is_marked c.args.queue.now.marks other ≡ true) × IsSeed c.args.board.now c.args.word c.args.base.now other) c.args.chain.now;
 }
 
-pub loop-light-preserved-then-not-is_queued-light : goal.loop-light-preserved-then-not-is_queued-light
-unfolding is_marked
-loop-light-preserved-then-not-is_queued-light c =
+module _ (queued seed : ℕ → Type 0) (light : ℕ) (chain chain' chain'' : ListOfLights) where
+  -- a light that is not queued is passed over
+  pass : Adds (λ other. (other < light) × (queued other × seed other)) chain chain' → (queued light → ⊥) → Adds (λ other. (other < light + 1) × (queued other × seed other)) chain chain'
+  pass adds calm =
+      adds_next (λ other. queued other × seed other) light chain chain' chain' adds
+      (adds_none (λ other. (other ≡ light) × (queued other × seed other)) chain' (λ other is. calm (subst queued is.0 is.1.0)))
+
+  -- a queued light is looked at
+  step : Adds (λ other. (other < light) × (queued other × seed other)) chain chain' → queued light → Adds (λ other. (other ≡ light) × seed other) chain' chain'' → Adds (λ other. (other < light + 1) × (queued other × seed other)) chain chain''
+  step adds on more =
+      adds_next (λ other. queued other × seed other) light chain chain' chain'' adds
+      (adds_as (λ other. (other ≡ light) × seed other) (λ other. (other ≡ light) × (queued other × seed other)) chain' chain'' (λ other is. (is.0, (subst queued (sym is.0) on, is.1))) (λ other is. (is.0, is.1.1)) more)
+
+pub loop-light-preserved-then-not-contains : goal.loop-light-preserved-then-not-contains
+loop-light-preserved-then-not-contains c =
     let inv = c.loop-light.invariant in
+    let calm : is_marked c.args.queue.now.marks c.loop-light.light ≡ false = sym c.contains.ensures ∙ c.if-not-contains.true in
     record {
       len = inv.len;
       row_room = inv.row_room;
       on = λ light lt queued. elim (cases_eq light c.loop-light.light) [
-        | inl e ↦ absurd (both_ways (get_or c.args.is_queued.now light false) (ap (λ n. get_or c.args.is_queued.now n false) e ∙ c.if-not-is_queued-light.true) queued)
+        | inl e ↦ absurd (both_ways (is_marked c.args.queue.now.marks light) (ap (is_marked c.args.queue.now.marks) e ∙ calm) queued)
         | inr n ↦ inv.on light (omega arith) queued
       ];
       rest = λ light past. inv.rest light (omega arith);
       off = inv.off;
-      marks_len = inv.marks_len;
-      stack_in = inv.stack_in;
-      room = inv.room;
-      capacity = inv.capacity;
-      grows = inv.grows;
-      marked = λ light lt queued seed. elim (cases_eq light c.loop-light.light) [
-        | inl e ↦ absurd (both_ways (get_or c.args.is_queued.now light false) (ap (λ n. get_or c.args.is_queued.now n false) e ∙ c.if-not-is_queued-light.true) queued)
-        | inr n ↦ inv.marked light (omega arith) queued seed
-      ];
-      within = inv.within;
+      chain = pass (λ other. is_marked c.args.queue.now.marks other ≡ true) (IsSeed c.args.board.now c.args.word c.args.base.now) c.loop-light.light c.args.chain.now c.loop-light.chain c.loop-light.chain inv.chain
+          (λ on. both_ways (is_marked c.args.queue.now.marks c.loop-light.light) calm on);
     }
 
 pub loop-light-preserved : goal.loop-light-preserved
-unfolding is_marked
 loop-light-preserved c =
     let inv = c.loop-light.invariant in
     let k = c.touch_light in
+    let on_queue : is_marked c.args.queue.now.marks c.loop-light.light ≡ true = sym c.contains.ensures ∙ c.if-not-contains.false in
     record {
       len = k.ensures.len ∙ inv.len;
       row_room = λ other. omega (arith, inv.row_room other, k.ensures.row_room other);
@@ -63,17 +63,12 @@ loop-light-preserved c =
             subst (λ b. IsNarrowedRow c.args.word (length (light_at c.args.board.now light)) (bits_in c.args.rows.now light) (bits_in c.args.base.now light) b) (sym (k.ensures.others light n)) (inv.on light (omega arith) queued)
       ];
       rest = λ light past. k.ensures.others light (λ e. absurd (omega arith)) ∙ inv.rest light (omega arith);
-      off = λ light off.
-          k.ensures.others light (λ e. both_ways (get_or c.args.is_queued.now light false) off (ap (λ n. get_or c.args.is_queued.now n false) e ∙ c.if-not-is_queued-light.false))
-          ∙ inv.off light off;
-      marks_len = k.ensures.marks ∙ inv.marks_len;
-      stack_in = k.ensures.stack;
-      room = k.ensures.room;
-      capacity = omega (arith, inv.capacity, k.ensures.capacity);
-      grows = grows_more c.args.marks.now c.args.stack.now.items c.loop-light.marks c.loop-light.stack.items c.touch_light.new.marks c.touch_light.new.stack.items inv.grows k.ensures.grows;
-      marked = λ light lt queued seed. elim (cases_eq light c.loop-light.light) [
-        | inl e ↦ ap (is_marked c.touch_light.new.marks) e ∙ k.ensures.marked (subst (λ n. is_seed c.args.board.now c.args.word (light_at c.args.board.now n) (bits_in c.args.base.now n) ≡ true) e seed)
-        | inr n ↦ k.ensures.grows.more light (inv.marked light (omega arith) queued seed)
-      ];
-      within = λ member start queued. k.ensures.within member (inv.within member start queued) (queued c.loop-light.light c.if-not-is_queued-light.false);
+      off = λ light off. k.ensures.others light (λ e. both_ways (is_marked c.args.queue.now.marks light) off (ap (is_marked c.args.queue.now.marks) e ∙ on_queue)) ∙ inv.off light off;
+      chain = step (λ other. is_marked c.args.queue.now.marks other ≡ true) (IsSeed c.args.board.now c.args.word c.args.base.now) c.loop-light.light c.args.chain.now c.loop-light.chain c.touch_light.new.chain inv.chain on_queue k.ensures.chain;
     }
+
+pub returns-clause-chain : goal.returns-clause-chain
+returns-clause-chain c =
+    let n : c.loop-light.light ≡ length c.args.board.now.lights = omega (arith, c.loop-light-test.false, c.loop-light.auto.light-end, c.light_count-light-end.ensures) in
+    adds_as _ (IsQueuedSeed c.args.board.now c.args.word c.args.base.now c.args.queue.now) c.args.chain.now c.loop-light.chain
+    (λ light is. (omega (arith, is.0, n), is.1.0, is.1.1)) (λ light is. (omega (arith, is.0, n), (is.1, is.2))) c.loop-light.invariant.chain

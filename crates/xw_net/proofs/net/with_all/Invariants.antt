@@ -1,4 +1,4 @@
-use Rattle.std.proofs.Common.{◌≡◌, ◌<◌, ◌≤◌, ◌+◌, ◌-◌, ◌&&◌, ◌||◌, ltb, ℕ}
+use Rattle.std.proofs.Common.{◌≡◌, ◌≤◌, ◌+◌, ◌-◌, ◌&&◌, ◌||◌, ltb, ℕ}
 use Rattle.xw_letters.specs.LetterSet.{has}
 use Rattle.xw_net.proofs.net.with_all.Given as goal
 

@@ -1,4 +1,4 @@
-use Rattle.std.proofs.Common.{◌≡◌, ℕ, ◌+◌, ◌*◌, List, false, replicate, ap, ◌∙◌, arith}
+use Rattle.std.proofs.Common.{◌*◌, false, replicate, ap, ◌∙◌, arith}
 use Rattle.xw_net.proofs.Rooms.{clear_row}
 use Rattle.xw_net.proofs.room.push_chunks.Goals as goal
 

@@ -1,11 +1,9 @@
 use Rattle.std.proofs.Common.{◌∙◌, arith}
 use Rattle.xw_feas.specs.Flags.{set_has}
-use Rattle.xw_net.specs.Spread.{is_marked, is_waiting, no_places}
-use Rattle.xw_net.proofs.SpreadLemmas.{seeds_grow, set_has-here, set_has-there, spread_grows, spread_raise}
+use Rattle.xw_net.specs.Spread.{no_places}
+use Rattle.xw_net.specs.Worklist.{is_marked, is_waiting}
+use Rattle.xw_net.proofs.SpreadLemmas.{set_has-here, set_has-there, spread_grows, spread_raise}
 use Rattle.xw_net.proofs.seeds.free_cell.Goals as goal
-
-pub returns-clause-seeds : goal.returns-clause-seeds
-returns-clause-seeds c = seeds_grow c.args.marks.now c.args.stack.now.items c.mark_through.new.marks c.mark_through.new.stack.items c.mark_through.ensures.grows
 
 pub returns-clause-here : goal.returns-clause-here
 returns-clause-here c letter = set_has-here c.args.letters.now c.args.cell c.letters_allowed.result letter (omega (arith, c.requires.cell, c.requires.letters)) ∙ c.letters_allowed.ensures letter
@@ -15,6 +13,7 @@ returns-clause-others c other letter apart = set_has-there c.args.letters.now c.
 
 pub returns-clause-spread : goal.returns-clause-spread
 returns-clause-spread c start before =
-    spread_raise c.args.board.now start c.args.letters.now c.args.cell c.letters_allowed.result (is_marked c.mark_through.new.marks) (is_waiting c.mark_through.new.stack.items) no_places
-    (omega (arith, c.requires.cell, c.requires.letters)) c.letters_allowed.ensures c.mark_through.ensures.marked
-    (spread_grows c.args.board.now start (set_has c.args.letters.now) c.args.marks.now c.mark_through.new.marks c.args.stack.now.items c.mark_through.new.stack.items no_places c.mark_through.ensures.grows before)
+    let chain = c.mark_through.new.list in
+    spread_raise c.args.board.now start c.args.letters.now c.args.cell c.letters_allowed.result (is_marked c.mark_through.new.list.marks) (is_waiting c.mark_through.new.list.lights) no_places
+    (omega (arith, c.requires.cell, c.requires.letters)) c.letters_allowed.ensures (λ light place here at. c.mark_through.ensures.all light (place, here, at))
+    (spread_grows c.args.board.now start (set_has c.args.letters.now) c.args.chain.now chain no_places c.mark_through.ensures.grows before)

@@ -1,4 +1,4 @@
-use Rattle.std.proofs.Common.{◌≡◌, ◌&&◌, sym, ap, ◌∙◌}
+use Rattle.std.proofs.Common.{◌&&◌, sym, ap, ◌∙◌}
 use Rattle.xw_words.specs.Columns.{has_letter}
 use Rattle.xw_net.proofs.ClearRow.{none_set}
 use Rattle.xw_net.specs.Support.{supports}

@@ -1,6 +1,4 @@
 use Rattle.std.proofs.Common.{sym, ◌∙◌}
-use Rattle.std.proofs.lemmas.Bool.{both_ways}
-use Rattle.std.proofs.Common.{get_or, false}
 use Rattle.xw_net.proofs.ClearRow.{none_set}
 use Rattle.xw_net.proofs.support.strike_row.Goals as goal
 

@@ -1,4 +1,4 @@
-use Rattle.std.proofs.Common.{◌≡◌, length, sym, ap, ◌∙◌, refl, arith}
+use Rattle.std.proofs.Common.{length, sym, ap, ◌∙◌, refl, arith}
 use Rattle.xw_feas.specs.State.{State}
 use Rattle.xw_net.proofs.BaseAlike.{settled_alike}
 use Rattle.xw_net.proofs.net.Net.copy_from.Goals as goal

@@ -1,4 +1,4 @@
-use Rattle.std.proofs.Common.{◌≡◌, ◌<◌, ◌+◌, ◌*◌, ℕ, zero, suc, true, not, List, ◌||◌, ◌&&◌, eqb, Some, length, get_or, set, refl, ap, sym, ◌∙◌, arith}
+use Rattle.std.proofs.Common.{◌≡◌, ◌<◌, ◌+◌, ◌*◌, ℕ, zero, suc, true, not, List, ◌||◌, ◌&&◌, eqb, Some, length, get_or, set, refl, ap, ◌∙◌, arith}
 use Rattle.std.proofs.lemmas.Bool.{both_ways}
 use Rattle.std.proofs.lemmas.List.{get_or_default}
 use Rattle.xw_letters.proofs.LetterSetLemmas.{has-none}
@@ -7,9 +7,8 @@ use Rattle.xw_feas.specs.Board.{light_at}
 use Rattle.xw_feas.specs.Flags.{set_has, set_sum}
 use Rattle.xw_net.specs.Marks.{side_of, cell_at}
 use Rattle.xw_net.specs.Marks.LeavesPending.{crossed, alone}
-use Rattle.xw_net.specs.Nets.{marks_of, pending_in, queued_in, letter_stands}
+use Rattle.xw_net.specs.Nets.{pending_in, queued_in, letter_stands}
 use Rattle.xw_net.specs.declared.net.Net.{Net}
-use Rattle.std.specs.Vec.{with_item}
 use Rattle.xw_net.proofs.Deaths.{sum-less}
 use Rattle.xw_net.proofs.Searches.{without_all}
 use Rattle.xw_net.proofs.net.Net.empty_place.Goals as goal

@@ -9,14 +9,16 @@ use Rattle.xw_feas.specs.Board.{light_at}
 use Rattle.xw_feas.specs.Flags.{set_has}
 use Rattle.xw_net.specs.Marks.{IsPlace, slot_at, known, IsPosition, IsReady}
 use Rattle.xw_net.specs.Base.{base_bits}
-use Rattle.xw_net.specs.Spread.{is_marked, bits_in, HasSeeds}
+use Rattle.xw_net.specs.Spread.{bits_in}
+use Rattle.xw_net.specs.Worklist.{is_marked}
 use Rattle.xw_net.specs.Brought.{HasBase, IsBase}
 use Rattle.xw_net.specs.Room.{row_at}
 use Rattle.xw_net.specs.Nets.{IsQueue, marks_of, word_stands, letter_stands, held_in, restart_in, pending_in, queued_in}
 use Rattle.xw_net.specs.declared.net.Net.{Net}
 use Rattle.xw_net.proofs.Left.{base_read}
 use Rattle.xw_net.proofs.Rooms.{known_few}
-use Rattle.xw_net.proofs.Quiet.{quiet_queue, quiet_seeds, quiet_stack_room}
+use Rattle.xw_net.proofs.Quiet.{quiet_queue, quiet_seeds}
+use Rattle.xw_net.proofs.Worklists.{seeds_grow}
 use Rattle.xw_net.specs.Filled.{IsWholeNet}
 use Rattle.xw_net.proofs.Alike.{roomier_filled}
 use Rattle.xw_net.proofs.Unstripped.{brought_unstripped}
@@ -25,24 +27,17 @@ use Rattle.std.proofs.lemmas.Grind.{common_steps}
 use Rattle.xw_net.proofs.net.Net.fill.Goals as goal
 
 pub bring_back-requires-clause-seeds : goal.bring_back-requires-clause-seeds
-bring_back-requires-clause-seeds g c light =
-    let marks_is = with_items_is c.args.self.now.is_marked c.mark_all.new.marks (omega (arith, c.mark_all.auto.marks, c.deref_mut-2.ensures.len)) in
-    ap (λ m. is_marked m light) marks_is
-    ∙ c.mark_all.ensures.seeds (subst (λ m. HasSeeds m c.args.self.now.stack.items) (sym c.deref_mut-2.ensures.value) (quiet_seeds c.args.self.now c.requires.fresh.quiet)) light
+bring_back-requires-clause-seeds g c = seeds_grow c.args.self.now.chain c.mark_all.new.chain c.mark_all.ensures.grows (quiet_seeds c.args.self.now c.requires.fresh.quiet)
 
 pub bring_back-requires-clause-bits : goal.bring_back-requires-clause-bits
 bring_back-requires-clause-bits g c =
-    let base_is = with_items_is c.args.self.now.base c.read_marked.new.base (omega (arith, c.read_marked.auto.base, c.deref_mut-3.ensures.len)) in
+    let base_is = with_items_is c.args.self.now.base c.read_marked.new.base (omega (arith, c.read_marked.auto.base, c.deref_mut-2.ensures.len)) in
     (g.R.Rows.entries c.args.rows.now, c.requires.fresh.whole.bits, subst (HasBase c.args.board.now (g.R.Rows.entries c.args.rows.now)) (sym base_is) c.read_marked.ensures.base)
 
 pub strip_queued-requires-clause-queue : goal.strip_queued-requires-clause-queue
 unfolding queued_in
 strip_queued-requires-clause-queue g c =
     subst (λ (net : Net). IsQueue net) (sym c.unmark.ensures.rest) (c.bring_back.ensures.queue (quiet_queue c.args.self.now c.requires.fresh.quiet))
-
-pub unmark-requires-clause-room : goal.unmark-requires-clause-room
-unmark-requires-clause-room g c =
-    omega (arith, quiet_stack_room c.args.self.now c.requires.fresh.quiet c.args.board.now c.requires.fresh.whole.chained, c.mark_all.ensures.capacity, c.bring_back.ensures.capacity, c.bring_back.ensures.marks)
 
 pub returns-clause-filled : goal.returns-clause-filled
 unfolding word_stands letter_stands held_in restart_in pending_in queued_in
@@ -53,21 +48,20 @@ returns-clause-filled g c dictionary position =
     let entries = g.R.Rows.entries c.args.rows.now in
     let back = c.bring_back in
     let last = c.strip_queued in
-    let base_is = with_items_is c.args.self.now.base c.read_marked.new.base (omega (arith, c.read_marked.auto.base, c.deref_mut-3.ensures.len)) in
-    let marks_is = with_items_is c.args.self.now.is_marked c.mark_all.new.marks (omega (arith, c.mark_all.auto.marks, c.deref_mut-2.ensures.len)) in
+    let base_is = with_items_is c.args.self.now.base c.read_marked.new.base (omega (arith, c.read_marked.auto.base, c.deref_mut-2.ensures.len)) in
     let letters_is = with_items_is c.args.self.now.letters c.fill_letters.new.letters (omega (arith, c.fill_letters.auto.letters, c.deref_mut.ensures.len)) in
-    let start : Net = record old { base = with_items old.base c.read_marked.new.base; letters = with_items old.letters c.fill_letters.new.letters; stack = c.mark_all.new.stack; is_marked = with_items old.is_marked c.mark_all.new.marks } in
+    let start : Net = record old { base = with_items old.base c.read_marked.new.base; letters = with_items old.letters c.fill_letters.new.letters; chain = c.mark_all.new.chain } in
     let is_base : IsBase board dictionary start.base.items = λ light lt.
     ap (λ (rows : List RowOfBits). bits_in rows light) base_is
-    ∙ c.read_marked.ensures.on light lt (or_left (is_marked c.deref.result.now light) false (ap (λ m. is_marked m light) (c.deref.ensures.value ∙ marks_is) ∙ c.mark_all.ensures.marked light lt)) (λ place some. let never : None ≡ Some (length (light_at board light), place) = some in cc)
+    ∙ c.read_marked.ensures.on light lt (or_left (is_marked c.mark_all.new.chain.marks light) false (c.mark_all.ensures.all light lt)) (λ place some. let never : None ≡ Some (length (light_at board light), place) = some in cc)
     ∙ ap (base_bits board (light_at board light)) (position.read (length (light_at board light))) in
     let held_far : (light place letter : ℕ) → IsPlace c.args.board.now light place → is_capital letter ≡ true → known c.args.board.now dictionary light ≤ held_in c.args.self.now (slot_at c.args.board.now light place) letter =
     λ light place letter here capital. omega (arith, fresh.held light place letter here capital, known_few dictionary (length (light_at board light)) position.words) in
     let words_read : (light : ℕ) → length (g.R.Rows.entries c.args.rows.now (length (light_at c.args.board.now light))) ≡ length (row dictionary (length (light_at c.args.board.now light))) =
     λ light. ap (λ (words : List Entry). length words) (position.read (length (light_at board light))) in
     let ready : IsReady board dictionary (marks_of back.new.self) =
-    brought_ready_all board entries dictionary position (marks_of start) (marks_of back.new.self) (is_marked back.new.self.is_marked.items) (back.ensures.brought dictionary is_base)
-    (λ light lt. back.ensures.seeded light (ap (λ m. is_marked m light) marks_is ∙ c.mark_all.ensures.marked light lt))
+    brought_ready_all board entries dictionary position (marks_of start) (marks_of back.new.self) (is_marked back.new.self.chain.marks) (back.ensures.brought dictionary is_base)
+    (λ light lt. back.ensures.seeded light (c.mark_all.ensures.all light lt))
     fresh.words
     (λ cell letter. ap (λ s. set_has s cell letter) letters_is ∙ c.fill_letters.ensures.letters cell letter)
     held_far
@@ -84,14 +78,14 @@ returns-clause-filled g c dictionary position =
         fresh.whole.base_room light lt,
         c.read_marked.ensures.row_room light,
         words_read light,
-        ap (λ (rows : List RowOfBits). (row_at rows light).room) c.deref_mut-3.ensures.value,
+        ap (λ (rows : List RowOfBits). (row_at rows light).room) c.deref_mut-2.ensures.value,
         ap (λ (rows : List RowOfBits). (row_at rows light).room) base_is,
       );
     } in
     roomier_filled last.new.self c.keep_counts.new.self c.keep_counts.ensures board dictionary
     (last.ensures.filled dictionary position' (brought_unstripped board dictionary start back.new.self c.unmark.new.self whole is_base
     (c.unmark.ensures.shaped board back.ensures.shaped) (c.unmark.ensures.chained board back.ensures.chained)
-    (back.ensures.bits (row dictionary) whole.bits) back.ensures.base back.ensures.stack back.ensures.row_room (is_marked back.new.self.is_marked.items) (back.ensures.brought dictionary is_base)
+    (back.ensures.bits (row dictionary) whole.bits) back.ensures.base c.unmark.ensures.empty back.ensures.row_room (is_marked back.new.self.chain.marks) (back.ensures.brought dictionary is_base)
     ready (λ light place letter here capital lt. absurd (omega (arith, lt, held_far light place letter here capital))) fresh.pending c.unmark.ensures.rest c.unmark.ensures.marked))
 
 pub bring_back-requires-clause-chained : goal.bring_back-requires-clause-chained

@@ -18,9 +18,7 @@ returns c =
     record {
       rows = same_roomier rows.items _ (with_items_is rows c.keep_counts.new.rows (omega (arith, c.keep_counts.auto.rows, c.deref_mut.ensures.len)) ∙ c.keep_counts.ensures ∙ c.deref_mut.ensures.value);
       base = same_roomier c.args.self.now.base.items _ refl;
-      queue = refl;
-      queue_room = omega arith;
-      stack = refl;
-      stack_room = omega arith;
+      queue = record { marks = refl; lights = refl; room = omega arith };
+      chain = record { marks = refl; lights = refl; room = omega arith };
       rest = refl;
     }

@@ -1,25 +1,19 @@
-use Rattle.std.proofs.Common.{◌≡◌, ◌<◌, ◌+◌, ◌*◌, ℕ, true, false, not, ◌||◌, ◌&&◌, eqb, count_by, length, get_or, set, sym, ap, ◌∙◌, subst, arith}
-use Rattle.std.specs.Prelude.{All, Contains}
-use Rattle.std.proofs.lemmas.List.{with_items_is, length-set, get_or_default}
+use Rattle.std.proofs.Common.{◌≡◌, ◌<◌, ◌+◌, ◌*◌, ℕ, false, ◌||◌, ◌&&◌, eqb, length, get_or, ap, ◌∙◌, arith}
+use Rattle.std.proofs.lemmas.List.{get_or_default}
 use Rattle.xw_letters.specs.LetterSet.{has}
 use Rattle.xw_feas.specs.Board.{light_at}
 use Rattle.xw_feas.specs.Flags.{set_has}
 use Rattle.xw_net.specs.Marks.{side_of}
 use Rattle.xw_net.specs.Nets.{pending_in, queued_in}
 use Rattle.xw_net.proofs.Searches.{with_letters}
-use Rattle.xw_net.proofs.Queues.{marked_more, waits_more, queue_within, grown}
+use Rattle.xw_net.specs.Worklist.{is_marked}
+use Rattle.xw_net.proofs.Worklists.{waits_grow}
+use Rattle.xw_net.proofs.Queues.{queued_more, grown_longer}
 use Rattle.xw_net.proofs.net.Net.leave_all_pending.Goals as goal
 
 pub returns-clause-shaped : goal.returns-clause-shaped
 returns-clause-shaped c =
     let shaped = c.requires.shaped in
-    let old = c.args.self.now in
-    let light = c.args.light in
-    let marks_are : c.enqueue.new.is_queued ≡ set old.is_queued.items light true = c.enqueue.ensures.is_queued ∙ ap (λ l. set l light true) c.deref_mut.ensures.value in
-    let long : length c.enqueue.new.is_queued ≡ old.is_queued.len = omega (arith, ap length c.enqueue.ensures.is_queued, length-set c.deref_mut.result.now light true, c.deref_mut.ensures.len) in
-    let items = with_items_is old.is_queued c.enqueue.new.is_queued long in
-    let within : light < length old.is_queued.items = omega (arith, c.requires.light, shaped.is_queued) in
-    let queue_is : c.enqueue.new.queue.items ≡ grown old.is_queued.items old.queue.items light = c.enqueue.ensures.queue ∙ ap (λ l. grown l old.queue.items light) c.deref_mut.ensures.value in
     record {
       few_cells = shaped.few_cells;
       rows = shaped.rows;
@@ -28,9 +22,7 @@ returns-clause-shaped c =
       held = shaped.held;
       restart = shaped.restart;
       pending = shaped.pending;
-      is_queued = shaped.is_queued;
-      queue = subst (λ q. All (λ other. other < length c.args.board.now.lights) q) (sym queue_is) (queue_within old.is_queued.items old.queue.items light within (length c.args.board.now.lights) c.requires.light shaped.queue);
-      room = omega (arith, c.enqueue.ensures.room, ap (count_by (λ queued. not queued)) items);
+      queue = c.insert.ensures.grows.size ∙ shaped.queue;
     }
 
 pub returns-clause-pending : goal.returns-clause-pending
@@ -48,22 +40,12 @@ returns-clause-pending c slot other =
 pub returns-clause-queued : goal.returns-clause-queued
 unfolding queued_in
 returns-clause-queued c other =
-    let old = c.args.self.now in
-    let light = c.args.light in
-    let marks_are : c.enqueue.new.is_queued ≡ set old.is_queued.items light true = c.enqueue.ensures.is_queued ∙ ap (λ l. set l light true) c.deref_mut.ensures.value in
-    let long : length c.enqueue.new.is_queued ≡ old.is_queued.len = omega (arith, ap length c.enqueue.ensures.is_queued, length-set c.deref_mut.result.now light true, c.deref_mut.ensures.len) in
-    let items = with_items_is old.is_queued c.enqueue.new.is_queued long in
-    let within : light < length old.is_queued.items = omega (arith, c.requires.light, c.requires.shaped.is_queued) in
-    ap (λ l. get_or l other false) (items ∙ marks_are) ∙ marked_more old.is_queued.items old.queue.items light within other
+    let within : c.args.light < length c.args.self.now.queue.marks = omega (arith, c.requires.light, c.requires.shaped.queue) in
+    ap (λ marks. get_or marks other false) c.insert.ensures.marks ∙ queued_more c.args.self.now.queue.marks c.args.light within other
 
 pub returns-clause-waits : goal.returns-clause-waits
-unfolding queued_in
-returns-clause-waits c other waits is =
-    let old = c.args.self.now in
-    let light = c.args.light in
-    let marks_are : c.enqueue.new.is_queued ≡ set old.is_queued.items light true = c.enqueue.ensures.is_queued ∙ ap (λ l. set l light true) c.deref_mut.ensures.value in
-    let long : length c.enqueue.new.is_queued ≡ old.is_queued.len = omega (arith, ap length c.enqueue.ensures.is_queued, length-set c.deref_mut.result.now light true, c.deref_mut.ensures.len) in
-    let items = with_items_is old.is_queued c.enqueue.new.is_queued long in
-    let within : light < length old.is_queued.items = omega (arith, c.requires.light, c.requires.shaped.is_queued) in
-    let queue_is : c.enqueue.new.queue.items ≡ grown old.is_queued.items old.queue.items light = c.enqueue.ensures.queue ∙ ap (λ l. grown l old.queue.items light) c.deref_mut.ensures.value in
-    subst (λ q. Contains q other) (sym queue_is) (waits_more old.is_queued.items old.queue.items light within other waits (sym (ap (λ l. get_or l other false) (items ∙ marks_are)) ∙ is))
+unfolding queued_in is_marked
+returns-clause-waits c other waits is = waits_grow c.args.self.now.queue c.insert.new.self other c.insert.ensures.grows waits is
+
+pub returns-clause-longer : goal.returns-clause-longer
+returns-clause-longer c = omega (arith, ap length c.insert.ensures.lights, grown_longer (is_marked c.args.self.now.queue.marks c.args.light) c.args.self.now.queue.lights c.args.light)

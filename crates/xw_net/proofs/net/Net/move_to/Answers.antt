@@ -46,11 +46,9 @@ returns-clause-moved g c was now before lights read filled =
       queue = rest.queue;
       queued_long = omega (arith, rest.queued_long, many);
       is_queued = rest.is_queued;
-      queue_room = rest.queue_room;
       stack = rest.stack;
       marked_long = omega (arith, rest.marked_long, many);
       is_marked = rest.is_marked;
-      stack_room = rest.stack_room;
     })
     filled
 

@@ -10,7 +10,7 @@ use Rattle.xw_net.specs.Change.{IsChange, AreReadsOf}
 use Rattle.xw_net.specs.Revival.{IsMatching, same_light}
 use Rattle.xw_net.specs.Marks.{IsPosition}
 use Rattle.xw_net.specs.Nets.{marks_of, word_stands, letter_stands, held_in, restart_in, pending_in, queued_in, IsQueue}
-use Rattle.xw_net.specs.Spread.{is_marked}
+use Rattle.xw_net.specs.Worklist.{is_marked}
 use Rattle.xw_net.specs.Brought.{IsBase, IsBegun, IsReadyBut, base_cost}
 use Rattle.xw_net.specs.Filled.{IsWholeNet, IsUnstripped}
 use Rattle.xw_net.specs.Begin.{is_long, is_read}
@@ -32,15 +32,15 @@ matching_of : (before now : State) (board : Board) → board ≡ board_of now.gr
 matching_of before now board same wide = subst (λ b. IsMatching (board_of before.grid) b (same_light before.grid now.grid)) (sym same) (same_is_matching before.grid now.grid wide)
 
 begun_of : (before now : State) (action : Action) (settled net : Net) (board : Board) → board ≡ board_of now.grid → IsOpened before now action settled net
-    → IsBegun (board_of before.grid) board before.words now.words (same_light before.grid now.grid) (word_stands settled) (letter_stands settled) (word_stands net) (letter_stands net) (is_marked net.is_marked.items)
+    → IsBegun (board_of before.grid) board before.words now.words (same_light before.grid now.grid) (word_stands settled) (letter_stands settled) (word_stands net) (letter_stands net) (is_marked net.chain.marks)
 begun_of before now action settled net board same opened =
-    subst (λ b. IsBegun (board_of before.grid) b before.words now.words (same_light before.grid now.grid) (word_stands settled) (letter_stands settled) (word_stands net) (letter_stands net) (is_marked net.is_marked.items)) (sym same) opened.begun
+    subst (λ b. IsBegun (board_of before.grid) b before.words now.words (same_light before.grid now.grid) (word_stands settled) (letter_stands settled) (word_stands net) (letter_stands net) (is_marked net.chain.marks)) (sym same) opened.begun
 
 base_of : (before now : State) (action : Action) (settled net : Net) (board : Board) → board ≡ board_of now.grid → IsOpened before now action settled net → IsBase board now.words net.base.items
 base_of before now action settled net board same opened = subst (λ b. IsBase b now.words net.base.items) (sym same) opened.is_base
 
-ready_of : (before now : State) (action : Action) (settled net : Net) (board : Board) → board ≡ board_of now.grid → IsOpened before now action settled net → IsReadyBut board now.words (marks_of net) (is_marked net.is_marked.items)
-ready_of before now action settled net board same opened = subst (λ b. IsReadyBut b now.words (marks_of net) (is_marked net.is_marked.items)) (sym same) opened.ready
+ready_of : (before now : State) (action : Action) (settled net : Net) (board : Board) → board ≡ board_of now.grid → IsOpened before now action settled net → IsReadyBut board now.words (marks_of net) (is_marked net.chain.marks)
+ready_of before now action settled net board same opened = subst (λ b. IsReadyBut b now.words (marks_of net) (is_marked net.chain.marks)) (sym same) opened.ready
 
 cost_of : (now : State) (member : List ℕ → Bool) (board : Board) (entries : ℕ → List Entry) → board ≡ board_of now.grid → entries ≡ row now.words
     → base_cost board entries (λ light. member (light_at board light)) ≡ base_cost (board_of now.grid) (row now.words) (λ light. member (light_at (board_of now.grid) light))
@@ -78,16 +78,16 @@ returns-clause-revived g c before words action settled read is filled moved room
     let brought = c.bring_back.ensures.brought words is_base in
     let unstripped = brought_unstripped board words c.begin.new.self c.bring_back.new.self c.unmark.new.self whole is_base
     (c.unmark.ensures.shaped board c.bring_back.ensures.shaped) (c.unmark.ensures.chained board c.bring_back.ensures.chained)
-    (c.bring_back.ensures.bits (row words) whole.bits) c.bring_back.ensures.base c.bring_back.ensures.stack c.bring_back.ensures.row_room (is_marked c.bring_back.new.self.is_marked.items) brought
+    (c.bring_back.ensures.bits (row words) whole.bits) c.bring_back.ensures.base c.unmark.ensures.empty c.bring_back.ensures.row_room (is_marked c.bring_back.new.self.chain.marks) brought
     ready start.hits none_pending c.unmark.ensures.rest c.unmark.ensures.marked in
     record {
       unstripped = subst (λ b. IsUnstripped b words c.unmark.new.self) c.requires.board unstripped;
       queued = λ member region light on.
-          let seeds : (l : ℕ) → is_marked c.begin.new.self.is_marked.items l ≡ true → member (light_at c.args.board.now l) ≡ true =
+          let seeds : (l : ℕ) → is_marked c.begin.new.self.chain.marks l ≡ true → member (light_at c.args.board.now l) ≡ true =
           λ l marked. ap (λ b. member (light_at b l)) c.requires.board ∙ opened.within member region l marked in
           let chain = c.bring_back.ensures.region before (record { grid = c.args.grid.now; words = words }) action member (word_stands settled) (letter_stands settled) c.requires.board region filled.exact begun.letters_kept seeds in
           let back : queued_in c.bring_back.new.self light ≡ true = ap (λ (net : Net). queued_in net light) (sym c.unmark.ensures.rest) ∙ on in
-          elim (cases_Bool (is_marked c.bring_back.new.self.is_marked.items light)) [
+          elim (cases_Bool (is_marked c.bring_back.new.self.chain.marks light)) [
             | inl marked ↦ ap (λ b. member (light_at b light)) (sym c.requires.board) ∙ chain light marked
             | inr off ↦ opened.queued_within member region light (sym (brought.queued_off light off) ∙ back)
           ];
@@ -97,8 +97,8 @@ pub returns-clause-cost : goal.returns-clause-cost
 returns-clause-cost g c before words action settled member read is filled moved region =
     let opened = c.begin.ensures.opened before words action settled read is filled moved in
     let entries : g.R.Rows.entries c.args.rows.now ≡ row words = λ t. λ len. read len t in
-    let read_within : (light : ℕ) → light < length c.args.board.now.lights → is_read c.args.board.now c.args.change.now.word (is_marked c.begin.new.self.is_queued.items) light ≡ true → member (light_at c.args.board.now light) ≡ true =
-    λ light in_board is_in. elim (or_cases (is_marked c.begin.new.self.is_queued.items light) (is_long c.args.change.now.word (length (light_at c.args.board.now light))) is_in) [
+    let read_within : (light : ℕ) → light < length c.args.board.now.lights → is_read c.args.board.now c.args.change.now.word (is_marked c.begin.new.self.queue.marks) light ≡ true → member (light_at c.args.board.now light) ≡ true =
+    λ light in_board is_in. elim (or_cases (is_marked c.begin.new.self.queue.marks light) (is_long c.args.change.now.word (length (light_at c.args.board.now light))) is_in) [
       | inl on ↦ ap (λ b. member (light_at b light)) c.requires.board ∙ opened.queued_within member region light on
       | inr long ↦
           let word = long_word c.args.change.now.word (length (light_at c.args.board.now light)) long in

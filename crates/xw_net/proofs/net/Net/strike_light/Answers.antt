@@ -24,7 +24,6 @@ loop-place-preserved g c =
       letters = k.ensures.letters ∙ inv.letters;
       held = k.ensures.held ∙ inv.held;
       queue = k.ensures.queue ∙ inv.queue;
-      is_queued = k.ensures.is_queued ∙ inv.is_queued;
       cleared = λ place letter lt.
           elim (cases_lt place c.loop-place.place) [
             | inl before ↦ k.ensures.less (slot_at board c.args.light place) letter (inv.cleared place letter before)
@@ -35,7 +34,7 @@ loop-place-preserved g c =
       less = λ slot letter gone. k.ensures.less slot letter (inv.less slot letter gone);
       kept = λ dictionary measure position queued in_set under.
           k.ensures.kept dictionary measure (subst (λ e. IsPosition c.args.board.now e dictionary) (sym inv.same) position)
-          (ap (λ v. get_or v.items c.args.light false) inv.is_queued ∙ queued) in_set (inv.kept dictionary measure position queued in_set under);
+          (ap (λ list. get_or list.marks c.args.light false) inv.queue ∙ queued) in_set (inv.kept dictionary measure position queued in_set under);
     }
 
 pub returns-clause-cleared : goal.returns-clause-cleared

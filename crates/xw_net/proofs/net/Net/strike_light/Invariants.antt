@@ -15,7 +15,6 @@ invariant-loop-place g l = record {
   letters : l.self.letters ≡ l.fn.self.letters;
   held : l.self.held ≡ l.fn.self.held;
   queue : l.self.queue ≡ l.fn.self.queue;
-  is_queued : l.self.is_queued ≡ l.fn.self.is_queued;
   cleared : (place letter : ℕ) → place < l.place → pending_in l.self (slot_at l.board l.light place) letter ≡ false;
   less : (slot letter : ℕ) → pending_in l.fn.self slot letter ≡ false → pending_in l.self slot letter ≡ false;
   kept : (dictionary : Dictionary) (measure : Measure) → IsPosition l.board (g.R.Rows.entries l.fn.rows) dictionary → queued_in l.fn.self l.light ≡ true → measure.member l.light ≡ true

@@ -1,15 +1,15 @@
-use Rattle.std.proofs.Common.{◌≡◌, ◌⊎◌, ◌<◌, ◌+◌, ◌-◌, ◌^◌, ℕ, suc, true, List, [], ◌∷◌, length, refl, sym, ap, ◌∙◌, subst, inl, inr, arith, rules}
-use Rattle.std.specs.Prelude.{Contains, vec_items}
+use Rattle.std.proofs.Common.{◌+◌, ◌-◌, ◌^◌, true, false, ◌∷◌, length, get_or, refl, sym, ap, ◌∙◌, subst, inl, inr, arith, rules}
+use Rattle.std.specs.Prelude.{vec_items}
 use Rattle.std.proofs.lemmas.Bool.{false_from_ne_true, both_ways}
-use Rattle.std.proofs.lemmas.List.Elements.{Contains-push_cases, Contains-append_cases}
-use Rattle.std.proofs.lemmas.List.Sorted.{All-permutation, Contains-permutation, length_permutation}
+use Rattle.std.proofs.lemmas.List.Sorted.{length_permutation}
 use Rattle.xw_words.specs.Dictionary.{row}
 use Rattle.xw_feas.specs.Board.{light_at}
 use Rattle.xw_net.specs.Room.{row_at}
-use Rattle.xw_net.specs.Spread.{is_marked}
+use Rattle.xw_net.specs.Worklist.{ListOfLights, is_marked, is_waiting}
+use Rattle.xw_net.proofs.Worklists.{waiting-none, waits_taken}
 use Rattle.xw_net.specs.Brought.{HasBase, IsBase}
 use Rattle.xw_net.specs.declared.net.Net.{Net}
-use Rattle.xw_net.specs.Marks.{IsHolding, IsPosition, IsSlot}
+use Rattle.xw_net.specs.Marks.{IsHolding, IsPosition, IsSettledNet, IsSlot}
 use Rattle.xw_net.specs.Due.{Measure, IsUnderway, due, set_cost}
 use Rattle.xw_net.specs.Nets.{IsLeft, HasBits, IsQueue, left_of, marks_of, word_stands, letter_stands, held_in, restart_in, pending_in, queued_in}
 use Rattle.xw_net.proofs.Dues.{due-bound}
@@ -18,23 +18,19 @@ use Rattle.xw_net.proofs.Emptied.{left_noted, shaped_noted}
 use Rattle.xw_net.proofs.Left.{left_left, left_queue, left_chained}
 use Rattle.xw_net.proofs.net.Net.strip_queued.Goals as goal
 
--- a queued light is the one that was taken, or one of the rest
-of_two : (light : ℕ) (rest : List ℕ) (other : ℕ) → Contains (light ∷ rest) other → (light ≡ other) ⊎ Contains rest other
-of_two light rest other there =
-    elim (Contains-append_cases (light ∷ []) rest other there) [
-      | inl first ↦ elim (Contains-push_cases [] light other first) [ inl none ↦ absurd (omega (arith, none.1)) | inr same ↦ inl same ]
-      | inr later ↦ inr later
-    ]
-
 pub see_to-requires-clause-light : goal.see_to-requires-clause-light
-see_to-requires-clause-light g c =
-    All-permutation (λ light. light < length c.args.board.now.lights) c.loop-light.self.queue.items (c.in-Some.light ∷ c.take_turn.new.queue.items) c.in-Some.ensures.taken c.loop-light.invariant.shaped.queue 0 0 (omega arith)
+see_to-requires-clause-light g c = omega (arith, c.in-Some.ensures.within, c.loop-light.invariant.shaped.queue)
+
+pub note_emptied-requires-clause-light : goal.note_emptied-requires-clause-light
+note_emptied-requires-clause-light g c = omega (arith, c.in-Some.ensures.within, c.loop-light.invariant.shaped.queue)
+
+pub see_to-requires-clause-queued : goal.see_to-requires-clause-queued
+unfolding queued_in is_marked
+see_to-requires-clause-queued g c = ap (λ marks. is_marked marks c.in-Some.light) c.take_turn.ensures.marks ∙ c.in-Some.ensures.marked
 
 pub see_to-requires-clause-shaped : goal.see_to-requires-clause-shaped
 see_to-requires-clause-shaped g c =
     let shaped = c.loop-light.invariant.shaped in
-    let left = c.take_turn.new.queue.items in
-    let long = length_permutation c.loop-light.self.queue.items (c.in-Some.light ∷ left) c.in-Some.ensures.taken in
     record {
       few_cells = shaped.few_cells;
       rows = shaped.rows;
@@ -43,18 +39,12 @@ see_to-requires-clause-shaped g c =
       held = shaped.held;
       restart = shaped.restart;
       pending = shaped.pending;
-      is_queued = shaped.is_queued;
-      queue = λ k d lt. All-permutation (λ light. light < length c.args.board.now.lights) c.loop-light.self.queue.items (c.in-Some.light ∷ left) c.in-Some.ensures.taken shaped.queue (suc k) d (omega arith);
-      room = omega (arith, shaped.room, long, c.take_turn.ensures.capacity);
+      queue = ap length c.take_turn.ensures.marks ∙ shaped.queue;
     }
-
-pub see_to-requires-clause-room : goal.see_to-requires-clause-room
-see_to-requires-clause-room g c =
-    omega (arith, c.loop-light.invariant.shaped.room, length_permutation c.loop-light.self.queue.items (c.in-Some.light ∷ c.take_turn.new.queue.items) c.in-Some.ensures.taken, c.take_turn.ensures.capacity)
 
 pub loop-light-smaller : goal.loop-light-smaller
 loop-light-smaller g c =
-    omega (arith, ap left_of c.note_emptied.ensures, c.see_to.ensures.fewer, length_permutation c.loop-light.self.queue.items (c.in-Some.light ∷ c.take_turn.new.queue.items) c.in-Some.ensures.taken)
+    omega (arith, ap left_of c.note_emptied.ensures, c.see_to.ensures.fewer, length_permutation c.loop-light.self.queue.lights (c.in-Some.light ∷ c.take_turn.new.self.lights) c.in-Some.ensures.taken)
 
 pub loop-light-init : goal.loop-light-init
 unfolding word_stands letter_stands held_in restart_in pending_in queued_in
@@ -73,10 +63,6 @@ loop-light-init g c =
       kept = λ dictionary measure position under. under;
     }
 
-pub note_emptied-requires-clause-light : goal.note_emptied-requires-clause-light
-note_emptied-requires-clause-light g c =
-    All-permutation (λ light. light < length c.args.board.now.lights) c.loop-light.self.queue.items (c.in-Some.light ∷ c.take_turn.new.queue.items) c.in-Some.ensures.taken c.loop-light.invariant.shaped.queue 0 0 (omega arith)
-
 pub loop-light-preserved : goal.loop-light-preserved
 unfolding word_stands letter_stands held_in restart_in pending_in queued_in
 loop-light-preserved g c =
@@ -88,19 +74,16 @@ loop-light-preserved g c =
     record {
       same = k.ensures.entries ∙ inv.same;
       risen = omega (arith, inv.risen, k.ensures.risen);
-      rest = left_left inv.rest (left_left (left_queue c.loop-light.self (record c.loop-light.self { queue = c.take_turn.new.queue }) refl (omega (arith, c.take_turn.ensures.capacity))) (left_left k.ensures.rest (left_noted seen noted e)));
+      rest = left_left inv.rest (left_left (left_queue c.loop-light.self (record c.loop-light.self { queue = c.take_turn.new.self }) refl) (left_left k.ensures.rest (left_noted seen noted e)));
       shaped = shaped_noted c.args.board.now seen noted e k.ensures.shaped;
       bits = subst (λ (n : Net). HasBits c.args.board.now (g.R.Rows.entries c.args.rows.now) n) (sym e) (subst (λ f. HasBits c.args.board.now f seen) inv.same k.ensures.bits);
       queue = subst (λ (n : Net). IsQueue n) (sym e) (λ light. k.ensures.waits light (λ apart is.
-          elim (of_two c.in-Some.light c.take_turn.new.queue.items light (Contains-permutation c.loop-light.self.queue.items (c.in-Some.light ∷ c.take_turn.new.queue.items) light c.in-Some.ensures.taken (inv.queue light is))) [
-            | inl e ↦ absurd (apart (sym e))
-            | inr there ↦ there
-          ]));
+          waits_taken c.loop-light.self.queue.lights c.take_turn.new.self.lights c.in-Some.light light c.in-Some.ensures.taken apart (inv.queue light (ap (λ marks. get_or marks light false) (sym c.take_turn.ensures.marks) ∙ is))));
       pending = λ slot letter pends. elim (k.ensures.pending slot letter (sym (ap (λ (n : Net). pending_in n slot letter) e) ∙ pends)) [ inl before ↦ inv.pending slot letter before | inr at ↦ inr at ];
       holding = λ dictionary position holding.
           subst (λ (n : Net). IsHolding c.args.board.now dictionary (marks_of n)) (sym e) (k.ensures.holding dictionary (subst (λ e. IsPosition c.args.board.now e dictionary) (sym inv.same) position) (inv.holding dictionary position holding));
       kept = λ dictionary measure position under.
-          subst (λ (n : Net). IsUnderway c.args.board.now dictionary measure (marks_of n) (queued_in n) (g.R.Rows.ticks k.new.rows)) (sym e) (k.ensures.kept dictionary measure (subst (λ e. IsPosition c.args.board.now e dictionary) (sym inv.same) position) (inv.kept dictionary measure position under));
+          subst (λ (n : Net). IsUnderway c.args.board.now dictionary measure (marks_of n) (queued_in n) (g.R.Rows.ticks k.new.rows)) (sym e) (k.ensures.kept dictionary measure (subst (λ e. IsPosition c.args.board.now e dictionary) (sym inv.same) position) (subst (λ (q : ListOfLights). IsUnderway c.args.board.now dictionary measure (marks_of (record c.loop-light.self { queue = q })) (queued_in (record c.loop-light.self { queue = q })) (g.R.Rows.ticks c.loop-light.rows)) (sym c.take_turn.ensures.rest) (inv.kept dictionary measure position under)));
     }
 
 pub returns-clause-empty : goal.returns-clause-empty
@@ -109,9 +92,8 @@ returns-clause-empty g c = c.in_default.ensures.left
 pub returns-clause-none_queued : goal.returns-clause-none_queued
 unfolding queued_in
 returns-clause-none_queued g c light =
-    let long : length c.loop-light.self.queue.items ≡ 0 = ap length c.in_default.ensures.none in
-    false_from_ne_true (queued_in c.loop-light.self light) (λ is.
-    let there = c.loop-light.invariant.queue light is in omega (arith, there.1, long))
+    ap (λ marks. get_or marks light false) c.take_turn.ensures.marks
+    ∙ false_from_ne_true (queued_in c.loop-light.self light) (λ is. both_ways (is_waiting c.loop-light.self.queue.lights light) (waiting-none c.loop-light.self.queue.lights light c.in_default.ensures.none) (c.loop-light.invariant.queue light is))
 
 pub returns-clause-holding : goal.returns-clause-holding
 unfolding word_stands letter_stands held_in restart_in pending_in queued_in
@@ -130,10 +112,10 @@ returns-clause-settled g c dictionary position ready =
       paid = record { closed = λ light place other other_place letter here there meets stands lost has. refl; within = omega arith; queued = λ light lt h. refl; fewer = λ cell letter h. h };
     } in
     let under = inv.kept dictionary measure position start in
-    let long : length c.loop-light.self.queue.items ≡ 0 = ap length c.in_default.ensures.none in
-    settled_net board dictionary (marks_of c.loop-light.self) under.kept (λ light lt.
+    subst (λ (q : ListOfLights). IsSettledNet c.args.board.now dictionary (marks_of (record c.loop-light.self { queue = q }))) (sym c.take_turn.ensures.rest)
+    (settled_net board dictionary (marks_of c.loop-light.self) under.kept (λ light lt.
     false_from_ne_true (queued_in c.loop-light.self light) (λ is.
-    let there = inv.queue light is in omega (arith, there.1, long)))
+    both_ways (is_waiting c.loop-light.self.queue.lights light) (waiting-none c.loop-light.self.queue.lights light c.in_default.ensures.none) (inv.queue light is))))
 
 pub returns-clause-none_pending : goal.returns-clause-none_pending
 unfolding word_stands letter_stands held_in restart_in pending_in queued_in
@@ -146,16 +128,16 @@ returns-clause-none_pending g c dictionary position ready placed slot letter =
 pub returns-clause-exact : goal.returns-clause-exact
 unfolding word_stands letter_stands held_in restart_in pending_in queued_in
 returns-clause-exact g c dictionary position ready =
-    settled_exact c.args.board.now (g.R.Rows.entries c.args.rows.now) dictionary position (marks_of c.loop-light.self) (returns-clause-settled g c dictionary position ready)
+    settled_exact c.args.board.now (g.R.Rows.entries c.args.rows.now) dictionary position (marks_of (record c.loop-light.self { queue = c.take_turn.new.self })) (returns-clause-settled g c dictionary position ready)
 
 pub returns-clause-filled : goal.returns-clause-filled
 unfolding word_stands letter_stands held_in restart_in pending_in queued_in
 returns-clause-filled g c dictionary position from =
     let board = c.args.board.now in
     let old = c.args.self.now in
-    let last : Net = record c.loop-light.self { queue = c.take_turn.new.queue } in
+    let last : Net = record c.loop-light.self { queue = c.take_turn.new.self } in
     let inv = c.loop-light.invariant in
-    let rest : IsLeft c.args.self.now last = left_left inv.rest (left_queue c.loop-light.self last refl (omega (arith, c.take_turn.ensures.capacity))) in
+    let rest : IsLeft c.args.self.now last = left_left inv.rest (left_queue c.loop-light.self last refl) in
     let base = ap (λ v. vec_items v) rest.base in
     record {
       whole = record {
@@ -174,8 +156,8 @@ returns-clause-filled g c dictionary position from =
       quiet = record {
         queue = returns-clause-empty g c;
         queued = returns-clause-none_queued g c;
-        stack = ap (λ v. vec_items v) rest.stack ∙ from.stack;
-        marked = λ light. ap (λ v. is_marked (vec_items v) light) rest.is_marked ∙ from.marked light;
+        stack = ap (λ list. list.lights) rest.chain ∙ from.stack;
+        marked = λ light. ap (λ list. is_marked list.marks light) rest.chain ∙ from.marked light;
       };
     }
 

@@ -1,10 +1,10 @@
 use Rattle.std.proofs.Common.{◌≡◌, List, length, false, get_or, None, sym, ap, subst, ◌∙◌, arith}
-use Rattle.std.specs.Prelude.{Option, vec_len, vec_capacity}
+use Rattle.std.specs.Prelude.{Option, vec_len}
 use Rattle.std.proofs.lemmas.List.{length-replicate}
 use Rattle.xw_grid.specs.declared.lights.Light.{Light}
 use Rattle.xw_net.specs.Room.{counts_of, row_at}
 use Rattle.xw_net.specs.Renumber.{AreLights}
-use Rattle.xw_net.specs.Spread.{is_marked}
+use Rattle.xw_net.specs.Worklist.{ListOfLights, is_marked}
 use Rattle.xw_net.specs.Nets.{word_stands}
 use Rattle.xw_net.specs.Fit.{HasRoomBetween, IsTurned}
 use Rattle.xw_net.specs.declared.net.Net.{Net}
@@ -19,8 +19,8 @@ returns-in-Some-clause-rest g c =
     let is = c.renumber.ensures.renumbered in
     let same = c.renumber.ensures.rest in
     let spare = (subst (HasRoomBetween c.args.before.now c.args.lights.now (counts_of (g.R.Rows.entries c.args.words.now)) c.args.self.now) (sym c.in-Some.ensures.value) c.requires.room).1 in
-    let queued_long = ap length is.is_queued ∙ length-replicate (length c.args.lights.now) false in
-    let marked_long = ap length is.is_marked ∙ length-replicate (length c.args.lights.now) false in
+    let queued_long = ap (λ (list : ListOfLights). length list.marks) is.queue ∙ length-replicate (length c.args.lights.now) false in
+    let marked_long = ap (λ (list : ListOfLights). length list.marks) is.chain ∙ length-replicate (length c.args.lights.now) false in
     record {
       few_cells = had.few_cells;
       rows = omega (arith, is.rows.long);
@@ -30,14 +30,12 @@ returns-in-Some-clause-rest g c =
       held = ap (λ (n : Net). vec_len n.held) same ∙ had.held;
       restart = ap (λ (n : Net). vec_len n.restart) same ∙ had.restart;
       pending = ap (λ (n : Net). vec_len n.pending) same ∙ had.pending;
-      queue = ap (λ (n : Net). n.queue.items) same ∙ had.queue;
-      queued_long = omega (arith, queued_long);
-      is_queued = λ light. ap (λ q. is_marked q light) is.is_queued ∙ none_marked (length c.args.lights.now) light;
-      queue_room = omega (arith, queued_long, spare.queue, ap (λ (n : Net). vec_capacity n.queue) same);
-      stack = ap (λ (n : Net). n.stack.items) same ∙ had.stack;
-      marked_long = omega (arith, marked_long);
-      is_marked = λ light. ap (λ q. is_marked q light) is.is_marked ∙ none_marked (length c.args.lights.now) light;
-      stack_room = omega (arith, marked_long, spare.stack, ap (λ (n : Net). vec_capacity n.stack) same);
+      queue = ap (λ (list : ListOfLights). list.lights) is.queue;
+      queued_long = queued_long;
+      is_queued = λ light. ap (λ (list : ListOfLights). is_marked list.marks light) is.queue ∙ none_marked (length c.args.lights.now) light;
+      stack = ap (λ (list : ListOfLights). list.lights) is.chain;
+      marked_long = marked_long;
+      is_marked = λ light. ap (λ (list : ListOfLights). is_marked list.marks light) is.chain ∙ none_marked (length c.args.lights.now) light;
     }
 
 pub returns-in-Some-clause-rows : goal.returns-in-Some-clause-rows
@@ -54,7 +52,7 @@ returns-in-Some-clause-turned g c =
       base = turned_row c.args.before.now c.args.lights.now c.requires.lights (counts_of (g.R.Rows.entries c.args.words.now)) c.args.self.now.base.items c.renumber.new.self.base.items is.base;
       entered = turned_flag c.args.before.now c.args.lights.now c.requires.lights (counts_of (g.R.Rows.entries c.args.words.now)) c.args.self.now.entered.items c.renumber.new.self.entered.items is.entered;
       lights = λ had. turned_lights c.args.before.now c.args.lights.now c.requires.lights (counts_of (g.R.Rows.entries c.args.words.now)) _ c.renumber.new.self is;
-      rest = c.renumber.ensures.rest ∙ ap (λ s. record c.args.self.now { rows = c.renumber.new.self.rows; base = c.renumber.new.self.base; entered = c.renumber.new.self.entered; is_queued = c.renumber.new.self.is_queued; is_marked = c.renumber.new.self.is_marked; spare = s }) c.in-Some.ensures.after;
+      rest = c.renumber.ensures.rest ∙ ap (λ s. record c.args.self.now { rows = c.renumber.new.self.rows; base = c.renumber.new.self.base; entered = c.renumber.new.self.entered; queue = c.renumber.new.self.queue; chain = c.renumber.new.self.chain; spare = s }) c.in-Some.ensures.after;
     }
 
 -- if the lights stay, the net is unchanged
@@ -76,14 +74,14 @@ returns-in_default-clause-turned g c =
 pub returns-in-Some-clause-room : goal.returns-in-Some-clause-room
 returns-in-Some-clause-room g c =
     let had = subst (HasRoomBetween c.args.before.now c.args.lights.now (counts_of (g.R.Rows.entries c.args.words.now)) c.args.self.now) (sym c.in-Some.ensures.value) c.requires.room in
-    c.renumber.ensures.room (record { rows = had.0.rows; base = had.0.base; queue = had.0.queue; stack = had.0.stack })
+    c.renumber.ensures.room (record { rows = had.0.rows; base = had.0.base })
 
 pub returns-in_default-clause-room : goal.returns-in_default-clause-room
 returns-in_default-clause-room g c =
     let had = subst (HasRoomBetween c.args.before.now c.args.lights.now (counts_of (g.R.Rows.entries c.args.words.now)) c.args.self.now) (sym c.in_default.ensures.value) c.requires.room in
-    record { rows = had.1.rows; base = had.1.base; queue = had.1.queue; stack = had.1.stack }
+    record { rows = had.1.rows; base = had.1.base }
 
 pub renumber-requires-clause-spare : goal.renumber-requires-clause-spare
 renumber-requires-clause-spare g c =
     let had = subst (HasRoomBetween c.args.before.now c.args.lights.now (counts_of (g.R.Rows.entries c.args.words.now)) c.args.self.now) (sym c.in-Some.ensures.value) c.requires.room in
-    record { arrays = had.1.arrays; queue = had.1.queue; stack = had.1.stack }
+    record { arrays = had.1.arrays; queue = had.1.queue; chain = had.1.chain }

@@ -1,0 +1,35 @@
+use Rattle.std.proofs.Common.{◌≡◌, ◌<◌, length, ℕ, ◌++◌, List, true, sym, subst, ◌∙◌}
+use Rattle.std.specs.Prelude.{IfSome, Option, Some, None}
+use Rattle.std.specs.Option.{option_to_list}
+use Rattle.std.proofs.lemmas.List.{append-nil}
+use Rattle.std.specs.Prelude.{Bool}
+use Rattle.xw_net.specs.Worklist.{ListOfLights, is_marked, IsWorklist}
+use Rattle.xw_net.proofs.Worklists.{marked_below, taken_list, taken_marked, last_moved}
+use Rattle.xw_net.proofs.worklist.Worklist.take_last.Goals as goal
+
+left : (marks : List Bool) (lights rest : List ℕ) (room : ℕ) (last : Option ℕ) → IsWorklist marks lights room → lights ≡ rest ++ option_to_list last → IsWorklist marks rest room
+left marks lights rest room (Some light) list is = taken_list marks lights rest room light list (last_moved rest light lights is)
+left marks lights rest room None list is = subst (λ l. IsWorklist marks l room) (is ∙ append-nil rest) list
+
+last_marked : (marks : List Bool) (lights rest : List ℕ) (room : ℕ) (last : Option ℕ) → IsWorklist marks lights room → lights ≡ rest ++ option_to_list last → IfSome last (λ light. is_marked marks light ≡ true)
+last_marked marks lights rest room (Some light) list is = taken_marked marks lights rest room light list (last_moved rest light lights is)
+last_marked marks lights rest room None list is = tt
+
+below : (marks : List Bool) (taken : Option ℕ) → IfSome taken (λ light. is_marked marks light ≡ true) → IfSome taken (λ light. light < length marks)
+below marks (Some light) on = marked_below marks light on
+below marks None on = tt
+
+pub invariant_of-self : goal.invariant_of-self
+invariant_of-self c =
+    subst (IsWorklist c.self.inside.marks.items c.pop.new.self.items) (sym c.pop.ensures.capacity)
+    (left c.self.inside.marks.items c.self.inside.lights.items c.pop.new.self.items _ c.pop.result c.self.invariant c.pop.ensures.items)
+
+pub returns-clause-marked : goal.returns-clause-marked
+returns-clause-marked c =
+    subst (λ (l : ListOfLights). IfSome c.pop.result (λ light. is_marked l.marks light ≡ true)) c.self.view_is
+    (last_marked c.self.inside.marks.items c.self.inside.lights.items c.pop.new.self.items _ c.pop.result c.self.invariant c.pop.ensures.items)
+
+pub returns-clause-within : goal.returns-clause-within
+returns-clause-within c =
+    subst (λ (l : ListOfLights). IfSome c.pop.result (λ light. light < length l.marks)) c.self.view_is
+    (below c.self.inside.marks.items c.pop.result (last_marked c.self.inside.marks.items c.self.inside.lights.items c.pop.new.self.items _ c.pop.result c.self.invariant c.pop.ensures.items))

@@ -1,0 +1,69 @@
+-- Lists of lights that wait, each at most once.
+use Rattle.std.specs.Prelude.{◌≡◌, ℕ, ◌+◌, ◌≤◌, Bool, true, false, not, ◌==◌, nat_eq, List, [], length, replicate, slice_index_or, count_by}
+use Rattle.std.specs.List.{list_any, IsDistinct}
+
+-- a list of lights
+pub record ListOfLights : Type 0 where
+  -- for each light whether it is marked: it is from when it is put on the list until it is released
+  pub marks : List Bool
+  -- the lights that wait on the list
+  pub lights : List ℕ
+  -- how many lights the list has room for
+  pub room : ℕ
+
+-- whether a light is marked
+unfoldable pub is_marked : List Bool → ℕ → Bool
+is_marked marks light = slice_index_or marks light false
+
+-- whether a light waits
+unfoldable pub is_waiting : List ℕ → ℕ → Bool
+is_waiting lights light = list_any (λ other. other == light) lights
+
+-- the number of lights that are not marked
+abbrev pub unmarked : List Bool → ℕ
+unmarked marks = count_by (λ mark. not mark) marks
+
+-- each light waits at most once, only marked lights wait, and there is room for all lights
+pub record IsWorklist (marks : List Bool) (lights : List ℕ) (room : ℕ) : Type 0 where
+  pub marked : (light : ℕ) → is_waiting lights light ≡ true → is_marked marks light ≡ true
+  pub once : IsDistinct nat_eq lights
+  pub roomy : length marks ≤ room
+
+-- the list is for this number of lights; none is marked, and none waits
+pub record IsIdle (count : ℕ) (list : ListOfLights) : Type 0 where
+  pub marks : list.marks ≡ replicate count false
+  pub lights : list.lights ≡ []
+  pub room : count ≤ list.room
+
+-- the list is the same, except that it may have more room
+pub record IsRoomierList (old new : ListOfLights) : Type 0 where
+  pub marks : new.marks ≡ old.marks
+  pub lights : new.lights ≡ old.lights
+  pub room : old.room ≤ new.room
+
+-- exactly the marked lights wait
+abbrev pub HasSeeds : ListOfLights → Type 0
+HasSeeds list = (light : ℕ) → is_marked list.marks light ≡ is_waiting list.lights light
+
+-- some lights were marked, and each of them was put on the list
+pub record Grows (old new : ListOfLights) : Type 0 where
+  pub size : length new.marks ≡ length old.marks
+  pub more : (light : ℕ) → is_marked old.marks light ≡ true → is_marked new.marks light ≡ true
+  pub fresh : (light : ℕ) → is_marked new.marks light ≡ true → is_waiting new.lights light ≡ false → (is_marked old.marks light ≡ true) × (is_waiting old.lights light ≡ false)
+  pub waits : ((light : ℕ) → is_waiting old.lights light ≡ true → is_marked old.marks light ≡ true) → (light : ℕ) → is_waiting new.lights light ≡ true → is_marked new.marks light ≡ true
+  pub left : length new.lights + unmarked new.marks ≡ length old.lights + unmarked old.marks
+
+-- all of these lights are marked
+abbrev pub MarksAll : (ℕ → Type 0) → ListOfLights → Type 0
+MarksAll these list = (light : ℕ) → these light → is_marked list.marks light ≡ true
+
+-- each light that was marked is one of these
+abbrev pub MarksOnly : (ℕ → Type 0) → ListOfLights → ListOfLights → Type 0
+MarksOnly these old new =
+    (member : ℕ → Bool) → ((light : ℕ) → is_marked old.marks light ≡ true → member light ≡ true) → ((light : ℕ) → these light → member light ≡ true) → (light : ℕ) → is_marked new.marks light ≡ true → member light ≡ true
+
+-- exactly these lights were put on the list, except those that were marked
+pub record Adds (these : ℕ → Type 0) (old new : ListOfLights) : Type 0 where
+  pub grows : Grows old new
+  pub all : MarksAll these new
+  pub only : MarksOnly these old new

@@ -1,0 +1,158 @@
+//! Lists of lights that wait, each at most once.
+ghost use Rattle.std.specs.Prelude.{◌≡◌, ℕ, ◌+◌, ◌*◌, ◌^◌, ◌<◌, ◌≤◌, Bool, true, false, [], ◌∷◌, ◌++◌, length, replicate, slice_set, vec_len, IfSome, IfNone, IfOk, OnOk, vec_capacity, if◌then◌else◌};
+ghost use Rattle.std.specs.List.Sorted.{IsPermutation};
+ghost use Rattle.xw_net.specs.Worklist.{is_marked, is_waiting, Grows, IsIdle, IsRoomierList};
+
+use std::alloc::{AllocError, Global};
+use std::marker::Model;
+
+/// A list of lights that wait to be processed. A light is marked from when it is inserted until it
+/// is released or the list is cleared, also after it was taken. A marked light is not inserted
+/// again.
+#[derive(Drop)]
+pub struct Worklist {
+    marks: Vec<bool>,
+    lights: Vec<usize>,
+}
+
+impl Model for Worklist {
+    ghost use Rattle.std.specs.Prelude.{vec_capacity};
+    ghost use Rattle.xw_net.specs.Worklist.{ListOfLights, IsWorklist};
+
+    ghost Value = { ListOfLights };
+
+    ghost view = { λ list. record { marks = list.marks.items; lights = list.lights.items; room = vec_capacity list.lights } };
+
+    ghost invariant = { λ list. IsWorklist list.marks.items list.lights.items (vec_capacity list.lights) };
+}
+
+impl Worklist {
+    /// An empty list for `count` lights.
+    pub(crate) fn new(alloc: Global, count: usize) -> Result<Worklist, AllocError>
+        ensures { IfOk result (IsIdle count) }
+    {
+        Ok(Worklist {
+            marks: vec![in alloc; false; count]?,
+            lights: Vec::with_capacity(alloc, count)?,
+        })
+    }
+
+    /// Whether a light is marked.
+    pub(crate) fn contains(&self, light: usize) -> bool
+        requires { light < length self.now.marks }
+        ensures { result ≡ is_marked self.now.marks light }
+    {
+        self.marks.as_slice()[light]
+    }
+
+    /// Marks a light and puts it at the end, unless it is marked.
+    pub(crate) fn insert(&mut self, light: usize)
+        requires { light < length self.old.marks }
+        ensures marks { self.new.marks ≡ slice_set self.old.marks light true }
+        ensures lights { self.new.lights ≡ (if is_marked self.old.marks light then self.old.lights else self.old.lights ++ light ∷ []) }
+        ensures room { self.old.room ≤ self.new.room }
+        ensures grows { Grows self.old self.new }
+    {
+        if !self.marks[light] {
+            self.marks[light] = true;
+            let _ = self.lights.push(light);
+        }
+    }
+
+    /// Takes the last light. It stays marked.
+    pub(crate) fn take_last(&mut self) -> Option<usize>
+        ensures taken { IfSome result (λ light. self.old.lights ≡ self.new.lights ++ light ∷ []) }
+        ensures marked { IfSome result (λ light. is_marked self.old.marks light ≡ true) }
+        ensures within { IfSome result (λ light. light < length self.old.marks) }
+        ensures none { IfNone result (self.old.lights ≡ []) }
+        ensures left { IfNone result (self.new.lights ≡ []) }
+        ensures marks { self.new.marks ≡ self.old.marks }
+        ensures rest { self.new ≡ record self.old { lights = self.new.lights } }
+    {
+        self.lights.pop()
+    }
+
+    /// Takes a light, which stays marked. `turn` moves through the list from start to end and over
+    /// again, so a light that is inserted late waits for the earlier ones.
+    pub(crate) fn take_turn(&mut self, turn: &mut usize) -> Option<usize>
+        ensures taken { IfSome result (λ light. IsPermutation self.old.lights (light ∷ self.new.lights)) }
+        ensures marked { IfSome result (λ light. is_marked self.old.marks light ≡ true) }
+        ensures within { IfSome result (λ light. light < length self.old.marks) }
+        ensures once { IfSome result (λ light. is_waiting self.new.lights light ≡ false) }
+        ensures none { IfNone result (self.old.lights ≡ []) }
+        ensures left { IfNone result (self.new.lights ≡ []) }
+        ensures marks { self.new.marks ≡ self.old.marks }
+        ensures rest { self.new ≡ record self.old { lights = self.new.lights } }
+    {
+        take_turn_of(&mut self.lights, turn)
+    }
+
+    /// Unmarks a light that was taken.
+    pub(crate) fn release(&mut self, light: usize)
+        requires light { light < length self.old.marks }
+        requires taken { is_waiting self.old.lights light ≡ false }
+        ensures { self.new ≡ record self.old { marks = slice_set self.old.marks light false } }
+    {
+        self.marks[light] = false;
+    }
+
+    /// Takes all lights off the list, and unmarks them.
+    pub(crate) fn clear(&mut self)
+        ensures { self.new ≡ record self.old { marks = replicate (length self.old.marks) false; lights = [] } }
+    {
+        self.lights.clear();
+        self.marks.as_mut_slice().fill(false);
+    }
+
+    /// Reserves room for `count` lights in total.
+    pub(crate) fn reserve(&mut self, count: usize) -> Result<(), AllocError>
+        ensures same { IsRoomierList self.old self.new }
+        ensures room { OnOk result (count ≤ self.new.room) }
+    {
+        if self.lights.len() < count {
+            self.lights.reserve_exact(count - self.lights.len())?;
+        }
+        Ok(())
+    }
+
+    /// Takes all lights off the list, and replaces the marks by those of other lights.
+    pub(crate) fn renew(&mut self, marks: Vec<bool>)
+        requires { vec_len marks ≤ self.old.room }
+        ensures { self.new ≡ record self.old { marks = marks.items; lights = [] } }
+    {
+        self.lights.clear();
+        self.marks = marks;
+    }
+
+    /// The number of lights that wait.
+    pub(crate) fn len(&self) -> usize
+        ensures { result ≡ length self.now.lights }
+    {
+        self.lights.len()
+    }
+
+    /// The number of lights, marked or not.
+    pub(crate) fn size(&self) -> usize
+        ensures { result ≡ length self.now.marks }
+    {
+        self.marks.len()
+    }
+}
+
+/// Takes the light at `turn`, or the first one if that is past the end, and moves `turn` on.
+fn take_turn_of(lights: &mut Vec<usize>, turn: &mut usize) -> Option<usize>
+    ensures taken { IfSome result (λ light. IsPermutation lights.old.items (light ∷ lights.new.items)) }
+    ensures none { IfNone result (lights.old.items ≡ []) }
+    ensures left { IfNone result (lights.new.items ≡ []) }
+    ensures capacity { vec_capacity lights.new ≡ vec_capacity lights.old }
+{
+    if lights.is_empty() {
+        return None;
+    }
+    if *turn >= lights.len() {
+        *turn = 0;
+    }
+    let light = lights.swap_remove(*turn);
+    *turn += 1;
+    Some(light)
+}
