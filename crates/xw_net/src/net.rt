@@ -66,16 +66,14 @@ fn with_all(set: LetterSet, more: LetterSet) -> LetterSet
 }
 
 impl Net {
-    ghost use Rattle.std.specs.Prelude.{◌≡◌, ℕ, ◌+◌, ◌-◌, ◌*◌, ◌<◌, ◌≤◌, ◌⊎◌, Bool, true, false, not, [], ◌||◌, ◌&&◌, ◌==◌, length, slice_index_or, Contains};
+    ghost use Rattle.std.specs.Prelude.{◌≡◌, ℕ, ◌+◌, ◌-◌, ◌*◌, ◌<◌, ◌≤◌, true, false, not, [], ◌||◌, ◌&&◌, ◌==◌, length, slice_index_or};
     ghost use Rattle.xw_letters.specs.Letter.{IsLetter};
     ghost use Rattle.xw_letters.specs.LetterSet.{has};
     ghost use Rattle.xw_words.specs.Dictionary.{Dictionary};
     ghost use Rattle.xw_feas.specs.Board.{light_at};
-    ghost use Rattle.xw_feas.specs.Choices.{IsExact};
-    ghost use Rattle.xw_net.specs.Marks.{side_of, IsPosition, IsPlace, IsSlot, IsReady, IsSettledNet, IsSound, IsHeld, IsHolding, Stays, Drops, LeavesPending, cell_at, slot_at};
-    ghost use Rattle.xw_net.specs.Due.{Measure, IsUnderway, IsClosed, HasQueued, and_light, set_cost};
-    ghost use Rattle.xw_net.specs.Nets.{marks_of, word_stands, letter_stands, pending_in, queued_in, IsShaped, IsLeft, HasBits, IsThere, IsQueue, Waits, left_of};
-    ghost use Rattle.xw_net.specs.Filled.{IsUnstripped, IsFilled};
+    ghost use Rattle.xw_net.specs.Marks.{side_of, IsPosition, IsPlace, IsHeld, Drops, LeavesPending, cell_at, slot_at};
+    ghost use Rattle.xw_net.specs.Nets.{marks_of, letter_stands, pending_in, queued_in, IsShaped, IsLeft, HasBits, IsThere, IsQueue, Waits, left_of};
+    ghost use Rattle.xw_net.specs.Steps.{WaitMore, PendLess, IsCleared, PendAtSlots, ArePlaceHeld, AreLightHeld, KeepSupports, KeepsHolding, StepsOn, StrikesOn, ChecksOn, LeavesNonePending, SettlesMarks, LeavesFeasible, FillsNet, StripsWithin};
     ghost use Rattle.xw_net.specs.Worklist.{is_waiting};
 
     /// Removes from a light the words with a pending letter at a position.
@@ -91,9 +89,9 @@ impl Net {
         ensures letters { self.new.letters ≡ self.old.letters }
         ensures held { self.new.held ≡ self.old.held }
         ensures queue { self.new.queue ≡ self.old.queue }
-        ensures cleared { (letter : ℕ) → pending_in self.new (slot_at board.now light place) letter ≡ false }
-        ensures less { (slot letter : ℕ) → pending_in self.old slot letter ≡ false → pending_in self.new slot letter ≡ false }
-        ensures kept { (dictionary : Dictionary) (measure : Measure) → IsPosition board.now (R.entries rows.old) dictionary → queued_in self.old light ≡ true → measure.member light ≡ true → IsUnderway board.now dictionary measure (marks_of self.old) (queued_in self.old) (R.ticks rows.old) → IsUnderway board.now dictionary measure (marks_of self.new) (queued_in self.new) (R.ticks rows.new) }
+        ensures cleared { IsCleared board.now self.new light place }
+        ensures less { PendLess self.old self.new }
+        ensures kept { StrikesOn board.now (R.entries rows.old) light self.old (R.ticks rows.old) self.new (R.ticks rows.new) }
     {
         let here = place_of(board, light, place);
         let pending = self.pending[here.slot];
@@ -107,7 +105,7 @@ impl Net {
     fn is_clear(&self, board: &Board<'_>, light: usize, place: usize) -> bool
         requires shaped { IsShaped board.now self.now }
         requires place { IsPlace board.now light place }
-        ensures { result ≡ true → (letter : ℕ) → pending_in self.now (slot_at board.now light place) letter ≡ false }
+        ensures { result ≡ true → IsCleared board.now self.now light place }
     {
         let here = place_of(board, light, place);
         self.pending[here.slot].is_same(LetterSet::new())
@@ -127,8 +125,8 @@ impl Net {
         ensures held { self.new.held ≡ self.old.held }
         ensures queue { self.new.queue ≡ self.old.queue }
         ensures cleared { (place letter : ℕ) → IsPlace board.now light place → pending_in self.new (slot_at board.now light place) letter ≡ false }
-        ensures less { (slot letter : ℕ) → pending_in self.old slot letter ≡ false → pending_in self.new slot letter ≡ false }
-        ensures kept { (dictionary : Dictionary) (measure : Measure) → IsPosition board.now (R.entries rows.old) dictionary → queued_in self.old light ≡ true → measure.member light ≡ true → IsUnderway board.now dictionary measure (marks_of self.old) (queued_in self.old) (R.ticks rows.old) → IsUnderway board.now dictionary measure (marks_of self.new) (queued_in self.new) (R.ticks rows.new) }
+        ensures less { PendLess self.old self.new }
+        ensures kept { StrikesOn board.now (R.entries rows.old) light self.old (R.ticks rows.old) self.new (R.ticks rows.new) }
     {
         for place in 0..board.light(light).len() {
             if self.is_clear(board, light, place) {
@@ -149,7 +147,7 @@ impl Net {
         ensures same { self.new ≡ record self.old { pending = self.new.pending; queue = self.new.queue } }
         ensures pending { (slot other : ℕ) → pending_in self.new slot other ≡ (pending_in self.old slot other || ((slot == 2 * cell + side_of (light_at board.now light)) && (other == letter))) }
         ensures queued { (other : ℕ) → queued_in self.new other ≡ (queued_in self.old other || (other == light)) }
-        ensures waits { (other : ℕ) → Waits self.old other → Waits self.new other }
+        ensures waits { WaitMore self.old self.new }
         ensures longer { length self.new.queue.lights ≤ length self.old.queue.lights + 1 }
     {
         let slot = 2 * cell + side(&board.light(light));
@@ -166,7 +164,7 @@ impl Net {
         ensures rest { IsLeft self.old self.new }
         ensures same { self.new ≡ record self.old { letters = self.new.letters; pending = self.new.pending; queue = self.new.queue } }
         ensures fewer { left_of self.new ≤ left_of self.old }
-        ensures waits { (other : ℕ) → Waits self.old other → Waits self.new other }
+        ensures waits { WaitMore self.old self.new }
         ensures drops { Drops board.now here.light here.place letter (marks_of self.old) (marks_of self.new) }
     {
         self.letters[here.cell].remove(letter);
@@ -186,7 +184,7 @@ impl Net {
         ensures same { self.new ≡ record self.old { pending = self.new.pending; queue = self.new.queue } }
         ensures pending { (slot letter : ℕ) → pending_in self.new slot letter ≡ (pending_in self.old slot letter || ((slot == 2 * cell + side_of (light_at board.now light)) && has gone letter)) }
         ensures queued { (other : ℕ) → queued_in self.new other ≡ (queued_in self.old other || (other == light)) }
-        ensures waits { (other : ℕ) → Waits self.old other → Waits self.new other }
+        ensures waits { WaitMore self.old self.new }
         ensures longer { length self.new.queue.lights ≤ length self.old.queue.lights + 1 }
     {
         let slot = 2 * cell + side(&board.light(light));
@@ -205,7 +203,7 @@ impl Net {
         ensures rest { IsLeft self.old self.new }
         ensures same { self.new ≡ record self.old { letters = self.new.letters; pending = self.new.pending; queue = self.new.queue } }
         ensures fewer { left_of self.new ≤ left_of self.old }
-        ensures waits { (other : ℕ) → Waits self.old other → Waits self.new other }
+        ensures waits { WaitMore self.old self.new }
         ensures letters { (cell letter : ℕ) → letter_stands self.new cell letter ≡ (letter_stands self.old cell letter && not (cell == cell_at board.now here.light here.place)) }
         ensures leaves { LeavesPending board.now here.light here.place (letter_stands self.old (cell_at board.now here.light here.place)) (marks_of self.old) (marks_of self.new) }
     {
@@ -234,12 +232,12 @@ impl Net {
         ensures entered { self.new.entered.items ≡ self.old.entered.items }
         ensures others { (other : ℕ) → (other ≡ letter → ⊥) → letter_stands self.old here.cell other ≡ true → letter_stands self.new here.cell other ≡ true }
         ensures alive { (cell other : ℕ) → letter_stands self.new cell other ≡ true → letter_stands self.old cell other ≡ true }
-        ensures waits { (other : ℕ) → Waits self.old other → Waits self.new other }
+        ensures waits { WaitMore self.old self.new }
         ensures held { (dictionary : Dictionary) → IsPosition board.now (R.entries rows.old) dictionary → letter_stands self.new here.cell letter ≡ true → IsHeld board.now dictionary (marks_of self.new) here.light here.place letter }
-        ensures stays { (dictionary : Dictionary) → IsPosition board.now (R.entries rows.old) dictionary → Stays board.now dictionary here.light (marks_of self.old) (marks_of self.new) }
-        ensures holding { (dictionary : Dictionary) → IsPosition board.now (R.entries rows.old) dictionary → IsHolding board.now dictionary (marks_of self.old) → IsHolding board.now dictionary (marks_of self.new) }
-        ensures pending { (slot other : ℕ) → pending_in self.new slot other ≡ true → (pending_in self.old slot other ≡ true) ⊎ IsSlot board.now slot }
-        ensures kept { (dictionary : Dictionary) (measure : Measure) → IsPosition board.now (R.entries rows.old) dictionary → measure.member here.light ≡ true → IsUnderway board.now dictionary measure (marks_of self.old) (and_light (queued_in self.old) here.light) (R.ticks rows.old) → IsUnderway board.now dictionary measure (marks_of self.new) (and_light (queued_in self.new) here.light) (R.ticks rows.new) }
+        ensures stays { KeepSupports board.now (R.entries rows.old) here.light self.old self.new }
+        ensures holding { KeepsHolding board.now (R.entries rows.old) self.old self.new }
+        ensures pending { PendAtSlots board.now self.old self.new }
+        ensures kept { ChecksOn board.now (R.entries rows.old) here.light self.old (R.ticks rows.old) self.new (R.ticks rows.new) }
     {
         let row = &self.rows[here.light];
         if !find_support(rows, row, here, letter, &mut self.held, &mut self.restart) {
@@ -260,12 +258,12 @@ impl Net {
         ensures bits { HasBits board.now (R.entries rows.old) self.new }
         ensures fewer { left_of self.new ≤ left_of self.old }
         ensures entered { self.new.entered.items ≡ self.old.entered.items }
-        ensures waits { (other : ℕ) → Waits self.old other → Waits self.new other }
-        ensures held { (dictionary : Dictionary) → IsPosition board.now (R.entries rows.old) dictionary → (letter : ℕ) → letter_stands self.new (cell_at board.now light place) letter ≡ true → IsHeld board.now dictionary (marks_of self.new) light place letter }
-        ensures stays { (dictionary : Dictionary) → IsPosition board.now (R.entries rows.old) dictionary → Stays board.now dictionary light (marks_of self.old) (marks_of self.new) }
-        ensures holding { (dictionary : Dictionary) → IsPosition board.now (R.entries rows.old) dictionary → IsHolding board.now dictionary (marks_of self.old) → IsHolding board.now dictionary (marks_of self.new) }
-        ensures pending { (slot other : ℕ) → pending_in self.new slot other ≡ true → (pending_in self.old slot other ≡ true) ⊎ IsSlot board.now slot }
-        ensures kept { (dictionary : Dictionary) (measure : Measure) → IsPosition board.now (R.entries rows.old) dictionary → measure.member light ≡ true → IsUnderway board.now dictionary measure (marks_of self.old) (and_light (queued_in self.old) light) (R.ticks rows.old) → IsUnderway board.now dictionary measure (marks_of self.new) (and_light (queued_in self.new) light) (R.ticks rows.new) }
+        ensures waits { WaitMore self.old self.new }
+        ensures held { ArePlaceHeld board.now (R.entries rows.old) self.new light place }
+        ensures stays { KeepSupports board.now (R.entries rows.old) light self.old self.new }
+        ensures holding { KeepsHolding board.now (R.entries rows.old) self.old self.new }
+        ensures pending { PendAtSlots board.now self.old self.new }
+        ensures kept { ChecksOn board.now (R.entries rows.old) light self.old (R.ticks rows.old) self.new (R.ticks rows.new) }
     {
         let here = place_of(board, light, place);
         let alive = self.letters[here.cell];
@@ -294,11 +292,11 @@ impl Net {
         ensures rest { IsLeft self.old self.new }
         ensures bits { HasBits board.now (R.entries rows.old) self.new }
         ensures fewer { left_of self.new ≤ left_of self.old }
-        ensures waits { (other : ℕ) → Waits self.old other → Waits self.new other }
-        ensures held { (dictionary : Dictionary) → IsPosition board.now (R.entries rows.old) dictionary → (place letter : ℕ) → IsPlace board.now light place → letter_stands self.new (cell_at board.now light place) letter ≡ true → IsHeld board.now dictionary (marks_of self.new) light place letter }
-        ensures holding { (dictionary : Dictionary) → IsPosition board.now (R.entries rows.old) dictionary → IsHolding board.now dictionary (marks_of self.old) → IsHolding board.now dictionary (marks_of self.new) }
-        ensures pending { (slot other : ℕ) → pending_in self.new slot other ≡ true → (pending_in self.old slot other ≡ true) ⊎ IsSlot board.now slot }
-        ensures kept { (dictionary : Dictionary) (measure : Measure) → IsPosition board.now (R.entries rows.old) dictionary → measure.member light ≡ true → IsUnderway board.now dictionary measure (marks_of self.old) (and_light (queued_in self.old) light) (R.ticks rows.old) → IsUnderway board.now dictionary measure (marks_of self.new) (and_light (queued_in self.new) light) (R.ticks rows.new) }
+        ensures waits { WaitMore self.old self.new }
+        ensures held { AreLightHeld board.now (R.entries rows.old) self.new light }
+        ensures holding { KeepsHolding board.now (R.entries rows.old) self.old self.new }
+        ensures pending { PendAtSlots board.now self.old self.new }
+        ensures kept { ChecksOn board.now (R.entries rows.old) light self.old (R.ticks rows.old) self.new (R.ticks rows.new) }
     {
         if self.entered[light] {
             return;
@@ -322,9 +320,9 @@ impl Net {
         ensures bits { HasBits board.now (R.entries rows.old) self.new }
         ensures fewer { left_of self.new ≤ left_of self.old }
         ensures waits { (other : ℕ) → ((other ≡ light → ⊥) → Waits self.old other) → Waits self.new other }
-        ensures holding { (dictionary : Dictionary) → IsPosition board.now (R.entries rows.old) dictionary → IsHolding board.now dictionary (marks_of self.old) → IsHolding board.now dictionary (marks_of self.new) }
-        ensures pending { (slot other : ℕ) → pending_in self.new slot other ≡ true → (pending_in self.old slot other ≡ true) ⊎ IsSlot board.now slot }
-        ensures kept { (dictionary : Dictionary) (measure : Measure) → IsPosition board.now (R.entries rows.old) dictionary → IsUnderway board.now dictionary measure (marks_of self.old) (queued_in self.old) (R.ticks rows.old) → IsUnderway board.now dictionary measure (marks_of self.new) (queued_in self.new) (R.ticks rows.new) }
+        ensures holding { KeepsHolding board.now (R.entries rows.old) self.old self.new }
+        ensures pending { PendAtSlots board.now self.old self.new }
+        ensures kept { StepsOn board.now (R.entries rows.old) self.old (R.ticks rows.old) self.new (R.ticks rows.new) }
     {
         self.strike_light(rows, board, light);
         self.queue.release(light);
@@ -357,14 +355,14 @@ impl Net {
         ensures shaped { IsShaped board.now self.new }
         ensures rest { IsLeft self.old self.new }
         ensures bits { HasBits board.now (R.entries rows.old) self.new }
-        ensures holding { (dictionary : Dictionary) → IsPosition board.now (R.entries rows.old) dictionary → IsHolding board.now dictionary (marks_of self.old) → IsHolding board.now dictionary (marks_of self.new) }
+        ensures holding { KeepsHolding board.now (R.entries rows.old) self.old self.new }
         ensures empty { self.new.queue.lights ≡ [] }
         ensures none_queued { (light : ℕ) → queued_in self.new light ≡ false }
-        ensures none_pending { (dictionary : Dictionary) → IsPosition board.now (R.entries rows.old) dictionary → IsReady board.now dictionary (marks_of self.old) → ((slot letter : ℕ) → pending_in self.old slot letter ≡ true → IsSlot board.now slot) → (slot letter : ℕ) → pending_in self.new slot letter ≡ false }
-        ensures settled { (dictionary : Dictionary) → IsPosition board.now (R.entries rows.old) dictionary → IsReady board.now dictionary (marks_of self.old) → IsSettledNet board.now dictionary (marks_of self.new) }
-        ensures exact { (dictionary : Dictionary) → IsPosition board.now (R.entries rows.old) dictionary → IsReady board.now dictionary (marks_of self.old) → IsExact board.now dictionary (word_stands self.new) (letter_stands self.new) }
-        ensures filled { (dictionary : Dictionary) → IsPosition board.now (R.entries rows.old) dictionary → IsUnstripped board.now dictionary self.old → IsFilled board.now dictionary self.new }
-        ensures cost { (dictionary : Dictionary) (member : ℕ → Bool) → IsPosition board.now (R.entries rows.old) dictionary → IsReady board.now dictionary (marks_of self.old) → IsClosed board.now dictionary member (letter_stands self.old) → HasQueued board.now member (marks_of self.old) → R.ticks rows.new ≤ R.ticks rows.old + set_cost board.now dictionary member }
+        ensures none_pending { LeavesNonePending board.now (R.entries rows.old) self.old self.new }
+        ensures settled { SettlesMarks board.now (R.entries rows.old) self.old self.new }
+        ensures exact { LeavesFeasible board.now (R.entries rows.old) self.old self.new }
+        ensures filled { FillsNet board.now (R.entries rows.old) self.old self.new }
+        ensures cost { StripsWithin board.now (R.entries rows.old) self.old (R.ticks rows.old) (R.ticks rows.new) }
     {
         self.emptied = NOWHERE;
         let mut turn = 0;
