@@ -25,4 +25,5 @@ pub mod Net
 pub mod Sizes
 pub mod Copy
 pub mod Tally
+pub mod Update
 pub mod Cost

@@ -12,27 +12,20 @@ use xw_grid::lights::Lights;
 use xw_words::rows::Rows;
 
 impl Net {
-    ghost use Rattle.std.specs.Prelude.{◌≡◌, ℕ, ◌+◌, ◌≤◌, Bool, true, false, List, Option, None, Contains, length, vec_len};
-    ghost use Rattle.xw_words.specs.Dictionary.{Dictionary};
-    ghost use Rattle.xw_grid.specs.declared.cell.Cell.{Cell as CellOfGrid};
-    ghost use Rattle.xw_grid.specs.Grid.{is_inside};
+    ghost use Rattle.std.specs.Prelude.{◌≡◌, ℕ, ◌≤◌, true, None, length, vec_len};
     ghost use Rattle.xw_grid.specs.Light.{lights_of};
     ghost use Rattle.xw_feas.specs.Board.{board_of};
-    ghost use Rattle.xw_feas.specs.Choices.{CoversSupported, IsWithinBase};
-    ghost use Rattle.xw_feas.specs.State.{State, Action};
-    ghost use Rattle.xw_feas.specs.WellFormed.{IsWellFormed};
-    ghost use Rattle.xw_net.specs.Room.{row_at, counts_of, HaveRoom};
-    ghost use Rattle.xw_net.specs.Fit.{HasRoomBetween};
-    ghost use Rattle.xw_net.specs.Region.{IsRegion, cost};
-    ghost use Rattle.xw_net.specs.Cost.{revival_cost, stripping_cost};
-    ghost use Rattle.xw_net.specs.Nets.{word_stands, letter_stands, pending_in, IsShaped, IsChained, HasBits, IsQueue, IsLeft};
-    ghost use Rattle.xw_net.specs.Worklist.{is_marked, HasSeeds};
-    ghost use Rattle.xw_net.specs.Brought.{HasBase, CostsAtMost};
-    ghost use Rattle.xw_net.specs.Filled.{AreLong, HasRowRoom, IsUnstripped, IsFilled};
-    ghost use Rattle.xw_net.specs.Change.{IsChange, AreReadsOf};
-    ghost use Rattle.xw_net.specs.Net.{StoodFor, IsSettledFor, IsRevivedFor};
-    ghost use Rattle.xw_net.specs.Opened.{arrays_of, IsOpening, IsMoved, IsOpened};
     ghost use Rattle.xw_net.specs.Begin.{is_read};
+    ghost use Rattle.xw_net.specs.Brought.{CostsAtMost};
+    ghost use Rattle.xw_net.specs.Filled.{AreLong};
+    ghost use Rattle.xw_net.specs.Fit.{HasRoomBetween};
+    ghost use Rattle.xw_net.specs.Net.{StoodFor};
+    ghost use Rattle.xw_net.specs.Nets.{IsShaped, HasBits, IsQueue, IsLeft};
+    ghost use Rattle.xw_net.specs.Opened.{arrays_of, IsOpening};
+    ghost use Rattle.xw_net.specs.Room.{counts_of, HaveRoom};
+    ghost use Rattle.xw_net.specs.Steps.{PendLess};
+    ghost use Rattle.xw_net.specs.Update.{AreInside, IsSized, KeepsRoom, Opens, RevivesMoved, RevivesMovedInRegion, Revives, RevivesInRegion, StripsTo, StripsInRegion, Settles, SettlesInRegion};
+    ghost use Rattle.xw_net.specs.Worklist.{is_marked, HasSeeds};
 
     /// Queues the lights that the edit touches. Marks as seeds the lights that may get words back,
     /// and the lights through a cell of a removed light that gets a letter back.
@@ -46,24 +39,17 @@ impl Net {
         stays: bool,
     )
         requires cells { length grid.now.squares ≡ length board.now.open_cells }
-        requires inside { (listed : CellOfGrid × Option ℕ) → Contains change.now.cells.now listed → is_inside grid.now listed.0 ≡ true }
+        requires inside { AreInside grid.now change.now.cells.now }
         requires lights { length lights.now ≡ length board.now.lights }
         requires stays { stays ≡ true → lights.now ≡ change.now.before.now }
         requires long { AreLong board.now (R.entries rows.old) }
-        requires shaped { IsShaped board.now self.old }
-        requires chained { IsChained board.now self.old }
-        requires bits { HasBits board.now (R.entries rows.old) self.old }
-        requires base { HasBase board.now (R.entries rows.old) self.old.base.items }
+        requires sized { IsSized board.now (R.entries rows.old) self.old }
         requires queued { HasSeeds self.old.queue }
         requires seeds { HasSeeds self.old.chain }
         ensures entries { R.entries rows.new ≡ R.entries rows.old }
         ensures risen { R.ticks rows.old ≤ R.ticks rows.new }
-        ensures bits { HasBits board.now (R.entries rows.old) self.new }
-        ensures base { HasBase board.now (R.entries rows.old) self.new.base.items }
-        ensures row_room { (other : ℕ) → (row_at self.old.rows.items other).room ≤ (row_at self.new.rows.items other).room }
-        ensures base_room { (other : ℕ) → (row_at self.old.base.items other).room ≤ (row_at self.new.base.items other).room }
-        ensures shaped { IsShaped board.now self.new }
-        ensures chained { IsChained board.now self.new }
+        ensures sized { IsSized board.now (R.entries rows.old) self.new }
+        ensures room { KeepsRoom self.old self.new }
         ensures rest { self.new ≡ record self.old { rows = self.new.rows; base = self.new.base; letters = self.new.letters; queue = self.new.queue; chain = self.new.chain } }
         ensures opening { IsOpening grid.now board.now lights.now (R.entries rows.old) change.now (arrays_of self.old) (arrays_of self.new) }
         ensures cost { CostsAtMost board.now (R.entries rows.old) (is_read board.now change.now.word (is_marked self.new.queue.marks)) (R.ticks rows.old) (R.ticks rows.new) }
@@ -113,32 +99,20 @@ impl Net {
     )
         requires board { board.now ≡ board_of grid.now }
         requires lights { lights.now ≡ lights_of grid.now }
-        requires inside { (listed : CellOfGrid × Option ℕ) → Contains change.now.cells.now listed → is_inside grid.now listed.0 ≡ true }
+        requires inside { AreInside grid.now change.now.cells.now }
         requires long { AreLong board.now (R.entries rows.old) }
-        requires shaped { IsShaped board.now self.old }
-        requires chained { IsChained board.now self.old }
-        requires bits { HasBits board.now (R.entries rows.old) self.old }
-        requires base { HasBase board.now (R.entries rows.old) self.old.base.items }
+        requires sized { IsSized board.now (R.entries rows.old) self.old }
         requires queued { HasSeeds self.old.queue }
         requires seeds { HasSeeds self.old.chain }
         ensures entries { R.entries rows.new ≡ R.entries rows.old }
         ensures risen { R.ticks rows.old ≤ R.ticks rows.new }
-        ensures shaped { IsShaped board.now self.new }
-        ensures chained { IsChained board.now self.new }
-        ensures bits { HasBits board.now (R.entries rows.old) self.new }
-        ensures base { HasBase board.now (R.entries rows.old) self.new.base.items }
+        ensures sized { IsSized board.now (R.entries rows.old) self.new }
         ensures queue { IsQueue self.new }
         ensures seeds { HasSeeds self.new.chain }
         ensures spare { self.new.spare ≡ self.old.spare }
-        ensures pending { (slot letter : ℕ) → pending_in self.old slot letter ≡ false → pending_in self.new slot letter ≡ false }
-        ensures row_room { (other : ℕ) → (row_at self.old.rows.items other).room ≤ (row_at self.new.rows.items other).room }
-        ensures base_room { (other : ℕ) → (row_at self.old.base.items other).room ≤ (row_at self.new.base.items other).room }
-        ensures opened { (before : State) (words : Dictionary) (action : Action) (settled : Net) →
-            AreReadsOf (R.entries rows.old) words →
-            IsChange before (record { grid = grid.now; words = words }) action change.now →
-            IsFilled (board_of before.grid) before.words settled →
-            IsMoved before (record { grid = grid.now; words = words }) settled self.old →
-            IsOpened before (record { grid = grid.now; words = words }) action settled self.new }
+        ensures pending { PendLess self.old self.new }
+        ensures room { KeepsRoom self.old self.new }
+        ensures opened { Opens grid.now (R.entries rows.old) change.now self.old self.new }
         ensures cost { CostsAtMost board.now (R.entries rows.old) (is_read board.now change.now.word (is_marked self.new.queue.marks)) (R.ticks rows.old) (R.ticks rows.new) }
     {
         let stays = are_same(lights, change.before);
@@ -164,12 +138,9 @@ impl Net {
     )
         requires board { board.now ≡ board_of grid.now }
         requires lights { lights.now ≡ lights_of grid.now }
-        requires inside { (listed : CellOfGrid × Option ℕ) → Contains change.now.cells.now listed → is_inside grid.now listed.0 ≡ true }
+        requires inside { AreInside grid.now change.now.cells.now }
         requires long { AreLong board.now (R.entries rows.old) }
-        requires shaped { IsShaped board.now self.old }
-        requires chained { IsChained board.now self.old }
-        requires bits { HasBits board.now (R.entries rows.old) self.old }
-        requires base { HasBase board.now (R.entries rows.old) self.old.base.items }
+        requires sized { IsSized board.now (R.entries rows.old) self.old }
         requires queued { HasSeeds self.old.queue }
         requires seeds { HasSeeds self.old.chain }
         ensures entries { R.entries rows.new ≡ R.entries rows.old }
@@ -178,23 +149,9 @@ impl Net {
         ensures bits { HasBits board.now (R.entries rows.old) self.new }
         ensures queue { IsQueue self.new }
         ensures spare { self.new.spare ≡ self.old.spare }
-        ensures row_room { (other : ℕ) → (row_at self.old.rows.items other).room ≤ (row_at self.new.rows.items other).room }
-        ensures base_room { (other : ℕ) → (row_at self.old.base.items other).room ≤ (row_at self.new.base.items other).room }
-        ensures revived { (before : State) (words : Dictionary) (action : Action) (settled : Net) →
-            AreReadsOf (R.entries rows.old) words →
-            IsChange before (record { grid = grid.now; words = words }) action change.now →
-            IsFilled (board_of before.grid) before.words settled →
-            IsMoved before (record { grid = grid.now; words = words }) settled self.old →
-            HasRowRoom board.now (R.entries rows.old) self.old.rows.items →
-            HasRowRoom board.now (R.entries rows.old) self.old.base.items →
-            IsRevivedFor before (record { grid = grid.now; words = words }) action self.new }
-        ensures cost { (before : State) (words : Dictionary) (action : Action) (settled : Net) (member : List ℕ → Bool) →
-            AreReadsOf (R.entries rows.old) words →
-            IsChange before (record { grid = grid.now; words = words }) action change.now →
-            IsFilled (board_of before.grid) before.words settled →
-            IsMoved before (record { grid = grid.now; words = words }) settled self.old →
-            IsRegion before (record { grid = grid.now; words = words }) action member →
-            R.ticks rows.new ≤ R.ticks rows.old + revival_cost (record { grid = grid.now; words = words }) member }
+        ensures room { KeepsRoom self.old self.new }
+        ensures revived { RevivesMoved grid.now (R.entries rows.old) change.now board.now self.old self.new }
+        ensures cost { RevivesMovedInRegion grid.now (R.entries rows.old) change.now self.old (R.ticks rows.old) (R.ticks rows.new) }
     {
         self.begin(rows, grid, board, lights, change);
         self.bring_back(board);
@@ -211,7 +168,7 @@ impl Net {
         lights: &Lights,
     )
         requires lights { lights.now ≡ lights_of grid.now }
-        requires inside { (listed : CellOfGrid × Option ℕ) → Contains change.now.cells.now listed → is_inside grid.now listed.0 ≡ true }
+        requires inside { AreInside grid.now change.now.cells.now }
         requires long { AreLong (board_of grid.now) (R.entries rows.old) }
         requires cells { vec_len self.old.letters ≡ length grid.now.squares }
         requires stood { StoodFor change.now.before.now (counts_of (R.entries rows.old)) self.old }
@@ -224,27 +181,8 @@ impl Net {
         ensures shaped { IsShaped (board_of grid.now) self.new }
         ensures bits { HasBits (board_of grid.now) (R.entries rows.old) self.new }
         ensures queue { IsQueue self.new }
-        ensures covers { (before : State) (words : Dictionary) (action : Action) →
-            AreReadsOf (R.entries rows.old) words →
-            IsChange before (record { grid = grid.now; words = words }) action change.now →
-            IsSettledFor before self.old →
-            CoversSupported (board_of grid.now) words (word_stands self.new) (letter_stands self.new) }
-        ensures within { (before : State) (words : Dictionary) (action : Action) →
-            AreReadsOf (R.entries rows.old) words →
-            IsChange before (record { grid = grid.now; words = words }) action change.now →
-            IsSettledFor before self.old →
-            IsWithinBase (board_of grid.now) words (word_stands self.new) (letter_stands self.new) }
-        ensures revived { (before : State) (words : Dictionary) (action : Action) →
-            AreReadsOf (R.entries rows.old) words →
-            IsChange before (record { grid = grid.now; words = words }) action change.now →
-            IsSettledFor before self.old →
-            IsRevivedFor before (record { grid = grid.now; words = words }) action self.new }
-        ensures cost { (before : State) (words : Dictionary) (action : Action) (member : List ℕ → Bool) →
-            AreReadsOf (R.entries rows.old) words →
-            IsChange before (record { grid = grid.now; words = words }) action change.now →
-            IsSettledFor before self.old →
-            IsRegion before (record { grid = grid.now; words = words }) action member →
-            R.ticks rows.new ≤ R.ticks rows.old + revival_cost (record { grid = grid.now; words = words }) member }
+        ensures revived { Revives grid.now (R.entries rows.old) change.now self.old self.new }
+        ensures cost { RevivesInRegion grid.now (R.entries rows.old) change.now self.old (R.ticks rows.old) (R.ticks rows.new) }
     {
         self.move_to(rows, change.before, lights);
         let board = Board::new(grid, lights);
@@ -266,17 +204,8 @@ impl Net {
         ensures entries { R.entries rows.new ≡ R.entries rows.old }
         ensures risen { R.ticks rows.old ≤ R.ticks rows.new }
         ensures rest { IsLeft self.old self.new }
-        ensures settled { (words : Dictionary) →
-            AreReadsOf (R.entries rows.old) words →
-            IsWellFormed (record { grid = grid.now; words = words }) →
-            IsUnstripped (board_of grid.now) words self.old →
-            IsSettledFor (record { grid = grid.now; words = words }) self.new }
-        ensures cost { (before : State) (words : Dictionary) (action : Action) (member : List ℕ → Bool) →
-            AreReadsOf (R.entries rows.old) words →
-            IsWellFormed (record { grid = grid.now; words = words }) →
-            IsRevivedFor before (record { grid = grid.now; words = words }) action self.old →
-            IsRegion before (record { grid = grid.now; words = words }) action member →
-            R.ticks rows.new ≤ R.ticks rows.old + stripping_cost (record { grid = grid.now; words = words }) member }
+        ensures settled { StripsTo grid.now (R.entries rows.old) self.old self.new }
+        ensures cost { StripsInRegion grid.now (R.entries rows.old) self.old (R.ticks rows.old) (R.ticks rows.new) }
     {
         let board = Board::new(grid, lights);
         self.strip_queued(rows, &board);
@@ -291,7 +220,7 @@ impl Net {
         lights: &Lights,
     )
         requires lights { lights.now ≡ lights_of grid.now }
-        requires inside { (listed : CellOfGrid × Option ℕ) → Contains change.now.cells.now listed → is_inside grid.now listed.0 ≡ true }
+        requires inside { AreInside grid.now change.now.cells.now }
         requires long { AreLong (board_of grid.now) (R.entries rows.old) }
         requires cells { vec_len self.old.letters ≡ length grid.now.squares }
         requires stood { StoodFor change.now.before.now (counts_of (R.entries rows.old)) self.old }
@@ -301,17 +230,8 @@ impl Net {
         ensures spare { self.new.spare ≡ None }
         ensures rows { HaveRoom lights.now (counts_of (R.entries rows.old)) self.new.rows.items }
         ensures base { HaveRoom lights.now (counts_of (R.entries rows.old)) self.new.base.items }
-        ensures settled { (before : State) (words : Dictionary) (action : Action) →
-            AreReadsOf (R.entries rows.old) words →
-            IsChange before (record { grid = grid.now; words = words }) action change.now →
-            IsSettledFor before self.old →
-            IsSettledFor (record { grid = grid.now; words = words }) self.new }
-        ensures cost { (before : State) (words : Dictionary) (action : Action) (member : List ℕ → Bool) →
-            AreReadsOf (R.entries rows.old) words →
-            IsChange before (record { grid = grid.now; words = words }) action change.now →
-            IsSettledFor before self.old →
-            IsRegion before (record { grid = grid.now; words = words }) action member →
-            R.ticks rows.new ≤ R.ticks rows.old + cost (record { grid = grid.now; words = words }) member }
+        ensures settled { Settles grid.now (R.entries rows.old) change.now self.old self.new }
+        ensures cost { SettlesInRegion grid.now (R.entries rows.old) change.now self.old (R.ticks rows.old) (R.ticks rows.new) }
     {
         self.revive(rows, change, grid, lights);
         self.strip(rows, change, grid, lights);

@@ -57,13 +57,13 @@ pub open-requires-clause-lights : goal.open-requires-clause-lights
 open-requires-clause-lights g c = as_many c.args.grid.now c.args.board.now c.args.lights.now c.requires.board c.requires.lights
 
 pub forget_lights-requires-clause-few : goal.forget_lights-requires-clause-few
-forget_lights-requires-clause-few g c = c.requires.shaped.few_cells
+forget_lights-requires-clause-few g c = c.requires.sized.shaped.few_cells
 
 pub forget_lights-requires-clause-held : goal.forget_lights-requires-clause-held
-forget_lights-requires-clause-held g c = c.deref_mut.ensures.len ∙ c.requires.shaped.held
+forget_lights-requires-clause-held g c = c.deref_mut.ensures.len ∙ c.requires.sized.shaped.held
 
 pub forget_lights-requires-clause-pending : goal.forget_lights-requires-clause-pending
-forget_lights-requires-clause-pending g c = c.deref_mut-2.ensures.len ∙ c.requires.shaped.pending
+forget_lights-requires-clause-pending g c = c.deref_mut-2.ensures.len ∙ c.requires.sized.shaped.pending
 
 pub returns-clause-queue : goal.returns-clause-queue
 unfolding queued_in is_marked

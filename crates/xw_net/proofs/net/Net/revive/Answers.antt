@@ -1,32 +1,21 @@
 use Rattle.std.proofs.Common.{sym, subst}
 use Rattle.std.specs.Prelude.{vec_len}
-use Rattle.xw_net.specs.Nets.{IsShaped, IsChained, HasBits}
-use Rattle.xw_net.specs.Brought.{HasBase}
+use Rattle.xw_net.specs.Nets.{IsShaped, HasBits}
+use Rattle.xw_net.specs.Update.{IsSized}
 use Rattle.xw_net.specs.Filled.{HasRowRoom}
 use Rattle.xw_net.specs.Room.{counts_of}
 use Rattle.xw_net.proofs.AtRest.{stood_rest, stood_rows, stood_base}
 use Rattle.xw_net.proofs.Resting.{rest_shaped, rest_chained, rest_bits, rest_base, rest_room, rest_queued, rest_marked}
 use Rattle.xw_net.proofs.net.Net.revive.Goals as goal
 
-pub revive_moved-requires-clause-shaped : goal.revive_moved-requires-clause-shaped
-revive_moved-requires-clause-shaped g c =
-    subst (λ b. IsShaped b c.move_to.new.self) (sym c.new-board.ensures)
-    (rest_shaped c.args.grid.now c.args.lights.now (vec_len c.args.self.now.letters) c.move_to.new.self c.requires.lights c.requires.cells c.move_to.ensures.rest)
-
-pub revive_moved-requires-clause-chained : goal.revive_moved-requires-clause-chained
-revive_moved-requires-clause-chained g c =
-    subst (λ b. IsChained b c.move_to.new.self) (sym c.new-board.ensures)
-    (rest_chained c.args.grid.now c.args.lights.now (vec_len c.args.self.now.letters) c.move_to.new.self c.requires.lights c.requires.cells c.move_to.ensures.rest)
-
-pub revive_moved-requires-clause-bits : goal.revive_moved-requires-clause-bits
-revive_moved-requires-clause-bits g c =
-    subst (λ b. HasBits b (g.R.Rows.entries c.args.rows.now) c.move_to.new.self) (sym c.new-board.ensures)
-    (rest_bits c.args.grid.now c.args.lights.now (vec_len c.args.self.now.letters) c.move_to.new.self c.requires.lights c.requires.cells c.move_to.ensures.rest (g.R.Rows.entries c.args.rows.now) c.move_to.ensures.whole.rows)
-
-pub revive_moved-requires-clause-base : goal.revive_moved-requires-clause-base
-revive_moved-requires-clause-base g c =
-    subst (λ b. HasBase b (g.R.Rows.entries c.args.rows.now) c.move_to.new.self.base.items) (sym c.new-board.ensures)
-    (rest_base c.args.grid.now c.args.lights.now (vec_len c.args.self.now.letters) c.move_to.new.self c.requires.lights c.requires.cells c.move_to.ensures.rest (g.R.Rows.entries c.args.rows.now) c.move_to.ensures.whole.base)
+pub revive_moved-requires-clause-sized : goal.revive_moved-requires-clause-sized
+revive_moved-requires-clause-sized g c =
+    subst (λ b. IsSized b (g.R.Rows.entries c.args.rows.now) c.move_to.new.self) (sym c.new-board.ensures) (record {
+      shaped = rest_shaped c.args.grid.now c.args.lights.now (vec_len c.args.self.now.letters) c.move_to.new.self c.requires.lights c.requires.cells c.move_to.ensures.rest;
+      chained = rest_chained c.args.grid.now c.args.lights.now (vec_len c.args.self.now.letters) c.move_to.new.self c.requires.lights c.requires.cells c.move_to.ensures.rest;
+      bits = rest_bits c.args.grid.now c.args.lights.now (vec_len c.args.self.now.letters) c.move_to.new.self c.requires.lights c.requires.cells c.move_to.ensures.rest (g.R.Rows.entries c.args.rows.now) c.move_to.ensures.whole.rows;
+      base = rest_base c.args.grid.now c.args.lights.now (vec_len c.args.self.now.letters) c.move_to.new.self c.requires.lights c.requires.cells c.move_to.ensures.rest (g.R.Rows.entries c.args.rows.now) c.move_to.ensures.whole.base;
+    })
 
 pub revive_moved-requires-clause-queued : goal.revive_moved-requires-clause-queued
 revive_moved-requires-clause-queued g c = rest_queued c.args.grid.now c.args.lights.now (vec_len c.args.self.now.letters) c.move_to.new.self c.requires.lights c.requires.cells c.move_to.ensures.rest
@@ -57,12 +46,6 @@ returns-clause-revived g c before words action read is settled =
     (rest_room c.args.grid.now c.args.lights.now (vec_len c.args.self.now.letters) c.move_to.new.self c.requires.lights c.requires.cells c.move_to.ensures.rest (g.R.Rows.entries c.args.rows.now) c.move_to.new.self.rows.items c.move_to.ensures.room.rows))
     (subst (λ b. HasRowRoom b (g.R.Rows.entries c.args.rows.now) c.move_to.new.self.base.items) (sym c.new-board.ensures)
     (rest_room c.args.grid.now c.args.lights.now (vec_len c.args.self.now.letters) c.move_to.new.self c.requires.lights c.requires.cells c.move_to.ensures.rest (g.R.Rows.entries c.args.rows.now) c.move_to.new.self.base.items c.move_to.ensures.room.base))
-
-pub returns-clause-covers : goal.returns-clause-covers
-returns-clause-covers g c before words action read is settled = (returns-clause-revived g c before words action read is settled).unstripped.ready.sound.covers
-
-pub returns-clause-within : goal.returns-clause-within
-returns-clause-within g c before words action read is settled = (returns-clause-revived g c before words action read is settled).unstripped.ready.sound.within
 
 pub returns-clause-cost : goal.returns-clause-cost
 returns-clause-cost g c before words action member read is settled region =

@@ -66,12 +66,12 @@ returns-clause-revived g c before words action settled read is filled moved room
     let words_read : (light : ℕ) → length (g.R.Rows.entries c.args.rows.now (length (light_at c.args.board.now light))) ≡ length (row words (length (light_at c.args.board.now light))) =
     λ light. ap (λ (entries : List Entry). length entries) (read (length (light_at board light))) in
     let whole : IsWholeNet c.args.board.now (row words) c.begin.new.self = record {
-      shaped = c.begin.ensures.shaped;
-      chained = c.begin.ensures.chained;
-      bits = λ light lt. c.begin.ensures.bits light lt ∙ words_read light;
-      base = base_read board (g.R.Rows.entries c.args.rows.now) (row words) c.begin.new.self.base.items read c.begin.ensures.base;
-      room = λ light lt. omega (arith, room light lt, c.begin.ensures.row_room light, words_read light);
-      base_room = λ light lt. omega (arith, base_room light lt, c.begin.ensures.base_room light, words_read light);
+      shaped = c.begin.ensures.sized.shaped;
+      chained = c.begin.ensures.sized.chained;
+      bits = λ light lt. c.begin.ensures.sized.bits light lt ∙ words_read light;
+      base = base_read board (g.R.Rows.entries c.args.rows.now) (row words) c.begin.new.self.base.items read c.begin.ensures.sized.base;
+      room = λ light lt. omega (arith, room light lt, c.begin.ensures.room.rows light, words_read light);
+      base_room = λ light lt. omega (arith, base_room light lt, c.begin.ensures.room.base light, words_read light);
     } in
     let none_pending : (slot letter : ℕ) → pending_in c.begin.new.self slot letter ≡ false =
     λ slot letter. c.begin.ensures.pending slot letter (ap (λ ps. set_has ps slot letter) moved.pending ∙ filled.pending slot letter) in
