@@ -6,7 +6,7 @@ use Rattle.xw_words.specs.Dictionary.{Dictionary, Entry, row}
 use Rattle.xw_feas.specs.Board.{Board, light_at}
 use Rattle.xw_feas.specs.Feasible.{may_stand}
 use Rattle.xw_feas.specs.Choices.{choice_at, is_base_at}
-use Rattle.xw_net.specs.Base.{base_bits}
+use Rattle.xw_net.specs.Base.{base_bits, base_row, IsRowBut}
 use Rattle.xw_net.specs.Region.{chunks_of}
 use Rattle.xw_net.specs.Due.{sum_to}
 use Rattle.xw_net.specs.Revival.{StandsOn, was, IsKept}
@@ -31,6 +31,11 @@ base_cost board entries member =
 abbrev pub CostsAtMost : Board → (ℕ → List Entry) → (ℕ → Bool) → ℕ → ℕ → Type 0
 CostsAtMost board entries is_read ticks ticks' =
     (member : ℕ → Bool) → ((light : ℕ) → light < length board.lights → is_read light ≡ true → member light ≡ true) → ticks' ≤ ticks + base_cost board entries member
+
+-- the base rows that were read are right if they were, except perhaps for the changed word
+abbrev pub AreRead : Board → (ℕ → List Entry) → Option (ℕ × ℕ) → (ℕ → Bool) → List RowOfBits → List RowOfBits → Type 0
+AreRead board entries word is_read base base' =
+    (light : ℕ) → light < length board.lights → is_read light ≡ true → IsRowBut board entries word light (bits_in base light) → bits_in base' light ≡ base_row board entries light
 
 -- the marks after words and letters came back along a chain of lights
 pub record IsBrought (board : Board) (dictionary : Dictionary) (old new : Marks) (chain : ℕ → Bool) : Type 0 where

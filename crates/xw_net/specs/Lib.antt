@@ -13,6 +13,7 @@ pub mod Worklist
 pub mod Spread
 pub mod Brought
 pub mod Filled
+pub mod Chain
 pub mod Steps
 pub mod Begin
 pub mod Gone

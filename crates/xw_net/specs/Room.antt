@@ -40,6 +40,10 @@ HaveBitRoom lights len rows = (light : ℕ) → light < length lights → size_a
 abbrev pub HaveBitMore : List Light → ℕ → List RowOfBits → List RowOfBits → Type 0
 HaveBitMore lights len old new = (light : ℕ) → light < length lights → (row_at new light).bits ≡ with_bit lights len light (row_at old light).bits
 
+-- no row has lost room
+abbrev pub KeepRoom : List RowOfBits → List RowOfBits → Type 0
+KeepRoom old new = (light : ℕ) → (row_at old light).room ≤ (row_at new light).room
+
 -- the rows have the same bits, and at least as much room
 pub record AreRoomier (old new : List RowOfBits) : Type 0 where
   pub long : length new ≡ length old

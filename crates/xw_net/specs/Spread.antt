@@ -34,6 +34,10 @@ abbrev pub lit : List RowOfBits → List Bool → List ℕ → ListOfLights → 
 lit rows entered restart queue = record { rows = rows; entered = entered; restart = restart; queued = queue.marks }
 
 module _ (board : Board) where
+  -- each light's row has as many bits as its base row
+  abbrev pub AreAsLong : List RowOfBits → List RowOfBits → Type 0
+  AreAsLong rows base = (light : ℕ) → light < length board.lights → length (bits_in rows light) ≡ length (bits_in base light)
+
   -- a light through the cell
   abbrev pub IsThrough : ℕ → ℕ → Type 0
   IsThrough cell light = (place : ℕ) × IsPlace board light place × (cell_at board light place ≡ cell)

@@ -3,14 +3,15 @@
 ghost use Rattle.std.specs.Prelude.{◌≡◌, ℕ, ◌+◌, ◌*◌, ◌<◌, ◌≤◌, ◌&&◌, true, false, length, slice_index, slice_index_or, All, Some, IfSome, IfNone};
 ghost use Rattle.xw_bits.specs.Bits.{has_bit};
 ghost use Rattle.xw_words.specs.Columns.{is_active};
-ghost use Rattle.xw_words.specs.Dictionary.{Entry, entry_at};
+ghost use Rattle.xw_words.specs.Dictionary.{entry_at};
 ghost use Rattle.xw_feas.specs.Board.{light_at, entry, agrees, is_wholly_entered};
-ghost use Rattle.xw_net.specs.Base.{base_bits, is_base_word, has_entry, IsBaseBut};
+ghost use Rattle.xw_net.specs.Base.{is_base_word, has_entry, AreOfLength, row_cost, base_row, IsRowOf, IsRowBut, IsRightBut};
 ghost use Rattle.xw_net.specs.Region.{chunks_of};
 ghost use Rattle.xw_net.specs.Spread.{bits_in};
+ghost use Rattle.xw_net.specs.Filled.{AreLong};
 ghost use Rattle.xw_net.specs.Worklist.{is_marked};
-ghost use Rattle.xw_net.specs.Room.{row_at};
-ghost use Rattle.xw_net.specs.Brought.{HasBase, CostsAtMost};
+ghost use Rattle.xw_net.specs.Room.{KeepRoom};
+ghost use Rattle.xw_net.specs.Brought.{HasBase, AreRead, CostsAtMost};
 ghost use Rattle.xw_net.specs.Begin.{is_long as is_long_of, is_read as is_read_of};
 
 use crate::worklist::Worklist;
@@ -43,7 +44,7 @@ fn agreeing_in<R: Rows>(
 /// A bit for each word of a chunk: whether it is active and agrees with the letters in the light's
 /// cells.
 fn base_in<R: Rows>(rows: &mut R, board: &Board<'_>, cells: &Cells, chunk: usize) -> u64
-    requires { All (λ (word : Entry). length word.word ≡ length cells.now) (R.entries rows.old (length cells.now)) }
+    requires { AreOfLength (R.entries rows.old) (length cells.now) }
     ensures entries { R.entries rows.new ≡ R.entries rows.old }
     ensures risen { R.ticks rows.old ≤ R.ticks rows.new }
     ensures words { (k : ℕ) → k < 64 → has_bit result k ≡ (entry_at (R.entries rows.old (length cells.now)) (64 * chunk + k)).active && agrees board.now cells.now (entry_at (R.entries rows.old (length cells.now)) (64 * chunk + k)).word }
@@ -68,7 +69,7 @@ fn base_chunk<R: Rows>(
     entered: bool,
     chunk: usize,
 ) -> u64
-    requires long { All (λ (word : Entry). length word.word ≡ length cells.now) (R.entries rows.old (length cells.now)) }
+    requires long { AreOfLength (R.entries rows.old) (length cells.now) }
     requires entered { entered ≡ is_wholly_entered board.now cells.now }
     ensures entries { R.entries rows.new ≡ R.entries rows.old }
     ensures risen { R.ticks rows.old ≤ R.ticks rows.new }
@@ -125,7 +126,7 @@ fn keep_agreeing<R: Rows>(
 /// Sets the bits of the known words that are active and agree with the letters in the light's
 /// cells.
 fn read_open<R: Rows>(rows: &mut R, board: &Board<'_>, cells: &Cells, row: &mut BitRow)
-    requires long { All (λ (word : Entry). length word.word ≡ length cells.now) (R.entries rows.old (length cells.now)) }
+    requires long { AreOfLength (R.entries rows.old) (length cells.now) }
     requires row { length row.old.bits ≡ length (R.entries rows.old (length cells.now)) }
     ensures entries { R.entries rows.new ≡ R.entries rows.old }
     ensures risen { R.ticks rows.old ≤ R.ticks rows.new }
@@ -144,13 +145,13 @@ fn read_open<R: Rows>(rows: &mut R, board: &Board<'_>, cells: &Cells, row: &mut 
 /// it reads nothing.
 pub fn read_base<R: Rows>(rows: &mut R, board: &Board<'_>, light: usize, row: &mut BitRow)
     requires light { light < length board.now.lights }
-    requires long { All (λ (word : Entry). length word.word ≡ length (light_at board.now light)) (R.entries rows.old (length (light_at board.now light))) }
-    requires bits { length row.old.bits ≡ length (R.entries rows.old (length (light_at board.now light))) }
+    requires long { AreOfLength (R.entries rows.old) (length (light_at board.now light)) }
+    requires bits { IsRowOf board.now (R.entries rows.old) light row.old.bits }
     ensures entries { R.entries rows.new ≡ R.entries rows.old }
     ensures risen { R.ticks rows.old ≤ R.ticks rows.new }
-    ensures bits { row.new.bits ≡ base_bits board.now (light_at board.now light) (R.entries rows.old (length (light_at board.now light))) }
+    ensures bits { row.new.bits ≡ base_row board.now (R.entries rows.old) light }
     ensures room { row.new.room ≡ row.old.room }
-    ensures cost { R.ticks rows.new ≤ R.ticks rows.old + (length (light_at board.now light) + 1) * chunks_of (length row.old.bits) }
+    ensures cost { R.ticks rows.new ≤ R.ticks rows.old + row_cost board.now light (length row.old.bits) }
     ensures unread { is_wholly_entered board.now (light_at board.now light) ≡ true → R.ticks rows.new ≡ R.ticks rows.old }
 {
     let cells = board.light(light);
@@ -172,14 +173,14 @@ fn read_chunk<R: Rows>(
     row: &mut BitRow,
 )
     requires light { light < length board.now.lights }
-    requires long { All (λ (word : Entry). length word.word ≡ length (light_at board.now light)) (R.entries rows.old (length (light_at board.now light))) }
-    requires bits { length row.old.bits ≡ length (R.entries rows.old (length (light_at board.now light))) }
+    requires long { AreOfLength (R.entries rows.old) (length (light_at board.now light)) }
+    requires bits { IsRowOf board.now (R.entries rows.old) light row.old.bits }
     ensures entries { R.entries rows.new ≡ R.entries rows.old }
     ensures risen { R.ticks rows.old ≤ R.ticks rows.new }
     ensures len { length row.new.bits ≡ length row.old.bits }
-    ensures bits { ((k : ℕ) → (k ≡ place → ⊥) → slice_index_or row.old.bits k false ≡ is_base_word board.now (light_at board.now light) (entry_at (R.entries rows.old (length (light_at board.now light))) k)) → row.new.bits ≡ base_bits board.now (light_at board.now light) (R.entries rows.old (length (light_at board.now light))) }
+    ensures bits { IsRightBut board.now (R.entries rows.old) light place row.old.bits → row.new.bits ≡ base_row board.now (R.entries rows.old) light }
     ensures room { row.new.room ≡ row.old.room }
-    ensures cost { R.ticks rows.new ≤ R.ticks rows.old + (length (light_at board.now light) + 1) * chunks_of (length row.old.bits) }
+    ensures cost { R.ticks rows.new ≤ R.ticks rows.old + row_cost board.now light (length row.old.bits) }
 {
     if place >= row.len() {
         return;
@@ -211,14 +212,14 @@ fn read_changed<R: Rows>(
     row: &mut BitRow,
 )
     requires light { light < length board.now.lights }
-    requires long { All (λ (entry : Entry). length entry.word ≡ length (light_at board.now light)) (R.entries rows.old (length (light_at board.now light))) }
-    requires bits { length row.old.bits ≡ length (R.entries rows.old (length (light_at board.now light))) }
+    requires long { AreOfLength (R.entries rows.old) (length (light_at board.now light)) }
+    requires bits { IsRowOf board.now (R.entries rows.old) light row.old.bits }
     ensures entries { R.entries rows.new ≡ R.entries rows.old }
     ensures risen { R.ticks rows.old ≤ R.ticks rows.new }
     ensures len { length row.new.bits ≡ length row.old.bits }
-    ensures bits { IsBaseBut board.now (light_at board.now light) (R.entries rows.old (length (light_at board.now light))) word row.old.bits → row.new.bits ≡ base_bits board.now (light_at board.now light) (R.entries rows.old (length (light_at board.now light))) }
+    ensures bits { IsRowBut board.now (R.entries rows.old) word light row.old.bits → row.new.bits ≡ base_row board.now (R.entries rows.old) light }
     ensures room { row.new.room ≡ row.old.room }
-    ensures cost { R.ticks rows.new ≤ R.ticks rows.old + (length (light_at board.now light) + 1) * chunks_of (length row.old.bits) }
+    ensures cost { R.ticks rows.new ≤ R.ticks rows.old + row_cost board.now light (length row.old.bits) }
 {
     match place_if_long(word, board.light(light).len()) {
         Some(place) => read_chunk(rows, board, light, place, row),
@@ -235,16 +236,16 @@ fn read_row<R: Rows>(
     base: &mut [BitRow],
 )
     requires light { light < length board.now.lights }
-    requires long { All (λ (entry : Entry). length entry.word ≡ length (light_at board.now light)) (R.entries rows.old (length (light_at board.now light))) }
+    requires long { AreOfLength (R.entries rows.old) (length (light_at board.now light)) }
     requires base { HasBase board.now (R.entries rows.old) base.old }
     ensures entries { R.entries rows.new ≡ R.entries rows.old }
     ensures risen { R.ticks rows.old ≤ R.ticks rows.new }
     ensures len { length base.new ≡ length base.old }
     ensures bits { length (bits_in base.new light) ≡ length (bits_in base.old light) }
-    ensures here { IsBaseBut board.now (light_at board.now light) (R.entries rows.old (length (light_at board.now light))) word (bits_in base.old light) → bits_in base.new light ≡ base_bits board.now (light_at board.now light) (R.entries rows.old (length (light_at board.now light))) }
+    ensures here { IsRowBut board.now (R.entries rows.old) word light (bits_in base.old light) → bits_in base.new light ≡ base_row board.now (R.entries rows.old) light }
     ensures others { (other : ℕ) → (other ≡ light → ⊥) → bits_in base.new other ≡ bits_in base.old other }
-    ensures row_room { (other : ℕ) → (row_at base.old other).room ≤ (row_at base.new other).room }
-    ensures cost { R.ticks rows.new ≤ R.ticks rows.old + (length (light_at board.now light) + 1) * chunks_of (length (R.entries rows.old (length (light_at board.now light)))) }
+    ensures row_room { KeepRoom base.old base.new }
+    ensures cost { R.ticks rows.new ≤ R.ticks rows.old + row_cost board.now light (length (R.entries rows.old (length (light_at board.now light)))) }
 {
     read_changed(rows, board, word, light, &mut base[light]);
 }
@@ -278,15 +279,15 @@ pub fn read_marked<R: Rows>(
     list: &Worklist,
     base: &mut [BitRow],
 )
-    requires long { (light : ℕ) → light < length board.now.lights → All (λ (entry : Entry). length entry.word ≡ length (light_at board.now light)) (R.entries rows.old (length (light_at board.now light))) }
+    requires long { AreLong board.now (R.entries rows.old) }
     requires list { length board.now.lights ≤ length list.now.marks }
     requires base { HasBase board.now (R.entries rows.old) base.old }
     ensures entries { R.entries rows.new ≡ R.entries rows.old }
     ensures risen { R.ticks rows.old ≤ R.ticks rows.new }
     ensures base { HasBase board.now (R.entries rows.old) base.new }
-    ensures on { (light : ℕ) → light < length board.now.lights → is_read_of board.now word (is_marked list.now.marks) light ≡ true → IsBaseBut board.now (light_at board.now light) (R.entries rows.old (length (light_at board.now light))) word (bits_in base.old light) → bits_in base.new light ≡ base_bits board.now (light_at board.now light) (R.entries rows.old (length (light_at board.now light))) }
+    ensures on { AreRead board.now (R.entries rows.old) word (is_read_of board.now word (is_marked list.now.marks)) base.old base.new }
     ensures off { (light : ℕ) → is_read_of board.now word (is_marked list.now.marks) light ≡ false → bits_in base.new light ≡ bits_in base.old light }
-    ensures row_room { (other : ℕ) → (row_at base.old other).room ≤ (row_at base.new other).room }
+    ensures row_room { KeepRoom base.old base.new }
     ensures cost { CostsAtMost board.now (R.entries rows.old) (is_read_of board.now word (is_marked list.now.marks)) (R.ticks rows.old) (R.ticks rows.new) }
 {
     for light in 0..board.light_count() {

@@ -6,11 +6,11 @@ ghost use Rattle.xw_grid.specs.Grid.{index_of, is_inside};
 ghost use Rattle.xw_feas.specs.Board.{light_at};
 ghost use Rattle.xw_feas.specs.Feasible.{may_stand};
 ghost use Rattle.xw_feas.specs.Flags.{set_has};
-ghost use Rattle.xw_net.specs.Spread.{IsThrough, KeepsSpread, bits_in};
+ghost use Rattle.xw_net.specs.Spread.{AreAsLong, IsThrough, KeepsSpread, bits_in};
 ghost use Rattle.xw_net.specs.Begin.{IsEdited, StaysEdited, AreEdited, IsThroughListed, HasLength, IsSeed, IsQueuedSeed, MayConcern, IsConcerned, may_have, is_seed as is_seed_of, has_changed, is_read, IsNarrowedRow, AreNarrowed, AreBaseBut, IsPrepared};
 ghost use Rattle.xw_net.specs.Brought.{HasBase, CostsAtMost};
 ghost use Rattle.xw_net.specs.Filled.{AreLong};
-ghost use Rattle.xw_net.specs.Room.{row_at};
+ghost use Rattle.xw_net.specs.Room.{KeepRoom};
 ghost use Rattle.xw_net.specs.Worklist.{is_marked, Grows, Adds, MarksOnly};
 
 use crate::base::read_marked;
@@ -150,7 +150,7 @@ fn touch_light(
     requires bits { length (bits_in rows.old light) ≡ length (bits_in base.now light) }
     requires chain { light < length chain.old.marks }
     ensures len { length rows.new ≡ length rows.old }
-    ensures row_room { (other : ℕ) → (row_at rows.old other).room ≤ (row_at rows.new other).room }
+    ensures row_room { KeepRoom rows.old rows.new }
     ensures here { IsNarrowedRow word (length (light_at board.now light)) (bits_in rows.old light) (bits_in base.now light) (bits_in rows.new light) }
     ensures others { (other : ℕ) → (other ≡ light → ⊥) → bits_in rows.new other ≡ bits_in rows.old other }
     ensures chain { Adds (λ other. (other ≡ light) × IsSeed board.now word base.now other) chain.old chain.new }
@@ -173,10 +173,10 @@ fn touch_lights(
     requires base { length board.now.lights ≤ length base.now }
     requires queue { length board.now.lights ≤ length queue.now.marks }
     requires rows { length board.now.lights ≤ length rows.old }
-    requires bits { (light : ℕ) → light < length board.now.lights → length (bits_in rows.old light) ≡ length (bits_in base.now light) }
+    requires bits { AreAsLong board.now rows.old base.now }
     requires chain { length board.now.lights ≤ length chain.old.marks }
     ensures len { length rows.new ≡ length rows.old }
-    ensures row_room { (other : ℕ) → (row_at rows.old other).room ≤ (row_at rows.new other).room }
+    ensures row_room { KeepRoom rows.old rows.new }
     ensures on { AreNarrowed board.now word base.now (is_marked queue.now.marks) rows.old rows.new }
     ensures off { (light : ℕ) → is_marked queue.now.marks light ≡ false → bits_in rows.new light ≡ bits_in rows.old light }
     ensures chain { Adds (IsQueuedSeed board.now word base.now queue.now) chain.old chain.new }
@@ -260,8 +260,8 @@ pub(crate) fn prepare<R: Rows>(
     ensures risen { R.ticks rows.old ≤ R.ticks rows.new }
     ensures base { HasBase board.now (R.entries rows.old) base.new }
     ensures words { HasBase board.now (R.entries rows.old) words.new }
-    ensures words_room { (other : ℕ) → (row_at words.old other).room ≤ (row_at words.new other).room }
-    ensures base_room { (other : ℕ) → (row_at base.old other).room ≤ (row_at base.new other).room }
+    ensures words_room { KeepRoom words.old words.new }
+    ensures base_room { KeepRoom base.old base.new }
     ensures queue { Grows queue.old queue.new }
     ensures queued_within { MarksOnly (HasLength board.now word) queue.old queue.new }
     ensures chain { Grows chain.old chain.new }

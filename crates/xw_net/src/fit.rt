@@ -1,6 +1,6 @@
 //! Adapts a net to the lights and the dictionary after an edit.
 ghost use Rattle.std.specs.Prelude.{◌≡◌, ℕ, ◌<◌, ◌≤◌, length};
-ghost use Rattle.xw_net.specs.Room.{counts_of, row_at, HaveRoom};
+ghost use Rattle.xw_net.specs.Room.{counts_of, row_at, HaveRoom, KeepRoom};
 ghost use Rattle.xw_net.specs.Fit.{fitted, AreFitted};
 
 use crate::net::Net;
@@ -26,7 +26,7 @@ pub(crate) fn fit_rows<R: Rows>(words: &R, lights: &Lights, rows: &mut [BitRow])
     requires room { HaveRoom lights.now (counts_of (R.entries words.now)) rows.old }
     ensures fitted { AreFitted lights.now (counts_of (R.entries words.now)) rows.old rows.new }
     ensures others { (light : ℕ) → length lights.now ≤ light → row_at rows.new light ≡ row_at rows.old light }
-    ensures room { (light : ℕ) → (row_at rows.old light).room ≤ (row_at rows.new light).room }
+    ensures room { KeepRoom rows.old rows.new }
 {
     for light in 0..lights.len() {
         let known = words.known(size_at(lights, light));

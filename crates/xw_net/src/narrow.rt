@@ -2,7 +2,7 @@
 ghost use Rattle.std.specs.Prelude.{◌≡◌, ℕ, ◌<◌, ◌≤◌, length, Some};
 ghost use Rattle.xw_feas.specs.Board.{light_at};
 ghost use Rattle.xw_net.specs.Begin.{IsNarrowedRow};
-ghost use Rattle.xw_net.specs.Room.{row_at};
+ghost use Rattle.xw_net.specs.Room.{KeepRoom};
 ghost use Rattle.xw_net.specs.Spread.{bits_in};
 
 use crate::base::place_if_long;
@@ -52,7 +52,7 @@ pub(crate) fn narrow_row(
     requires rows { light < length rows.old }
     requires bits { length (bits_in rows.old light) ≡ length (bits_in base.now light) }
     ensures len { length rows.new ≡ length rows.old }
-    ensures row_room { (other : ℕ) → (row_at rows.old other).room ≤ (row_at rows.new other).room }
+    ensures row_room { KeepRoom rows.old rows.new }
     ensures here { IsNarrowedRow word (length (light_at board.now light)) (bits_in rows.old light) (bits_in base.now light) (bits_in rows.new light) }
     ensures others { (other : ℕ) → (other ≡ light → ⊥) → bits_in rows.new other ≡ bits_in rows.old other }
 {

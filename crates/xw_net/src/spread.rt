@@ -6,8 +6,8 @@ ghost use Rattle.xw_feas.specs.Board.{light_at};
 ghost use Rattle.xw_feas.specs.Feasible.{may_stand};
 ghost use Rattle.xw_feas.specs.Flags.{set_has};
 ghost use Rattle.xw_net.specs.Marks.{IsPlace, cell_at, slot_at};
-ghost use Rattle.xw_net.specs.Room.{row_at};
-ghost use Rattle.xw_net.specs.Spread.{places_from, no_places, bits_in, HasAll, IsThrough, IsSpread, SpreadsOn, ReachesFrom, Reaches, Lit, lit, IsLit, IsListed, none_waits};
+ghost use Rattle.xw_net.specs.Room.{row_at, KeepRoom};
+ghost use Rattle.xw_net.specs.Spread.{places_from, no_places, bits_in, AreAsLong, HasAll, IsThrough, IsSpread, SpreadsOn, ReachesFrom, Reaches, Lit, lit, IsLit, IsListed, none_waits};
 ghost use Rattle.xw_net.specs.Worklist.{is_marked, HasSeeds, Grows, MarksAll, MarksOnly};
 
 use crate::net::Net;
@@ -120,7 +120,7 @@ fn bring_row(base: &[BitRow], light: usize, rows: &mut [BitRow])
     ensures len { length rows.new ≡ length rows.old }
     ensures here { bits_in rows.new light ≡ bits_in base.now light }
     ensures others { (other : ℕ) → (other ≡ light → ⊥) → bits_in rows.new other ≡ bits_in rows.old other }
-    ensures row_room { (other : ℕ) → (row_at rows.old other).room ≤ (row_at rows.new other).room }
+    ensures row_room { KeepRoom rows.old rows.new }
 {
     rows[light].copy_from(&base[light]);
 }
@@ -144,7 +144,7 @@ fn bring_words(
     requires slots { length restart.old ≡ 2 * length board.now.open_cells }
     requires queue { light < length queue.old.marks }
     ensures listed { IsListed queue.old → IsListed queue.new }
-    ensures row_room { (other : ℕ) → (row_at rows.old other).room ≤ (row_at rows.new other).room }
+    ensures row_room { KeepRoom rows.old rows.new }
     ensures lit { (start : Lit) (marked waiting left : ℕ → Bool) →
         marked light ≡ true →
         ((other : ℕ) → (other ≡ light → ⊥) → left other ≡ false → waiting other ≡ false) →
@@ -173,7 +173,7 @@ pub(crate) fn spread(
     requires few { length board.now.open_cells < 2 ^ 32 }
     requires base { length board.now.lights ≤ length base.now }
     requires rows { length board.now.lights ≤ length rows.old }
-    requires bits { (light : ℕ) → light < length board.now.lights → length (bits_in rows.old light) ≡ length (bits_in base.now light) }
+    requires bits { AreAsLong board.now rows.old base.now }
     requires entered { length board.now.lights ≤ length entered.old }
     requires letters { length letters.old ≡ length board.now.open_cells }
     requires slots { length restart.old ≡ 2 * length board.now.open_cells }
@@ -182,7 +182,7 @@ pub(crate) fn spread(
     requires seeds { HasSeeds chain.old }
     ensures letters { length letters.new ≡ length letters.old }
     ensures listed { IsListed queue.old → IsListed queue.new }
-    ensures row_room { (other : ℕ) → (row_at rows.old other).room ≤ (row_at rows.new other).room }
+    ensures row_room { KeepRoom rows.old rows.new }
     ensures empty { chain.new.lights ≡ [] }
     ensures size { length chain.new.marks ≡ length chain.old.marks }
     ensures more { (light : ℕ) → is_marked chain.old.marks light ≡ true → is_marked chain.new.marks light ≡ true }
@@ -197,20 +197,15 @@ pub(crate) fn spread(
 }
 
 impl Net {
-    ghost use Rattle.xw_net.specs.Room.{row_at};
-    ghost use Rattle.std.specs.Prelude.{◌≡◌, ℕ, ◌≤◌, Bool, true, false, [], List, Option, IsTrue, length};
-    ghost use Rattle.xw_words.specs.Dictionary.{Dictionary, Entry};
-    ghost use Rattle.xw_feas.specs.Board.{Board as BoardOfPlaces, board_of, light_at};
-    ghost use Rattle.xw_feas.specs.Choices.{CoversSupported, IsExact};
-    ghost use Rattle.xw_feas.specs.Feasible.{may_stand};
-    ghost use Rattle.xw_feas.specs.State.{State, Action};
-    ghost use Rattle.xw_net.specs.Revival.{IsMatching, IsRevived};
-    ghost use Rattle.xw_net.specs.Region.{IsRegion};
-    ghost use Rattle.xw_net.specs.Marks.{IsPosition, IsReady};
-    ghost use Rattle.xw_net.specs.Nets.{marks_of, word_stands, letter_stands, IsShaped, IsChained, HasBits, IsQueue};
+    ghost use Rattle.std.specs.Prelude.{◌≡◌, ℕ, true, false, [], List};
+    ghost use Rattle.xw_words.specs.Dictionary.{Entry};
+    ghost use Rattle.xw_feas.specs.Board.{Board as BoardOfPlaces};
+    ghost use Rattle.xw_net.specs.Brought.{HasBase};
+    ghost use Rattle.xw_net.specs.Chain.{BringsBack, RevivesChain, CoversFeasible, ReadiesChain, StaysInRegion};
+    ghost use Rattle.xw_net.specs.Nets.{letter_stands, IsShaped, IsChained, HasBits, IsQueue};
+    ghost use Rattle.xw_net.specs.Room.{KeepRoom};
     ghost use Rattle.xw_net.specs.Spread.{Reaches};
     ghost use Rattle.xw_net.specs.Worklist.{is_marked, HasSeeds};
-    ghost use Rattle.xw_net.specs.Brought.{HasBase, IsBase, IsBrought, IsBegun, IsReadyBut};
 
     /// Puts words and letters back along the chain that starts at the marked lights.
     pub(crate) fn bring_back(&mut self, board: &Board<'_>)
@@ -225,33 +220,14 @@ impl Net {
         ensures base { self.new.base ≡ self.old.base }
         ensures spare { self.new.spare ≡ self.old.spare }
         ensures empty { self.new.chain.lights ≡ [] }
-        ensures row_room { (other : ℕ) → (row_at self.old.rows.items other).room ≤ (row_at self.new.rows.items other).room }
+        ensures row_room { KeepRoom self.old.rows.items self.new.rows.items }
         ensures seeded { (light : ℕ) → is_marked self.old.chain.marks light ≡ true → is_marked self.new.chain.marks light ≡ true }
-        ensures brought { (dictionary : Dictionary) → IsBase board.now dictionary self.old.base.items → IsBrought board.now dictionary (marks_of self.old) (marks_of self.new) (is_marked self.new.chain.marks) }
+        ensures brought { BringsBack board.now self.old self.new }
         ensures within { Reaches board.now (letter_stands self.old) self.old.chain self.new.chain }
-        ensures revived { (before : BoardOfPlaces) (old new : Dictionary) (same : ℕ → Option ℕ) (words letters : ℕ → ℕ → Bool) →
-            IsBase board.now new self.old.base.items →
-            IsBegun before board.now old new same words letters (word_stands self.old) (letter_stands self.old) (is_marked self.old.chain.marks) →
-            IsRevived before board.now old new same words letters (word_stands self.new) (letter_stands self.new) }
-        ensures covers { (before : BoardOfPlaces) (old new : Dictionary) (same : ℕ → Option ℕ) (words letters : ℕ → ℕ → Bool) →
-            IsBase board.now new self.old.base.items →
-            IsMatching before board.now same →
-            IsExact before old words letters →
-            IsBegun before board.now old new same words letters (word_stands self.old) (letter_stands self.old) (is_marked self.old.chain.marks) →
-            CoversSupported board.now new (word_stands self.new) (letter_stands self.new) }
-        ensures ready { (entries : ℕ → List Entry) (dictionary : Dictionary) →
-            IsPosition board.now entries dictionary →
-            IsBase board.now dictionary self.old.base.items →
-            IsReadyBut board.now dictionary (marks_of self.old) (is_marked self.old.chain.marks) →
-            CoversSupported board.now dictionary (word_stands self.new) (letter_stands self.new) →
-            IsReady board.now dictionary (marks_of self.new) }
-        ensures region { (before after : State) (action : Action) (member : List ℕ → Bool) (words letters : ℕ → ℕ → Bool) →
-            board.now ≡ board_of after.grid →
-            IsRegion before after action member →
-            IsExact (board_of before.grid) before.words words letters →
-            ((cell letter : ℕ) → IsTrue (may_stand board.now cell letter) → IsTrue (letters cell letter) → IsTrue (letter_stands self.old cell letter)) →
-            ((light : ℕ) → is_marked self.old.chain.marks light ≡ true → IsTrue (member (light_at board.now light))) →
-            (light : ℕ) → is_marked self.new.chain.marks light ≡ true → IsTrue (member (light_at board.now light)) }
+        ensures revived { RevivesChain board.now self.old self.new }
+        ensures covers { CoversFeasible board.now self.old self.new }
+        ensures ready { ReadiesChain board.now self.old self.new }
+        ensures region { StaysInRegion board.now self.old self.new }
     {
         spread(
             board,
