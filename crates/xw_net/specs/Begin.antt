@@ -92,10 +92,14 @@ module _ (board : Board) where
   StaysEdited letters queue chain letters' queue' chain' cell old =
       IsEdited (set_has letters) (is_marked queue.marks) (is_marked chain.marks) cell old → IsEdited (set_has letters') (is_marked queue'.marks) (is_marked chain'.marks) cell old
 
-  -- the queued lights keep only base words in their rows
+  -- the row of a light keeps only base words
+  abbrev pub IsNarrowed : Option (ℕ × ℕ) → ℕ → List RowOfBits → List RowOfBits → List RowOfBits → Type 0
+  IsNarrowed word light base rows rows' = IsNarrowedRow word (length (light_at board light)) (bits_in rows light) (bits_in base light) (bits_in rows' light)
+
+  -- so do the rows of the queued lights
   abbrev pub AreNarrowed : Option (ℕ × ℕ) → List RowOfBits → (ℕ → Bool) → List RowOfBits → List RowOfBits → Type 0
   AreNarrowed word base in_queue rows rows' =
-      (light : ℕ) → light < length board.lights → in_queue light ≡ true → IsNarrowedRow word (length (light_at board light)) (bits_in rows light) (bits_in base light) (bits_in rows' light)
+      (light : ℕ) → light < length board.lights → in_queue light ≡ true → IsNarrowed word light base rows rows'
 
 -- a light through a cell that the edit wrote
 abbrev pub IsThroughListed : Grid → Board → List (Cell × Option ℕ) → ℕ → Type 0

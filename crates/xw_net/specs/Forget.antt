@@ -1,9 +1,13 @@
 -- Supports that a light has to forget after an edit.
 use Rattle.std.specs.Prelude.{◌≡◌, ℕ, ◌+◌, ◌-◌, ◌*◌, ◌^◌, ◌<◌, true, false, ◌&&◌, ◌==◌, nat_le, nat_lt, List, length, slice_index, Option, Some, None, if◌then◌else◌}
 use Rattle.xw_letters.specs.Letter.{is_capital}
-use Rattle.xw_feas.specs.Board.{Board}
+use Rattle.xw_words.specs.Dictionary.{Entry}
+use Rattle.xw_grid.specs.declared.lights.Light.{Light}
+use Rattle.xw_feas.specs.Board.{Board, light_at}
 use Rattle.xw_feas.specs.Flags.{set_has}
 use Rattle.xw_net.specs.Marks.{IsPlace, slot_at}
+use Rattle.xw_net.specs.Renumber.{same_before}
+use Rattle.xw_net.specs.declared.change.Change.{Change}
 
 -- the value for no support
 abbrev pub nowhere : ℕ
@@ -23,6 +27,28 @@ abbrev pub lost_from : Option (ℕ × ℕ) → Option ℕ → ℕ → ℕ → �
 lost_from word None size known = 0
 lost_from None (Some other) size known = nowhere
 lost_from (Some word) (Some other) size known = if (word.0 == size) && nat_le known (word.1 + 1) then word.1 else nowhere
+
+-- no letter became pending
+abbrev pub KeepsFewer : List ℕ → List ℕ → Type 0
+KeepsFewer pending pending' = (slot letter : ℕ) → set_has pending' slot letter ≡ true → set_has pending slot letter ≡ true
+
+module _ (board : Board) (light : ℕ) where
+  -- the supports of the light changed in this way,
+  abbrev pub ChangesHeld : (ℕ → ℕ) → List ℕ → List ℕ → Type 0
+  ChangesHeld change held held' =
+      (place letter : ℕ) → place < length (light_at board light) → is_capital letter ≡ true
+      → slice_index held' (26 * slot_at board light place + (letter - 65)) ≡ change (slice_index held (26 * slot_at board light place + (letter - 65)))
+
+  -- and those at other slots stay
+  abbrev pub KeepsHeld : List ℕ → List ℕ → Type 0
+  KeepsHeld held held' =
+      (slot letter : ℕ) → ((place : ℕ) → place < length (light_at board light) → slot_at board light place ≡ slot → ⊥) → is_capital letter ≡ true
+      → slice_index held' (26 * slot + (letter - 65)) ≡ slice_index held (26 * slot + (letter - 65))
+
+-- the least index of a support that a light of the board has to forget after an edit
+abbrev pub lost_at : Change → Board → List Light → (ℕ → List Entry) → ℕ → ℕ
+lost_at change board lights entries light =
+    lost_from change.word (same_before change.before.now lights light) (length (light_at board light)) (length (entries (length (light_at board light))))
 
 -- each light forgot its supports from its least index on, and has nothing pending if it had to
 -- forget any

@@ -1,5 +1,5 @@
 -- The state of a net as sets and relations, and the invariants of stripping.
-use Rattle.std.specs.Prelude.{◌≡◌, ◌⊎◌, ℕ, ◌+◌, ◌*◌, ◌<◌, ◌≤◌, Bool, true, false, ◌&&◌, ◌||◌, ◌==◌, not, List, length, slice_index, if◌then◌else◌}
+use Rattle.std.specs.Prelude.{◌≡◌, ◌⊎◌, ℕ, ◌+◌, ◌*◌, ◌^◌, ◌<◌, ◌≤◌, Bool, true, false, ◌&&◌, ◌||◌, ◌==◌, not, List, length, slice_index, if◌then◌else◌}
 use Rattle.xw_letters.specs.Letter.{is_capital}
 use Rattle.xw_words.specs.Dictionary.{Dictionary, Entry, row, IsDictionary}
 use Rattle.xw_feas.specs.Board.{Board, light_at, IsCrossing}
@@ -12,6 +12,22 @@ abbrev pub side_of : List ℕ → ℕ
 side_of cells = if slice_index cells 1 == slice_index cells 0 + 1 then 0 else 1
 
 module _ (board : Board) where
+  -- indices of slots and letters do not overflow
+  abbrev pub HasFewCells : Type 0
+  HasFewCells = length board.open_cells < 2 ^ 32
+
+  -- there is a set of letters for each cell,
+  abbrev pub AreByCell : List ℕ → Type 0
+  AreByCell sets = length sets ≡ length board.open_cells
+
+  -- for each slot,
+  abbrev pub AreBySlot : List ℕ → Type 0
+  AreBySlot sets = length sets ≡ 2 * length board.open_cells
+
+  -- and an index for each slot and letter
+  abbrev pub AreHeld : List ℕ → Type 0
+  AreHeld held = length held ≡ 52 * length board.open_cells
+
   -- the light is on the board, and has the position
   abbrev pub IsPlace : ℕ → ℕ → Type 0
   IsPlace light place = (light < length board.lights) × (place < length (light_at board light))

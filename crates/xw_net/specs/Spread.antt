@@ -21,6 +21,14 @@ no_places light place = false
 abbrev pub bits_in : List RowOfBits → ℕ → List Bool
 bits_in rows light = bits_at (slice_get rows light)
 
+-- the rows of the other lights stay
+abbrev pub OtherRowsStay : ℕ → List RowOfBits → List RowOfBits → Type 0
+OtherRowsStay light old new = (other : ℕ) → (other ≡ light → ⊥) → bits_in new other ≡ bits_in old other
+
+-- the letters of the other cells stay
+abbrev pub OtherCellsStay : ℕ → List ℕ → List ℕ → Type 0
+OtherCellsStay cell old new = (other letter : ℕ) → (other ≡ cell → ⊥) → set_has new other letter ≡ set_has old other letter
+
 -- the arrays that a revival changes: the known words in the net, whether the entered word is, for
 -- each slot the letters for which words may have come back, and whether each light is queued
 pub record Lit : Type 0 where

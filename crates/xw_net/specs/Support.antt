@@ -26,6 +26,14 @@ pub record Strikes (words : List Entry) (position pending alive : ℕ) (old new 
 abbrev pub AreApart : ℕ → ℕ → Type 0
 AreApart pending alive = (letter : ℕ) → has pending letter ≡ true → has alive letter ≡ false
 
+-- the same of the bits of a row, if the sets are apart
+abbrev pub StrikesRow : List Entry → ℕ → ℕ → ℕ → List Bool → List Bool → Type 0
+StrikesRow words position pending alive old new = AreApart pending alive → Strikes words position pending alive (λ word. slice_index_or old word false) (λ word. slice_index_or new word false)
+
+-- no word of the row from one index on, and below another, supports the letter
+abbrev pub NoneSupports : List Bool → List Entry → ℕ → ℕ → ℕ → ℕ → Type 0
+NoneSupports row words position letter from end = (other : ℕ) → from ≤ other → other < end → supports row words position letter other ≡ false
+
 -- the held supports by slot and letter, and by slot the letters whose search has to restart at the
 -- first word
 pub record Held : Type 0 where

@@ -1,6 +1,7 @@
 -- Lists of lights that wait, each at most once.
 use Rattle.std.specs.Prelude.{◌≡◌, ℕ, ◌+◌, ◌≤◌, Bool, true, false, not, ◌==◌, nat_eq, List, [], length, replicate, slice_index_or, count_by}
 use Rattle.std.specs.List.{list_any, IsDistinct}
+use Rattle.xw_feas.specs.Board.{Board}
 
 -- a list of lights
 pub record ListOfLights : Type 0 where
@@ -40,6 +41,10 @@ pub record IsRoomierList (old new : ListOfLights) : Type 0 where
   pub marks : new.marks ≡ old.marks
   pub lights : new.lights ≡ old.lights
   pub room : old.room ≤ new.room
+
+-- the list has a mark for each light of the board
+abbrev pub HasLights : Board → ListOfLights → Type 0
+HasLights board list = length board.lights ≤ length list.marks
 
 -- exactly the marked lights wait
 abbrev pub HasSeeds : ListOfLights → Type 0

@@ -7,9 +7,9 @@ ghost use Rattle.xw_words.specs.Dictionary.{entry_at};
 ghost use Rattle.xw_feas.specs.Board.{light_at, entry, agrees, is_wholly_entered};
 ghost use Rattle.xw_net.specs.Base.{is_base_word, has_entry, AreOfLength, row_cost, base_row, IsRowOf, IsRowBut, IsRightBut};
 ghost use Rattle.xw_net.specs.Region.{chunks_of};
-ghost use Rattle.xw_net.specs.Spread.{bits_in};
+ghost use Rattle.xw_net.specs.Spread.{bits_in, OtherRowsStay};
 ghost use Rattle.xw_net.specs.Filled.{AreLong};
-ghost use Rattle.xw_net.specs.Worklist.{is_marked};
+ghost use Rattle.xw_net.specs.Worklist.{is_marked, HasLights};
 ghost use Rattle.xw_net.specs.Room.{KeepRoom};
 ghost use Rattle.xw_net.specs.Brought.{HasBase, AreRead, CostsAtMost};
 ghost use Rattle.xw_net.specs.Begin.{is_long as is_long_of, is_read as is_read_of};
@@ -243,7 +243,7 @@ fn read_row<R: Rows>(
     ensures len { length base.new ≡ length base.old }
     ensures bits { length (bits_in base.new light) ≡ length (bits_in base.old light) }
     ensures here { IsRowBut board.now (R.entries rows.old) word light (bits_in base.old light) → bits_in base.new light ≡ base_row board.now (R.entries rows.old) light }
-    ensures others { (other : ℕ) → (other ≡ light → ⊥) → bits_in base.new other ≡ bits_in base.old other }
+    ensures others { OtherRowsStay light base.old base.new }
     ensures row_room { KeepRoom base.old base.new }
     ensures cost { R.ticks rows.new ≤ R.ticks rows.old + row_cost board.now light (length (R.entries rows.old (length (light_at board.now light)))) }
 {
@@ -280,7 +280,7 @@ pub fn read_marked<R: Rows>(
     base: &mut [BitRow],
 )
     requires long { AreLong board.now (R.entries rows.old) }
-    requires list { length board.now.lights ≤ length list.now.marks }
+    requires list { HasLights board.now list.now }
     requires base { HasBase board.now (R.entries rows.old) base.old }
     ensures entries { R.entries rows.new ≡ R.entries rows.old }
     ensures risen { R.ticks rows.old ≤ R.ticks rows.new }

@@ -6,12 +6,13 @@ ghost use Rattle.xw_grid.specs.Grid.{index_of, is_inside};
 ghost use Rattle.xw_feas.specs.Board.{light_at};
 ghost use Rattle.xw_feas.specs.Feasible.{may_stand};
 ghost use Rattle.xw_feas.specs.Flags.{set_has};
-ghost use Rattle.xw_net.specs.Spread.{AreAsLong, IsThrough, KeepsSpread, bits_in};
-ghost use Rattle.xw_net.specs.Begin.{IsEdited, StaysEdited, AreEdited, IsThroughListed, HasLength, IsSeed, IsQueuedSeed, MayConcern, IsConcerned, may_have, is_seed as is_seed_of, has_changed, is_read, IsNarrowedRow, AreNarrowed, AreBaseBut, IsPrepared};
+ghost use Rattle.xw_net.specs.Spread.{AreAsLong, IsThrough, KeepsSpread, bits_in, OtherCellsStay, OtherRowsStay};
+ghost use Rattle.xw_net.specs.Begin.{IsEdited, StaysEdited, AreEdited, IsThroughListed, HasLength, IsSeed, IsQueuedSeed, MayConcern, IsConcerned, may_have, is_seed as is_seed_of, has_changed, is_read, IsNarrowedRow, AreNarrowed, AreBaseBut, IsPrepared, IsNarrowed};
 ghost use Rattle.xw_net.specs.Brought.{HasBase, CostsAtMost};
 ghost use Rattle.xw_net.specs.Filled.{AreLong};
 ghost use Rattle.xw_net.specs.Room.{KeepRoom};
-ghost use Rattle.xw_net.specs.Worklist.{is_marked, Grows, Adds, MarksOnly};
+ghost use Rattle.xw_net.specs.Worklist.{is_marked, Grows, Adds, MarksOnly, HasLights};
+ghost use Rattle.xw_net.specs.Marks.{AreByCell};
 
 use crate::base::read_marked;
 use crate::narrow::narrow_row;
@@ -31,7 +32,7 @@ fn narrow_cell(board: &Board<'_>, cell: usize, letters: &mut [LetterSet])
     requires cell { cell < length letters.old }
     ensures len { length letters.new ≡ length letters.old }
     ensures here { (letter : ℕ) → set_has letters.new cell letter ≡ (set_has letters.old cell letter && may_stand board.now cell letter) }
-    ensures others { (other letter : ℕ) → (other ≡ cell → ⊥) → set_has letters.new other letter ≡ set_has letters.old other letter }
+    ensures others { OtherCellsStay cell letters.old letters.new }
     ensures fewer { (other letter : ℕ) → set_has letters.new other letter ≡ true → set_has letters.old other letter ≡ true }
     ensures stay { (other letter : ℕ) → may_stand board.now other letter ≡ true → set_has letters.old other letter ≡ true → set_has letters.new other letter ≡ true }
 {
@@ -50,9 +51,9 @@ fn edit_cell(
     chain: &mut Worklist,
 )
     requires cell { cell < length board.now.open_cells }
-    requires letters { length letters.old ≡ length board.now.open_cells }
-    requires queue { length board.now.lights ≤ length queue.old.marks }
-    requires chain { length board.now.lights ≤ length chain.old.marks }
+    requires letters { AreByCell board.now letters.old }
+    requires queue { HasLights board.now queue.old }
+    requires chain { HasLights board.now chain.old }
     ensures len { length letters.new ≡ length letters.old }
     ensures queue { Adds (IsThrough board.now cell) queue.old queue.new }
     ensures grows { Grows chain.old chain.new }
@@ -93,9 +94,9 @@ pub(crate) fn edit_cells(
 )
     requires cells { length grid.now.squares ≡ length board.now.open_cells }
     requires inside { (listed : CellOfGrid × Option ℕ) → Contains cells.now listed → is_inside grid.now listed.0 ≡ true }
-    requires letters { length letters.old ≡ length board.now.open_cells }
-    requires queue { length board.now.lights ≤ length queue.old.marks }
-    requires chain { length board.now.lights ≤ length chain.old.marks }
+    requires letters { AreByCell board.now letters.old }
+    requires queue { HasLights board.now queue.old }
+    requires chain { HasLights board.now chain.old }
     ensures len { length letters.new ≡ length letters.old }
     ensures queue { Grows queue.old queue.new }
     ensures queued_within { MarksOnly (IsThroughListed grid.now board.now cells.now) queue.old queue.new }
@@ -151,8 +152,8 @@ fn touch_light(
     requires chain { light < length chain.old.marks }
     ensures len { length rows.new ≡ length rows.old }
     ensures row_room { KeepRoom rows.old rows.new }
-    ensures here { IsNarrowedRow word (length (light_at board.now light)) (bits_in rows.old light) (bits_in base.now light) (bits_in rows.new light) }
-    ensures others { (other : ℕ) → (other ≡ light → ⊥) → bits_in rows.new other ≡ bits_in rows.old other }
+    ensures here { IsNarrowed board.now word light base.now rows.old rows.new }
+    ensures others { OtherRowsStay light rows.old rows.new }
     ensures chain { Adds (λ other. (other ≡ light) × IsSeed board.now word base.now other) chain.old chain.new }
 {
     narrow_row(board, word, base, light, rows);
@@ -171,10 +172,10 @@ fn touch_lights(
     chain: &mut Worklist,
 )
     requires base { length board.now.lights ≤ length base.now }
-    requires queue { length board.now.lights ≤ length queue.now.marks }
+    requires queue { HasLights board.now queue.now }
     requires rows { length board.now.lights ≤ length rows.old }
     requires bits { AreAsLong board.now rows.old base.now }
-    requires chain { length board.now.lights ≤ length chain.old.marks }
+    requires chain { HasLights board.now chain.old }
     ensures len { length rows.new ≡ length rows.old }
     ensures row_room { KeepRoom rows.old rows.new }
     ensures on { AreNarrowed board.now word base.now (is_marked queue.now.marks) rows.old rows.new }
@@ -228,7 +229,7 @@ fn queue_changed(
 )
     requires base { length board.now.lights ≤ length base.now }
     requires words { length board.now.lights ≤ length words.now }
-    requires queue { length board.now.lights ≤ length queue.old.marks }
+    requires queue { HasLights board.now queue.old }
     ensures { Adds (IsConcerned board.now word base.now words.now) queue.old queue.new }
 {
     if word.is_none() {
@@ -253,9 +254,9 @@ pub(crate) fn prepare<R: Rows>(
 )
     requires long { AreLong board.now (R.entries rows.old) }
     requires base { HasBase board.now (R.entries rows.old) base.old }
-    requires queue { length board.now.lights ≤ length queue.old.marks }
+    requires queue { HasLights board.now queue.old }
     requires words { HasBase board.now (R.entries rows.old) words.old }
-    requires chain { length board.now.lights ≤ length chain.old.marks }
+    requires chain { HasLights board.now chain.old }
     ensures entries { R.entries rows.new ≡ R.entries rows.old }
     ensures risen { R.ticks rows.old ≤ R.ticks rows.new }
     ensures base { HasBase board.now (R.entries rows.old) base.new }

@@ -3,6 +3,7 @@ ghost use Rattle.std.specs.Prelude.{◌≡◌, ℕ, length};
 ghost use Rattle.xw_feas.specs.Feasible.{may_stand};
 ghost use Rattle.xw_feas.specs.Flags.{set_has};
 ghost use Rattle.xw_feas.specs.WellFormed.{HasLetterEntries};
+ghost use Rattle.xw_net.specs.Marks.{AreByCell};
 
 use crate::base::read_marked;
 use crate::net::Net;
@@ -21,7 +22,7 @@ use xw_words::rows::Rows;
 
 /// Gives each cell all letters that it allows.
 fn fill_letters(board: &Board<'_>, letters: &mut [LetterSet])
-    requires { length letters.old ≡ length board.now.open_cells }
+    requires { AreByCell board.now letters.old }
     ensures len { length letters.new ≡ length letters.old }
     ensures letters { (cell letter : ℕ) → set_has letters.new cell letter ≡ may_stand board.now cell letter }
     ensures entries { HasLetterEntries board.now }

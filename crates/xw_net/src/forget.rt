@@ -3,9 +3,9 @@ ghost use Rattle.std.specs.Prelude.{◌≡◌, ◌⊎◌, ℕ, ◌+◌, ◌-◌,
 ghost use Rattle.xw_letters.specs.Letter.{is_capital};
 ghost use Rattle.xw_feas.specs.Board.{light_at};
 ghost use Rattle.xw_feas.specs.Flags.{set_has};
-ghost use Rattle.xw_net.specs.Marks.{IsPlace, slot_at, AreSlotsApart};
+ghost use Rattle.xw_net.specs.Marks.{IsPlace, slot_at, AreSlotsApart, AreBySlot, AreHeld, HasFewCells};
 ghost use Rattle.xw_net.specs.Renumber.{same_before};
-ghost use Rattle.xw_net.specs.Forget.{cut, lose, lost_from as lost_from_of, nowhere, Forgets};
+ghost use Rattle.xw_net.specs.Forget.{cut, lose, lost_from as lost_from_of, lost_at, nowhere, ChangesHeld, KeepsHeld, KeepsFewer, Forgets};
 
 use crate::change::Change;
 use crate::place::place_of;
@@ -39,16 +39,16 @@ fn forget_light(
     held: &mut [usize],
     pending: &mut [LetterSet],
 )
-    requires few { length board.now.open_cells < 2 ^ 32 }
+    requires few { HasFewCells board.now }
     requires light { light < length board.now.lights }
     requires apart { AreSlotsApart board.now }
-    requires held { length held.old ≡ 52 * length board.now.open_cells }
-    requires pending { length pending.old ≡ 2 * length board.now.open_cells }
+    requires held { AreHeld board.now held.old }
+    requires pending { AreBySlot board.now pending.old }
     ensures held { length held.new ≡ length held.old }
     ensures pending { length pending.new ≡ length pending.old }
-    ensures cuts { (place letter : ℕ) → place < length (light_at board.now light) → is_capital letter ≡ true → slice_index held.new (26 * slot_at board.now light place + (letter - 65)) ≡ cut first (slice_index held.old (26 * slot_at board.now light place + (letter - 65))) }
-    ensures others { (slot letter : ℕ) → ((place : ℕ) → place < length (light_at board.now light) → slot_at board.now light place ≡ slot → ⊥) → is_capital letter ≡ true → slice_index held.new (26 * slot + (letter - 65)) ≡ slice_index held.old (26 * slot + (letter - 65)) }
-    ensures less { (slot letter : ℕ) → set_has pending.new slot letter ≡ true → set_has pending.old slot letter ≡ true }
+    ensures cuts { ChangesHeld board.now light (cut first) held.old held.new }
+    ensures others { KeepsHeld board.now light held.old held.new }
+    ensures less { KeepsFewer pending.old pending.new }
     ensures cleared { (place letter : ℕ) → place < length (light_at board.now light) → set_has pending.new (slot_at board.now light place) letter ≡ false }
 {
     for place in 0..board.light(light).len() {
@@ -93,7 +93,7 @@ fn lost_of<R: Rows>(
     requires light { light < length board.now.lights }
     requires lights { length lights.now ≡ length board.now.lights }
     requires stays { stays ≡ true → lights.now ≡ change.now.before.now }
-    ensures { result ≡ lost_from_of change.now.word (same_before change.now.before.now lights.now light) (length (light_at board.now light)) (length (R.entries rows.now (length (light_at board.now light)))) }
+    ensures { result ≡ lost_at change.now board.now lights.now (R.entries rows.now) light }
 {
     let size = board.light(light).len();
     let known = rows.known(size);
@@ -109,16 +109,16 @@ fn forget_lost(
     held: &mut [usize],
     pending: &mut [LetterSet],
 )
-    requires few { length board.now.open_cells < 2 ^ 32 }
+    requires few { HasFewCells board.now }
     requires light { light < length board.now.lights }
     requires apart { AreSlotsApart board.now }
-    requires held { length held.old ≡ 52 * length board.now.open_cells }
-    requires pending { length pending.old ≡ 2 * length board.now.open_cells }
+    requires held { AreHeld board.now held.old }
+    requires pending { AreBySlot board.now pending.old }
     ensures held { length held.new ≡ length held.old }
     ensures pending { length pending.new ≡ length pending.old }
-    ensures cuts { (place letter : ℕ) → place < length (light_at board.now light) → is_capital letter ≡ true → slice_index held.new (26 * slot_at board.now light place + (letter - 65)) ≡ lose first (slice_index held.old (26 * slot_at board.now light place + (letter - 65))) }
-    ensures others { (slot letter : ℕ) → ((place : ℕ) → place < length (light_at board.now light) → slot_at board.now light place ≡ slot → ⊥) → is_capital letter ≡ true → slice_index held.new (26 * slot + (letter - 65)) ≡ slice_index held.old (26 * slot + (letter - 65)) }
-    ensures less { (slot letter : ℕ) → set_has pending.new slot letter ≡ true → set_has pending.old slot letter ≡ true }
+    ensures cuts { ChangesHeld board.now light (lose first) held.old held.new }
+    ensures others { KeepsHeld board.now light held.old held.new }
+    ensures less { KeepsFewer pending.old pending.new }
     ensures cleared { (place letter : ℕ) → first < nowhere → place < length (light_at board.now light) → set_has pending.new (slot_at board.now light place) letter ≡ false }
 {
     if first < NOWHERE {
@@ -138,11 +138,11 @@ pub(crate) fn forget_lights<R: Rows>(
 )
     requires lights { length lights.now ≡ length board.now.lights }
     requires stays { stays ≡ true → lights.now ≡ change.now.before.now }
-    requires few { length board.now.open_cells < 2 ^ 32 }
+    requires few { HasFewCells board.now }
     requires apart { AreSlotsApart board.now }
-    requires held { length held.old ≡ 52 * length board.now.open_cells }
-    requires pending { length pending.old ≡ 2 * length board.now.open_cells }
-    ensures { Forgets board.now (λ light. lost_from_of change.now.word (same_before change.now.before.now lights.now light) (length (light_at board.now light)) (length (R.entries rows.now (length (light_at board.now light))))) held.old held.new pending.old pending.new }
+    requires held { AreHeld board.now held.old }
+    requires pending { AreBySlot board.now pending.old }
+    ensures { Forgets board.now (lost_at change.now board.now lights.now (R.entries rows.now)) held.old held.new pending.old pending.new }
 {
     for light in 0..board.light_count() {
         let first = lost_of(rows, board, lights, change, stays, light);

@@ -1,7 +1,8 @@
 //! Restores letters at the cells of lights that an edit removed.
 ghost use Rattle.std.specs.Prelude.{◌≡◌, ℕ, ◌<◌, ◌≤◌, true, None, IfSome, length};
-ghost use Rattle.xw_net.specs.Worklist.{HasSeeds};
+ghost use Rattle.xw_net.specs.Worklist.{HasSeeds, HasLights};
 ghost use Rattle.xw_net.specs.Gone.{IsAlong, IsAmong, IsFreed, IsFreedAt, Raises};
+ghost use Rattle.xw_net.specs.Marks.{AreByCell};
 
 use crate::seeds::raise_cell;
 use crate::worklist::Worklist;
@@ -33,8 +34,8 @@ fn raise_at(
     chain: &mut Worklist,
 )
     requires cells { length grid.now.squares ≡ length board.now.open_cells }
-    requires letters { length letters.old ≡ length board.now.open_cells }
-    requires chain { length board.now.lights ≤ length chain.old.marks }
+    requires letters { AreByCell board.now letters.old }
+    requires chain { HasLights board.now chain.old }
     requires seeds { HasSeeds chain.old }
     ensures { Raises board.now (IsAlong grid.now light.now k) letters.old chain.old letters.new chain.new }
 {
@@ -52,8 +53,8 @@ fn raise_along(
     chain: &mut Worklist,
 )
     requires cells { length grid.now.squares ≡ length board.now.open_cells }
-    requires letters { length letters.old ≡ length board.now.open_cells }
-    requires chain { length board.now.lights ≤ length chain.old.marks }
+    requires letters { AreByCell board.now letters.old }
+    requires chain { HasLights board.now chain.old }
     requires seeds { HasSeeds chain.old }
     ensures { Raises board.now (IsAmong grid.now light.now light.now.size) letters.old chain.old letters.new chain.new }
 {
@@ -74,8 +75,8 @@ fn raise_if_gone(
     chain: &mut Worklist,
 )
     requires cells { length grid.now.squares ≡ length board.now.open_cells }
-    requires letters { length letters.old ≡ length board.now.open_cells }
-    requires chain { length board.now.lights ≤ length chain.old.marks }
+    requires letters { AreByCell board.now letters.old }
+    requires chain { HasLights board.now chain.old }
     requires seeds { HasSeeds chain.old }
     ensures { Raises board.now (IsFreedAt grid.now before.now lights.now other) letters.old chain.old letters.new chain.new }
 {
@@ -99,8 +100,8 @@ pub(crate) fn raise_gone(
 )
     requires stays { stays ≡ true → lights.now ≡ before.now }
     requires cells { length grid.now.squares ≡ length board.now.open_cells }
-    requires letters { length letters.old ≡ length board.now.open_cells }
-    requires chain { length board.now.lights ≤ length chain.old.marks }
+    requires letters { AreByCell board.now letters.old }
+    requires chain { HasLights board.now chain.old }
     requires seeds { HasSeeds chain.old }
     ensures { Raises board.now (IsFreed grid.now before.now lights.now (length before.now)) letters.old chain.old letters.new chain.new }
 {

@@ -1,9 +1,9 @@
 //! Removes from a light the words that are no longer base words after an edit.
 ghost use Rattle.std.specs.Prelude.{◌≡◌, ℕ, ◌<◌, ◌≤◌, length, Some};
 ghost use Rattle.xw_feas.specs.Board.{light_at};
-ghost use Rattle.xw_net.specs.Begin.{IsNarrowedRow};
+ghost use Rattle.xw_net.specs.Begin.{IsNarrowedRow, IsNarrowed};
 ghost use Rattle.xw_net.specs.Room.{KeepRoom};
-ghost use Rattle.xw_net.specs.Spread.{bits_in};
+ghost use Rattle.xw_net.specs.Spread.{bits_in, OtherRowsStay};
 
 use crate::base::place_if_long;
 use xw_bits::bit_row::BitRow;
@@ -53,8 +53,8 @@ pub(crate) fn narrow_row(
     requires bits { length (bits_in rows.old light) ≡ length (bits_in base.now light) }
     ensures len { length rows.new ≡ length rows.old }
     ensures row_room { KeepRoom rows.old rows.new }
-    ensures here { IsNarrowedRow word (length (light_at board.now light)) (bits_in rows.old light) (bits_in base.now light) (bits_in rows.new light) }
-    ensures others { (other : ℕ) → (other ≡ light → ⊥) → bits_in rows.new other ≡ bits_in rows.old other }
+    ensures here { IsNarrowed board.now word light base.now rows.old rows.new }
+    ensures others { OtherRowsStay light rows.old rows.new }
 {
     narrow(
         word,

@@ -1,7 +1,7 @@
 //! Positions in lights.
 ghost use Rattle.std.specs.Prelude.{◌≡◌, ◌<◌, ◌≤◌, ◌+◌, ◌*◌, ◌^◌, length, slice_index};
 ghost use Rattle.xw_feas.specs.Board.{light_at};
-ghost use Rattle.xw_net.specs.Marks.{side_of, IsPlace, cell_at, slot_at};
+ghost use Rattle.xw_net.specs.Marks.{side_of, IsPlace, cell_at, slot_at, HasFewCells};
 ghost use Rattle.xw_net.specs.Nets.{IsThere};
 
 use xw_feas::board::{Board, Cells};
@@ -35,7 +35,7 @@ pub(crate) fn side(cells: &Cells) -> usize
 /// The position `place` of a light.
 pub(crate) fn place_of(board: &Board<'_>, light: usize, place: usize) -> Place
     requires place { IsPlace board.now light place }
-    requires few { length board.now.open_cells < 2 ^ 32 }
+    requires few { HasFewCells board.now }
     ensures light { result.light ≡ light }
     ensures place { result.place ≡ place }
     ensures there { IsThere board.now result }

@@ -3,10 +3,11 @@ ghost use Rattle.std.specs.Prelude.{◌≡◌, ℕ, ◌+◌, ◌*◌, ◌^◌, �
 ghost use Rattle.xw_feas.specs.Feasible.{may_stand};
 ghost use Rattle.xw_feas.specs.Flags.{set_has};
 ghost use Rattle.xw_net.specs.Renumber.{same_before};
-ghost use Rattle.xw_net.specs.Spread.{HasAll, IsThrough, KeepsSpread};
+ghost use Rattle.xw_net.specs.Spread.{HasAll, IsThrough, KeepsSpread, OtherCellsStay};
 ghost use Rattle.xw_net.specs.Gone.{IsLacking};
 ghost use Rattle.xw_net.specs.Begin.{IsNewLight};
-ghost use Rattle.xw_net.specs.Worklist.{Grows, Adds, MarksOnly};
+ghost use Rattle.xw_net.specs.Worklist.{Grows, Adds, MarksOnly, HasLights};
+ghost use Rattle.xw_net.specs.Marks.{AreByCell};
 
 use crate::spread::{letters_allowed, raise};
 use crate::worklist::Worklist;
@@ -27,7 +28,7 @@ pub(crate) fn mark_found(found: Option<usize>, list: &mut Worklist)
 /// Puts the lights through a cell on the list.
 pub(crate) fn mark_through(board: &Board<'_>, cell: usize, list: &mut Worklist)
     requires cell { cell < length board.now.open_cells }
-    requires list { length board.now.lights ≤ length list.old.marks }
+    requires list { HasLights board.now list.old }
     ensures { Adds (IsThrough board.now cell) list.old list.new }
 {
     let (across, down) = board.lights_at(cell);
@@ -39,12 +40,12 @@ pub(crate) fn mark_through(board: &Board<'_>, cell: usize, list: &mut Worklist)
 /// seeds.
 pub fn free_cell(board: &Board<'_>, cell: usize, letters: &mut [LetterSet], chain: &mut Worklist)
     requires cell { cell < length board.now.open_cells }
-    requires letters { length letters.old ≡ length board.now.open_cells }
-    requires chain { length board.now.lights ≤ length chain.old.marks }
+    requires letters { AreByCell board.now letters.old }
+    requires chain { HasLights board.now chain.old }
     ensures len { length letters.new ≡ length letters.old }
     ensures chain { Adds (IsThrough board.now cell) chain.old chain.new }
     ensures here { (letter : ℕ) → set_has letters.new cell letter ≡ may_stand board.now cell letter }
-    ensures others { (other letter : ℕ) → (other ≡ cell → ⊥) → set_has letters.new other letter ≡ set_has letters.old other letter }
+    ensures others { OtherCellsStay cell letters.old letters.new }
     ensures spread { KeepsSpread board.now letters.old chain.old letters.new chain.new }
 {
     letters[cell] = letters_allowed(board, cell);
@@ -55,8 +56,8 @@ pub fn free_cell(board: &Board<'_>, cell: usize, letters: &mut [LetterSet], chai
 /// lights through it as seeds.
 pub fn raise_cell(board: &Board<'_>, cell: usize, letters: &mut [LetterSet], chain: &mut Worklist)
     requires cell { cell < length board.now.open_cells }
-    requires letters { length letters.old ≡ length board.now.open_cells }
-    requires chain { length board.now.lights ≤ length chain.old.marks }
+    requires letters { AreByCell board.now letters.old }
+    requires chain { HasLights board.now chain.old }
     ensures len { length letters.new ≡ length letters.old }
     ensures grows { Grows chain.old chain.new }
     ensures within { MarksOnly (λ light. IsLacking board.now letters.old cell × IsThrough board.now cell light) chain.old chain.new }
@@ -114,7 +115,7 @@ pub(crate) fn mark_new(
 
 /// Marks all lights.
 pub(crate) fn mark_all(board: &Board<'_>, chain: &mut Worklist)
-    requires { length board.now.lights ≤ length chain.old.marks }
+    requires { HasLights board.now chain.old }
     ensures { Adds (λ light. light < length board.now.lights) chain.old chain.new }
 {
     for light in 0..board.light_count() {

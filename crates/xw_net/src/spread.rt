@@ -5,10 +5,10 @@ ghost use Rattle.xw_letters.specs.LetterSet.{has};
 ghost use Rattle.xw_feas.specs.Board.{light_at};
 ghost use Rattle.xw_feas.specs.Feasible.{may_stand};
 ghost use Rattle.xw_feas.specs.Flags.{set_has};
-ghost use Rattle.xw_net.specs.Marks.{IsPlace, cell_at, slot_at};
+ghost use Rattle.xw_net.specs.Marks.{IsPlace, cell_at, slot_at, AreByCell, AreBySlot, HasFewCells};
 ghost use Rattle.xw_net.specs.Room.{row_at, KeepRoom};
-ghost use Rattle.xw_net.specs.Spread.{places_from, no_places, bits_in, AreAsLong, HasAll, IsThrough, IsSpread, SpreadsOn, ReachesFrom, Reaches, Lit, lit, IsLit, IsListed, none_waits};
-ghost use Rattle.xw_net.specs.Worklist.{is_marked, HasSeeds, Grows, MarksAll, MarksOnly};
+ghost use Rattle.xw_net.specs.Spread.{places_from, no_places, bits_in, AreAsLong, HasAll, IsThrough, IsSpread, SpreadsOn, ReachesFrom, Reaches, Lit, lit, IsLit, IsListed, none_waits, OtherRowsStay};
+ghost use Rattle.xw_net.specs.Worklist.{is_marked, HasSeeds, Grows, MarksAll, MarksOnly, HasLights};
 
 use crate::net::Net;
 use crate::place::place_of;
@@ -42,7 +42,7 @@ pub(crate) fn raise(letters: &mut [LetterSet], cell: usize, may: LetterSet) -> b
 /// Marks the light that crosses another at a position, if there is one.
 fn mark_crossing(board: &Board<'_>, light: usize, place: usize, chain: &mut Worklist)
     requires place { IsPlace board.now light place }
-    requires chain { length board.now.lights ≤ length chain.old.marks }
+    requires chain { HasLights board.now chain.old }
     ensures grows { Grows chain.old chain.new }
     ensures marked { is_marked chain.old.marks light ≡ true → MarksAll (IsThrough board.now (cell_at board.now light place)) chain.new }
     ensures within { MarksOnly (IsThrough board.now (cell_at board.now light place)) chain.old chain.new }
@@ -61,10 +61,10 @@ fn raise_place(
     letters: &mut [LetterSet],
     chain: &mut Worklist,
 )
-    requires few { length board.now.open_cells < 2 ^ 32 }
+    requires few { HasFewCells board.now }
     requires place { IsPlace board.now light place }
-    requires letters { length letters.old ≡ length board.now.open_cells }
-    requires chain { length board.now.lights ≤ length chain.old.marks }
+    requires letters { AreByCell board.now letters.old }
+    requires chain { HasLights board.now chain.old }
     requires marked { is_marked chain.old.marks light ≡ true }
     ensures letters { length letters.new ≡ length letters.old }
     ensures grows { Grows chain.old chain.new }
@@ -81,10 +81,10 @@ fn raise_place(
 /// Gives the cells of a light all letters that they allow, and marks the lights that cross it where
 /// a letter comes back.
 fn raise_light(board: &Board<'_>, light: usize, letters: &mut [LetterSet], chain: &mut Worklist)
-    requires few { length board.now.open_cells < 2 ^ 32 }
+    requires few { HasFewCells board.now }
     requires light { light < length board.now.lights }
-    requires letters { length letters.old ≡ length board.now.open_cells }
-    requires chain { length board.now.lights ≤ length chain.old.marks }
+    requires letters { AreByCell board.now letters.old }
+    requires chain { HasLights board.now chain.old }
     requires marked { is_marked chain.old.marks light ≡ true }
     ensures letters { length letters.new ≡ length letters.old }
     ensures grows { Grows chain.old chain.new }
@@ -98,9 +98,9 @@ fn raise_light(board: &Board<'_>, light: usize, letters: &mut [LetterSet], chain
 
 /// Makes each search for a support in a light start at the first word again.
 fn restart_light(board: &Board<'_>, light: usize, restart: &mut [LetterSet])
-    requires few { length board.now.open_cells < 2 ^ 32 }
+    requires few { HasFewCells board.now }
     requires light { light < length board.now.lights }
-    requires slots { length restart.old ≡ 2 * length board.now.open_cells }
+    requires slots { AreBySlot board.now restart.old }
     ensures len { length restart.new ≡ length restart.old }
     ensures on { (place letter : ℕ) → place < length (light_at board.now light) → is_capital letter ≡ true → set_has restart.new (slot_at board.now light place) letter ≡ true }
     ensures off { (slot : ℕ) → ((place : ℕ) → place < length (light_at board.now light) → slot_at board.now light place ≡ slot → ⊥) → slice_index_or restart.new slot 0 ≡ slice_index_or restart.old slot 0 }
@@ -119,7 +119,7 @@ fn bring_row(base: &[BitRow], light: usize, rows: &mut [BitRow])
     requires bits { length (bits_in rows.old light) ≡ length (bits_in base.now light) }
     ensures len { length rows.new ≡ length rows.old }
     ensures here { bits_in rows.new light ≡ bits_in base.now light }
-    ensures others { (other : ℕ) → (other ≡ light → ⊥) → bits_in rows.new other ≡ bits_in rows.old other }
+    ensures others { OtherRowsStay light rows.old rows.new }
     ensures row_room { KeepRoom rows.old rows.new }
 {
     rows[light].copy_from(&base[light]);
@@ -135,13 +135,13 @@ fn bring_words(
     restart: &mut [LetterSet],
     queue: &mut Worklist,
 )
-    requires few { length board.now.open_cells < 2 ^ 32 }
+    requires few { HasFewCells board.now }
     requires light { light < length board.now.lights }
     requires base { light < length base.now }
     requires rows { light < length rows.old }
     requires bits { length (bits_in rows.old light) ≡ length (bits_in base.now light) }
     requires entered { light < length entered.old }
-    requires slots { length restart.old ≡ 2 * length board.now.open_cells }
+    requires slots { AreBySlot board.now restart.old }
     requires queue { light < length queue.old.marks }
     ensures listed { IsListed queue.old → IsListed queue.new }
     ensures row_room { KeepRoom rows.old rows.new }
@@ -170,14 +170,14 @@ pub(crate) fn spread(
     queue: &mut Worklist,
     chain: &mut Worklist,
 )
-    requires few { length board.now.open_cells < 2 ^ 32 }
+    requires few { HasFewCells board.now }
     requires base { length board.now.lights ≤ length base.now }
     requires rows { length board.now.lights ≤ length rows.old }
     requires bits { AreAsLong board.now rows.old base.now }
     requires entered { length board.now.lights ≤ length entered.old }
-    requires letters { length letters.old ≡ length board.now.open_cells }
-    requires slots { length restart.old ≡ 2 * length board.now.open_cells }
-    requires queue { length board.now.lights ≤ length queue.old.marks }
+    requires letters { AreByCell board.now letters.old }
+    requires slots { AreBySlot board.now restart.old }
+    requires queue { HasLights board.now queue.old }
     requires chain { length chain.old.marks ≡ length board.now.lights }
     requires seeds { HasSeeds chain.old }
     ensures letters { length letters.new ≡ length letters.old }

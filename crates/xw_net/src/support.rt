@@ -5,7 +5,7 @@ ghost use Rattle.xw_letters.specs.Letter.{IsLetter};
 ghost use Rattle.xw_letters.specs.LetterSet.{has};
 ghost use Rattle.xw_feas.specs.Flags.{set_has};
 ghost use Rattle.xw_net.specs.Region.{chunks_of};
-ghost use Rattle.xw_net.specs.Support.{supports, letter_count, Strikes, AreApart, Held, Finds, is_read_in, search_from, place_for};
+ghost use Rattle.xw_net.specs.Support.{supports, letter_count, Strikes, AreApart, Held, Finds, is_read_in, search_from, place_for, StrikesRow, NoneSupports};
 
 use crate::place::Place;
 use xw_bits::bit_row::BitRow;
@@ -26,7 +26,7 @@ fn first_support<R: Rows>(
     ensures entries { R.entries rows.new ≡ R.entries rows.old }
     ensures risen { R.ticks rows.old ≤ R.ticks rows.new }
     ensures found { IfSome result (λ word. (64 * from ≤ word) × (supports row.now.bits (R.entries rows.old len) position letter word ≡ true)) }
-    ensures first { IfSome result (λ word. (other : ℕ) → 64 * from ≤ other → other < word → supports row.now.bits (R.entries rows.old len) position letter other ≡ false) }
+    ensures first { IfSome result (NoneSupports row.now.bits (R.entries rows.old len) position letter (64 * from)) }
     ensures none { IfNone result ((other : ℕ) → 64 * from ≤ other → supports row.now.bits (R.entries rows.old len) position letter other ≡ false) }
     ensures cost { MatchOption result (R.ticks rows.new ≤ R.ticks rows.old + (chunks_of (length row.now.bits) - from)) (λ word. R.ticks rows.new + from ≤ R.ticks rows.old + (word / 64 + 1)) }
 {
@@ -51,7 +51,7 @@ fn strike_words<R: Rows>(
     ensures entries { R.entries rows.new ≡ R.entries rows.old }
     ensures risen { R.ticks rows.old ≤ R.ticks rows.new }
     ensures len { length row.new.bits ≡ length row.old.bits }
-    ensures strikes { AreApart pending alive → Strikes (R.entries rows.old len) position pending alive (λ word. slice_index_or row.old.bits word false) (λ word. slice_index_or row.new.bits word false) }
+    ensures strikes { StrikesRow (R.entries rows.old len) position pending alive row.old.bits row.new.bits }
     ensures room { row.new.room ≡ row.old.room }
     ensures cost { R.ticks rows.new ≤ R.ticks rows.old + chunks_of (length row.old.bits) * letter_count pending }
 {
@@ -75,7 +75,7 @@ pub(crate) fn strike_row<R: Rows>(
     ensures entries { R.entries rows.new ≡ R.entries rows.old }
     ensures risen { R.ticks rows.old ≤ R.ticks rows.new }
     ensures len { length row.new.bits ≡ length row.old.bits }
-    ensures strikes { AreApart pending alive → Strikes (R.entries rows.old len) position pending alive (λ word. slice_index_or row.old.bits word false) (λ word. slice_index_or row.new.bits word false) }
+    ensures strikes { StrikesRow (R.entries rows.old len) position pending alive row.old.bits row.new.bits }
     ensures room { row.new.room ≡ row.old.room }
     ensures cost { R.ticks rows.new ≤ R.ticks rows.old + chunks_of (length row.old.bits) * letter_count pending }
 {
