@@ -5,7 +5,7 @@ use Rattle.xw_feas.specs.Board.{Board}
 use Rattle.xw_feas.specs.Choices.{IsExact}
 use Rattle.xw_net.specs.Marks.{IsPlace, IsSlot, IsPosition, IsHeld, IsHolding, IsReady, IsSettledNet, Stays, cell_at, slot_at}
 use Rattle.xw_net.specs.Due.{Measure, IsUnderway, IsClosed, HasQueued, and_light, set_cost}
-use Rattle.xw_net.specs.Nets.{marks_of, word_stands, letter_stands, pending_in, queued_in, Waits}
+use Rattle.xw_net.specs.Nets.{marks_of, word_stands, letter_stands, pending_in, queued_in, Waits, IsShaped, IsLeft, HasBits}
 use Rattle.xw_net.specs.Filled.{IsUnstripped, IsFilled}
 use Rattle.xw_net.specs.declared.net.Net.{Net}
 
@@ -27,6 +27,17 @@ module _ (board : Board) where
   PendAtSlots old new = (slot letter : ℕ) → pending_in new slot letter ≡ true → (pending_in old slot letter ≡ true) ⊎ IsSlot board slot
 
   module _ (entries : ℕ → List Entry) where
+    -- the arrays have the right sizes, with a bit for each known word
+    pub record IsStrippable (net : Net) : Type 0 where
+      pub shaped : IsShaped board net
+      pub bits : HasBits board entries net
+
+    -- they still have, and what stripping leaves as it is has stayed
+    pub record IsStep (old new : Net) : Type 0 where
+      pub shaped : IsShaped board new
+      pub bits : HasBits board entries new
+      pub rest : IsLeft old new
+
     -- each letter at the position has a support
     abbrev pub ArePlaceHeld : Net → ℕ → ℕ → Type 0
     ArePlaceHeld net light place =

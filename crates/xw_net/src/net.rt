@@ -73,19 +73,16 @@ impl Net {
     ghost use Rattle.xw_feas.specs.Board.{light_at};
     ghost use Rattle.xw_net.specs.Marks.{side_of, IsPosition, IsPlace, IsHeld, Drops, LeavesPending, cell_at, slot_at};
     ghost use Rattle.xw_net.specs.Nets.{marks_of, letter_stands, pending_in, queued_in, IsShaped, IsLeft, HasBits, IsThere, IsQueue, Waits, left_of};
-    ghost use Rattle.xw_net.specs.Steps.{WaitMore, PendLess, IsCleared, PendAtSlots, ArePlaceHeld, AreLightHeld, KeepSupports, KeepsHolding, StepsOn, StrikesOn, ChecksOn, LeavesNonePending, SettlesMarks, LeavesFeasible, FillsNet, StripsWithin};
+    ghost use Rattle.xw_net.specs.Steps.{IsStrippable, IsStep, WaitMore, PendLess, IsCleared, PendAtSlots, ArePlaceHeld, AreLightHeld, KeepSupports, KeepsHolding, StepsOn, StrikesOn, ChecksOn, LeavesNonePending, SettlesMarks, LeavesFeasible, FillsNet, StripsWithin};
     ghost use Rattle.xw_net.specs.Worklist.{is_waiting};
 
     /// Removes from a light the words with a pending letter at a position.
     fn strike_place<R: Rows>(&mut self, rows: &mut R, board: &Board<'_>, light: usize, place: usize)
-        requires shaped { IsShaped board.now self.old }
-        requires bits { HasBits board.now (R.entries rows.old) self.old }
+        requires net { IsStrippable board.now (R.entries rows.old) self.old }
         requires place { IsPlace board.now light place }
         ensures entries { R.entries rows.new ≡ R.entries rows.old }
         ensures risen { R.ticks rows.old ≤ R.ticks rows.new }
-        ensures shaped { IsShaped board.now self.new }
-        ensures rest { IsLeft self.old self.new }
-        ensures bits { HasBits board.now (R.entries rows.old) self.new }
+        ensures step { IsStep board.now (R.entries rows.old) self.old self.new }
         ensures letters { self.new.letters ≡ self.old.letters }
         ensures held { self.new.held ≡ self.old.held }
         ensures queue { self.new.queue ≡ self.old.queue }
@@ -113,14 +110,11 @@ impl Net {
 
     /// Removes from a light the words with a pending letter at any position.
     fn strike_light<R: Rows>(&mut self, rows: &mut R, board: &Board<'_>, light: usize)
-        requires shaped { IsShaped board.now self.old }
-        requires bits { HasBits board.now (R.entries rows.old) self.old }
+        requires net { IsStrippable board.now (R.entries rows.old) self.old }
         requires light { light < length board.now.lights }
         ensures entries { R.entries rows.new ≡ R.entries rows.old }
         ensures risen { R.ticks rows.old ≤ R.ticks rows.new }
-        ensures shaped { IsShaped board.now self.new }
-        ensures rest { IsLeft self.old self.new }
-        ensures bits { HasBits board.now (R.entries rows.old) self.new }
+        ensures step { IsStep board.now (R.entries rows.old) self.old self.new }
         ensures letters { self.new.letters ≡ self.old.letters }
         ensures held { self.new.held ≡ self.old.held }
         ensures queue { self.new.queue ≡ self.old.queue }
@@ -218,16 +212,13 @@ impl Net {
     /// letter if there is none.
     fn keep_letter<R: Rows>(&mut self, rows: &mut R, board: &Board<'_>, here: Place, letter: Letter)
         requires letter { IsLetter letter }
-        requires shaped { IsShaped board.now self.old }
-        requires bits { HasBits board.now (R.entries rows.old) self.old }
+        requires net { IsStrippable board.now (R.entries rows.old) self.old }
         requires there { IsThere board.now here }
         requires stands { letter_stands self.old here.cell letter ≡ true }
         requires open { slice_index_or self.old.entered.items here.light false ≡ false }
         ensures entries { R.entries rows.new ≡ R.entries rows.old }
         ensures risen { R.ticks rows.old ≤ R.ticks rows.new }
-        ensures shaped { IsShaped board.now self.new }
-        ensures rest { IsLeft self.old self.new }
-        ensures bits { HasBits board.now (R.entries rows.old) self.new }
+        ensures step { IsStep board.now (R.entries rows.old) self.old self.new }
         ensures fewer { left_of self.new ≤ left_of self.old }
         ensures entered { self.new.entered.items ≡ self.old.entered.items }
         ensures others { (other : ℕ) → (other ≡ letter → ⊥) → letter_stands self.old here.cell other ≡ true → letter_stands self.new here.cell other ≡ true }
@@ -247,15 +238,12 @@ impl Net {
 
     /// Checks each letter at a position. If the light has no word left, all go at once.
     fn keep_place<R: Rows>(&mut self, rows: &mut R, board: &Board<'_>, light: usize, place: usize)
-        requires shaped { IsShaped board.now self.old }
-        requires bits { HasBits board.now (R.entries rows.old) self.old }
+        requires net { IsStrippable board.now (R.entries rows.old) self.old }
         requires place { IsPlace board.now light place }
         requires open { slice_index_or self.old.entered.items light false ≡ false }
         ensures entries { R.entries rows.new ≡ R.entries rows.old }
         ensures risen { R.ticks rows.old ≤ R.ticks rows.new }
-        ensures shaped { IsShaped board.now self.new }
-        ensures rest { IsLeft self.old self.new }
-        ensures bits { HasBits board.now (R.entries rows.old) self.new }
+        ensures step { IsStep board.now (R.entries rows.old) self.old self.new }
         ensures fewer { left_of self.new ≤ left_of self.old }
         ensures entered { self.new.entered.items ≡ self.old.entered.items }
         ensures waits { WaitMore self.old self.new }
@@ -283,14 +271,11 @@ impl Net {
     /// Checks each letter at each position of a light. A light whose entered word is in the net
     /// needs no check.
     fn keep_light<R: Rows>(&mut self, rows: &mut R, board: &Board<'_>, light: usize)
-        requires shaped { IsShaped board.now self.old }
-        requires bits { HasBits board.now (R.entries rows.old) self.old }
+        requires net { IsStrippable board.now (R.entries rows.old) self.old }
         requires light { light < length board.now.lights }
         ensures entries { R.entries rows.new ≡ R.entries rows.old }
         ensures risen { R.ticks rows.old ≤ R.ticks rows.new }
-        ensures shaped { IsShaped board.now self.new }
-        ensures rest { IsLeft self.old self.new }
-        ensures bits { HasBits board.now (R.entries rows.old) self.new }
+        ensures step { IsStep board.now (R.entries rows.old) self.old self.new }
         ensures fewer { left_of self.new ≤ left_of self.old }
         ensures waits { WaitMore self.old self.new }
         ensures held { AreLightHeld board.now (R.entries rows.old) self.new light }
@@ -308,16 +293,13 @@ impl Net {
 
     /// Processes a light that was taken from the queue.
     fn see_to<R: Rows>(&mut self, rows: &mut R, board: &Board<'_>, light: usize)
-        requires shaped { IsShaped board.now self.old }
-        requires bits { HasBits board.now (R.entries rows.old) self.old }
+        requires net { IsStrippable board.now (R.entries rows.old) self.old }
         requires light { light < length board.now.lights }
         requires queued { queued_in self.old light ≡ true }
         requires taken { is_waiting self.old.queue.lights light ≡ false }
         ensures entries { R.entries rows.new ≡ R.entries rows.old }
         ensures risen { R.ticks rows.old ≤ R.ticks rows.new }
-        ensures shaped { IsShaped board.now self.new }
-        ensures rest { IsLeft self.old self.new }
-        ensures bits { HasBits board.now (R.entries rows.old) self.new }
+        ensures step { IsStep board.now (R.entries rows.old) self.old self.new }
         ensures fewer { left_of self.new ≤ left_of self.old }
         ensures waits { (other : ℕ) → ((other ≡ light → ⊥) → Waits self.old other) → Waits self.new other }
         ensures holding { KeepsHolding board.now (R.entries rows.old) self.old self.new }
@@ -347,14 +329,11 @@ impl Net {
     /// Strips the net: processes queued lights until the words and letters left support one
     /// another.
     pub(crate) fn strip_queued<R: Rows>(&mut self, rows: &mut R, board: &Board<'_>)
-        requires shaped { IsShaped board.now self.old }
-        requires bits { HasBits board.now (R.entries rows.old) self.old }
+        requires net { IsStrippable board.now (R.entries rows.old) self.old }
         requires queue { IsQueue self.old }
         ensures entries { R.entries rows.new ≡ R.entries rows.old }
         ensures risen { R.ticks rows.old ≤ R.ticks rows.new }
-        ensures shaped { IsShaped board.now self.new }
-        ensures rest { IsLeft self.old self.new }
-        ensures bits { HasBits board.now (R.entries rows.old) self.new }
+        ensures step { IsStep board.now (R.entries rows.old) self.old self.new }
         ensures holding { KeepsHolding board.now (R.entries rows.old) self.old self.new }
         ensures empty { self.new.queue.lights ≡ [] }
         ensures none_queued { (light : ℕ) → queued_in self.new light ≡ false }

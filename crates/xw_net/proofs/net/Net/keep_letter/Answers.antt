@@ -40,7 +40,7 @@ returns-else-not-find_support-clause-held g c dictionary position alive =
     let b = c.args.letter in
     let entries = g.R.Rows.entries c.args.rows.now in
     let there = c.requires.there in
-    let shaped = c.requires.shaped in
+    let shaped = c.requires.net.shaped in
     let k = c.find_support in
     let new : Net = record old { held = with_items old.held k.new.held; restart = with_items old.restart k.new.restart } in
     let held_is = with_items_is old.held k.new.held (omega (arith, k.ensures.held, c.deref_mut.ensures.len)) in
@@ -55,7 +55,7 @@ returns-else-not-find_support-clause-held g c dictionary position alive =
     (record { places = c.deref_mut.result.now; restart = c.deref_mut-2.result.now }) before (record { places = k.new.held; restart = k.new.restart }) after
     (sym (ap bits_at row_is)) (ap entries there.len) there.slot (λ t. record { places = c.deref_mut.ensures.value t; restart = c.deref_mut-2.ensures.value t }) (λ t. record { places = sym held_is t; restart = sym restart_is t }) k.ensures.finds in
     let in_held : 26 * slot_at board i q + (b - 65) < length old.held.items = omega (arith, there.slot, there.in_slots, shaped.held, c.requires.letter) in
-    found_held board entries dictionary position old new c.requires.bits i q b there.place c.requires.letter (λ j k. refl) (λ x d. refl) (λ s d. refl) (λ j. refl) in_held spent k.result no_entry outcome c.if-not-find_support.false
+    found_held board entries dictionary position old new c.requires.net.bits i q b there.place c.requires.letter (λ j k. refl) (λ x d. refl) (λ s d. refl) (λ j. refl) in_held spent k.result no_entry outcome c.if-not-find_support.false
 
 pub returns-else-not-find_support-clause-stays : goal.returns-else-not-find_support-clause-stays
 unfolding word_stands letter_stands held_in restart_in pending_in queued_in
@@ -67,7 +67,7 @@ returns-else-not-find_support-clause-stays g c dictionary position r d here stoo
     let b = c.args.letter in
     let entries = g.R.Rows.entries c.args.rows.now in
     let there = c.requires.there in
-    let shaped = c.requires.shaped in
+    let shaped = c.requires.net.shaped in
     let k = c.find_support in
     let new : Net = record old { held = with_items old.held k.new.held; restart = with_items old.restart k.new.restart } in
     let held_is = with_items_is old.held k.new.held (omega (arith, k.ensures.held, c.deref_mut.ensures.len)) in
@@ -82,7 +82,7 @@ returns-else-not-find_support-clause-stays g c dictionary position r d here stoo
     (record { places = c.deref_mut.result.now; restart = c.deref_mut-2.result.now }) before (record { places = k.new.held; restart = k.new.restart }) after
     (sym (ap bits_at row_is)) (ap entries there.len) there.slot (λ t. record { places = c.deref_mut.ensures.value t; restart = c.deref_mut-2.ensures.value t }) (λ t. record { places = sym held_is t; restart = sym restart_is t }) k.ensures.finds in
     let in_held : 26 * slot_at board i q + (b - 65) < length old.held.items = omega (arith, there.slot, there.in_slots, shaped.held, c.requires.letter) in
-    found_stays board entries dictionary position old new c.requires.bits i q b there.place c.requires.letter (λ j k. refl) (λ x d. refl) (λ s d. refl) (λ j. refl) in_held spent k.result no_entry outcome c.if-not-find_support.false
+    found_stays board entries dictionary position old new c.requires.net.bits i q b there.place c.requires.letter (λ j k. refl) (λ x d. refl) (λ s d. refl) (λ j. refl) in_held spent k.result no_entry outcome c.if-not-find_support.false
     i r d here (set_letter (get_or old.letters.items (cell_at board i r) 0) d alive) (stood alive)
 
 pub returns-else-not-find_support-clause-kept : goal.returns-else-not-find_support-clause-kept
@@ -95,7 +95,7 @@ returns-else-not-find_support-clause-kept g c dictionary measure position in_set
     let b = c.args.letter in
     let entries = g.R.Rows.entries c.args.rows.now in
     let there = c.requires.there in
-    let shaped = c.requires.shaped in
+    let shaped = c.requires.net.shaped in
     let k = c.find_support in
     let new : Net = record old { held = with_items old.held k.new.held; restart = with_items old.restart k.new.restart } in
     let held_is = with_items_is old.held k.new.held (omega (arith, k.ensures.held, c.deref_mut.ensures.len)) in
@@ -111,7 +111,7 @@ returns-else-not-find_support-clause-kept g c dictionary measure position in_set
     (sym (ap bits_at row_is)) (ap entries there.len) there.slot (λ t. record { places = c.deref_mut.ensures.value t; restart = c.deref_mut-2.ensures.value t }) (λ t. record { places = sym held_is t; restart = sym restart_is t }) k.ensures.finds in
     let in_held : 26 * slot_at board i q + (b - 65) < length old.held.items = omega (arith, there.slot, there.in_slots, shaped.held, c.requires.letter) in
     let stood : letter_stands old (cell_at board i q) b ≡ true = ap (λ x. has (get_or old.letters.items x 0) b) (sym there.cell) ∙ c.requires.stands in
-    found_kept board entries dictionary position old new c.requires.bits i q b there.place c.requires.letter (λ j k. refl) (λ x d. refl) (λ s d. refl) (λ j. refl) in_held spent k.result no_entry
+    found_kept board entries dictionary position old new c.requires.net.bits i q b there.place c.requires.letter (λ j k. refl) (λ x d. refl) (λ s d. refl) (λ j. refl) in_held spent k.result no_entry
     measure (g.R.Rows.ticks c.args.rows.now) (g.R.Rows.ticks k.new.rows) refl stood in_set under outcome c.if-not-find_support.false
 
 pub returns-then-not-find_support-clause-stays : goal.returns-then-not-find_support-clause-stays
@@ -124,7 +124,7 @@ returns-then-not-find_support-clause-stays g c dictionary position r d here stoo
     let b = c.args.letter in
     let entries = g.R.Rows.entries c.args.rows.now in
     let there = c.requires.there in
-    let shaped = c.requires.shaped in
+    let shaped = c.requires.net.shaped in
     let k = c.find_support in
     let last = c.drop_letter.new.self in
     let new : Net = record old { held = with_items old.held k.new.held; restart = with_items old.restart k.new.restart } in
@@ -142,7 +142,7 @@ returns-then-not-find_support-clause-stays g c dictionary position r d here stoo
     let in_held : 26 * slot_at board i q + (b - 65) < length old.held.items = omega (arith, there.slot, there.in_slots, shaped.held, c.requires.letter) in
     let alive_before : letter_stands old (cell_at board i r) d ≡ true =
     (and_parts (letter_stands old (cell_at board i r) d) (not (eqb (cell_at board i r) (cell_at board i q) && eqb d b)) (sym (c.drop_letter.ensures.drops.letters (cell_at board i r) d) ∙ alive)).0 in
-    none_stays board entries dictionary position old new c.requires.bits i q b there.place c.requires.letter (λ j k. refl) (λ x d. refl) (λ s d. refl) (λ j. refl) in_held spent k.result no_entry outcome c.if-not-find_support.true
+    none_stays board entries dictionary position old new c.requires.net.bits i q b there.place c.requires.letter (λ j k. refl) (λ x d. refl) (λ s d. refl) (λ j. refl) in_held spent k.result no_entry outcome c.if-not-find_support.true
     last (λ j n. ap (λ (net : Net). word_stands net j n) c.drop_letter.ensures.same) (λ s d. ap (λ (net : Net). held_in net s d) c.drop_letter.ensures.same) i r d (stood alive_before)
 
 pub returns-then-not-find_support-clause-kept : goal.returns-then-not-find_support-clause-kept
@@ -155,7 +155,7 @@ returns-then-not-find_support-clause-kept g c dictionary measure position in_set
     let b = c.args.letter in
     let entries = g.R.Rows.entries c.args.rows.now in
     let there = c.requires.there in
-    let shaped = c.requires.shaped in
+    let shaped = c.requires.net.shaped in
     let k = c.find_support in
     let last = c.drop_letter.new.self in
     let new : Net = record old { held = with_items old.held k.new.held; restart = with_items old.restart k.new.restart } in
@@ -172,7 +172,7 @@ returns-then-not-find_support-clause-kept g c dictionary measure position in_set
     (sym (ap bits_at row_is)) (ap entries there.len) there.slot (λ t. record { places = c.deref_mut.ensures.value t; restart = c.deref_mut-2.ensures.value t }) (λ t. record { places = sym held_is t; restart = sym restart_is t }) k.ensures.finds in
     let in_held : 26 * slot_at board i q + (b - 65) < length old.held.items = omega (arith, there.slot, there.in_slots, shaped.held, c.requires.letter) in
     let stood : letter_stands old (cell_at board i q) b ≡ true = ap (λ x. has (get_or old.letters.items x 0) b) (sym there.cell) ∙ c.requires.stands in
-    none_kept board entries dictionary position old new c.requires.bits i q b there.place c.requires.letter (λ j k. refl) (λ x d. refl) (λ s d. refl) (λ j. refl) in_held spent k.result no_entry
+    none_kept board entries dictionary position old new c.requires.net.bits i q b there.place c.requires.letter (λ j k. refl) (λ x d. refl) (λ s d. refl) (λ j. refl) in_held spent k.result no_entry
     measure (g.R.Rows.ticks c.args.rows.now) (g.R.Rows.ticks k.new.rows) refl stood in_set under outcome c.if-not-find_support.true
     last (λ j n. ap (λ (net : Net). word_stands net j n) c.drop_letter.ensures.same) (λ s d. ap (λ (net : Net). held_in net s d) c.drop_letter.ensures.same) (λ s d. ap (λ (net : Net). restart_in net s d) c.drop_letter.ensures.same) c.drop_letter.ensures.drops
 
@@ -186,7 +186,7 @@ returns-else-not-find_support-clause-holding g c dictionary position holding =
     let b = c.args.letter in
     let entries = g.R.Rows.entries c.args.rows.now in
     let there = c.requires.there in
-    let shaped = c.requires.shaped in
+    let shaped = c.requires.net.shaped in
     let k = c.find_support in
     let new : Net = record old { held = with_items old.held k.new.held; restart = with_items old.restart k.new.restart } in
     let held_is = with_items_is old.held k.new.held (omega (arith, k.ensures.held, c.deref_mut.ensures.len)) in
@@ -201,7 +201,7 @@ returns-else-not-find_support-clause-holding g c dictionary position holding =
     (record { places = c.deref_mut.result.now; restart = c.deref_mut-2.result.now }) before (record { places = k.new.held; restart = k.new.restart }) after
     (sym (ap bits_at row_is)) (ap entries there.len) there.slot (λ t. record { places = c.deref_mut.ensures.value t; restart = c.deref_mut-2.ensures.value t }) (λ t. record { places = sym held_is t; restart = sym restart_is t }) k.ensures.finds in
     let in_held : 26 * slot_at board i q + (b - 65) < length old.held.items = omega (arith, there.slot, there.in_slots, shaped.held, c.requires.letter) in
-    found_holding board entries dictionary position old new c.requires.bits i q b there.place c.requires.letter (λ j k. refl) (λ x d. refl) (λ s d. refl) (λ j. refl) in_held spent k.result no_entry outcome holding
+    found_holding board entries dictionary position old new c.requires.net.bits i q b there.place c.requires.letter (λ j k. refl) (λ x d. refl) (λ s d. refl) (λ j. refl) in_held spent k.result no_entry outcome holding
 
 pub returns-then-not-find_support-clause-holding : goal.returns-then-not-find_support-clause-holding
 unfolding word_stands letter_stands held_in restart_in pending_in queued_in
@@ -213,7 +213,7 @@ returns-then-not-find_support-clause-holding g c dictionary position holding =
     let b = c.args.letter in
     let entries = g.R.Rows.entries c.args.rows.now in
     let there = c.requires.there in
-    let shaped = c.requires.shaped in
+    let shaped = c.requires.net.shaped in
     let k = c.find_support in
     let new : Net = record old { held = with_items old.held k.new.held; restart = with_items old.restart k.new.restart } in
     let held_is = with_items_is old.held k.new.held (omega (arith, k.ensures.held, c.deref_mut.ensures.len)) in
@@ -229,7 +229,7 @@ returns-then-not-find_support-clause-holding g c dictionary position holding =
     (sym (ap bits_at row_is)) (ap entries there.len) there.slot (λ t. record { places = c.deref_mut.ensures.value t; restart = c.deref_mut-2.ensures.value t }) (λ t. record { places = sym held_is t; restart = sym restart_is t }) k.ensures.finds in
     let in_held : 26 * slot_at board i q + (b - 65) < length old.held.items = omega (arith, there.slot, there.in_slots, shaped.held, c.requires.letter) in
     same_holding board dictionary (marks_of new) (marks_of c.drop_letter.new.self) (λ s d. ap (λ (net : Net). held_in net s d) c.drop_letter.ensures.same)
-    (found_holding board entries dictionary position old new c.requires.bits i q b there.place c.requires.letter (λ j k. refl) (λ x d. refl) (λ s d. refl) (λ j. refl) in_held spent k.result no_entry outcome holding)
+    (found_holding board entries dictionary position old new c.requires.net.bits i q b there.place c.requires.letter (λ j k. refl) (λ x d. refl) (λ s d. refl) (λ j. refl) in_held spent k.result no_entry outcome holding)
 
 pub returns-then-not-find_support-clause-pending : goal.returns-then-not-find_support-clause-pending
 unfolding pending_in

@@ -8,14 +8,17 @@ use Rattle.xw_net.proofs.Left.{left_left}
 use Rattle.xw_net.proofs.Rows.{entered_is, bits_known}
 use Rattle.xw_net.proofs.net.Net.keep_light.Goals as goal
 
-pub keep_place-requires-clause-bits : goal.keep_place-requires-clause-bits
-keep_place-requires-clause-bits g c =
-    subst (λ e. HasBits c.args.board.now e c.loop-place.self) (sym c.loop-place.invariant.same) c.loop-place.invariant.bits
+pub keep_place-requires-clause-net : goal.keep_place-requires-clause-net
+keep_place-requires-clause-net g c =
+    record {
+      shaped = c.loop-place.invariant.shaped;
+      bits = subst (λ e. HasBits c.args.board.now e c.loop-place.self) (sym c.loop-place.invariant.same) c.loop-place.invariant.bits;
+    }
 
 pub keep_place-requires-clause-open : goal.keep_place-requires-clause-open
 keep_place-requires-clause-open g c =
     let flags = c.args.self.now.entered.items in
-    let within : c.args.light < length flags = omega (arith, c.requires.light, c.requires.shaped.entered) in
+    let within : c.args.light < length flags = omega (arith, c.requires.light, c.requires.net.shaped.entered) in
     ap (λ (flags : List Bool). get_or flags c.args.light false) c.loop-place.invariant.entered
     ∙ sym (get_or_default flags c.args.light c.index.result.now false within) ∙ sym c.index.ensures ∙ c.if-index.false
 
@@ -29,9 +32,9 @@ loop-place-preserved g c =
       entered = k.ensures.entered ∙ inv.entered;
       same = k.ensures.entries ∙ inv.same;
       risen = omega (arith, inv.risen, k.ensures.risen);
-      rest = left_left inv.rest k.ensures.rest;
-      shaped = k.ensures.shaped;
-      bits = subst (λ e. HasBits c.args.board.now e c.keep_place.new.self) inv.same k.ensures.bits;
+      rest = left_left inv.rest k.ensures.step.rest;
+      shaped = k.ensures.step.shaped;
+      bits = subst (λ e. HasBits c.args.board.now e c.keep_place.new.self) inv.same k.ensures.step.bits;
       fewer = omega (arith, inv.fewer, k.ensures.fewer);
       waits = λ other w. k.ensures.waits other (inv.waits other w);
       held = λ dictionary position place letter here lt alive.
@@ -55,6 +58,6 @@ pub returns-then-index-clause-held : goal.returns-then-index-clause-held
 returns-then-index-clause-held g c dictionary position place letter here alive =
     let old = c.args.self.now in
     let i = c.args.light in
-    let within : i < length old.entered.items = omega (arith, c.requires.light, c.requires.shaped.entered) in
-    inr (entered_is old i (known c.args.board.now dictionary i) (bits_known c.args.board.now (g.R.Rows.entries c.args.rows.now) dictionary position old c.requires.bits i c.requires.light)
+    let within : i < length old.entered.items = omega (arith, c.requires.light, c.requires.net.shaped.entered) in
+    inr (entered_is old i (known c.args.board.now dictionary i) (bits_known c.args.board.now (g.R.Rows.entries c.args.rows.now) dictionary position old c.requires.net.bits i c.requires.light)
     ∙ sym (get_or_default old.entered.items i c.index.result.now false within) ∙ sym c.index.ensures ∙ c.if-index.true)

@@ -19,9 +19,12 @@ in_set : (net : Net) (cell set letter : ℕ) → set ≡ get_or net.letters.item
 unfolding letter_stands
 in_set net cell set letter is stands = ap (λ s. has s letter) is ∙ stands
 
-pub keep_letter-requires-clause-bits : goal.keep_letter-requires-clause-bits
-keep_letter-requires-clause-bits g c =
-    subst (λ e. HasBits c.args.board.now e c.loop-number.self) (sym c.loop-number.invariant.same) c.loop-number.invariant.bits
+pub keep_letter-requires-clause-net : goal.keep_letter-requires-clause-net
+keep_letter-requires-clause-net g c =
+    record {
+      shaped = c.loop-number.invariant.shaped;
+      bits = subst (λ e. HasBits c.args.board.now e c.loop-number.self) (sym c.loop-number.invariant.same) c.loop-number.invariant.bits;
+    }
 
 pub keep_letter-requires-clause-stands : goal.keep_letter-requires-clause-stands
 keep_letter-requires-clause-stands g c =
@@ -42,7 +45,7 @@ loop-number-preserved g c =
     let new = k.new.self in
     let set = c.index-alive.result.now in
     let set_is : c.index-alive.result.now ≡ get_or c.args.self.now.letters.items (cell_at c.args.board.now c.args.light c.args.place) 0 =
-    c.index-alive.ensures ∙ get_or_default c.args.self.now.letters.items c.place_of-here.result.cell c.index-alive.result.now 0 (omega (arith, c.place_of-here.ensures.in_board, c.requires.shaped.letters))
+    c.index-alive.ensures ∙ get_or_default c.args.self.now.letters.items c.place_of-here.result.cell c.index-alive.result.now 0 (omega (arith, c.place_of-here.ensures.in_board, c.requires.net.shaped.letters))
     ∙ ap (λ n. get_or c.args.self.now.letters.items n 0) c.place_of-here.ensures.cell in
     let move = λ (dictionary : Dictionary) (position : IsPosition c.args.board.now (g.R.Rows.entries c.args.rows.now) dictionary). subst (λ e. IsPosition c.args.board.now e dictionary) (sym inv.same) position in
     let stays : (dictionary : Dictionary) → IsPosition c.args.board.now (g.R.Rows.entries c.args.rows.now) dictionary → Stays c.args.board.now dictionary c.args.light (marks_of c.loop-number.self) (marks_of c.keep_letter.new.self) =
@@ -54,9 +57,9 @@ loop-number-preserved g c =
       left = λ letter past has. k.ensures.others letter (λ e. absurd (omega (arith, e, past, c.at-in-Some-next_place.ensures))) (inv.left letter (omega (arith, past, c.in-Some-next_place.ensures.set.0)) has);
       same = k.ensures.entries ∙ inv.same;
       risen = omega (arith, inv.risen, k.ensures.risen);
-      rest = left_left inv.rest k.ensures.rest;
-      shaped = k.ensures.shaped;
-      bits = subst (λ e. HasBits c.args.board.now e c.keep_letter.new.self) inv.same k.ensures.bits;
+      rest = left_left inv.rest k.ensures.step.rest;
+      shaped = k.ensures.step.shaped;
+      bits = subst (λ e. HasBits c.args.board.now e c.keep_letter.new.self) inv.same k.ensures.step.bits;
       fewer = omega (arith, inv.fewer, k.ensures.fewer);
       waits = λ other w. k.ensures.waits other (inv.waits other w);
       held = λ dictionary position letter lt alive.
@@ -90,7 +93,7 @@ pub returns-clause-held : goal.returns-clause-held
 returns-clause-held g c dictionary position letter alive =
     let set = c.index-alive.result.now in
     let set_is : c.index-alive.result.now ≡ get_or c.args.self.now.letters.items (cell_at c.args.board.now c.args.light c.args.place) 0 =
-    c.index-alive.ensures ∙ get_or_default c.args.self.now.letters.items c.place_of-here.result.cell c.index-alive.result.now 0 (omega (arith, c.place_of-here.ensures.in_board, c.requires.shaped.letters))
+    c.index-alive.ensures ∙ get_or_default c.args.self.now.letters.items c.place_of-here.result.cell c.index-alive.result.now 0 (omega (arith, c.place_of-here.ensures.in_board, c.requires.net.shaped.letters))
     ∙ ap (λ n. get_or c.args.self.now.letters.items n 0) c.place_of-here.ensures.cell in
     let cell = cell_at c.args.board.now c.args.light c.args.place in
     elim (cases_lt letter (65 + c.loop-number.from)) [
@@ -107,12 +110,12 @@ loop-number-init g c = record {
   alive = λ cell letter alive. alive;
   entered = refl;
   left = λ letter past is. ap (λ s. has s letter)
-      (sym (c.index-alive.ensures ∙ get_or_default c.args.self.now.letters.items c.place_of-here.result.cell c.index-alive.result.now 0 (omega (arith, c.place_of-here.ensures.in_board, c.requires.shaped.letters)))) ∙ is;
+      (sym (c.index-alive.ensures ∙ get_or_default c.args.self.now.letters.items c.place_of-here.result.cell c.index-alive.result.now 0 (omega (arith, c.place_of-here.ensures.in_board, c.requires.net.shaped.letters)))) ∙ is;
   same = refl;
   risen = omega arith;
   rest = left_same _;
-  shaped = c.requires.shaped;
-  bits = c.requires.bits;
+  shaped = c.requires.net.shaped;
+  bits = c.requires.net.bits;
   fewer = omega arith;
   waits = λ other w. w;
   held = λ dictionary position letter lt alive. absurd (omega (arith, lt, (set_letter (get_or c.args.self.now.letters.items (cell_at c.args.board.now c.args.light c.args.place) 0) letter alive).0));
@@ -126,7 +129,7 @@ pub empty_place-requires-clause-stood : goal.empty_place-requires-clause-stood
 unfolding letter_stands
 empty_place-requires-clause-stood g c =
     let sets = c.args.self.now.letters.items in
-    let within : c.place_of-here.result.cell < length sets = omega (arith, c.place_of-here.ensures.in_board, c.requires.shaped.letters) in
+    let within : c.place_of-here.result.cell < length sets = omega (arith, c.place_of-here.ensures.in_board, c.requires.net.shaped.letters) in
     ap (λ s. has s c.at.result) (sym (c.index-alive.ensures ∙ get_or_default sets c.place_of-here.result.cell c.index-alive.result.now 0 within))
     ∙ ap (has c.index-alive.result.now) c.at.ensures
     ∙ c.in-Some.ensures.set.2
@@ -161,7 +164,7 @@ returns-then-count-eq0-clause-kept g c dictionary measure position =
     let here = c.place_of-here.result in
     let here_is = c.place_of-here.ensures.there in
     let light_is = c.place_of-here.ensures.light in
-    let within : c.args.light < length old.rows.items = omega (arith, c.requires.place.0, c.requires.shaped.rows) in
+    let within : c.args.light < length old.rows.items = omega (arith, c.requires.place.0, c.requires.net.shaped.rows) in
     let row_is = slice_get_read old.rows.items (length old.rows.items) c.args.light c.index.result.now refl within c.index.ensures in
     let clear : (k : ℕ) → get_or (bits_for old c.args.light) k false ≡ false = λ k.
     ap (λ b. get_or b k false) (ap bits_at row_is) ∙ none_set c.index.result.now.bits (sym c.count.ensures ∙ c.if-count-eq0.true) k in

@@ -17,7 +17,7 @@ returns-clause-kept g c dictionary measure position under =
     let old = c.args.self.now in
     let struck = c.strike_light.new.self in
     let ticks = g.R.Rows.ticks c.strike_light.new.rows in
-    let within' : light < length struck.queue.marks = omega (arith, c.requires.light, c.strike_light.ensures.shaped.queue) in
+    let within' : light < length struck.queue.marks = omega (arith, c.requires.light, c.strike_light.ensures.step.shaped.queue) in
     let queued = c.requires.queued in
     let in_set = under.paid.queued light c.requires.light queued in
     let after = c.strike_light.ensures.kept dictionary measure position queued in_set under in
@@ -53,7 +53,7 @@ unfolding queued_in
 returns-clause-waits g c other waits =
     let light = c.args.light in
     let struck = c.strike_light.new.self in
-    let within' : light < length struck.queue.marks = omega (arith, c.requires.light, c.strike_light.ensures.shaped.queue) in
+    let within' : light < length struck.queue.marks = omega (arith, c.requires.light, c.strike_light.ensures.step.shaped.queue) in
     c.keep_light.ensures.waits other (λ h.
     let parts = and_parts (get_or struck.queue.marks other false) (not (eqb other light))
     (sym (ap (λ (list : ListOfLights). get_or list.marks other false) c.release.ensures ∙ marked_less struck.queue.marks light other within') ∙ h) in

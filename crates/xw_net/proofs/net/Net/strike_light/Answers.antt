@@ -5,9 +5,12 @@ use Rattle.xw_net.specs.Nets.{HasBits, pending_in, queued_in}
 use Rattle.xw_net.proofs.Left.{left_left}
 use Rattle.xw_net.proofs.net.Net.strike_light.Goals as goal
 
-pub strike_place-requires-clause-bits : goal.strike_place-requires-clause-bits
-strike_place-requires-clause-bits g c =
-    subst (λ e. HasBits c.args.board.now e c.loop-place.self) (sym c.loop-place.invariant.same) c.loop-place.invariant.bits
+pub strike_place-requires-clause-net : goal.strike_place-requires-clause-net
+strike_place-requires-clause-net g c =
+    record {
+      shaped = c.loop-place.invariant.shaped;
+      bits = subst (λ e. HasBits c.args.board.now e c.loop-place.self) (sym c.loop-place.invariant.same) c.loop-place.invariant.bits;
+    }
 
 pub loop-place-preserved : goal.loop-place-preserved
 unfolding queued_in
@@ -18,9 +21,9 @@ loop-place-preserved g c =
     record {
       same = k.ensures.entries ∙ inv.same;
       risen = omega (arith, inv.risen, k.ensures.risen);
-      rest = left_left inv.rest k.ensures.rest;
-      shaped = k.ensures.shaped;
-      bits = subst (λ e. HasBits c.args.board.now e c.strike_place.new.self) inv.same k.ensures.bits;
+      rest = left_left inv.rest k.ensures.step.rest;
+      shaped = k.ensures.step.shaped;
+      bits = subst (λ e. HasBits c.args.board.now e c.strike_place.new.self) inv.same k.ensures.step.bits;
       letters = k.ensures.letters ∙ inv.letters;
       held = k.ensures.held ∙ inv.held;
       queue = k.ensures.queue ∙ inv.queue;

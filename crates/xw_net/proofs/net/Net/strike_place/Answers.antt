@@ -23,13 +23,13 @@ returns-clause-cleared g c letter =
     let board = c.args.board.now in
     let slot : c.place_of-here.result.slot ≡ slot_at board c.args.light c.args.place =
     there.slot ∙ ap (λ n. slot_at board n c.place_of-here.result.place) c.place_of-here.ensures.light ∙ ap (slot_at board c.args.light) c.place_of-here.ensures.place in
-    emptied c.args.self.now.pending.items c.place_of-here.result.slot c.new.result (omega (arith, there.in_slots, c.requires.shaped.pending)) c.new.ensures
+    emptied c.args.self.now.pending.items c.place_of-here.result.slot c.new.result (omega (arith, there.in_slots, c.requires.net.shaped.pending)) c.new.ensures
     (slot_at board c.args.light c.args.place) letter (λ n. absurd (n (sym slot)))
 
 pub returns-clause-less : goal.returns-clause-less
 unfolding pending_in
 returns-clause-less g c slot letter gone =
-    emptied c.args.self.now.pending.items c.place_of-here.result.slot c.new.result (omega (arith, c.place_of-here.ensures.there.in_slots, c.requires.shaped.pending)) c.new.ensures slot letter (λ n. gone)
+    emptied c.args.self.now.pending.items c.place_of-here.result.slot c.new.result (omega (arith, c.place_of-here.ensures.there.in_slots, c.requires.net.shaped.pending)) c.new.ensures slot letter (λ n. gone)
 
 pub returns-clause-kept : goal.returns-clause-kept
 unfolding pending_in letter_count
@@ -49,10 +49,10 @@ returns-clause-kept g c dictionary measure position queued in_set under =
     let slot : here.slot ≡ slot_at board i q = there.slot ∙ ap (λ n. slot_at board n here.place) c.place_of-here.ensures.light ∙ ap (slot_at board i) c.place_of-here.ensures.place in
     let cell : here.cell ≡ cell_at board i q = there.cell ∙ ap (λ n. cell_at board n here.place) c.place_of-here.ensures.light ∙ ap (cell_at board i) c.place_of-here.ensures.place in
     let len : here.len ≡ length (light_at board i) = there.len ∙ ap (λ n. length (light_at board n)) c.place_of-here.ensures.light in
-    let in_slots : here.slot < length old.pending.items = omega (arith, there.in_slots, c.requires.shaped.pending) in
-    let in_cells : here.cell < length old.letters.items = omega (arith, there.in_board, c.requires.shaped.letters) in
-    let in_entered : i < length old.entered.items = omega (arith, c.requires.place.0, c.requires.shaped.entered) in
-    let in_rows : i < length old.rows.items = omega (arith, c.requires.place.0, c.requires.shaped.rows) in
+    let in_slots : here.slot < length old.pending.items = omega (arith, there.in_slots, c.requires.net.shaped.pending) in
+    let in_cells : here.cell < length old.letters.items = omega (arith, there.in_board, c.requires.net.shaped.letters) in
+    let in_entered : i < length old.entered.items = omega (arith, c.requires.place.0, c.requires.net.shaped.entered) in
+    let in_rows : i < length old.rows.items = omega (arith, c.requires.place.0, c.requires.net.shaped.rows) in
     let row_is : slice_get old.rows.items i ≡ Some first = slice_get_read old.rows.items (length old.rows.items) i first refl in_rows c.index_mut-2.ensures.value in
     let pending_is : pending ≡ get_or old.pending.items (slot_at board i q) 0 =
     c.index-pending.ensures ∙ get_or_default old.pending.items here.slot pending 0 in_slots ∙ ap (λ s. get_or old.pending.items s 0) slot in
@@ -66,9 +66,9 @@ returns-clause-kept g c dictionary measure position queued in_set under =
     let pending_are : set old.pending.items here.slot c.new.result ≡ set old.pending.items (slot_at board i q) 0 =
     ap (λ s. set old.pending.items s c.new.result) slot ∙ ap (set old.pending.items (slot_at board i q)) c.new.ensures in
     let sound = under.kept.sound in
-    let struck = net_struck board (g.R.Rows.entries c.args.rows.now) dictionary position old new i q c.requires.place c.requires.bits first second pending alive row_is refl c.strike_row.ensures.len
+    let struck = net_struck board (g.R.Rows.entries c.args.rows.now) dictionary position old new i q c.requires.place c.requires.net.bits first second pending alive row_is refl c.strike_row.ensures.len
     in_entered (ap (set old.entered.items i) flag_is) (omega (arith, slot, in_slots)) pending_are refl refl refl refl pending_is alive_is strikes sound in
-    let size = bits_known board (g.R.Rows.entries c.args.rows.now) dictionary position old c.requires.bits i c.requires.place.0 in
+    let size = bits_known board (g.R.Rows.entries c.args.rows.now) dictionary position old c.requires.net.bits i c.requires.place.0 in
     let cost : g.R.Rows.ticks c.strike_row.new.rows ≤ g.R.Rows.ticks c.args.rows.now + chunks_of (length first.bits) * sum_letters (λ b. cond (has pending b) 1 0) = c.strike_row.ensures.cost in
     let known_size = sym (ap (λ o. length (bits_at o)) row_is) ∙ size in
     let spent : g.R.Rows.ticks c.strike_row.new.rows ≤ g.R.Rows.ticks c.args.rows.now + chunks board dictionary i * sum_letters (λ b. cond (pending_in old (slot_at board i q) b) 1 0) =

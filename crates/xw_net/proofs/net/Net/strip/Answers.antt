@@ -6,7 +6,8 @@ use Rattle.xw_feas.specs.WellFormed.{IsWellFormed}
 use Rattle.xw_net.specs.Change.{AreReadsOf}
 use Rattle.xw_net.specs.Marks.{IsPosition, IsReady}
 use Rattle.xw_net.specs.Due.{IsClosed, HasQueued, set_cost}
-use Rattle.xw_net.specs.Nets.{marks_of, letter_stands, IsShaped, HasBits}
+use Rattle.xw_net.specs.Nets.{marks_of, letter_stands}
+use Rattle.xw_net.specs.Steps.{IsStrippable}
 use Rattle.xw_net.specs.Filled.{IsUnstripped, IsFilled}
 use Rattle.xw_net.proofs.Slots.{slots_apart}
 use Rattle.xw_net.proofs.Closed.{region_is_closed}
@@ -18,11 +19,8 @@ position_of : (state : State) (board : Board) (entries : ℕ → List Entry) →
 position_of state board entries same read formed =
     subst (λ b. IsPosition b entries state.words) (sym same) (record { laid_out = formed.board; apart = slots_apart state.grid; words = formed.dictionary; read = read })
 
-pub strip_queued-requires-clause-shaped : goal.strip_queued-requires-clause-shaped
-strip_queued-requires-clause-shaped g c = subst (λ b. IsShaped b c.args.self.now) (sym c.new-board.ensures) c.requires.shaped
-
-pub strip_queued-requires-clause-bits : goal.strip_queued-requires-clause-bits
-strip_queued-requires-clause-bits g c = subst (λ b. HasBits b (g.R.Rows.entries c.args.rows.now) c.args.self.now) (sym c.new-board.ensures) c.requires.bits
+pub strip_queued-requires-clause-net : goal.strip_queued-requires-clause-net
+strip_queued-requires-clause-net g c = subst (λ b. IsStrippable b (g.R.Rows.entries c.args.rows.now) c.args.self.now) (sym c.new-board.ensures) (record { shaped = c.requires.shaped; bits = c.requires.bits })
 
 pub returns-clause-settled : goal.returns-clause-settled
 returns-clause-settled g c words read formed unstripped =

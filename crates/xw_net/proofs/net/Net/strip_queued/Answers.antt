@@ -28,18 +28,21 @@ pub see_to-requires-clause-queued : goal.see_to-requires-clause-queued
 unfolding queued_in is_marked
 see_to-requires-clause-queued g c = ap (λ marks. is_marked marks c.in-Some.light) c.take_turn.ensures.marks ∙ c.in-Some.ensures.marked
 
-pub see_to-requires-clause-shaped : goal.see_to-requires-clause-shaped
-see_to-requires-clause-shaped g c =
+pub see_to-requires-clause-net : goal.see_to-requires-clause-net
+see_to-requires-clause-net g c =
     let shaped = c.loop-light.invariant.shaped in
     record {
-      few_cells = shaped.few_cells;
-      rows = shaped.rows;
-      entered = shaped.entered;
-      letters = shaped.letters;
-      held = shaped.held;
-      restart = shaped.restart;
-      pending = shaped.pending;
-      queue = ap length c.take_turn.ensures.marks ∙ shaped.queue;
+      shaped = record {
+        few_cells = shaped.few_cells;
+        rows = shaped.rows;
+        entered = shaped.entered;
+        letters = shaped.letters;
+        held = shaped.held;
+        restart = shaped.restart;
+        pending = shaped.pending;
+        queue = ap length c.take_turn.ensures.marks ∙ shaped.queue;
+      };
+      bits = subst (λ e. HasBits c.args.board.now e c.loop-light.self) (sym c.loop-light.invariant.same) c.loop-light.invariant.bits;
     }
 
 pub loop-light-smaller : goal.loop-light-smaller
@@ -55,8 +58,8 @@ loop-light-init g c =
       same = refl;
       risen = omega arith;
       rest = left_noted old first refl;
-      shaped = shaped_noted c.args.board.now old first refl c.requires.shaped;
-      bits = c.requires.bits;
+      shaped = shaped_noted c.args.board.now old first refl c.requires.net.shaped;
+      bits = c.requires.net.bits;
       queue = c.requires.queue;
       pending = λ slot letter pends. inl pends;
       holding = λ dictionary position holding. holding;
@@ -74,9 +77,9 @@ loop-light-preserved g c =
     record {
       same = k.ensures.entries ∙ inv.same;
       risen = omega (arith, inv.risen, k.ensures.risen);
-      rest = left_left inv.rest (left_left (left_queue c.loop-light.self (record c.loop-light.self { queue = c.take_turn.new.self }) refl) (left_left k.ensures.rest (left_noted seen noted e)));
-      shaped = shaped_noted c.args.board.now seen noted e k.ensures.shaped;
-      bits = subst (λ (n : Net). HasBits c.args.board.now (g.R.Rows.entries c.args.rows.now) n) (sym e) (subst (λ f. HasBits c.args.board.now f seen) inv.same k.ensures.bits);
+      rest = left_left inv.rest (left_left (left_queue c.loop-light.self (record c.loop-light.self { queue = c.take_turn.new.self }) refl) (left_left k.ensures.step.rest (left_noted seen noted e)));
+      shaped = shaped_noted c.args.board.now seen noted e k.ensures.step.shaped;
+      bits = subst (λ (n : Net). HasBits c.args.board.now (g.R.Rows.entries c.args.rows.now) n) (sym e) (subst (λ f. HasBits c.args.board.now f seen) inv.same k.ensures.step.bits);
       queue = subst (λ (n : Net). IsQueue n) (sym e) (λ light. k.ensures.waits light (λ apart is.
           waits_taken c.loop-light.self.queue.lights c.take_turn.new.self.lights c.in-Some.light light c.in-Some.ensures.taken apart (inv.queue light (ap (λ marks. get_or marks light false) (sym c.take_turn.ensures.marks) ∙ is))));
       pending = λ slot letter pends. elim (k.ensures.pending slot letter (sym (ap (λ (n : Net). pending_in n slot letter) e) ∙ pends)) [ inl before ↦ inv.pending slot letter before | inr at ↦ inr at ];
