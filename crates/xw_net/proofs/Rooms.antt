@@ -10,7 +10,7 @@ use Rattle.xw_grid.specs.Light.{no_light}
 use Rattle.xw_net.specs.Nets.{bits_at}
 use Rattle.xw_net.proofs.Quiet.{all_false}
 use Rattle.xw_net.specs.Spread.{bits_in}
-use Rattle.xw_net.specs.Room.{size_at, no_row, row_at, with_word, with_bit, HaveBits, HaveBitMore}
+use Rattle.xw_net.specs.Room.{size_at, no_row, row_at, with_word}
 
 pub known_few : (dictionary : Dictionary) (len : ℕ) → IsDictionary dictionary → length (row dictionary len) ≤ 1048576
 known_few dictionary len is = (is.words len).few
@@ -19,17 +19,6 @@ pub size_nowhere : (lights : List Light) (light : ℕ) → slice_get lights ligh
 size_nowhere lights light none = ap (λ (l : Light). l.size) (sym (ap (λ o. unwrap_or o no_light) none) ∙ unwrap_or-slice_get lights light no_light)
 
 -- the number of bits after a word was added
-length-with_bit : (lights : List Light) (len light : ℕ) (bits : List Bool) → length (with_bit lights len light bits) ≡ length bits + cond (eqb (size_at lights light) len) 1 0
-length-with_bit lights len light bits = split (eqb (size_at lights light) len) where
-  split : (b : Bool) → length (cond b (bits ++ false ∷ []) bits) ≡ length bits + cond b 1 0
-  split true = length-append bits (false ∷ [])
-  split false = omega arith
-
-pub bits_more : (lights : List Light) (counts : ℕ → ℕ) (len : ℕ) (old new : List RowOfBits) → HaveBits lights counts old → HaveBitMore lights len old new → HaveBits lights (with_word len counts) new
-bits_more lights counts len old new have more light in_lights =
-    ap length (more light in_lights) ∙ length-with_bit lights len light (row_at old light).bits ∙ ap (λ n. n + cond (eqb (size_at lights light) len) 1 0) (have light in_lights)
-
-pub ruleset bit_steps = (bits_more)
 
 -- two equal ways to read the bits of a row
 pub bits_are : (rows : List RowOfBits) (light : ℕ) → bits_in rows light ≡ (row_at rows light).bits

@@ -28,18 +28,6 @@ no_row = record { bits = []; room = 0 }
 abbrev pub row_at : List RowOfBits → ℕ → RowOfBits
 row_at rows light = slice_index_or rows light no_row
 
--- the bits of a light, with a clear bit appended if the light has length `len`
-abbrev pub with_bit : List Light → ℕ → ℕ → List Bool → List Bool
-with_bit lights len light bits = if size_at lights light == len then bits ++ false ∷ [] else bits
-
--- the row of each light of length `len` has room for one more bit
-abbrev pub HaveBitRoom : List Light → ℕ → List RowOfBits → Type 0
-HaveBitRoom lights len rows = (light : ℕ) → light < length lights → size_at lights light ≡ len → length (row_at rows light).bits < (row_at rows light).room
-
--- the row of each light of length `len` got one more clear bit
-abbrev pub HaveBitMore : List Light → ℕ → List RowOfBits → List RowOfBits → Type 0
-HaveBitMore lights len old new = (light : ℕ) → light < length lights → (row_at new light).bits ≡ with_bit lights len light (row_at old light).bits
-
 -- no row has lost room
 abbrev pub KeepRoom : List RowOfBits → List RowOfBits → Type 0
 KeepRoom old new = (light : ℕ) → (row_at old light).room ≤ (row_at new light).room

@@ -54,6 +54,14 @@ module _ (board : Board) where
   abbrev pub HasAll : (ℕ → ℕ → Bool) → ℕ → Type 0
   HasAll letters cell = (letter : ℕ) → may_stand board cell letter ≡ true → letters cell letter ≡ true
 
+  -- all searches for a support in the light start at the first word again,
+  abbrev pub RestartsLight : ℕ → List ℕ → Type 0
+  RestartsLight light restart = (place letter : ℕ) → place < length (light_at board light) → is_capital letter ≡ true → set_has restart (slot_at board light place) letter ≡ true
+
+  -- and those in other lights as before
+  abbrev pub OtherSlotsStay : ℕ → List ℕ → List ℕ → Type 0
+  OtherSlotsStay light restart restart' = (slot : ℕ) → ((place : ℕ) → place < length (light_at board light) → slot_at board light place ≡ slot → ⊥) → slice_index_or restart' slot 0 ≡ slice_index_or restart slot 0
+
   -- the letters that came back while the chain grows
   pub record IsSpread (old new : ℕ → ℕ → Bool) (marked waiting : ℕ → Bool) (coming : ℕ → ℕ → Bool) : Type 0 where
     -- the cells of marked lights have all letters that they allow, except at lights that are still

@@ -8,6 +8,7 @@ use Rattle.xw_net.specs.Due.{Measure, IsUnderway, IsClosed, HasQueued, and_light
 use Rattle.xw_net.specs.Nets.{marks_of, word_stands, letter_stands, pending_in, queued_in, Waits, IsShaped, IsLeft, HasBits}
 use Rattle.xw_net.specs.Filled.{IsUnstripped, IsFilled}
 use Rattle.xw_net.specs.declared.net.Net.{Net}
+use Rattle.xw_net.specs.declared.place.Place.{Place}
 
 -- every light that waited if it was queued still does
 abbrev pub WaitMore : Net → Net → Type 0
@@ -16,6 +17,22 @@ WaitMore old new = (light : ℕ) → Waits old light → Waits new light
 -- no letter became pending
 abbrev pub PendLess : Net → Net → Type 0
 PendLess old new = (slot letter : ℕ) → pending_in old slot letter ≡ false → pending_in new slot letter ≡ false
+
+-- only pending letters and the queue changed
+abbrev pub IsLeftPending : Net → Net → Type 0
+IsLeftPending old new = new ≡ record old { pending = new.pending; queue = new.queue }
+
+-- and letters
+abbrev pub IsStruckFrom : Net → Net → Type 0
+IsStruckFrom old new = new ≡ record old { letters = new.letters; pending = new.pending; queue = new.queue }
+
+-- no letter came back
+abbrev pub StandFewer : Net → Net → Type 0
+StandFewer old new = (cell letter : ℕ) → letter_stands new cell letter ≡ true → letter_stands old cell letter ≡ true
+
+-- no other letter of the cell was removed
+abbrev pub OthersStand : ℕ → ℕ → Net → Net → Type 0
+OthersStand cell letter old new = (other : ℕ) → (other ≡ letter → ⊥) → letter_stands old cell other ≡ true → letter_stands new cell other ≡ true
 
 module _ (board : Board) where
   -- no letter is pending at the position
@@ -37,6 +54,11 @@ module _ (board : Board) where
       pub shaped : IsShaped board new
       pub bits : HasBits board entries new
       pub rest : IsLeft old new
+
+    -- the letter has a support if it is in the net
+    abbrev pub IsLetterHeld : Net → Place → ℕ → Type 0
+    IsLetterHeld net here letter =
+        (dictionary : Dictionary) → IsPosition board entries dictionary → letter_stands net here.cell letter ≡ true → IsHeld board dictionary (marks_of net) here.light here.place letter
 
     -- each letter at the position has a support
     abbrev pub ArePlaceHeld : Net → ℕ → ℕ → Type 0

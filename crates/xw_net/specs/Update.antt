@@ -3,6 +3,8 @@ use Rattle.std.specs.Prelude.{◌≡◌, ℕ, ◌+◌, ◌≤◌, Bool, true, Li
 use Rattle.xw_words.specs.Dictionary.{Dictionary, Entry}
 use Rattle.xw_grid.specs.declared.cell.Cell.{Cell}
 use Rattle.xw_grid.specs.Grid.{Grid, is_inside}
+use Rattle.xw_grid.specs.declared.lights.Light.{Light}
+use Rattle.xw_grid.specs.Light.{lights_of}
 use Rattle.xw_feas.specs.Board.{Board, board_of}
 use Rattle.xw_feas.specs.State.{State, Action}
 use Rattle.xw_feas.specs.WellFormed.{IsWellFormed}
@@ -37,6 +39,11 @@ pub record KeepsRoom (old new : Net) : Type 0 where
 -- the grid after an edit and its dictionary
 abbrev pub state_of : Grid → Dictionary → State
 state_of grid words = record { grid = grid; words = words }
+
+-- a settled net is adapted to the lights after an edit
+abbrev pub MovesTo : List Light → List Light → (ℕ → List Entry) → Net → Net → Type 0
+MovesTo before after entries old new =
+    (was now : State) → before ≡ lights_of was.grid → after ≡ lights_of now.grid → AreReadsOf entries now.words → IsFilled (board_of was.grid) was.words old → IsMoved was now old new
 
 module _ (grid : Grid) (entries : ℕ → List Entry) where
   -- a stripped net is settled

@@ -5,7 +5,7 @@ ghost use Rattle.xw_bits.specs.Bits.{has_bit};
 ghost use Rattle.xw_words.specs.Columns.{is_active};
 ghost use Rattle.xw_words.specs.Dictionary.{entry_at};
 ghost use Rattle.xw_feas.specs.Board.{light_at, entry, agrees, is_wholly_entered};
-ghost use Rattle.xw_net.specs.Base.{is_base_word, has_entry, AreOfLength, row_cost, base_row, IsRowOf, IsRowBut, IsRightBut};
+ghost use Rattle.xw_net.specs.Base.{is_agreeing, is_base_word, has_entry, AreOfLength, row_cost, base_row, IsRowOf, IsRowBut, IsRightBut};
 ghost use Rattle.xw_net.specs.Region.{chunks_of};
 ghost use Rattle.xw_net.specs.Spread.{bits_in, OtherRowsStay};
 ghost use Rattle.xw_net.specs.Filled.{AreLong};
@@ -47,7 +47,7 @@ fn base_in<R: Rows>(rows: &mut R, board: &Board<'_>, cells: &Cells, chunk: usize
     requires { AreOfLength (R.entries rows.old) (length cells.now) }
     ensures entries { R.entries rows.new ≡ R.entries rows.old }
     ensures risen { R.ticks rows.old ≤ R.ticks rows.new }
-    ensures words { (k : ℕ) → k < 64 → has_bit result k ≡ (entry_at (R.entries rows.old (length cells.now)) (64 * chunk + k)).active && agrees board.now cells.now (entry_at (R.entries rows.old (length cells.now)) (64 * chunk + k)).word }
+    ensures words { (k : ℕ) → k < 64 → has_bit result k ≡ is_agreeing board.now cells.now (R.entries rows.old) (64 * chunk + k) }
     ensures cost { R.ticks rows.new ≤ R.ticks rows.old + (length cells.now + 1) }
 {
     let mut words = rows.active(cells.len(), chunk);
@@ -131,7 +131,7 @@ fn read_open<R: Rows>(rows: &mut R, board: &Board<'_>, cells: &Cells, row: &mut 
     ensures entries { R.entries rows.new ≡ R.entries rows.old }
     ensures risen { R.ticks rows.old ≤ R.ticks rows.new }
     ensures len { length row.new.bits ≡ length row.old.bits }
-    ensures bits { (i : ℕ) → slice_index_or row.new.bits i false ≡ ((entry_at (R.entries rows.old (length cells.now)) i).active && agrees board.now cells.now (entry_at (R.entries rows.old (length cells.now)) i).word) }
+    ensures bits { (i : ℕ) → slice_index_or row.new.bits i false ≡ is_agreeing board.now cells.now (R.entries rows.old) i }
     ensures room { row.new.room ≡ row.old.room }
     ensures cost { R.ticks rows.new ≤ R.ticks rows.old + (length cells.now + 1) * chunks_of (length row.old.bits) }
 {

@@ -37,12 +37,7 @@ pub(crate) fn fit_rows<R: Rows>(words: &R, lights: &Lights, rows: &mut [BitRow])
 
 impl Net {
     ghost use Rattle.std.specs.Prelude.{◌≡◌, None, vec_len};
-    ghost use Rattle.xw_grid.specs.Light.{lights_of};
-    ghost use Rattle.xw_feas.specs.Board.{board_of};
-    ghost use Rattle.xw_feas.specs.State.{State};
-    ghost use Rattle.xw_net.specs.Change.{AreReadsOf};
-    ghost use Rattle.xw_net.specs.Filled.{IsFilled};
-    ghost use Rattle.xw_net.specs.Opened.{IsMoved};
+    ghost use Rattle.xw_net.specs.Update.{MovesTo};
     ghost use Rattle.xw_net.specs.Room.{counts_of, IsWhole, HasRoom};
     ghost use Rattle.xw_net.specs.Renumber.{AreLights};
     ghost use Rattle.xw_net.specs.Fit.{AreNear, IsAtRest, HasRoomBetween, IsTurned};
@@ -73,12 +68,7 @@ impl Net {
         ensures whole { IsWhole lights.now (counts_of (R.entries words.now)) self.new }
         ensures room { HasRoom lights.now (counts_of (R.entries words.now)) self.new }
         ensures spare { self.new.spare ≡ None }
-        ensures moved { (was now : State) →
-            before.now ≡ lights_of was.grid →
-            lights.now ≡ lights_of now.grid →
-            AreReadsOf (R.entries words.now) now.words →
-            IsFilled (board_of was.grid) was.words self.old →
-            IsMoved was now self.old self.new }
+        ensures moved { MovesTo before.now lights.now (R.entries words.now) self.old self.new }
     {
         self.turn_to(words, before, lights);
         fit_rows(words, lights, &mut self.rows);

@@ -69,11 +69,10 @@ impl Net {
     ghost use Rattle.std.specs.Prelude.{◌≡◌, ℕ, ◌+◌, ◌-◌, ◌*◌, ◌<◌, ◌≤◌, true, false, not, [], ◌||◌, ◌&&◌, ◌==◌, length, slice_index_or};
     ghost use Rattle.xw_letters.specs.Letter.{IsLetter};
     ghost use Rattle.xw_letters.specs.LetterSet.{has};
-    ghost use Rattle.xw_words.specs.Dictionary.{Dictionary};
     ghost use Rattle.xw_feas.specs.Board.{light_at};
-    ghost use Rattle.xw_net.specs.Marks.{side_of, IsPosition, IsPlace, IsHeld, Drops, LeavesPending, cell_at, slot_at};
+    ghost use Rattle.xw_net.specs.Marks.{side_of, IsPlace, Drops, LeavesPending, cell_at, slot_at};
     ghost use Rattle.xw_net.specs.Nets.{marks_of, letter_stands, pending_in, queued_in, IsShaped, IsLeft, HasBits, IsThere, IsQueue, Waits, left_of};
-    ghost use Rattle.xw_net.specs.Steps.{IsStrippable, IsStep, WaitMore, PendLess, IsCleared, PendAtSlots, ArePlaceHeld, AreLightHeld, KeepSupports, KeepsHolding, StepsOn, StrikesOn, ChecksOn, LeavesNonePending, SettlesMarks, LeavesFeasible, FillsNet, StripsWithin};
+    ghost use Rattle.xw_net.specs.Steps.{StandFewer, OthersStand, IsLetterHeld, IsStruckFrom, IsLeftPending, IsStrippable, IsStep, WaitMore, PendLess, IsCleared, PendAtSlots, ArePlaceHeld, AreLightHeld, KeepSupports, KeepsHolding, StepsOn, StrikesOn, ChecksOn, LeavesNonePending, SettlesMarks, LeavesFeasible, FillsNet, StripsWithin};
     ghost use Rattle.xw_net.specs.Worklist.{is_waiting};
 
     /// Removes from a light the words with a pending letter at a position.
@@ -138,7 +137,7 @@ impl Net {
         requires cell { cell < length board.now.open_cells }
         ensures shaped { IsShaped board.now self.new }
         ensures rest { IsLeft self.old self.new }
-        ensures same { self.new ≡ record self.old { pending = self.new.pending; queue = self.new.queue } }
+        ensures same { IsLeftPending self.old self.new }
         ensures pending { (slot other : ℕ) → pending_in self.new slot other ≡ (pending_in self.old slot other || ((slot == 2 * cell + side_of (light_at board.now light)) && (other == letter))) }
         ensures queued { (other : ℕ) → queued_in self.new other ≡ (queued_in self.old other || (other == light)) }
         ensures waits { WaitMore self.old self.new }
@@ -156,7 +155,7 @@ impl Net {
         requires stood { letter_stands self.old here.cell letter ≡ true }
         ensures shaped { IsShaped board.now self.new }
         ensures rest { IsLeft self.old self.new }
-        ensures same { self.new ≡ record self.old { letters = self.new.letters; pending = self.new.pending; queue = self.new.queue } }
+        ensures same { IsStruckFrom self.old self.new }
         ensures fewer { left_of self.new ≤ left_of self.old }
         ensures waits { WaitMore self.old self.new }
         ensures drops { Drops board.now here.light here.place letter (marks_of self.old) (marks_of self.new) }
@@ -175,7 +174,7 @@ impl Net {
         requires cell { cell < length board.now.open_cells }
         ensures shaped { IsShaped board.now self.new }
         ensures rest { IsLeft self.old self.new }
-        ensures same { self.new ≡ record self.old { pending = self.new.pending; queue = self.new.queue } }
+        ensures same { IsLeftPending self.old self.new }
         ensures pending { (slot letter : ℕ) → pending_in self.new slot letter ≡ (pending_in self.old slot letter || ((slot == 2 * cell + side_of (light_at board.now light)) && has gone letter)) }
         ensures queued { (other : ℕ) → queued_in self.new other ≡ (queued_in self.old other || (other == light)) }
         ensures waits { WaitMore self.old self.new }
@@ -195,7 +194,7 @@ impl Net {
         requires stood { letter_stands self.old here.cell _first ≡ true }
         ensures shaped { IsShaped board.now self.new }
         ensures rest { IsLeft self.old self.new }
-        ensures same { self.new ≡ record self.old { letters = self.new.letters; pending = self.new.pending; queue = self.new.queue } }
+        ensures same { IsStruckFrom self.old self.new }
         ensures fewer { left_of self.new ≤ left_of self.old }
         ensures waits { WaitMore self.old self.new }
         ensures letters { (cell letter : ℕ) → letter_stands self.new cell letter ≡ (letter_stands self.old cell letter && not (cell == cell_at board.now here.light here.place)) }
@@ -221,10 +220,10 @@ impl Net {
         ensures step { IsStep board.now (R.entries rows.old) self.old self.new }
         ensures fewer { left_of self.new ≤ left_of self.old }
         ensures entered { self.new.entered.items ≡ self.old.entered.items }
-        ensures others { (other : ℕ) → (other ≡ letter → ⊥) → letter_stands self.old here.cell other ≡ true → letter_stands self.new here.cell other ≡ true }
-        ensures alive { (cell other : ℕ) → letter_stands self.new cell other ≡ true → letter_stands self.old cell other ≡ true }
+        ensures others { OthersStand here.cell letter self.old self.new }
+        ensures alive { StandFewer self.old self.new }
         ensures waits { WaitMore self.old self.new }
-        ensures held { (dictionary : Dictionary) → IsPosition board.now (R.entries rows.old) dictionary → letter_stands self.new here.cell letter ≡ true → IsHeld board.now dictionary (marks_of self.new) here.light here.place letter }
+        ensures held { IsLetterHeld board.now (R.entries rows.old) self.new here letter }
         ensures stays { KeepSupports board.now (R.entries rows.old) here.light self.old self.new }
         ensures holding { KeepsHolding board.now (R.entries rows.old) self.old self.new }
         ensures pending { PendAtSlots board.now self.old self.new }

@@ -104,10 +104,7 @@ impl Spare {
 
 impl Net {
     ghost use Rattle.std.specs.Prelude.{◌≡◌, ◌≤◌, length, vec_len};
-    ghost use Rattle.xw_feas.specs.Board.{Board};
-    ghost use Rattle.xw_net.specs.Nets.{IsShaped, IsChained};
-    ghost use Rattle.xw_net.specs.Filled.{IsQuiet};
-    ghost use Rattle.xw_net.specs.Room.{counts_of, IsWhole, HasRoom, HasSpare};
+    ghost use Rattle.xw_net.specs.Room.{counts_of, HasRoom, HasSpare};
     ghost use Rattle.xw_net.specs.Renumber.{AreLights, IsRenumbered};
 
     /// Replaces the arrays by those for other lights. The lights that stay keep their data.
@@ -125,11 +122,7 @@ impl Net {
         requires after { AreLights after.now }
         ensures renumbered { IsRenumbered before.now after.now (counts_of (R.entries words.now)) self.old self.new }
         ensures rest { self.new ≡ record self.old { rows = self.new.rows; base = self.new.base; entered = self.new.entered; queue = self.new.queue; chain = self.new.chain } }
-        ensures whole { IsWhole before.now (counts_of (R.entries words.now)) self.old → IsWhole after.now (counts_of (R.entries words.now)) self.new }
         ensures room { HasRoom before.now (counts_of (R.entries words.now)) self.old → HasRoom after.now (counts_of (R.entries words.now)) self.new }
-        ensures shaped { (was board : Board) → IsShaped was self.old → length board.open_cells ≡ length was.open_cells → length board.lights ≡ length after.now → IsShaped board self.new }
-        ensures chained { (was board : Board) → IsChained was self.old → length board.lights ≡ length after.now → IsChained board self.new }
-        ensures quiet { IsQuiet self.new }
     {
         let mut spare = spare;
         spare.take_over(

@@ -1,6 +1,6 @@
 //! Reserves room for an edit before it is made.
 use crate::net::Net;
-use crate::room::{Spare, push_bits, reserve_rows};
+use crate::room::{Spare, reserve_rows};
 use std::alloc::{AllocError, Global};
 use xw_feas::edit::Refusal;
 use xw_grid::fault::GridFault;
@@ -13,7 +13,7 @@ impl Net {
     ghost use Rattle.xw_words.specs.Dictionary.{row as words_of};
     ghost use Rattle.xw_feas.specs.Rows.{grows};
     ghost use Rattle.xw_net.specs.Net.{known_counts, HasRoomFor, StandsFor, IsAlike};
-    ghost use Rattle.xw_net.specs.Room.{counts_of, with_word, IsRoomier, HaveBitRoom, HaveBitMore, IsWhole, HasRoom, HasSpare};
+    ghost use Rattle.xw_net.specs.Room.{counts_of, with_word, IsRoomier, HasRoom, HasSpare};
 
     /// Creates spare arrays for these lights, which replace those of the net, and reserves room in
     /// the queue and the chain.
@@ -108,22 +108,5 @@ impl Net {
             None => self.reserve_shape(lights, bank),
             Some(word_len) => self.reserve_length(lights, bank, word_len),
         }
-    }
-
-    /// Appends a clear bit to the rows of each light of length `len`, for a new word.
-    #[tactic(auto, using(crate::proofs::Rooms::bit_steps))]
-    pub(crate) fn push_word(&mut self, lights: &Lights, len: usize)
-        requires rows { length lights.now ≤ vec_len self.old.rows }
-        requires base { length lights.now ≤ vec_len self.old.base }
-        requires room_rows { HaveBitRoom lights.now len self.old.rows.items }
-        requires room_base { HaveBitRoom lights.now len self.old.base.items }
-        ensures rows { HaveBitMore lights.now len self.old.rows.items self.new.rows.items }
-        ensures base { HaveBitMore lights.now len self.old.base.items self.new.base.items }
-        ensures rest { self.new ≡ record self.old { rows = self.new.rows; base = self.new.base } }
-        ensures whole { (counts : ℕ → ℕ) → IsWhole lights.now counts self.old → IsWhole lights.now (with_word len counts) self.new }
-        ensures room { (counts : ℕ → ℕ) → HasRoom lights.now counts self.old → HasRoom lights.now counts self.new }
-    {
-        push_bits(&mut self.rows, lights, len);
-        push_bits(&mut self.base, lights, len);
     }
 }

@@ -1,7 +1,7 @@
 //! Allocates the arrays of a net.
 ghost use Rattle.std.specs.Prelude.{◌≡◌, ℕ, ◌+◌, ◌-◌, ◌*◌, ◌^◌, ◌<◌, ◌≤◌, false, [], length, replicate, IfOk, OnOk};
 ghost use Rattle.xw_words.specs.Dictionary.{row as words_of};
-ghost use Rattle.xw_net.specs.Room.{counts_of, with_word, size_at as size_of_light, AreFalse, AreEmpty, AreRoomier, HaveRoom, HaveBitRoom, HaveBitMore, KeepRoom};
+ghost use Rattle.xw_net.specs.Room.{counts_of, with_word, size_at as size_of_light, AreFalse, AreEmpty, AreRoomier, HaveRoom};
 
 use std::alloc::{AllocError, Global};
 use xw_bits::bit_row::BitRow;
@@ -169,21 +169,6 @@ pub(crate) fn reserve_rows(
         reserve_row(row, room)?;
     }
     Ok(())
-}
-
-/// Appends a clear bit to the row of each light of length `len`.
-pub(crate) fn push_bits(rows: &mut [BitRow], lights: &Lights, len: usize)
-    requires lights { length lights.now ≤ length rows.old }
-    requires room { HaveBitRoom lights.now len rows.old }
-    ensures bits { HaveBitMore lights.now len rows.old rows.new }
-    ensures more { KeepRoom rows.old rows.new }
-{
-    for light in 0..lights.len() {
-        if size_at(lights, light) == len {
-            let row = &mut rows[light];
-            row.push(false);
-        }
-    }
 }
 
 /// The arrays of a net that depend on the lights, reserved for the lights after an edit.

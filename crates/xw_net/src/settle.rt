@@ -22,7 +22,7 @@ impl Net {
     ghost use Rattle.xw_net.specs.Net.{StoodFor};
     ghost use Rattle.xw_net.specs.Nets.{IsShaped, HasBits, IsQueue, IsLeft};
     ghost use Rattle.xw_net.specs.Opened.{arrays_of, IsOpening};
-    ghost use Rattle.xw_net.specs.Room.{counts_of, HaveRoom};
+    ghost use Rattle.xw_net.specs.Room.{counts_of, HasRoom};
     ghost use Rattle.xw_net.specs.Steps.{PendLess};
     ghost use Rattle.xw_net.specs.Update.{AreInside, IsSized, KeepsRoom, Opens, RevivesMoved, RevivesMovedInRegion, Revives, RevivesInRegion, StripsTo, StripsInRegion, Settles, SettlesInRegion};
     ghost use Rattle.xw_net.specs.Worklist.{is_marked, HasSeeds};
@@ -176,8 +176,7 @@ impl Net {
         ensures entries { R.entries rows.new ≡ R.entries rows.old }
         ensures risen { R.ticks rows.old ≤ R.ticks rows.new }
         ensures spare { self.new.spare ≡ None }
-        ensures rows { HaveRoom lights.now (counts_of (R.entries rows.old)) self.new.rows.items }
-        ensures base { HaveRoom lights.now (counts_of (R.entries rows.old)) self.new.base.items }
+        ensures room { HasRoom lights.now (counts_of (R.entries rows.old)) self.new }
         ensures shaped { IsShaped (board_of grid.now) self.new }
         ensures bits { HasBits (board_of grid.now) (R.entries rows.old) self.new }
         ensures queue { IsQueue self.new }
@@ -228,8 +227,7 @@ impl Net {
         ensures entries { R.entries rows.new ≡ R.entries rows.old }
         ensures risen { R.ticks rows.old ≤ R.ticks rows.new }
         ensures spare { self.new.spare ≡ None }
-        ensures rows { HaveRoom lights.now (counts_of (R.entries rows.old)) self.new.rows.items }
-        ensures base { HaveRoom lights.now (counts_of (R.entries rows.old)) self.new.base.items }
+        ensures room { HasRoom lights.now (counts_of (R.entries rows.old)) self.new }
         ensures settled { Settles grid.now (R.entries rows.old) change.now self.old self.new }
         ensures cost { SettlesInRegion grid.now (R.entries rows.old) change.now self.old (R.ticks rows.old) (R.ticks rows.new) }
     {

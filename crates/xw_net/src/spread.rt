@@ -7,7 +7,7 @@ ghost use Rattle.xw_feas.specs.Feasible.{may_stand};
 ghost use Rattle.xw_feas.specs.Flags.{set_has};
 ghost use Rattle.xw_net.specs.Marks.{IsPlace, cell_at, slot_at, AreByCell, AreBySlot, HasFewCells};
 ghost use Rattle.xw_net.specs.Room.{row_at, KeepRoom};
-ghost use Rattle.xw_net.specs.Spread.{places_from, no_places, bits_in, AreAsLong, HasAll, IsThrough, IsSpread, SpreadsOn, ReachesFrom, Reaches, Lit, lit, IsLit, IsListed, none_waits, OtherRowsStay};
+ghost use Rattle.xw_net.specs.Spread.{RestartsLight, OtherSlotsStay, places_from, no_places, bits_in, AreAsLong, HasAll, IsThrough, IsSpread, SpreadsOn, ReachesFrom, Reaches, Lit, lit, IsLit, IsListed, none_waits, OtherRowsStay};
 ghost use Rattle.xw_net.specs.Worklist.{is_marked, HasSeeds, Grows, MarksAll, MarksOnly, HasLights};
 
 use crate::net::Net;
@@ -102,8 +102,8 @@ fn restart_light(board: &Board<'_>, light: usize, restart: &mut [LetterSet])
     requires light { light < length board.now.lights }
     requires slots { AreBySlot board.now restart.old }
     ensures len { length restart.new ≡ length restart.old }
-    ensures on { (place letter : ℕ) → place < length (light_at board.now light) → is_capital letter ≡ true → set_has restart.new (slot_at board.now light place) letter ≡ true }
-    ensures off { (slot : ℕ) → ((place : ℕ) → place < length (light_at board.now light) → slot_at board.now light place ≡ slot → ⊥) → slice_index_or restart.new slot 0 ≡ slice_index_or restart.old slot 0 }
+    ensures on { RestartsLight board.now light restart.new }
+    ensures off { OtherSlotsStay board.now light restart.old restart.new }
     ensures more { (slot letter : ℕ) → is_capital letter ≡ true → set_has restart.old slot letter ≡ true → set_has restart.new slot letter ≡ true }
 {
     for place in 0..board.light(light).len() {
