@@ -18,8 +18,6 @@ known_few dictionary len is = (is.words len).few
 pub size_nowhere : (lights : List Light) (light : ℕ) → slice_get lights light ≡ None → 0 ≡ size_at lights light
 size_nowhere lights light none = ap (λ (l : Light). l.size) (sym (ap (λ o. unwrap_or o no_light) none) ∙ unwrap_or-slice_get lights light no_light)
 
--- the number of bits after a word was added
-
 -- two equal ways to read the bits of a row
 pub bits_are : (rows : List RowOfBits) (light : ℕ) → bits_in rows light ≡ (row_at rows light).bits
 bits_are rows light = by_row (slice_get rows light) ∙ ap (λ (r : RowOfBits). r.bits) (unwrap_or-slice_get rows light no_row) where

@@ -5,7 +5,7 @@ use Rattle.xw_feas.specs.Board.{Board}
 use Rattle.xw_feas.specs.Choices.{IsExact}
 use Rattle.xw_net.specs.Marks.{IsPlace, IsSlot, IsPosition, IsHeld, IsHolding, IsReady, IsSettledNet, Stays, cell_at, slot_at}
 use Rattle.xw_net.specs.Due.{Measure, IsUnderway, IsClosed, HasQueued, and_light, set_cost}
-use Rattle.xw_net.specs.Nets.{marks_of, word_stands, letter_stands, pending_in, queued_in, Waits, IsShaped, IsLeft, HasBits}
+use Rattle.xw_net.specs.Nets.{marks_of, word_stands, letter_stands, pending_in, queued_in, Waits, left_of, IsShaped, IsLeft, HasBits}
 use Rattle.xw_net.specs.Filled.{IsUnstripped, IsFilled}
 use Rattle.xw_net.specs.declared.net.Net.{Net}
 use Rattle.xw_net.specs.declared.place.Place.{Place}
@@ -17,6 +17,12 @@ WaitMore old new = (light : ℕ) → Waits old light → Waits new light
 -- no letter became pending
 abbrev pub PendLess : Net → Net → Type 0
 PendLess old new = (slot letter : ℕ) → pending_in old slot letter ≡ false → pending_in new slot letter ≡ false
+
+-- only words and pending letters were removed
+pub record IsStruck (old new : Net) : Type 0 where
+  pub letters : new.letters ≡ old.letters
+  pub held : new.held ≡ old.held
+  pub queue : new.queue ≡ old.queue
 
 -- only pending letters and the queue changed
 abbrev pub IsLeftPending : Net → Net → Type 0
@@ -77,6 +83,14 @@ module _ (board : Board) where
     -- each held word still has the letter that it is held for
     abbrev pub KeepsHolding : Net → Net → Type 0
     KeepsHolding old new = (dictionary : Dictionary) → IsPosition board entries dictionary → IsHolding board dictionary (marks_of old) → IsHolding board dictionary (marks_of new)
+
+    -- what a check of letters keeps: it takes the net no further from its end, and leaves all that
+    -- it makes pending to queued lights
+    pub record IsCheck (old new : Net) : Type 0 where
+      pub fewer : left_of new ≤ left_of old
+      pub waits : WaitMore old new
+      pub holding : KeepsHolding old new
+      pub pending : PendAtSlots old new
 
     -- the invariant of stripping is kept, and the ticks stay within budget: by a step,
     abbrev pub StepsOn : Net → ℕ → Net → ℕ → Type 0

@@ -227,29 +227,6 @@ fn read_changed<R: Rows>(
     }
 }
 
-/// Updates the base row of one light in the array of all base rows.
-fn read_row<R: Rows>(
-    rows: &mut R,
-    board: &Board<'_>,
-    word: Option<(usize, usize)>,
-    light: usize,
-    base: &mut [BitRow],
-)
-    requires light { light < length board.now.lights }
-    requires long { AreOfLength (R.entries rows.old) (length (light_at board.now light)) }
-    requires base { HasBase board.now (R.entries rows.old) base.old }
-    ensures entries { R.entries rows.new ≡ R.entries rows.old }
-    ensures risen { R.ticks rows.old ≤ R.ticks rows.new }
-    ensures len { length base.new ≡ length base.old }
-    ensures bits { length (bits_in base.new light) ≡ length (bits_in base.old light) }
-    ensures here { IsRowBut board.now (R.entries rows.old) word light (bits_in base.old light) → bits_in base.new light ≡ base_row board.now (R.entries rows.old) light }
-    ensures others { OtherRowsStay light base.old base.new }
-    ensures row_room { KeepRoom base.old base.new }
-    ensures cost { R.ticks rows.new ≤ R.ticks rows.old + row_cost board.now light (length (R.entries rows.old (length (light_at board.now light)))) }
-{
-    read_changed(rows, board, word, light, &mut base[light]);
-}
-
 /// Whether the changed word has the light's length. Without a changed word it does not look up the
 /// length.
 fn is_long(board: &Board<'_>, word: Option<(usize, usize)>, light: usize) -> bool
@@ -294,6 +271,6 @@ pub fn read_marked<R: Rows>(
         if !is_read(board, word, list, light) {
             continue;
         }
-        read_row(rows, board, word, light, base);
+        read_changed(rows, board, word, light, &mut base[light]);
     }
 }

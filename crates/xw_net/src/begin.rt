@@ -6,8 +6,8 @@ ghost use Rattle.xw_grid.specs.Grid.{index_of, is_inside};
 ghost use Rattle.xw_feas.specs.Board.{light_at};
 ghost use Rattle.xw_feas.specs.Feasible.{may_stand};
 ghost use Rattle.xw_feas.specs.Flags.{set_has};
-ghost use Rattle.xw_net.specs.Spread.{AreAsLong, IsThrough, KeepsSpread, bits_in, OtherCellsStay, OtherRowsStay};
-ghost use Rattle.xw_net.specs.Begin.{IsEdited, StaysEdited, AreEdited, IsThroughListed, HasLength, IsSeed, IsQueuedSeed, MayConcern, IsConcerned, may_have, is_seed as is_seed_of, has_changed, is_read, IsNarrowedRow, AreNarrowed, AreBaseBut, IsPrepared, IsNarrowed};
+ghost use Rattle.xw_net.specs.Spread.{AreAsLong, IsThrough, KeepsSpread, bits_in, OtherCellsStay};
+ghost use Rattle.xw_net.specs.Begin.{IsEdited, StaysEdited, AreEdited, IsThroughListed, HasLength, IsQueuedSeed, MayConcern, IsConcerned, may_have, is_seed as is_seed_of, has_changed, is_read, IsNarrowedRow, AreNarrowed, AreBaseBut, IsPrepared};
 ghost use Rattle.xw_net.specs.Brought.{HasBase, CostsAtMost};
 ghost use Rattle.xw_net.specs.Filled.{AreLong};
 ghost use Rattle.xw_net.specs.Room.{KeepRoom};
@@ -136,33 +136,7 @@ fn is_seed(board: &Board<'_>, word: Option<(usize, usize)>, base: &[BitRow], lig
     has_all_entries(board, &cells) || may_have_word(word, cells.len(), &base[light])
 }
 
-/// Removes from a light the words that are not base words, and marks the light if it is a seed.
-fn touch_light(
-    board: &Board<'_>,
-    word: Option<(usize, usize)>,
-    base: &[BitRow],
-    light: usize,
-    rows: &mut [BitRow],
-    chain: &mut Worklist,
-)
-    requires light { light < length board.now.lights }
-    requires base { light < length base.now }
-    requires rows { light < length rows.old }
-    requires bits { length (bits_in rows.old light) ≡ length (bits_in base.now light) }
-    requires chain { light < length chain.old.marks }
-    ensures len { length rows.new ≡ length rows.old }
-    ensures row_room { KeepRoom rows.old rows.new }
-    ensures here { IsNarrowed board.now word light base.now rows.old rows.new }
-    ensures others { OtherRowsStay light rows.old rows.new }
-    ensures chain { Adds (λ other. (other ≡ light) × IsSeed board.now word base.now other) chain.old chain.new }
-{
-    narrow_row(board, word, base, light, rows);
-    if is_seed(board, word, base, light) {
-        chain.insert(light);
-    }
-}
-
-/// Calls `touch_light` for each queued light.
+/// Removes from each queued light the words that are not base words, and marks it if it is a seed.
 fn touch_lights(
     board: &Board<'_>,
     word: Option<(usize, usize)>,
@@ -186,7 +160,11 @@ fn touch_lights(
         if !queue.contains(light) {
             continue;
         }
-        touch_light(board, word, base, light, rows, chain);
+        narrow_row(board, word, base, light, rows);
+        if !is_seed(board, word, base, light) {
+            continue;
+        }
+        chain.insert(light);
     }
 }
 

@@ -31,7 +31,7 @@ fn forget_slot(slot: usize, first: usize, held: &mut [usize])
 }
 
 /// Forgets the supports held at the slots of a light whose index is at least `first`, and clears
-/// its pending letters.
+/// its pending letters. Does nothing if `first` is `NOWHERE`.
 fn forget_light(
     board: &Board<'_>,
     light: usize,
@@ -46,11 +46,14 @@ fn forget_light(
     requires pending { AreBySlot board.now pending.old }
     ensures held { length held.new ≡ length held.old }
     ensures pending { length pending.new ≡ length pending.old }
-    ensures cuts { ChangesHeld board.now light (cut first) held.old held.new }
+    ensures cuts { ChangesHeld board.now light (lose first) held.old held.new }
     ensures others { KeepsHeld board.now light held.old held.new }
     ensures less { KeepsFewer pending.old pending.new }
-    ensures cleared { (place letter : ℕ) → place < length (light_at board.now light) → set_has pending.new (slot_at board.now light place) letter ≡ false }
+    ensures cleared { (place letter : ℕ) → first < nowhere → place < length (light_at board.now light) → set_has pending.new (slot_at board.now light place) letter ≡ false }
 {
+    if first >= NOWHERE {
+        return;
+    }
     for place in 0..board.light(light).len() {
         let slot = place_of(board, light, place).slot;
         forget_slot(slot, first, held);
@@ -101,31 +104,6 @@ fn lost_of<R: Rows>(
     lost_from(change.word, has_stayed, size, known)
 }
 
-/// Forgets the supports of a light from `first` on. Does nothing if `first` is `NOWHERE`.
-fn forget_lost(
-    board: &Board<'_>,
-    light: usize,
-    first: usize,
-    held: &mut [usize],
-    pending: &mut [LetterSet],
-)
-    requires few { HasFewCells board.now }
-    requires light { light < length board.now.lights }
-    requires apart { AreSlotsApart board.now }
-    requires held { AreHeld board.now held.old }
-    requires pending { AreBySlot board.now pending.old }
-    ensures held { length held.new ≡ length held.old }
-    ensures pending { length pending.new ≡ length pending.old }
-    ensures cuts { ChangesHeld board.now light (lose first) held.old held.new }
-    ensures others { KeepsHeld board.now light held.old held.new }
-    ensures less { KeepsFewer pending.old pending.new }
-    ensures cleared { (place letter : ℕ) → first < nowhere → place < length (light_at board.now light) → set_has pending.new (slot_at board.now light place) letter ≡ false }
-{
-    if first < NOWHERE {
-        forget_light(board, light, first, held, pending);
-    }
-}
-
 /// Forgets, for each light, the supports that may be invalid after an edit.
 pub(crate) fn forget_lights<R: Rows>(
     rows: &R,
@@ -146,6 +124,6 @@ pub(crate) fn forget_lights<R: Rows>(
 {
     for light in 0..board.light_count() {
         let first = lost_of(rows, board, lights, change, stays, light);
-        forget_lost(board, light, first, held, pending);
+        forget_light(board, light, first, held, pending);
     }
 }

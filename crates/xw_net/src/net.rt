@@ -72,7 +72,7 @@ impl Net {
     ghost use Rattle.xw_feas.specs.Board.{light_at};
     ghost use Rattle.xw_net.specs.Marks.{side_of, IsPlace, Drops, LeavesPending, cell_at, slot_at};
     ghost use Rattle.xw_net.specs.Nets.{marks_of, letter_stands, pending_in, queued_in, IsShaped, IsLeft, HasBits, IsThere, IsQueue, Waits, left_of};
-    ghost use Rattle.xw_net.specs.Steps.{StandFewer, OthersStand, IsLetterHeld, IsStruckFrom, IsLeftPending, IsStrippable, IsStep, WaitMore, PendLess, IsCleared, PendAtSlots, ArePlaceHeld, AreLightHeld, KeepSupports, KeepsHolding, StepsOn, StrikesOn, ChecksOn, LeavesNonePending, SettlesMarks, LeavesFeasible, FillsNet, StripsWithin};
+    ghost use Rattle.xw_net.specs.Steps.{IsCheck, IsStruck, StandFewer, OthersStand, IsLetterHeld, IsStruckFrom, IsLeftPending, IsStrippable, IsStep, WaitMore, PendLess, IsCleared, PendAtSlots, ArePlaceHeld, AreLightHeld, KeepSupports, KeepsHolding, StepsOn, StrikesOn, ChecksOn, LeavesNonePending, SettlesMarks, LeavesFeasible, FillsNet, StripsWithin};
     ghost use Rattle.xw_net.specs.Worklist.{is_waiting};
 
     /// Removes from a light the words with a pending letter at a position.
@@ -82,9 +82,7 @@ impl Net {
         ensures entries { R.entries rows.new ≡ R.entries rows.old }
         ensures risen { R.ticks rows.old ≤ R.ticks rows.new }
         ensures step { IsStep board.now (R.entries rows.old) self.old self.new }
-        ensures letters { self.new.letters ≡ self.old.letters }
-        ensures held { self.new.held ≡ self.old.held }
-        ensures queue { self.new.queue ≡ self.old.queue }
+        ensures struck { IsStruck self.old self.new }
         ensures cleared { IsCleared board.now self.new light place }
         ensures less { PendLess self.old self.new }
         ensures kept { StrikesOn board.now (R.entries rows.old) light self.old (R.ticks rows.old) self.new (R.ticks rows.new) }
@@ -114,9 +112,7 @@ impl Net {
         ensures entries { R.entries rows.new ≡ R.entries rows.old }
         ensures risen { R.ticks rows.old ≤ R.ticks rows.new }
         ensures step { IsStep board.now (R.entries rows.old) self.old self.new }
-        ensures letters { self.new.letters ≡ self.old.letters }
-        ensures held { self.new.held ≡ self.old.held }
-        ensures queue { self.new.queue ≡ self.old.queue }
+        ensures struck { IsStruck self.old self.new }
         ensures cleared { (place letter : ℕ) → IsPlace board.now light place → pending_in self.new (slot_at board.now light place) letter ≡ false }
         ensures less { PendLess self.old self.new }
         ensures kept { StrikesOn board.now (R.entries rows.old) light self.old (R.ticks rows.old) self.new (R.ticks rows.new) }
@@ -218,15 +214,12 @@ impl Net {
         ensures entries { R.entries rows.new ≡ R.entries rows.old }
         ensures risen { R.ticks rows.old ≤ R.ticks rows.new }
         ensures step { IsStep board.now (R.entries rows.old) self.old self.new }
-        ensures fewer { left_of self.new ≤ left_of self.old }
+        ensures check { IsCheck board.now (R.entries rows.old) self.old self.new }
         ensures entered { self.new.entered.items ≡ self.old.entered.items }
         ensures others { OthersStand here.cell letter self.old self.new }
         ensures alive { StandFewer self.old self.new }
-        ensures waits { WaitMore self.old self.new }
         ensures held { IsLetterHeld board.now (R.entries rows.old) self.new here letter }
         ensures stays { KeepSupports board.now (R.entries rows.old) here.light self.old self.new }
-        ensures holding { KeepsHolding board.now (R.entries rows.old) self.old self.new }
-        ensures pending { PendAtSlots board.now self.old self.new }
         ensures kept { ChecksOn board.now (R.entries rows.old) here.light self.old (R.ticks rows.old) self.new (R.ticks rows.new) }
     {
         let row = &self.rows[here.light];
@@ -243,13 +236,10 @@ impl Net {
         ensures entries { R.entries rows.new ≡ R.entries rows.old }
         ensures risen { R.ticks rows.old ≤ R.ticks rows.new }
         ensures step { IsStep board.now (R.entries rows.old) self.old self.new }
-        ensures fewer { left_of self.new ≤ left_of self.old }
+        ensures check { IsCheck board.now (R.entries rows.old) self.old self.new }
         ensures entered { self.new.entered.items ≡ self.old.entered.items }
-        ensures waits { WaitMore self.old self.new }
         ensures held { ArePlaceHeld board.now (R.entries rows.old) self.new light place }
         ensures stays { KeepSupports board.now (R.entries rows.old) light self.old self.new }
-        ensures holding { KeepsHolding board.now (R.entries rows.old) self.old self.new }
-        ensures pending { PendAtSlots board.now self.old self.new }
         ensures kept { ChecksOn board.now (R.entries rows.old) light self.old (R.ticks rows.old) self.new (R.ticks rows.new) }
     {
         let here = place_of(board, light, place);
@@ -275,11 +265,8 @@ impl Net {
         ensures entries { R.entries rows.new ≡ R.entries rows.old }
         ensures risen { R.ticks rows.old ≤ R.ticks rows.new }
         ensures step { IsStep board.now (R.entries rows.old) self.old self.new }
-        ensures fewer { left_of self.new ≤ left_of self.old }
-        ensures waits { WaitMore self.old self.new }
+        ensures check { IsCheck board.now (R.entries rows.old) self.old self.new }
         ensures held { AreLightHeld board.now (R.entries rows.old) self.new light }
-        ensures holding { KeepsHolding board.now (R.entries rows.old) self.old self.new }
-        ensures pending { PendAtSlots board.now self.old self.new }
         ensures kept { ChecksOn board.now (R.entries rows.old) light self.old (R.ticks rows.old) self.new (R.ticks rows.new) }
     {
         if self.entered[light] {

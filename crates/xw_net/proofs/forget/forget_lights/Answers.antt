@@ -10,7 +10,7 @@ use Rattle.xw_net.proofs.forget.forget_lights.Goals as goal
 pub loop-light-preserved : goal.loop-light-preserved
 loop-light-preserved g c =
     let inv = c.loop-light.invariant in
-    let lost = c.forget_lost.ensures in
+    let lost = c.forget_light.ensures in
     let within : c.loop-light.light < length c.args.board.now.lights = omega (arith, c.loop-light-test.true, c.light_count-light-end.ensures) in
     record {
       held = lost.held ∙ inv.held;
@@ -18,7 +18,7 @@ loop-light-preserved g c =
       cuts = λ light place letter before here capital. elim (cases_eq light c.loop-light.light) [
         | inl e ↦
             let place_here = subst (λ n. IsPlace c.args.board.now n place) e here in
-            subst (λ n. get_or c.forget_lost.new.held (26 * slot_at c.args.board.now n place + (letter - 65)) 0 ≡ lose (lost_from c.args.change.now.word (same_before c.args.change.now.before.now c.args.lights.now n) (length (light_at c.args.board.now n)) (length (g.R.Rows.entries c.args.rows.now (length (light_at c.args.board.now n))))) (get_or c.args.held.now (26 * slot_at c.args.board.now n place + (letter - 65)) 0)) (sym e)
+            subst (λ n. get_or c.forget_light.new.held (26 * slot_at c.args.board.now n place + (letter - 65)) 0 ≡ lose (lost_from c.args.change.now.word (same_before c.args.change.now.before.now c.args.lights.now n) (length (light_at c.args.board.now n)) (length (g.R.Rows.entries c.args.rows.now (length (light_at c.args.board.now n))))) (get_or c.args.held.now (26 * slot_at c.args.board.now n place + (letter - 65)) 0)) (sym e)
             (lost.cuts place letter place_here.1 capital
             ∙ ap (λ first. lose first (get_or c.loop-light.held (26 * slot_at c.args.board.now c.loop-light.light place + (letter - 65)) 0)) c.lost_of-first.ensures
             ∙ ap (lose (lost_from c.args.change.now.word (same_before c.args.change.now.before.now c.args.lights.now c.loop-light.light) (length (light_at c.args.board.now c.loop-light.light)) (length (g.R.Rows.entries c.args.rows.now (length (light_at c.args.board.now c.loop-light.light)))))) (inv.left c.loop-light.light place letter (omega arith) place_here capital))
@@ -32,7 +32,7 @@ loop-light-preserved g c =
       less = λ slot letter has. inv.less slot letter (lost.less slot letter has);
       cleared = λ light place letter before here below. elim (cases_eq light c.loop-light.light) [
         | inl e ↦
-            subst (λ n. set_has c.forget_lost.new.pending (slot_at c.args.board.now n place) letter ≡ false) (sym e)
+            subst (λ n. set_has c.forget_light.new.pending (slot_at c.args.board.now n place) letter ≡ false) (sym e)
             (lost.cleared place letter (subst (λ first. first < nowhere) (sym c.lost_of-first.ensures) (subst (λ n. lost_from c.args.change.now.word (same_before c.args.change.now.before.now c.args.lights.now n) (length (light_at c.args.board.now n)) (length (g.R.Rows.entries c.args.rows.now (length (light_at c.args.board.now n)))) < nowhere) e below)) (subst (λ n. IsPlace c.args.board.now n place) e here).1)
         | inr other ↦
             false_from_ne_true _ (λ has. both_ways _ (inv.cleared light place letter (omega arith) here below) (lost.less (slot_at c.args.board.now light place) letter has))

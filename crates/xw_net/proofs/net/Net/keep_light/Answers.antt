@@ -35,8 +35,8 @@ loop-place-preserved g c =
       rest = left_left inv.rest k.ensures.step.rest;
       shaped = k.ensures.step.shaped;
       bits = subst (λ e. HasBits c.args.board.now e c.keep_place.new.self) inv.same k.ensures.step.bits;
-      fewer = omega (arith, inv.fewer, k.ensures.fewer);
-      waits = λ other w. k.ensures.waits other (inv.waits other w);
+      fewer = omega (arith, inv.fewer, k.ensures.check.fewer);
+      waits = λ other w. k.ensures.check.waits other (inv.waits other w);
       held = λ dictionary position place letter here lt alive.
           elim (cases_lt place c.loop-place.place) [
             | inl before ↦ k.ensures.stays dictionary (move dictionary position) place letter here (inv.held dictionary position place letter here before) alive
@@ -45,8 +45,8 @@ loop-place-preserved g c =
                 subst (λ n. IsHeld c.args.board.now dictionary (marks_of c.keep_place.new.self) c.args.light n letter) is
                 (k.ensures.held dictionary (move dictionary position) letter (ap (λ n. letter_stands c.keep_place.new.self (cell_at c.args.board.now c.args.light n) letter) is ∙ alive))
           ];
-      pending = λ slot letter pends. elim (k.ensures.pending slot letter pends) [ inl before ↦ inv.pending slot letter before | inr at ↦ inr at ];
-      holding = λ dictionary position holding. k.ensures.holding dictionary (move dictionary position) (inv.holding dictionary position holding);
+      pending = λ slot letter pends. elim (k.ensures.check.pending slot letter pends) [ inl before ↦ inv.pending slot letter before | inr at ↦ inr at ];
+      holding = λ dictionary position holding. k.ensures.check.holding dictionary (move dictionary position) (inv.holding dictionary position holding);
       kept = λ dictionary measure position in_set under. k.ensures.kept dictionary measure (move dictionary position) in_set (inv.kept dictionary measure position in_set under);
     }
 

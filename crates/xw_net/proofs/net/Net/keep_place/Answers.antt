@@ -60,8 +60,8 @@ loop-number-preserved g c =
       rest = left_left inv.rest k.ensures.step.rest;
       shaped = k.ensures.step.shaped;
       bits = subst (λ e. HasBits c.args.board.now e c.keep_letter.new.self) inv.same k.ensures.step.bits;
-      fewer = omega (arith, inv.fewer, k.ensures.fewer);
-      waits = λ other w. k.ensures.waits other (inv.waits other w);
+      fewer = omega (arith, inv.fewer, k.ensures.check.fewer);
+      waits = λ other w. k.ensures.check.waits other (inv.waits other w);
       held = λ dictionary position letter lt alive.
           elim (cases_lt letter (65 + c.loop-number.from)) [
             | inl before ↦ stays dictionary position c.args.place letter c.requires.place (inv.held dictionary position letter before) alive
@@ -81,8 +81,8 @@ loop-number-preserved g c =
             ]
           ];
       stays = λ dictionary position place letter at stood alive. stays dictionary position place letter at (inv.stays dictionary position place letter at stood) alive;
-      pending = λ slot letter pends. elim (k.ensures.pending slot letter pends) [ inl before ↦ inv.pending slot letter before | inr at ↦ inr at ];
-      holding = λ dictionary position holding. k.ensures.holding dictionary (move dictionary position) (inv.holding dictionary position holding);
+      pending = λ slot letter pends. elim (k.ensures.check.pending slot letter pends) [ inl before ↦ inv.pending slot letter before | inr at ↦ inr at ];
+      holding = λ dictionary position holding. k.ensures.check.holding dictionary (move dictionary position) (inv.holding dictionary position holding);
       kept = λ dictionary measure position in_set under.
           subst (λ n. measure.member n ≡ true → IsUnderway c.args.board.now dictionary measure (marks_of c.loop-number.self) (and_light (queued_in c.loop-number.self) n) (g.R.Rows.ticks c.loop-number.rows)
           → IsUnderway c.args.board.now dictionary measure (marks_of c.keep_letter.new.self) (and_light (queued_in c.keep_letter.new.self) n) (g.R.Rows.ticks c.keep_letter.new.rows)) there.light
@@ -145,17 +145,6 @@ returns-then-count-eq0-clause-stays g c dictionary position place letter here st
     still_held c.args.board.now (g.R.Rows.entries c.args.rows.now) dictionary position old new i q here_is.place e.same e.letters e.leaves c.args.light place letter
     (stood (alive_before c.args.board.now (g.R.Rows.entries c.args.rows.now) dictionary position old new i q here_is.place e.same e.letters e.leaves (cell_at c.args.board.now c.args.light place) letter alive))
 
-pub returns-then-count-eq0-clause-holding : goal.returns-then-count-eq0-clause-holding
-returns-then-count-eq0-clause-holding g c dictionary position =
-    let e = c.empty_place.ensures in
-    still_holding c.args.board.now (g.R.Rows.entries c.args.rows.now) dictionary position c.args.self.now c.empty_place.new.self c.place_of-here.result.light c.place_of-here.result.place c.place_of-here.ensures.there.place e.same e.letters e.leaves
-
-pub returns-then-count-eq0-clause-pending : goal.returns-then-count-eq0-clause-pending
-returns-then-count-eq0-clause-pending g c slot letter pends =
-    let board = c.args.board.now in
-    pends_at board (marks_of c.args.self.now) (marks_of c.empty_place.new.self) c.place_of-here.result.light c.place_of-here.result.place
-    (letter_stands c.args.self.now (cell_at c.args.board.now c.place_of-here.result.light c.place_of-here.result.place)) c.empty_place.ensures.leaves slot letter pends
-
 pub returns-then-count-eq0-clause-kept : goal.returns-then-count-eq0-clause-kept
 returns-then-count-eq0-clause-kept g c dictionary measure position =
     let e = c.empty_place.ensures in
@@ -174,3 +163,14 @@ returns-then-count-eq0-clause-kept g c dictionary measure position =
     subst (λ n. measure.member n ≡ true → IsUnderway c.args.board.now dictionary measure (marks_of c.args.self.now) (and_light (queued_in c.args.self.now) n) (g.R.Rows.ticks c.args.rows.now)
     → IsUnderway c.args.board.now dictionary measure (marks_of c.empty_place.new.self) (and_light (queued_in c.empty_place.new.self) n) (g.R.Rows.ticks c.args.rows.now)) light_is
     (still_under c.args.board.now (g.R.Rows.entries c.args.rows.now) dictionary position old new here.light here.place here_is.place e.same e.letters e.leaves none c.at.result stood measure (g.R.Rows.ticks c.args.rows.now))
+
+pub returns-then-count-eq0-clause-check : goal.returns-then-count-eq0-clause-check
+returns-then-count-eq0-clause-check g c = record {
+  fewer = c.empty_place.ensures.fewer;
+  waits = c.empty_place.ensures.waits;
+  holding = λ dictionary position. let e = c.empty_place.ensures in
+    still_holding c.args.board.now (g.R.Rows.entries c.args.rows.now) dictionary position c.args.self.now c.empty_place.new.self c.place_of-here.result.light c.place_of-here.result.place c.place_of-here.ensures.there.place e.same e.letters e.leaves;
+  pending = λ slot letter pends. let board = c.args.board.now in
+    pends_at board (marks_of c.args.self.now) (marks_of c.empty_place.new.self) c.place_of-here.result.light c.place_of-here.result.place
+    (letter_stands c.args.self.now (cell_at c.args.board.now c.place_of-here.result.light c.place_of-here.result.place)) c.empty_place.ensures.leaves slot letter pends;
+}

@@ -34,13 +34,13 @@ returns-clause-holding g c dictionary position holding =
     let struck = c.strike_light.new.self in
     let mid : Net = record struck { queue = c.release.new.self } in
     let position' = subst (λ e. IsPosition c.args.board.now e dictionary) (sym c.strike_light.ensures.entries) position in
-    c.keep_light.ensures.holding dictionary position'
-    (same_holding c.args.board.now dictionary (marks_of c.args.self.now) (marks_of mid) (λ s d. ap (λ v. get_or v.items (26 * s + (d - 65)) 0) c.strike_light.ensures.held) holding)
+    c.keep_light.ensures.check.holding dictionary position'
+    (same_holding c.args.board.now dictionary (marks_of c.args.self.now) (marks_of mid) (λ s d. ap (λ v. get_or v.items (26 * s + (d - 65)) 0) c.strike_light.ensures.struck.held) holding)
 
 pub returns-clause-pending : goal.returns-clause-pending
 unfolding pending_in
 returns-clause-pending g c slot other pends =
-    elim (c.keep_light.ensures.pending slot other pends) [
+    elim (c.keep_light.ensures.check.pending slot other pends) [
       | inl before ↦ elim (cases_Bool (pending_in c.args.self.now slot other)) [
         | inl was ↦ inl was
         | inr gone ↦ absurd (both_ways (pending_in c.strike_light.new.self slot other) (c.strike_light.ensures.less slot other gone) before)
@@ -54,9 +54,9 @@ returns-clause-waits g c other waits =
     let light = c.args.light in
     let struck = c.strike_light.new.self in
     let within' : light < length struck.queue.marks = omega (arith, c.requires.light, c.strike_light.ensures.step.shaped.queue) in
-    c.keep_light.ensures.waits other (λ h.
+    c.keep_light.ensures.check.waits other (λ h.
     let parts = and_parts (get_or struck.queue.marks other false) (not (eqb other light))
     (sym (ap (λ (list : ListOfLights). get_or list.marks other false) c.release.ensures ∙ marked_less struck.queue.marks light other within') ∙ h) in
     let apart : other ≢ light = λ e. both_ways (eqb other light) (not-true (eqb other light) parts.1) (eq-eqb other light e) in
-    ap (λ (list : ListOfLights). is_waiting list.lights other) c.release.ensures ∙ ap (λ list. is_waiting list.lights other) c.strike_light.ensures.queue
-    ∙ waits apart (sym (ap (λ list. get_or list.marks other false) c.strike_light.ensures.queue) ∙ parts.0))
+    ap (λ (list : ListOfLights). is_waiting list.lights other) c.release.ensures ∙ ap (λ list. is_waiting list.lights other) c.strike_light.ensures.struck.queue
+    ∙ waits apart (sym (ap (λ list. get_or list.marks other false) c.strike_light.ensures.struck.queue) ∙ parts.0))

@@ -24,9 +24,9 @@ loop-place-preserved g c =
       rest = left_left inv.rest k.ensures.step.rest;
       shaped = k.ensures.step.shaped;
       bits = subst (λ e. HasBits c.args.board.now e c.strike_place.new.self) inv.same k.ensures.step.bits;
-      letters = k.ensures.letters ∙ inv.letters;
-      held = k.ensures.held ∙ inv.held;
-      queue = k.ensures.queue ∙ inv.queue;
+      letters = k.ensures.struck.letters ∙ inv.letters;
+      held = k.ensures.struck.held ∙ inv.held;
+      queue = k.ensures.struck.queue ∙ inv.queue;
       cleared = λ place letter lt.
           elim (cases_lt place c.loop-place.place) [
             | inl before ↦ k.ensures.less (slot_at board c.args.light place) letter (inv.cleared place letter before)
