@@ -73,7 +73,7 @@ module _ (old new : Net) (larger : IsLarger old new) where
   quiet is = record {
     queue = larger.queue.lights ∙ is.queue;
     queued = λ light. ap (λ marks. get_or marks light false) larger.queue.marks ∙ is.queued light;
-    stack = larger.chain.lights ∙ is.stack;
+    taken = larger.chain.lights ∙ is.taken;
     marked = λ light. ap (λ marks. is_marked marks light) larger.chain.marks ∙ is.marked light;
   }
 

@@ -41,7 +41,7 @@ module _ (grid : Grid) (dictionary : Dictionary) (net : Net) (whole : IsWholeNet
         queue = quiet.queue;
         queued_long = omega (arith, shaped.queue, length-lights grid);
         is_queued = quiet.queued;
-        stack = quiet.stack;
+        taken = quiet.taken;
         marked_long = omega (arith, chained.chain, length-lights grid);
         is_marked = quiet.marked;
       }
@@ -78,7 +78,7 @@ rest_prop lights cells net x y = λ i. record {
   queue = Coded-set (coded_list coded_ℕ) _ _ x.queue y.queue i;
   queued_long = Coded-set coded_ℕ _ _ x.queued_long y.queued_long i;
   is_queued = Π_prop (λ light. Bool-set (is_marked net.queue.marks light) false) x.is_queued y.is_queued i;
-  stack = Coded-set (coded_list coded_ℕ) _ _ x.stack y.stack i;
+  taken = Coded-set (coded_list coded_ℕ) _ _ x.taken y.taken i;
   marked_long = Coded-set coded_ℕ _ _ x.marked_long y.marked_long i;
   is_marked = Π_prop (λ light. Bool-set (is_marked net.chain.marks light) false) x.is_marked y.is_marked i;
 }

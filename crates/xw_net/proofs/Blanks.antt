@@ -129,5 +129,5 @@ module _ (grid : Grid) (is_grid : IsGrid grid) (dictionary : Dictionary) (is_dic
     words = no_word;
     held = far;
     pending = not_pending;
-    quiet = record { queue = blank.queue.lights; queued = not_queued; stack = blank.chain.lights; marked = not_marked };
+    quiet = record { queue = blank.queue.lights; queued = not_queued; taken = blank.chain.lights; marked = not_marked };
   }

@@ -169,7 +169,7 @@ module _ (lights : List Light) (net old new : Net) (can : CanCopy lights net old
         queue = ap (λ (net : Net). net.queue.lights) copied.rest ∙ other.queue;
         queued_long = omega (arith, other.queued_long, ap (λ (net : Net). length net.queue.marks) copied.rest);
         is_queued = none_queued;
-        stack = ap (λ (net : Net). net.chain.lights) copied.rest ∙ other.stack;
+        taken = ap (λ (net : Net). net.chain.lights) copied.rest ∙ other.taken;
         marked_long = omega (arith, other.marked_long, ap (λ (net : Net). length net.chain.marks) copied.rest);
         is_marked = λ light. ap (λ (net : Net). is_marked net.chain.marks light) copied.rest ∙ other.is_marked light;
       }
@@ -221,7 +221,7 @@ module _ (state : State) (net old new : Net) (can : CanCopy (lights_of state.gri
         holding = subst (IsHolding (board_of grid) state.words) (sym same) filled.holding;
         exact = subst (λ marks. IsExact (board_of grid) state.words marks.words marks.letters) (sym same) filled.exact;
         pending = none_pending (lights_of grid) net old new can copied;
-        quiet = record { queue = rest.queue; queued = rest.is_queued; stack = rest.stack; marked = rest.is_marked };
+        quiet = record { queue = rest.queue; queued = rest.is_queued; taken = rest.taken; marked = rest.is_marked };
       }
 
 copied_settled : (state : State) (lights : List Light) (net old new : Net) → lights_of state.grid ≡ lights → CanCopy lights net old → IsCopied lights net old new → IsSettledFor state net → IsSettledFor state new

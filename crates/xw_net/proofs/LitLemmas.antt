@@ -11,7 +11,7 @@ use Rattle.xw_net.specs.Spread.{bits_in, Lit, IsLit, none_waits}
 use Rattle.xw_net.specs.Worklist.{ListOfLights, is_marked, is_waiting, Grows}
 
 module _ (board : Board) (base : List RowOfBits) (start : Lit) where
-  -- at the start the marked lights are on the stack
+  -- at the start the marked lights are on the list
   pub lit_start : (marked waiting : ℕ → Bool) → ((light : ℕ) → marked light ≡ waiting light) → IsLit board base start start marked waiting
   lit_start marked waiting seeds = record {
     rows_on = λ i lt m quiet. absurd (both_ways (waiting i) quiet (sym (seeds i) ∙ m));
@@ -29,7 +29,7 @@ module _ (board : Board) (base : List RowOfBits) (start : Lit) where
     queued_long = refl;
   }
 
-  -- more lights are marked, and put on the stack
+  -- more lights are marked, and put on the list
   pub lit_grows : (now : Lit) (chain chain' : ListOfLights) → Grows chain chain'
       → IsLit board base start now (is_marked chain.marks) (is_waiting chain.lights) → IsLit board base start now (is_marked chain'.marks) (is_waiting chain'.lights)
   lit_grows now chain chain' grows lit = record {
@@ -104,7 +104,7 @@ module _ (board : Board) (base : List RowOfBits) (start : Lit) where
       other : (i : ℕ) → marked i ≡ false → i ≡ o → ⊥
       other i h e = both_ways (marked i) h (ap marked e ∙ on)
 
-  -- at the end no light is on the stack
+  -- at the end no light is on the list
   pub lit_end : (now : Lit) (marked waiting : ℕ → Bool) → ((light : ℕ) → waiting light ≡ false) → IsLit board base start now marked waiting → IsLit board base start now marked none_waits
   lit_end now marked waiting none lit = record {
     rows_on = λ i lt m quiet. lit.rows_on i lt m (none i);

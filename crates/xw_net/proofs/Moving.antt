@@ -109,6 +109,6 @@ module _ (was now : State) (cells : ℕ) (old mid new : Net) (turned : IsTurned 
     pending = ap (λ (n : Net). n.pending.items) same_rest;
     queue = at_rest.queue;
     is_queued = at_rest.is_queued;
-    stack = at_rest.stack;
+    taken = at_rest.taken;
     is_marked = at_rest.is_marked;
   }

@@ -21,4 +21,4 @@ module _ (net : Net) (quiet : IsQuiet net) where
   quiet_queue light waits = absurd (both_ways (queued_in net light) (quiet.queued light) waits)
 
   pub quiet_seeds : HasSeeds net.chain
-  quiet_seeds light = quiet.marked light ∙ sym (waiting-none net.chain.lights light quiet.stack)
+  quiet_seeds light = quiet.marked light ∙ sym (waiting-none net.chain.lights light quiet.taken)

@@ -66,4 +66,4 @@ module _ (grid : Grid) (lights : List Light) (cells : ℕ) (net : Net) (are : li
   rest_queued light = rest.is_queued light ∙ sym (waiting-none net.queue.lights light rest.queue)
 
   pub rest_marked : HasSeeds net.chain
-  rest_marked light = rest.is_marked light ∙ sym (waiting-none net.chain.lights light rest.stack)
+  rest_marked light = rest.is_marked light ∙ sym (waiting-none net.chain.lights light rest.taken)

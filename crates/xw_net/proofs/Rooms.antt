@@ -1,5 +1,5 @@
 -- Lemmas about the room of a net.
-use Rattle.std.proofs.Common.{◌≡◌, ℕ, ◌+◌, ◌<◌, ◌≤◌, Bool, true, false, cond, eqb, List, [], ◌∷◌, ◌++◌, length, get_or, replicate, Some, None, refl, sym, ◌∙◌, ap, length-append, arith}
+use Rattle.std.proofs.Common.{◌≡◌, ℕ, ◌+◌, ◌<◌, ◌≤◌, Bool, false, List, length, get_or, replicate, Some, None, refl, sym, ◌∙◌, ap}
 use Rattle.std.specs.Prelude.{Option, slice_get, slice_index_or, unwrap_or}
 use Rattle.std.proofs.lemmas.List.{ext_get_or, length-replicate}
 use Rattle.std.proofs.lemmas.Option.{unwrap_or-slice_get}
@@ -10,7 +10,7 @@ use Rattle.xw_grid.specs.Light.{no_light}
 use Rattle.xw_net.specs.Nets.{bits_at}
 use Rattle.xw_net.proofs.Quiet.{all_false}
 use Rattle.xw_net.specs.Spread.{bits_in}
-use Rattle.xw_net.specs.Room.{size_at, no_row, row_at, with_word}
+use Rattle.xw_net.specs.Room.{size_at, no_row, row_at}
 
 pub known_few : (dictionary : Dictionary) (len : ℕ) → IsDictionary dictionary → length (row dictionary len) ≤ 1048576
 known_few dictionary len is = (is.words len).few

@@ -74,13 +74,13 @@ module _ (board : Board) (old : ℕ → ℕ → Bool) where
           ]
 
   -- a light is popped: all its positions are still to come
-  pub spread_taken : (new : ℕ → ℕ → Bool) (marked : ℕ → Bool) (stack stack' : List ℕ) (o : ℕ) → stack ≡ stack' ++ o ∷ []
-      → IsSpread board old new marked (is_waiting stack) no_places → IsSpread board old new marked (is_waiting stack') (places_from o 0)
-  spread_taken new marked stack stack' o is spread = record {
+  pub spread_taken : (new : ℕ → ℕ → Bool) (marked : ℕ → Bool) (taken taken' : List ℕ) (o : ℕ) → taken ≡ taken' ++ o ∷ []
+      → IsSpread board old new marked (is_waiting taken) no_places → IsSpread board old new marked (is_waiting taken') (places_from o 0)
+  spread_taken new marked taken taken' o is spread = record {
     on = λ i q here m quiet later.
         elim (cases_eq i o) [
           | inl e ↦ absurd (both_ways (places_from o 0 i q) later (and_from (eqb i o) (leb 0 q) (eq-eqb i o e) (le-leb 0 q (omega arith))))
-          | inr n ↦ spread.on i q here m (quiet_pop stack stack' o i is n quiet) refl
+          | inr n ↦ spread.on i q here m (quiet_pop taken taken' o i is n quiet) refl
         ];
     reaches = spread.reaches;
     from = spread.from;
@@ -133,7 +133,7 @@ module _ (board : Board) (old : ℕ → ℕ → Bool) where
 -- ---- the first and the last step
 
 module _ (board : Board) where
-  -- at the start the marked lights are on the stack
+  -- at the start the marked lights are on the list
   pub spread_start : (letters : ℕ → ℕ → Bool) (marked waiting : ℕ → Bool) → ((light : ℕ) → marked light ≡ waiting light) → IsSpread board letters letters marked waiting no_places
   spread_start letters marked waiting seeds = record {
     on = λ i q here m quiet later. absurd (both_ways (waiting i) quiet (sym (seeds i) ∙ m));
@@ -142,7 +142,7 @@ module _ (board : Board) where
     stay = λ c l may was. was;
   }
 
-  -- at the end no light is on the stack
+  -- at the end no light is on the list
   pub spread_end : (old new : ℕ → ℕ → Bool) (marked waiting : ℕ → Bool) → ((light : ℕ) → waiting light ≡ false)
       → IsSpread board old new marked waiting no_places → IsSpread board old new marked none_waits no_places
   spread_end old new marked waiting none spread = record {

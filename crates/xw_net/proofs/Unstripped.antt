@@ -23,7 +23,7 @@ module _ (board : Board) (dictionary : Dictionary) (old back new : Net) where
       → new ≡ record back { chain = new.chain } → ((light : ℕ) → is_marked new.chain.marks light ≡ false)
       → IsUnstripped board dictionary new
   unfolding word_stands letter_stands held_in restart_in pending_in queued_in
-  brought_unstripped whole is_base shaped chained bits base stack room chain brought ready holding pending same marked =
+  brought_unstripped whole is_base shaped chained bits base taken room chain brought ready holding pending same marked =
       let new_base = ap (λ (net : Net). vec_items net.base) same ∙ ap (λ v. vec_items v) base in
       record {
         whole = record {
@@ -38,6 +38,6 @@ module _ (board : Board) (dictionary : Dictionary) (old back new : Net) where
         ready = subst (λ (net : Net). IsReady board dictionary (marks_of net)) (sym same) ready;
         holding = subst (λ (net : Net). IsHolding board dictionary (marks_of net)) (sym same) (same_holding board dictionary (marks_of old) (marks_of back) brought.held holding);
         pending = λ slot letter. ap (λ (net : Net). pending_in net slot letter) same ∙ brought.pending slot letter ∙ pending slot letter;
-        stack = stack;
+        taken = taken;
         marked = marked;
       }

@@ -154,3 +154,7 @@ pub record IsPrepared (board : Board) (entries : ℕ → List Entry) (word : Opt
   pub calm : (light : ℕ) → light < length board.lights → in_queue light ≡ false → may_have word (length (light_at board light)) (base_bits board (light_at board light) (entries (length (light_at board light)))) ≡ false
   pub stood_not : (light : ℕ) → light < length board.lights → in_queue light ≡ false → may_have word (length (light_at board light)) (bits_in rows light) ≡ false
   pub seeds : (light : ℕ) → light < length board.lights → in_queue light ≡ true → is_seed board word (light_at board light) (base_bits board (light_at board light) (entries (length (light_at board light)))) ≡ true → in_chain light ≡ true
+
+-- the rows are prepared if each base row was right except perhaps for the changed word
+abbrev pub Prepares : Board → (ℕ → List Entry) → Option (ℕ × ℕ) → List RowOfBits → List RowOfBits → List RowOfBits → List RowOfBits → ListOfLights → ListOfLights → Type 0
+Prepares board entries word rows rows' base base' queue chain = AreBaseBut board entries word base → IsPrepared board entries word rows rows' base base' (is_marked queue.marks) (is_marked chain.marks)

@@ -36,6 +36,10 @@ abbrev pub AreBaseRowsAlike : Board → Board → ℕ → List RowOfBits → Lis
 AreBaseRowsAlike before after count rows from =
     (light : ℕ) → light < count → entries_in before (light_at before light) ≡ entries_in after (light_at after light) → (row_at rows light).bits ≡ (row_at from light).bits
 
+-- the first rows are as long as those of the other list
+abbrev pub AreFirstAsLong : ℕ → List RowOfBits → List RowOfBits → Type 0
+AreFirstAsLong count rows from = (light : ℕ) → light < count → length (row_at rows light).bits ≡ length (row_at from light).bits
+
 -- the new net has the answers of another, and is settled for the same states
 pub record IsCopy (lights : List Light) (net new : Net) : Type 0 where
   pub flags : flags_of lights new ≡ flags_of lights net

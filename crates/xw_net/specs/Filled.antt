@@ -33,7 +33,7 @@ pub record IsWholeNet (board : Board) (entries : ℕ → List Entry) (net : Net)
 pub record IsQuiet (net : Net) : Type 0 where
   pub queue : net.queue.lights ≡ []
   pub queued : (light : ℕ) → queued_in net light ≡ false
-  pub stack : net.chain.lights ≡ []
+  pub taken : net.chain.lights ≡ []
   pub marked : (light : ℕ) → is_marked net.chain.marks light ≡ false
 
 -- no words are in the net, no supports are held, and nothing is pending
@@ -51,7 +51,7 @@ pub record IsUnstripped (board : Board) (dictionary : Dictionary) (net : Net) : 
   pub ready : IsReady board dictionary (marks_of net)
   pub holding : IsHolding board dictionary (marks_of net)
   pub pending : (slot letter : ℕ) → pending_in net slot letter ≡ false
-  pub stack : net.chain.lights ≡ []
+  pub taken : net.chain.lights ≡ []
   pub marked : (light : ℕ) → is_marked net.chain.marks light ≡ false
 
 -- the net has exactly what is feasible, and is ready for the next edit

@@ -39,7 +39,7 @@ pub record IsAtRest (lights : List Light) (cells : ℕ) (net : Net) : Type 0 whe
   pub queue : net.queue.lights ≡ []
   pub queued_long : length net.queue.marks ≡ length lights
   pub is_queued : (light : ℕ) → is_marked net.queue.marks light ≡ false
-  pub stack : net.chain.lights ≡ []
+  pub taken : net.chain.lights ≡ []
   pub marked_long : length net.chain.marks ≡ length lights
   pub is_marked : (light : ℕ) → is_marked net.chain.marks light ≡ false
 

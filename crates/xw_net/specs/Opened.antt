@@ -16,7 +16,7 @@ use Rattle.xw_net.specs.Nets.{marks_of, word_stands, letter_stands}
 use Rattle.xw_net.specs.Spread.{no_places, HasAll, IsSpread, bits_in}
 use Rattle.xw_net.specs.Worklist.{ListOfLights, is_marked, is_waiting, HasSeeds, Grows, MarksAll, MarksOnly}
 use Rattle.xw_net.specs.Brought.{IsBase, IsBegun, IsReadyBut}
-use Rattle.xw_net.specs.Begin.{IsNewLight, IsThroughListed, HasLength, AreEdited, AreBaseBut, IsPrepared}
+use Rattle.xw_net.specs.Begin.{IsNewLight, IsThroughListed, HasLength, AreEdited, Prepares}
 use Rattle.xw_net.specs.Gone.{IsFreed, IsThroughFreed}
 
 -- the arrays that the start of an update writes
@@ -59,7 +59,7 @@ pub record IsOpening (grid : Grid) (board : Board) (lights : List Light) (entrie
   pub edited : AreEdited grid board change.cells.now (set_has new.letters) (is_marked new.queue.marks) (is_marked new.chain.marks)
   pub spread : IsSpread board (set_has old.letters) (set_has new.letters) (is_marked new.chain.marks) (is_waiting new.chain.lights) no_places
   pub freed : (cell : ℕ) → IsFreed grid change.before.now lights (length change.before.now) cell → HasAll board (set_has new.letters) cell
-  pub prepared : AreBaseBut board entries change.word old.base → IsPrepared board entries change.word old.rows new.rows old.base new.base (is_marked new.queue.marks) (is_marked new.chain.marks)
+  pub prepared : Prepares board entries change.word old.rows new.rows old.base new.base new.queue new.chain
   -- no other light is
   pub queued_within : MarksOnly (IsTouched grid board lights change) old.queue new.queue
   pub within : MarksOnly (MayGain grid board lights change old) old.chain new.chain
@@ -81,7 +81,7 @@ module _ (before now : State) where
     pub pending : net.pending.items ≡ settled.pending.items
     pub queue : net.queue.lights ≡ []
     pub is_queued : (light : ℕ) → is_marked net.queue.marks light ≡ false
-    pub stack : net.chain.lights ≡ []
+    pub taken : net.chain.lights ≡ []
     pub is_marked : (light : ℕ) → is_marked net.chain.marks light ≡ false
 
   -- the net is ready for the revival: its base rows are up to date, the marked lights are seeds,

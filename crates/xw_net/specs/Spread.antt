@@ -21,6 +21,10 @@ no_places light place = false
 abbrev pub bits_in : List RowOfBits → ℕ → List Bool
 bits_in rows light = bits_at (slice_get rows light)
 
+-- the light's row has as many bits as its base row
+abbrev pub IsAsLong : ℕ → List RowOfBits → List RowOfBits → Type 0
+IsAsLong light rows base = length (bits_in rows light) ≡ length (bits_in base light)
+
 -- the rows of the other lights stay
 abbrev pub OtherRowsStay : ℕ → List RowOfBits → List RowOfBits → Type 0
 OtherRowsStay light old new = (other : ℕ) → (other ≡ light → ⊥) → bits_in new other ≡ bits_in old other
@@ -44,7 +48,7 @@ lit rows entered restart queue = record { rows = rows; entered = entered; restar
 module _ (board : Board) where
   -- each light's row has as many bits as its base row
   abbrev pub AreAsLong : List RowOfBits → List RowOfBits → Type 0
-  AreAsLong rows base = (light : ℕ) → light < length board.lights → length (bits_in rows light) ≡ length (bits_in base light)
+  AreAsLong rows base = (light : ℕ) → light < length board.lights → IsAsLong light rows base
 
   -- a light through the cell
   abbrev pub IsThrough : ℕ → ℕ → Type 0
@@ -65,7 +69,7 @@ module _ (board : Board) where
   -- the letters that came back while the chain grows
   pub record IsSpread (old new : ℕ → ℕ → Bool) (marked waiting : ℕ → Bool) (coming : ℕ → ℕ → Bool) : Type 0 where
     -- the cells of marked lights have all letters that they allow, except at lights that are still
-    -- on the stack and positions still to come
+    -- on the list and positions still to come
     pub on : (light place : ℕ) → IsPlace board light place → marked light ≡ true → waiting light ≡ false → coming light place ≡ false → HasAll new (cell_at board light place)
     -- each light through a cell that got a letter is marked
     pub reaches : (light place letter : ℕ) → IsPlace board light place → new (cell_at board light place) letter ≡ true → old (cell_at board light place) letter ≡ false → marked light ≡ true
@@ -99,7 +103,7 @@ module _ (board : Board) where
   ReachesFrom start coming letters chain chain' = IsSpread start (set_has letters) (is_marked chain.marks) (is_waiting chain.lights) coming → Reaches start chain chain'
 
   -- the words that came back while the chain grows: each marked light that is no longer on the
-  -- stack has the words of its base row, and is queued
+  -- list has the words of its base row, and is queued
   pub record IsLit (base : List RowOfBits) (old new : Lit) (marked waiting : ℕ → Bool) : Type 0 where
     pub rows_on : (light : ℕ) → light < length board.lights → marked light ≡ true → waiting light ≡ false → bits_in new.rows light ≡ bits_in base light
     pub rows_off : (light : ℕ) → marked light ≡ false → bits_in new.rows light ≡ bits_in old.rows light
@@ -116,7 +120,13 @@ module _ (board : Board) where
     pub restart_long : length new.restart ≡ length old.restart
     pub queued_long : length new.queued ≡ length old.queued
 
--- no light is on the stack
+  -- a marked light that was taken from the list gets its words
+  abbrev pub Brings : List RowOfBits → ℕ → Lit → Lit → Type 0
+  Brings base light old new =
+      (start : Lit) (marked waiting left : ℕ → Bool) → marked light ≡ true → ((other : ℕ) → (other ≡ light → ⊥) → left other ≡ false → waiting other ≡ false)
+      → IsLit base start old marked waiting → IsLit base start new marked left
+
+-- no light waits
 abbrev pub none_waits : ℕ → Bool
 none_waits light = false
 

@@ -1,5 +1,5 @@
 -- What a step of stripping keeps.
-use Rattle.std.specs.Prelude.{◌≡◌, ◌⊎◌, ℕ, ◌<◌, ◌≤◌, ◌+◌, Bool, true, false, List}
+use Rattle.std.specs.Prelude.{◌≡◌, ◌⊎◌, ℕ, ◌≤◌, ◌+◌, ◌||◌, ◌==◌, Bool, true, false, List}
 use Rattle.xw_words.specs.Dictionary.{Dictionary, Entry}
 use Rattle.xw_feas.specs.Board.{Board}
 use Rattle.xw_feas.specs.Choices.{IsExact}
@@ -9,6 +9,10 @@ use Rattle.xw_net.specs.Nets.{marks_of, word_stands, letter_stands, pending_in, 
 use Rattle.xw_net.specs.Filled.{IsUnstripped, IsFilled}
 use Rattle.xw_net.specs.declared.net.Net.{Net}
 use Rattle.xw_net.specs.declared.place.Place.{Place}
+
+-- the light was queued
+abbrev pub IsQueuedToo : ℕ → Net → Net → Type 0
+IsQueuedToo light old new = (other : ℕ) → queued_in new other ≡ (queued_in old other || (other == light))
 
 -- every light that waited if it was queued still does
 abbrev pub WaitMore : Net → Net → Type 0

@@ -40,6 +40,10 @@ pub record Held : Type 0 where
   pub places : List ℕ
   pub restart : List ℕ
 
+-- these arrays
+abbrev pub held_by : List ℕ → List ℕ → Held
+held_by places restart = record { places = places; restart = restart }
+
 -- the word held for a letter at a slot
 abbrev pub place_for : Held → ℕ → ℕ → ℕ
 place_for held slot letter = slice_index held.places (26 * slot + (letter - 65))

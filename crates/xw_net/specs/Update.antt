@@ -13,11 +13,13 @@ use Rattle.xw_net.specs.declared.change.Change.{Change}
 use Rattle.xw_net.specs.Room.{row_at}
 use Rattle.xw_net.specs.Region.{IsRegion, cost}
 use Rattle.xw_net.specs.Cost.{revival_cost, stripping_cost}
-use Rattle.xw_net.specs.Nets.{IsShaped, IsChained, HasBits}
+use Rattle.xw_net.specs.Nets.{IsShaped, IsChained, HasBits, IsQueue}
 use Rattle.xw_net.specs.Brought.{HasBase}
-use Rattle.xw_net.specs.Filled.{HasRowRoom, IsUnstripped, IsFilled}
+use Rattle.xw_net.specs.Filled.{AreLong, HasRowRoom, IsUnstripped, IsFilled}
 use Rattle.xw_net.specs.Change.{IsChange, AreReadsOf}
 use Rattle.xw_net.specs.Net.{IsSettledFor, IsRevivedFor}
+use Rattle.xw_net.specs.Steps.{PendLess}
+use Rattle.xw_net.specs.Worklist.{HasSeeds}
 use Rattle.xw_net.specs.Opened.{IsMoved, IsOpened}
 
 -- the listed cells are inside the grid
@@ -31,10 +33,30 @@ pub record IsSized (board : Board) (entries : ℕ → List Entry) (net : Net) : 
   pub bits : HasBits board entries net
   pub base : HasBase board entries net.base.items
 
+-- the net is adapted to the lights after the edit that the change describes, and only seeds are
+-- queued or marked
+pub record CanBegin (grid : Grid) (board : Board) (lights : List Light) (entries : ℕ → List Entry) (change : Change) (net : Net) : Type 0 where
+  pub boards : board ≡ board_of grid
+  pub are_lights : lights ≡ lights_of grid
+  pub inside : AreInside grid change.cells.now
+  pub long : AreLong board entries
+  pub sized : IsSized board entries net
+  pub queued : HasSeeds net.queue
+  pub seeds : HasSeeds net.chain
+
 -- no row loses room
 pub record KeepsRoom (old new : Net) : Type 0 where
   pub rows : (light : ℕ) → (row_at old.rows.items light).room ≤ (row_at new.rows.items light).room
   pub base : (light : ℕ) → (row_at old.base.items light).room ≤ (row_at new.base.items light).room
+
+-- the net is ready for the revival, and what an edit leaves as it is has stayed
+pub record IsBegun (board : Board) (entries : ℕ → List Entry) (old new : Net) : Type 0 where
+  pub sized : IsSized board entries new
+  pub queue : IsQueue new
+  pub seeds : HasSeeds new.chain
+  pub spare : new.spare ≡ old.spare
+  pub pending : PendLess old new
+  pub room : KeepsRoom old new
 
 -- the grid after an edit and its dictionary
 abbrev pub state_of : Grid → Dictionary → State

@@ -1,13 +1,13 @@
 //! The base words of a light, as a row of bits with one bit for each known word of the light's
 //! length.
-ghost use Rattle.std.specs.Prelude.{◌≡◌, ℕ, ◌+◌, ◌*◌, ◌<◌, ◌≤◌, ◌&&◌, true, false, length, slice_index, slice_index_or, All, Some, IfSome, IfNone};
+ghost use Rattle.std.specs.Prelude.{◌≡◌, ℕ, ◌+◌, ◌*◌, ◌<◌, ◌≤◌, ◌&&◌, true, false, length, slice_index, slice_index_or, Some, IfSome, IfNone};
 ghost use Rattle.xw_bits.specs.Bits.{has_bit};
 ghost use Rattle.xw_words.specs.Columns.{is_active};
 ghost use Rattle.xw_words.specs.Dictionary.{entry_at};
-ghost use Rattle.xw_feas.specs.Board.{light_at, entry, agrees, is_wholly_entered};
-ghost use Rattle.xw_net.specs.Base.{is_agreeing, is_base_word, has_entry, AreOfLength, row_cost, base_row, IsRowOf, IsRowBut, IsRightBut};
+ghost use Rattle.xw_feas.specs.Board.{light_at, entry, is_wholly_entered};
+ghost use Rattle.xw_net.specs.Base.{KeepsAgreeing, IsLongAt, is_agreeing, is_base_word, has_entry, AreOfLength, row_cost, base_row, IsRowOf, IsRowBut, IsRightBut};
 ghost use Rattle.xw_net.specs.Region.{chunks_of};
-ghost use Rattle.xw_net.specs.Spread.{bits_in, OtherRowsStay};
+ghost use Rattle.xw_net.specs.Spread.{bits_in};
 ghost use Rattle.xw_net.specs.Filled.{AreLong};
 ghost use Rattle.xw_net.specs.Worklist.{is_marked, HasLights};
 ghost use Rattle.xw_net.specs.Room.{KeepRoom};
@@ -114,7 +114,7 @@ fn keep_agreeing<R: Rows>(
     ensures entries { R.entries rows.new ≡ R.entries rows.old }
     ensures risen { R.ticks rows.old ≤ R.ticks rows.new }
     ensures len { length row.new.bits ≡ length row.old.bits }
-    ensures bits { (i : ℕ) → slice_index_or row.new.bits i false ≡ (slice_index_or row.old.bits i false && has_entry (entry board.now (slice_index cells.now place)) (R.entries rows.old (length cells.now)) place i) }
+    ensures bits { KeepsAgreeing board.now cells.now (R.entries rows.old) place row.old.bits row.new.bits }
     ensures room { row.new.room ≡ row.old.room }
     ensures cost { R.ticks rows.new ≤ R.ticks rows.old + chunks_of (length row.old.bits) }
 {
@@ -145,7 +145,7 @@ fn read_open<R: Rows>(rows: &mut R, board: &Board<'_>, cells: &Cells, row: &mut 
 /// it reads nothing.
 pub fn read_base<R: Rows>(rows: &mut R, board: &Board<'_>, light: usize, row: &mut BitRow)
     requires light { light < length board.now.lights }
-    requires long { AreOfLength (R.entries rows.old) (length (light_at board.now light)) }
+    requires long { IsLongAt board.now (R.entries rows.old) light }
     requires bits { IsRowOf board.now (R.entries rows.old) light row.old.bits }
     ensures entries { R.entries rows.new ≡ R.entries rows.old }
     ensures risen { R.ticks rows.old ≤ R.ticks rows.new }
@@ -173,7 +173,7 @@ fn read_chunk<R: Rows>(
     row: &mut BitRow,
 )
     requires light { light < length board.now.lights }
-    requires long { AreOfLength (R.entries rows.old) (length (light_at board.now light)) }
+    requires long { IsLongAt board.now (R.entries rows.old) light }
     requires bits { IsRowOf board.now (R.entries rows.old) light row.old.bits }
     ensures entries { R.entries rows.new ≡ R.entries rows.old }
     ensures risen { R.ticks rows.old ≤ R.ticks rows.new }
@@ -212,7 +212,7 @@ fn read_changed<R: Rows>(
     row: &mut BitRow,
 )
     requires light { light < length board.now.lights }
-    requires long { AreOfLength (R.entries rows.old) (length (light_at board.now light)) }
+    requires long { IsLongAt board.now (R.entries rows.old) light }
     requires bits { IsRowOf board.now (R.entries rows.old) light row.old.bits }
     ensures entries { R.entries rows.new ≡ R.entries rows.old }
     ensures risen { R.ticks rows.old ≤ R.ticks rows.new }

@@ -7,7 +7,7 @@ ghost use Rattle.xw_feas.specs.Board.{light_at};
 ghost use Rattle.xw_feas.specs.Feasible.{may_stand};
 ghost use Rattle.xw_feas.specs.Flags.{set_has};
 ghost use Rattle.xw_net.specs.Spread.{AreAsLong, IsThrough, KeepsSpread, bits_in, OtherCellsStay};
-ghost use Rattle.xw_net.specs.Begin.{IsEdited, StaysEdited, AreEdited, IsThroughListed, HasLength, IsQueuedSeed, MayConcern, IsConcerned, may_have, is_seed as is_seed_of, has_changed, is_read, IsNarrowedRow, AreNarrowed, AreBaseBut, IsPrepared};
+ghost use Rattle.xw_net.specs.Begin.{IsEdited, StaysEdited, AreEdited, IsThroughListed, HasLength, IsQueuedSeed, IsConcerned, may_have, is_seed as is_seed_of, has_changed, is_read, AreNarrowed, Prepares};
 ghost use Rattle.xw_net.specs.Brought.{HasBase, CostsAtMost};
 ghost use Rattle.xw_net.specs.Filled.{AreLong};
 ghost use Rattle.xw_net.specs.Room.{KeepRoom};
@@ -33,8 +33,6 @@ fn narrow_cell(board: &Board<'_>, cell: usize, letters: &mut [LetterSet])
     ensures len { length letters.new ≡ length letters.old }
     ensures here { (letter : ℕ) → set_has letters.new cell letter ≡ (set_has letters.old cell letter && may_stand board.now cell letter) }
     ensures others { OtherCellsStay cell letters.old letters.new }
-    ensures fewer { (other letter : ℕ) → set_has letters.new other letter ≡ true → set_has letters.old other letter ≡ true }
-    ensures stay { (other letter : ℕ) → may_stand board.now other letter ≡ true → set_has letters.old other letter ≡ true → set_has letters.new other letter ≡ true }
 {
     letters[cell] = letters[cell].common(letters_allowed(board, cell));
 }
@@ -176,27 +174,6 @@ fn has_changed_word(word: Option<(usize, usize)>, len: usize, base: &BitRow, wor
     may_have_word(word, len, base) || may_have_word(word, len, words)
 }
 
-/// Queues a light if the changed word may concern it.
-fn queue_if_changed(
-    board: &Board<'_>,
-    word: Option<(usize, usize)>,
-    light: usize,
-    base: &[BitRow],
-    words: &[BitRow],
-    queue: &mut Worklist,
-)
-    requires light { light < length board.now.lights }
-    requires base { light < length base.now }
-    requires words { light < length words.now }
-    requires queue { light < length queue.old.marks }
-    ensures { Adds (λ other. (other ≡ light) × MayConcern board.now word base.now words.now other) queue.old queue.new }
-{
-    let len = board.light(light).len();
-    if has_changed_word(word, len, &base[light], &words[light]) {
-        queue.insert(light);
-    }
-}
-
 /// Queues the lights that the changed word may concern.
 fn queue_changed(
     board: &Board<'_>,
@@ -214,7 +191,11 @@ fn queue_changed(
         return;
     }
     for light in 0..board.light_count() {
-        queue_if_changed(board, word, light, base, words, queue);
+        let len = board.light(light).len();
+        if !has_changed_word(word, len, &base[light], &words[light]) {
+            continue;
+        }
+        queue.insert(light);
     }
 }
 
@@ -245,7 +226,7 @@ pub(crate) fn prepare<R: Rows>(
     ensures queued_within { MarksOnly (HasLength board.now word) queue.old queue.new }
     ensures chain { Grows chain.old chain.new }
     ensures within { MarksOnly (λ light. is_marked queue.new.marks light ≡ true) chain.old chain.new }
-    ensures prepared { AreBaseBut board.now (R.entries rows.old) word base.old → IsPrepared board.now (R.entries rows.old) word words.old words.new base.old base.new (is_marked queue.new.marks) (is_marked chain.new.marks) }
+    ensures prepared { Prepares board.now (R.entries rows.old) word words.old words.new base.old base.new queue.new chain.new }
     ensures cost { CostsAtMost board.now (R.entries rows.old) (is_read board.now word (is_marked queue.new.marks)) (R.ticks rows.old) (R.ticks rows.new) }
 {
     read_marked(rows, board, word, queue, base);

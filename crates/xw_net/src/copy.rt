@@ -1,7 +1,6 @@
 //! Copies one net into another.
 ghost use Rattle.std.specs.Prelude.{◌≡◌, ℕ, ◌<◌, ◌≤◌, true, false, length, slice_index_or};
-ghost use Rattle.xw_net.specs.Copy.{entries_in, AreBaseRowsAlike, AreRowsCopied};
-ghost use Rattle.xw_net.specs.Room.{row_at};
+ghost use Rattle.xw_net.specs.Copy.{entries_in, AreFirstAsLong, AreBaseRowsAlike, AreRowsCopied};
 
 use crate::net::Net;
 use std::alloc::Global;
@@ -18,7 +17,7 @@ use xw_words::bank::Bank;
 fn copy_rows(rows: &mut [BitRow], from: &[BitRow], count: usize)
     requires rows { count ≤ length rows.old }
     requires from { count ≤ length from.now }
-    requires bits { (light : ℕ) → light < count → length (row_at rows.old light).bits ≡ length (row_at from.now light).bits }
+    requires bits { AreFirstAsLong count rows.old from.now }
     ensures { AreRowsCopied count from.now rows.old rows.new }
 {
     for light in 0..count {
@@ -57,7 +56,7 @@ fn copy_base(
     requires from { count ≤ length from.now }
     requires lights { count ≤ length before.now.lights }
     requires others { count ≤ length after.now.lights }
-    requires bits { (light : ℕ) → light < count → length (row_at rows.old light).bits ≡ length (row_at from.now light).bits }
+    requires bits { AreFirstAsLong count rows.old from.now }
     requires alike { are_settled ≡ true → AreBaseRowsAlike before.now after.now count rows.old from.now }
     ensures { AreRowsCopied count from.now rows.old rows.new }
 {
@@ -87,6 +86,7 @@ impl Net {
     ghost use Rattle.xw_feas.specs.Board.{board_of};
     ghost use Rattle.xw_net.specs.Copy.{CanCopy, IsCopy, AreBaseRowsAlike};
     ghost use Rattle.xw_net.specs.Net.{IsSettledFor};
+    ghost use Rattle.xw_net.specs.Update.{state_of};
 
     /// Copies the arrays of `net`. With `are_settled` it leaves out the base rows of lights with the same entries in both
     /// grids, which are equal.
@@ -134,8 +134,8 @@ impl Net {
         requires lights { lights.now ≡ lights_of after.now }
         requires same_lights { lights.now ≡ lights_of before.now }
         requires can { CanCopy lights.now net.now self.old }
-        requires before { ∥ IsSettledFor (record { grid = before.now; words = bank.now.words }) self.old ∥₁ }
-        requires after { ∥ IsSettledFor (record { grid = after.now; words = bank.now.words }) net.now ∥₁ }
+        requires before { ∥ IsSettledFor (state_of before.now bank.now.words) self.old ∥₁ }
+        requires after { ∥ IsSettledFor (state_of after.now bank.now.words) net.now ∥₁ }
         ensures copied { IsCopy lights.now net.now self.new }
         ensures spare { self.new.spare ≡ self.old.spare }
     {
@@ -153,7 +153,7 @@ impl Net {
         bank: &Bank,
     ) -> Result<Net, Refusal>
         requires lights { lights.now ≡ lights_of grid.now }
-        requires settled { ∥ IsSettledFor (record { grid = grid.now; words = bank.now.words }) self.now ∥₁ }
+        requires settled { ∥ IsSettledFor (state_of grid.now bank.now.words) self.now ∥₁ }
         ensures copied { IfOk result (λ net. IsCopy lights.now self.now net) }
         ensures none_waits { IfOk result (λ net. is_some net.spare ≡ false) }
         ensures err { IfErr result (λ refusal. refusal ≡ Refusal.Grid GridFault.Memory) }

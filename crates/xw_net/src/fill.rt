@@ -39,6 +39,7 @@ impl Net {
     ghost use Rattle.xw_feas.specs.WellFormed.{HasLetterEntries};
     ghost use Rattle.xw_net.specs.Marks.{IsPosition};
     ghost use Rattle.xw_net.specs.Filled.{AreLong, IsFresh, IsFilled};
+    ghost use Rattle.xw_net.specs.Update.{state_of};
     ghost use Rattle.xw_net.specs.Net.{IsSettledFor, HasRoomFor, known_counts};
 
     /// Fills an empty net with exactly the feasible words and letters.
@@ -63,7 +64,7 @@ impl Net {
     /// allocation fails.
     pub fn of(alloc: Global, grid: &Grid, lights: &Lights, bank: &Bank) -> Result<Net, Refusal>
         requires { lights.now ≡ lights_of grid.now }
-        ensures settled { IfOk result (λ net. IsSettledFor (record { grid = grid.now; words = bank.now.words }) net) }
+        ensures settled { IfOk result (λ net. IsSettledFor (state_of grid.now bank.now.words) net) }
         ensures room { IfOk result (λ net. HasRoomFor lights.now (known_counts bank.now.words) net) }
         ensures none_waits { IfOk result (λ net. is_some net.spare ≡ false) }
         ensures err { IfErr result (λ refusal. refusal ≡ Refusal.Grid GridFault.Memory) }

@@ -1,9 +1,8 @@
 //! Forgets supports that an edit may have made invalid.
 ghost use Rattle.std.specs.Prelude.{◌≡◌, ◌⊎◌, ℕ, ◌+◌, ◌-◌, ◌*◌, ◌^◌, ◌<◌, ◌≤◌, false, true, Option, is_some, length, slice_index};
-ghost use Rattle.xw_letters.specs.Letter.{is_capital};
 ghost use Rattle.xw_feas.specs.Board.{light_at};
 ghost use Rattle.xw_feas.specs.Flags.{set_has};
-ghost use Rattle.xw_net.specs.Marks.{IsPlace, slot_at, AreSlotsApart, AreBySlot, AreHeld, HasFewCells};
+ghost use Rattle.xw_net.specs.Marks.{slot_at, AreSlotsApart, AreBySlot, AreHeld, HasFewCells};
 ghost use Rattle.xw_net.specs.Renumber.{same_before};
 ghost use Rattle.xw_net.specs.Forget.{cut, lose, lost_from as lost_from_of, lost_at, nowhere, ChangesHeld, KeepsHeld, KeepsFewer, Forgets};
 

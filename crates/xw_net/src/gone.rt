@@ -24,26 +24,6 @@ fn place_along(grid: &Grid, light: &Light, k: u32) -> Option<usize>
     grid.index(light.cell(k))
 }
 
-/// Gives cell `k` of a removed light all letters that it allows.
-fn raise_at(
-    grid: &Grid,
-    board: &Board<'_>,
-    light: &Light,
-    k: u32,
-    letters: &mut [LetterSet],
-    chain: &mut Worklist,
-)
-    requires cells { length grid.now.squares ≡ length board.now.open_cells }
-    requires letters { AreByCell board.now letters.old }
-    requires chain { HasLights board.now chain.old }
-    requires seeds { HasSeeds chain.old }
-    ensures { Raises board.now (IsAlong grid.now light.now k) letters.old chain.old letters.new chain.new }
-{
-    if let Some(cell) = place_along(grid, light, k) {
-        raise_cell(board, cell, letters, chain);
-    }
-}
-
 /// Gives each cell of a removed light all letters that it allows.
 fn raise_along(
     grid: &Grid,
@@ -59,7 +39,10 @@ fn raise_along(
     ensures { Raises board.now (IsAmong grid.now light.now light.now.size) letters.old chain.old letters.new chain.new }
 {
     for k in 0..light.size {
-        raise_at(grid, board, light, k, letters, chain);
+        let Some(cell) = place_along(grid, light, k) else {
+            continue;
+        };
+        raise_cell(board, cell, letters, chain);
     }
 }
 

@@ -1,9 +1,8 @@
 //! Removes from a light the words that are no longer base words after an edit.
 ghost use Rattle.std.specs.Prelude.{◌≡◌, ℕ, ◌<◌, ◌≤◌, length, Some};
-ghost use Rattle.xw_feas.specs.Board.{light_at};
 ghost use Rattle.xw_net.specs.Begin.{IsNarrowedRow, IsNarrowed};
 ghost use Rattle.xw_net.specs.Room.{KeepRoom};
-ghost use Rattle.xw_net.specs.Spread.{bits_in, OtherRowsStay};
+ghost use Rattle.xw_net.specs.Spread.{OtherRowsStay, IsAsLong};
 
 use crate::base::place_if_long;
 use xw_bits::bit_row::BitRow;
@@ -50,7 +49,7 @@ pub(crate) fn narrow_row(
     requires light { light < length board.now.lights }
     requires base { light < length base.now }
     requires rows { light < length rows.old }
-    requires bits { length (bits_in rows.old light) ≡ length (bits_in base.now light) }
+    requires bits { IsAsLong light rows.old base.now }
     ensures len { length rows.new ≡ length rows.old }
     ensures row_room { KeepRoom rows.old rows.new }
     ensures here { IsNarrowed board.now word light base.now rows.old rows.new }

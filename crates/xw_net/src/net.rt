@@ -2,7 +2,6 @@
 ghost use Rattle.std.specs.Prelude.{◌≡◌, ℕ, ◌+◌, ◌<◌, ◌≤◌, true, false, ◌||◌};
 ghost use Rattle.xw_letters.specs.Letter.{IsLetter};
 ghost use Rattle.xw_letters.specs.LetterSet.{has};
-ghost use Rattle.xw_words.specs.Dictionary.{Dictionary};
 ghost use Rattle.xw_feas.specs.Board.{light_at};
 
 use crate::place::{Place, place_of, side};
@@ -66,13 +65,13 @@ fn with_all(set: LetterSet, more: LetterSet) -> LetterSet
 }
 
 impl Net {
-    ghost use Rattle.std.specs.Prelude.{◌≡◌, ℕ, ◌+◌, ◌-◌, ◌*◌, ◌<◌, ◌≤◌, true, false, not, [], ◌||◌, ◌&&◌, ◌==◌, length, slice_index_or};
+    ghost use Rattle.std.specs.Prelude.{◌≡◌, ℕ, ◌+◌, ◌-◌, ◌*◌, ◌<◌, ◌≤◌, true, false, not, ◌||◌, ◌&&◌, ◌==◌, length, slice_index_or};
     ghost use Rattle.xw_letters.specs.Letter.{IsLetter};
     ghost use Rattle.xw_letters.specs.LetterSet.{has};
     ghost use Rattle.xw_feas.specs.Board.{light_at};
     ghost use Rattle.xw_net.specs.Marks.{side_of, IsPlace, Drops, LeavesPending, cell_at, slot_at};
-    ghost use Rattle.xw_net.specs.Nets.{marks_of, letter_stands, pending_in, queued_in, IsShaped, IsLeft, HasBits, IsThere, IsQueue, Waits, left_of};
-    ghost use Rattle.xw_net.specs.Steps.{IsCheck, IsStruck, StandFewer, OthersStand, IsLetterHeld, IsStruckFrom, IsLeftPending, IsStrippable, IsStep, WaitMore, PendLess, IsCleared, PendAtSlots, ArePlaceHeld, AreLightHeld, KeepSupports, KeepsHolding, StepsOn, StrikesOn, ChecksOn, LeavesNonePending, SettlesMarks, LeavesFeasible, FillsNet, StripsWithin};
+    ghost use Rattle.xw_net.specs.Nets.{marks_of, letter_stands, pending_in, queued_in, IsShaped, IsLeft, IsThere, IsQueue, Waits, left_of};
+    ghost use Rattle.xw_net.specs.Steps.{IsQueuedToo, IsCheck, IsStruck, StandFewer, OthersStand, IsLetterHeld, IsStruckFrom, IsLeftPending, IsStrippable, IsStep, WaitMore, PendLess, IsCleared, PendAtSlots, ArePlaceHeld, AreLightHeld, KeepSupports, KeepsHolding, StepsOn, StrikesOn, ChecksOn, FillsNet, StripsWithin};
     ghost use Rattle.xw_net.specs.Worklist.{is_waiting};
 
     /// Removes from a light the words with a pending letter at a position.
@@ -135,7 +134,7 @@ impl Net {
         ensures rest { IsLeft self.old self.new }
         ensures same { IsLeftPending self.old self.new }
         ensures pending { (slot other : ℕ) → pending_in self.new slot other ≡ (pending_in self.old slot other || ((slot == 2 * cell + side_of (light_at board.now light)) && (other == letter))) }
-        ensures queued { (other : ℕ) → queued_in self.new other ≡ (queued_in self.old other || (other == light)) }
+        ensures queued { IsQueuedToo light self.old self.new }
         ensures waits { WaitMore self.old self.new }
         ensures longer { length self.new.queue.lights ≤ length self.old.queue.lights + 1 }
     {
@@ -172,7 +171,7 @@ impl Net {
         ensures rest { IsLeft self.old self.new }
         ensures same { IsLeftPending self.old self.new }
         ensures pending { (slot letter : ℕ) → pending_in self.new slot letter ≡ (pending_in self.old slot letter || ((slot == 2 * cell + side_of (light_at board.now light)) && has gone letter)) }
-        ensures queued { (other : ℕ) → queued_in self.new other ≡ (queued_in self.old other || (other == light)) }
+        ensures queued { IsQueuedToo light self.old self.new }
         ensures waits { WaitMore self.old self.new }
         ensures longer { length self.new.queue.lights ≤ length self.old.queue.lights + 1 }
     {
@@ -320,12 +319,6 @@ impl Net {
         ensures entries { R.entries rows.new ≡ R.entries rows.old }
         ensures risen { R.ticks rows.old ≤ R.ticks rows.new }
         ensures step { IsStep board.now (R.entries rows.old) self.old self.new }
-        ensures holding { KeepsHolding board.now (R.entries rows.old) self.old self.new }
-        ensures empty { self.new.queue.lights ≡ [] }
-        ensures none_queued { (light : ℕ) → queued_in self.new light ≡ false }
-        ensures none_pending { LeavesNonePending board.now (R.entries rows.old) self.old self.new }
-        ensures settled { SettlesMarks board.now (R.entries rows.old) self.old self.new }
-        ensures exact { LeavesFeasible board.now (R.entries rows.old) self.old self.new }
         ensures filled { FillsNet board.now (R.entries rows.old) self.old self.new }
         ensures cost { StripsWithin board.now (R.entries rows.old) self.old (R.ticks rows.old) (R.ticks rows.new) }
     {

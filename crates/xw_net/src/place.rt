@@ -1,6 +1,5 @@
 //! Positions in lights.
-ghost use Rattle.std.specs.Prelude.{◌≡◌, ◌<◌, ◌≤◌, ◌+◌, ◌*◌, ◌^◌, length, slice_index};
-ghost use Rattle.xw_feas.specs.Board.{light_at};
+ghost use Rattle.std.specs.Prelude.{◌≡◌, ◌<◌, ◌≤◌, ◌+◌, ◌*◌, ◌^◌, length};
 ghost use Rattle.xw_net.specs.Marks.{side_of, IsPlace, cell_at, slot_at, HasFewCells};
 ghost use Rattle.xw_net.specs.Nets.{IsThere};
 

@@ -1,5 +1,5 @@
 //! Allocates the arrays of a net.
-ghost use Rattle.std.specs.Prelude.{◌≡◌, ℕ, ◌+◌, ◌-◌, ◌*◌, ◌^◌, ◌<◌, ◌≤◌, false, [], length, replicate, IfOk, OnOk};
+ghost use Rattle.std.specs.Prelude.{◌≡◌, ◌+◌, ◌-◌, ◌*◌, ◌^◌, ◌<◌, ◌≤◌, false, [], length, replicate, IfOk, OnOk};
 ghost use Rattle.xw_words.specs.Dictionary.{row as words_of};
 ghost use Rattle.xw_net.specs.Room.{counts_of, with_word, size_at as size_of_light, AreFalse, AreEmpty, AreRoomier, HaveRoom};
 

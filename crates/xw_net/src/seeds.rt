@@ -1,8 +1,7 @@
 //! Marks the seeds: the lights where a chain starts.
-ghost use Rattle.std.specs.Prelude.{◌≡◌, ℕ, ◌+◌, ◌*◌, ◌^◌, ◌<◌, ◌≤◌, true, IfSome, None, Some, length};
+ghost use Rattle.std.specs.Prelude.{◌≡◌, ℕ, ◌+◌, ◌*◌, ◌^◌, ◌<◌, ◌≤◌, true, IfSome, Some, length};
 ghost use Rattle.xw_feas.specs.Feasible.{may_stand};
 ghost use Rattle.xw_feas.specs.Flags.{set_has};
-ghost use Rattle.xw_net.specs.Renumber.{same_before};
 ghost use Rattle.xw_net.specs.Spread.{HasAll, IsThrough, KeepsSpread, OtherCellsStay};
 ghost use Rattle.xw_net.specs.Gone.{IsLacking};
 ghost use Rattle.xw_net.specs.Begin.{IsNewLight};
@@ -69,29 +68,7 @@ pub fn raise_cell(board: &Board<'_>, cell: usize, letters: &mut [LetterSet], cha
     }
 }
 
-/// Queues and marks a light if no light before the edit has its cells.
-fn mark_if_new(
-    lights: &Lights,
-    before: &Lights,
-    light: usize,
-    queue: &mut Worklist,
-    chain: &mut Worklist,
-)
-    requires queue { light < length queue.old.marks }
-    requires chain { light < length chain.old.marks }
-    ensures queue { Adds (λ other. (other ≡ light) × (same_before before.now lights.now other ≡ None)) queue.old queue.new }
-    ensures chain { Adds (λ other. (other ≡ light) × (same_before before.now lights.now other ≡ None)) chain.old chain.new }
-{
-    match lights.same(light, before) {
-        Some(_) => {}
-        None => {
-            queue.insert(light);
-            chain.insert(light);
-        }
-    }
-}
-
-/// Queues and marks the new lights. If `stays` is true there is none, and it does nothing.
+/// Queues and marks the lights whose cells no light before the edit has. If `stays` is true there is none, and it does nothing.
 pub(crate) fn mark_new(
     lights: &Lights,
     before: &Lights,
@@ -109,7 +86,11 @@ pub(crate) fn mark_new(
         return;
     }
     for light in 0..lights.len() {
-        mark_if_new(lights, before, light, queue, chain);
+        if lights.same(light, before).is_some() {
+            continue;
+        }
+        queue.insert(light);
+        chain.insert(light);
     }
 }
 

@@ -12,7 +12,7 @@ use xw_grid::lights::Lights;
 use xw_words::rows::Rows;
 
 impl Net {
-    ghost use Rattle.std.specs.Prelude.{◌≡◌, ℕ, ◌≤◌, true, None, length, vec_len};
+    ghost use Rattle.std.specs.Prelude.{◌≡◌, ◌≤◌, true, None, length, vec_len};
     ghost use Rattle.xw_grid.specs.Light.{lights_of};
     ghost use Rattle.xw_feas.specs.Board.{board_of};
     ghost use Rattle.xw_net.specs.Begin.{is_read};
@@ -23,8 +23,7 @@ impl Net {
     ghost use Rattle.xw_net.specs.Nets.{IsShaped, HasBits, IsQueue, IsLeft};
     ghost use Rattle.xw_net.specs.Opened.{arrays_of, IsOpening};
     ghost use Rattle.xw_net.specs.Room.{counts_of, HasRoom};
-    ghost use Rattle.xw_net.specs.Steps.{PendLess};
-    ghost use Rattle.xw_net.specs.Update.{AreInside, IsSized, KeepsRoom, Opens, RevivesMoved, RevivesMovedInRegion, Revives, RevivesInRegion, StripsTo, StripsInRegion, Settles, SettlesInRegion};
+    ghost use Rattle.xw_net.specs.Update.{AreInside, CanBegin, IsBegun, IsSized, KeepsRoom, Opens, RevivesMoved, RevivesMovedInRegion, Revives, RevivesInRegion, StripsTo, StripsInRegion, Settles, SettlesInRegion};
     ghost use Rattle.xw_net.specs.Worklist.{is_marked, HasSeeds};
 
     /// Queues the lights that the edit touches. Marks as seeds the lights that may get words back,
@@ -97,21 +96,10 @@ impl Net {
         lights: &Lights,
         change: &Change<'_>,
     )
-        requires board { board.now ≡ board_of grid.now }
-        requires lights { lights.now ≡ lights_of grid.now }
-        requires inside { AreInside grid.now change.now.cells.now }
-        requires long { AreLong board.now (R.entries rows.old) }
-        requires sized { IsSized board.now (R.entries rows.old) self.old }
-        requires queued { HasSeeds self.old.queue }
-        requires seeds { HasSeeds self.old.chain }
+        requires { CanBegin grid.now board.now lights.now (R.entries rows.old) change.now self.old }
         ensures entries { R.entries rows.new ≡ R.entries rows.old }
         ensures risen { R.ticks rows.old ≤ R.ticks rows.new }
-        ensures sized { IsSized board.now (R.entries rows.old) self.new }
-        ensures queue { IsQueue self.new }
-        ensures seeds { HasSeeds self.new.chain }
-        ensures spare { self.new.spare ≡ self.old.spare }
-        ensures pending { PendLess self.old self.new }
-        ensures room { KeepsRoom self.old self.new }
+        ensures begun { IsBegun board.now (R.entries rows.old) self.old self.new }
         ensures opened { Opens grid.now (R.entries rows.old) change.now self.old self.new }
         ensures cost { CostsAtMost board.now (R.entries rows.old) (is_read board.now change.now.word (is_marked self.new.queue.marks)) (R.ticks rows.old) (R.ticks rows.new) }
     {
@@ -136,13 +124,7 @@ impl Net {
         lights: &Lights,
         change: &Change<'_>,
     )
-        requires board { board.now ≡ board_of grid.now }
-        requires lights { lights.now ≡ lights_of grid.now }
-        requires inside { AreInside grid.now change.now.cells.now }
-        requires long { AreLong board.now (R.entries rows.old) }
-        requires sized { IsSized board.now (R.entries rows.old) self.old }
-        requires queued { HasSeeds self.old.queue }
-        requires seeds { HasSeeds self.old.chain }
+        requires { CanBegin grid.now board.now lights.now (R.entries rows.old) change.now self.old }
         ensures entries { R.entries rows.new ≡ R.entries rows.old }
         ensures risen { R.ticks rows.old ≤ R.ticks rows.new }
         ensures shaped { IsShaped board.now self.new }

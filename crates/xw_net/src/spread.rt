@@ -1,13 +1,12 @@
 //! The revival: puts words and letters back along a chain of lights.
-ghost use Rattle.std.specs.Prelude.{◌≡◌, ℕ, ◌+◌, ◌*◌, ◌^◌, ◌<◌, ◌≤◌, Bool, true, false, [], IsTrue, IsFalse, length, slice_index_or, slice_set};
+ghost use Rattle.std.specs.Prelude.{◌≡◌, ℕ, ◌+◌, ◌*◌, ◌^◌, ◌<◌, ◌≤◌, Bool, true, false, [], IsTrue, IsFalse, length, slice_set};
 ghost use Rattle.xw_letters.specs.Letter.{is_capital};
 ghost use Rattle.xw_letters.specs.LetterSet.{has};
-ghost use Rattle.xw_feas.specs.Board.{light_at};
 ghost use Rattle.xw_feas.specs.Feasible.{may_stand};
 ghost use Rattle.xw_feas.specs.Flags.{set_has};
-ghost use Rattle.xw_net.specs.Marks.{IsPlace, cell_at, slot_at, AreByCell, AreBySlot, HasFewCells};
-ghost use Rattle.xw_net.specs.Room.{row_at, KeepRoom};
-ghost use Rattle.xw_net.specs.Spread.{RestartsLight, OtherSlotsStay, places_from, no_places, bits_in, AreAsLong, HasAll, IsThrough, IsSpread, SpreadsOn, ReachesFrom, Reaches, Lit, lit, IsLit, IsListed, none_waits, OtherRowsStay};
+ghost use Rattle.xw_net.specs.Marks.{IsPlace, cell_at, AreByCell, AreBySlot, HasFewCells};
+ghost use Rattle.xw_net.specs.Room.{KeepRoom};
+ghost use Rattle.xw_net.specs.Spread.{RestartsLight, OtherSlotsStay, places_from, no_places, bits_in, AreAsLong, HasAll, IsThrough, IsSpread, SpreadsOn, ReachesFrom, Reaches, Brings, lit, IsLit, IsListed, none_waits, OtherRowsStay, IsAsLong};
 ghost use Rattle.xw_net.specs.Worklist.{is_marked, HasSeeds, Grows, MarksAll, MarksOnly, HasLights};
 
 use crate::net::Net;
@@ -116,7 +115,7 @@ fn restart_light(board: &Board<'_>, light: usize, restart: &mut [LetterSet])
 fn bring_row(base: &[BitRow], light: usize, rows: &mut [BitRow])
     requires base { light < length base.now }
     requires rows { light < length rows.old }
-    requires bits { length (bits_in rows.old light) ≡ length (bits_in base.now light) }
+    requires bits { IsAsLong light rows.old base.now }
     ensures len { length rows.new ≡ length rows.old }
     ensures here { bits_in rows.new light ≡ bits_in base.now light }
     ensures others { OtherRowsStay light rows.old rows.new }
@@ -139,17 +138,13 @@ fn bring_words(
     requires light { light < length board.now.lights }
     requires base { light < length base.now }
     requires rows { light < length rows.old }
-    requires bits { length (bits_in rows.old light) ≡ length (bits_in base.now light) }
+    requires bits { IsAsLong light rows.old base.now }
     requires entered { light < length entered.old }
     requires slots { AreBySlot board.now restart.old }
     requires queue { light < length queue.old.marks }
     ensures listed { IsListed queue.old → IsListed queue.new }
     ensures row_room { KeepRoom rows.old rows.new }
-    ensures lit { (start : Lit) (marked waiting left : ℕ → Bool) →
-        marked light ≡ true →
-        ((other : ℕ) → (other ≡ light → ⊥) → left other ≡ false → waiting other ≡ false) →
-        IsLit board.now base.now start (lit rows.old entered.old restart.old queue.old) marked waiting →
-        IsLit board.now base.now start (lit rows.new entered.new restart.new queue.new) marked left }
+    ensures lit { Brings board.now base.now light (lit rows.old entered.old restart.old queue.old) (lit rows.new entered.new restart.new queue.new) }
 {
     bring_row(base, light, rows);
     entered[light] = has_all_entries(board, &board.light(light));

@@ -1,5 +1,5 @@
 //! Lists of lights that wait, each at most once.
-ghost use Rattle.std.specs.Prelude.{◌≡◌, ℕ, ◌+◌, ◌*◌, ◌^◌, ◌<◌, ◌≤◌, Bool, true, false, [], ◌∷◌, ◌++◌, length, replicate, slice_set, vec_len, IfSome, IfNone, IfOk, OnOk, vec_capacity, if◌then◌else◌};
+ghost use Rattle.std.specs.Prelude.{◌≡◌, ◌+◌, ◌*◌, ◌^◌, ◌<◌, ◌≤◌, true, false, [], ◌∷◌, ◌++◌, length, replicate, slice_set, vec_len, IfSome, IfNone, IfOk, OnOk, vec_capacity, if◌then◌else◌};
 ghost use Rattle.std.specs.List.Sorted.{IsPermutation};
 ghost use Rattle.xw_net.specs.Worklist.{is_marked, is_waiting, Grows, IsIdle, IsRoomierList};
 
@@ -66,7 +66,6 @@ impl Worklist {
         ensures within { IfSome result (λ light. light < length self.old.marks) }
         ensures none { IfNone result (self.old.lights ≡ []) }
         ensures left { IfNone result (self.new.lights ≡ []) }
-        ensures marks { self.new.marks ≡ self.old.marks }
         ensures rest { self.new ≡ record self.old { lights = self.new.lights } }
     {
         self.lights.pop()
@@ -81,7 +80,6 @@ impl Worklist {
         ensures once { IfSome result (λ light. is_waiting self.new.lights light ≡ false) }
         ensures none { IfNone result (self.old.lights ≡ []) }
         ensures left { IfNone result (self.new.lights ≡ []) }
-        ensures marks { self.new.marks ≡ self.old.marks }
         ensures rest { self.new ≡ record self.old { lights = self.new.lights } }
     {
         take_turn_of(&mut self.lights, turn)

@@ -1,7 +1,7 @@
 use Rattle.std.proofs.Common.{◌≡◌, ℕ, true, length, refl, sym, subst, ap, ◌∙◌, arith}
 use Rattle.xw_feas.specs.Flags.{set_has}
 use Rattle.xw_net.specs.Spread.{Lit, lit, IsLit, IsSpread, places_from, none_waits, no_places}
-use Rattle.xw_net.specs.Worklist.{is_marked, is_waiting}
+use Rattle.xw_net.specs.Worklist.{ListOfLights, is_marked, is_waiting}
 use Rattle.xw_net.proofs.Worklists.{waits_pop, quiet_pop, waiting-none}
 use Rattle.xw_net.proofs.SpreadLemmas.{spread_start, spread_taken, spread_end}
 use Rattle.xw_net.proofs.LitLemmas.{lit_start, lit_grows, lit_end}
@@ -31,40 +31,40 @@ loop-light-preserved c =
     let is_on : is_marked c.loop-light.chain.marks c.in-Some.light ≡ true = c.in-Some.ensures.marked in
     let popped = c.in-Some.ensures.taken in
     let left = c.take_last.new.self in
-    let marks_stay = c.take_last.ensures.marks in
-    let on_left : (light : ℕ) → is_marked c.loop-light.chain.marks light ≡ true → is_marked c.take_last.new.self.marks light ≡ true = λ light h. ap (λ m. is_marked m light) c.take_last.ensures.marks ∙ h in
-    let taken = subst (λ m. IsSpread c.args.board.now (set_has c.args.letters.now) (set_has c.loop-light.letters) (is_marked m) (is_waiting c.take_last.new.self.lights) (places_from c.in-Some.light 0)) (sym c.take_last.ensures.marks)
+    let marks_stay = (ap (λ (l : ListOfLights). l.marks) c.take_last.ensures.rest) in
+    let on_left : (light : ℕ) → is_marked c.loop-light.chain.marks light ≡ true → is_marked c.take_last.new.self.marks light ≡ true = λ light h. ap (λ m. is_marked m light) (ap (λ (l : ListOfLights). l.marks) c.take_last.ensures.rest) ∙ h in
+    let taken = subst (λ m. IsSpread c.args.board.now (set_has c.args.letters.now) (set_has c.loop-light.letters) (is_marked m) (is_waiting c.take_last.new.self.lights) (places_from c.in-Some.light 0)) (sym (ap (λ (l : ListOfLights). l.marks) c.take_last.ensures.rest))
     (spread_taken c.args.board.now (set_has c.args.letters.now) (set_has c.loop-light.letters) (is_marked c.loop-light.chain.marks) c.loop-light.chain.lights c.take_last.new.self.lights c.in-Some.light popped inv.spread) in
     let now : Lit = lit c.bring_words.new.rows c.bring_words.new.entered c.bring_words.new.restart c.bring_words.new.queue in
-    let brought = subst (λ m. IsLit c.args.board.now c.args.base.now start now (is_marked m) (is_waiting c.take_last.new.self.lights)) (sym c.take_last.ensures.marks)
+    let brought = subst (λ m. IsLit c.args.board.now c.args.base.now start now (is_marked m) (is_waiting c.take_last.new.self.lights)) (sym (ap (λ (l : ListOfLights). l.marks) c.take_last.ensures.rest))
     (b.ensures.lit start (is_marked c.loop-light.chain.marks) (is_waiting c.loop-light.chain.lights) (is_waiting c.take_last.new.self.lights) is_on
     (λ i n quiet. quiet_pop c.loop-light.chain.lights c.take_last.new.self.lights c.in-Some.light i popped n quiet) inv.lit) in
     record {
       letters_len = k.ensures.letters ∙ inv.letters_len;
-      size = k.ensures.grows.size ∙ ap length c.take_last.ensures.marks ∙ inv.size;
+      size = k.ensures.grows.size ∙ ap length (ap (λ (l : ListOfLights). l.marks) c.take_last.ensures.rest) ∙ inv.size;
       marked = k.ensures.grows.waits (λ i h. on_left i (inv.marked i (waits_pop c.loop-light.chain.lights c.take_last.new.self.lights c.in-Some.light i popped h)));
       more = λ i h. k.ensures.grows.more i (on_left i (inv.more i h));
       row_room = λ other. omega (arith, inv.row_room other, b.ensures.row_room other);
       listed = λ listed. b.ensures.listed (inv.listed listed);
       lit = lit_grows c.args.board.now c.args.base.now start now left c.raise_light.new.chain k.ensures.grows brought;
       spread = k.ensures.spread (set_has c.args.letters.now) taken;
-      within = λ member closed seeds. k.ensures.within (set_has c.args.letters.now) taken member closed (λ light h. inv.within member closed seeds light (ap (λ m. is_marked m light) (sym c.take_last.ensures.marks) ∙ h));
+      within = λ member closed seeds. k.ensures.within (set_has c.args.letters.now) taken member closed (λ light h. inv.within member closed seeds light (ap (λ m. is_marked m light) (sym (ap (λ (l : ListOfLights). l.marks) c.take_last.ensures.rest)) ∙ h));
     }
 
 pub raise_light-requires-clause-marked : goal.raise_light-requires-clause-marked
-raise_light-requires-clause-marked c = ap (λ m. is_marked m c.in-Some.light) c.take_last.ensures.marks ∙ c.in-Some.ensures.marked
+raise_light-requires-clause-marked c = ap (λ m. is_marked m c.in-Some.light) (ap (λ (l : ListOfLights). l.marks) c.take_last.ensures.rest) ∙ c.in-Some.ensures.marked
 
 pub returns-clause-words : goal.returns-clause-words
 returns-clause-words c =
     let start : Lit = lit c.args.rows.now c.args.entered.now c.args.restart.now c.args.queue.now in
     let now : Lit = lit c.loop-light.rows c.loop-light.entered c.loop-light.restart c.loop-light.queue in
-    subst (λ m. IsLit c.args.board.now c.args.base.now start now (is_marked m) none_waits) (sym c.take_last.ensures.marks)
+    subst (λ m. IsLit c.args.board.now c.args.base.now start now (is_marked m) none_waits) (sym (ap (λ (l : ListOfLights). l.marks) c.take_last.ensures.rest))
     (lit_end c.args.board.now c.args.base.now start now (is_marked c.loop-light.chain.marks) (is_waiting c.loop-light.chain.lights) (λ i. waiting-none c.loop-light.chain.lights i c.in_default.ensures.none) c.loop-light.invariant.lit)
 
 pub returns-clause-spread : goal.returns-clause-spread
 returns-clause-spread c =
-    subst (λ m. IsSpread c.args.board.now (set_has c.args.letters.now) (set_has c.loop-light.letters) (is_marked m) none_waits no_places) (sym c.take_last.ensures.marks)
+    subst (λ m. IsSpread c.args.board.now (set_has c.args.letters.now) (set_has c.loop-light.letters) (is_marked m) none_waits no_places) (sym (ap (λ (l : ListOfLights). l.marks) c.take_last.ensures.rest))
     (spread_end c.args.board.now (set_has c.args.letters.now) (set_has c.loop-light.letters) (is_marked c.loop-light.chain.marks) (is_waiting c.loop-light.chain.lights) (λ i. waiting-none c.loop-light.chain.lights i c.in_default.ensures.none) c.loop-light.invariant.spread)
 
 pub returns-clause-within : goal.returns-clause-within
-returns-clause-within c member closed seeds light h = c.loop-light.invariant.within member closed seeds light (ap (λ m. is_marked m light) (sym c.take_last.ensures.marks) ∙ h)
+returns-clause-within c member closed seeds light h = c.loop-light.invariant.within member closed seeds light (ap (λ m. is_marked m light) (sym (ap (λ (l : ListOfLights). l.marks) c.take_last.ensures.rest)) ∙ h)

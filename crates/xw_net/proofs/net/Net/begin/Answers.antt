@@ -45,16 +45,16 @@ as_many : (grid : Grid) (board : Board) (lights : List Light) → board ≡ boar
 as_many grid board lights b l = ap length l ∙ sym (length-lights grid) ∙ sym (ap (λ (of_grid : Board). length of_grid.lights) b)
 
 pub forget_lights-requires-clause-lights : goal.forget_lights-requires-clause-lights
-forget_lights-requires-clause-lights g c = as_many c.args.grid.now c.args.board.now c.args.lights.now c.requires.board c.requires.lights
+forget_lights-requires-clause-lights g c = as_many c.args.grid.now c.args.board.now c.args.lights.now c.requires.boards c.requires.are_lights
 
 pub forget_lights-requires-clause-apart : goal.forget_lights-requires-clause-apart
-forget_lights-requires-clause-apart g c = subst AreSlotsApart (sym c.requires.board) (slots_apart c.args.grid.now)
+forget_lights-requires-clause-apart g c = subst AreSlotsApart (sym c.requires.boards) (slots_apart c.args.grid.now)
 
 pub open-requires-clause-cells : goal.open-requires-clause-cells
-open-requires-clause-cells g c = sym (length-open_cells c.args.grid.now) ∙ sym (ap (λ (b : Board). length b.open_cells) c.requires.board)
+open-requires-clause-cells g c = sym (length-open_cells c.args.grid.now) ∙ sym (ap (λ (b : Board). length b.open_cells) c.requires.boards)
 
 pub open-requires-clause-lights : goal.open-requires-clause-lights
-open-requires-clause-lights g c = as_many c.args.grid.now c.args.board.now c.args.lights.now c.requires.board c.requires.lights
+open-requires-clause-lights g c = as_many c.args.grid.now c.args.board.now c.args.lights.now c.requires.boards c.requires.are_lights
 
 pub forget_lights-requires-clause-few : goal.forget_lights-requires-clause-few
 forget_lights-requires-clause-few g c = c.requires.sized.shaped.few_cells
@@ -65,34 +65,31 @@ forget_lights-requires-clause-held g c = c.deref_mut.ensures.len ∙ c.requires.
 pub forget_lights-requires-clause-pending : goal.forget_lights-requires-clause-pending
 forget_lights-requires-clause-pending g c = c.deref_mut-2.ensures.len ∙ c.requires.sized.shaped.pending
 
-pub returns-clause-queue : goal.returns-clause-queue
-unfolding queued_in is_marked
-returns-clause-queue g c light on = sym (c.open.ensures.opening.listed light) ∙ on
-
-pub returns-clause-seeds : goal.returns-clause-seeds
-returns-clause-seeds g c = c.open.ensures.opening.seeds
-
-pub returns-clause-spare : goal.returns-clause-spare
-returns-clause-spare g c = ap (λ (net : Net). net.spare) c.open.ensures.rest
-
-pub returns-clause-pending : goal.returns-clause-pending
-unfolding pending_in
-returns-clause-pending g c slot letter gone =
-    let pending = with_items_is c.args.self.now.pending c.forget_lights.new.pending (omega (arith, c.forget_lights.auto.pending, c.deref_mut-2.ensures.len)) in
-    ap (λ (net : Net). set_has net.pending.items slot letter) c.open.ensures.rest ∙ ap (λ ps. set_has ps slot letter) pending
-    ∙ false_from_ne_true (set_has c.forget_lights.new.pending slot letter) (λ pends.
-    both_ways (set_has c.args.self.now.pending.items slot letter) gone (ap (λ ps. set_has ps slot letter) (sym c.deref_mut-2.ensures.value) ∙ c.forget_lights.ensures.less slot letter pends))
-
 pub returns-clause-opened : goal.returns-clause-opened
 returns-clause-opened g c before words action settled read is filled moved =
     let entries : g.R.Rows.entries c.args.rows.now ≡ row words = λ t. λ len. read len t in
     let rest = c.open.ensures.rest in
     let held = ap (λ (net : Net). net.held.items) rest ∙ with_items_is c.args.self.now.held c.forget_lights.new.held (omega (arith, c.forget_lights.auto.held, c.deref_mut.ensures.len)) in
     let pending = ap (λ (net : Net). net.pending.items) rest ∙ with_items_is c.args.self.now.pending c.forget_lights.new.pending (omega (arith, c.forget_lights.auto.pending, c.deref_mut-2.ensures.len)) in
-    let opening = opening_of c.args.grid.now c.args.change.now _ _ c.args.board.now (board_of c.args.grid.now) c.args.lights.now (lights_of c.args.grid.now) (g.R.Rows.entries c.args.rows.now) (row words) c.requires.board c.requires.lights entries
+    let opening = opening_of c.args.grid.now c.args.change.now _ _ c.args.board.now (board_of c.args.grid.now) c.args.lights.now (lights_of c.args.grid.now) (g.R.Rows.entries c.args.rows.now) (row words) c.requires.boards c.requires.are_lights entries
     c.open.ensures.opening in
-    let lost = lost_of c.args.change.now _ _ _ _ c.args.board.now (board_of c.args.grid.now) c.args.lights.now (lights_of c.args.grid.now) (g.R.Rows.entries c.args.rows.now) (row words) c.requires.board c.requires.lights entries
+    let lost = lost_of c.args.change.now _ _ _ _ c.args.board.now (board_of c.args.grid.now) c.args.lights.now (lights_of c.args.grid.now) (g.R.Rows.entries c.args.rows.now) (row words) c.requires.boards c.requires.are_lights entries
     (lost_by c.args.change.now c.args.board.now c.args.lights.now (g.R.Rows.entries c.args.rows.now) c.deref_mut.result.now c.args.self.now.held.items c.forget_lights.new.held _ c.deref_mut-2.result.now c.args.self.now.pending.items c.forget_lights.new.pending _
     c.deref_mut.ensures.value (sym held) c.deref_mut-2.ensures.value (sym pending) c.forget_lights.ensures) in
     opens before (record { grid = c.args.grid.now; words = words }) action c.args.change.now is settled c.args.self.now c.open.new.self filled filled.holding moved opening lost
     (ap (λ (net : Net). net.entered.items) rest) (ap (λ (net : Net). net.restart.items) rest) c.requires.inside
+
+pub returns-clause-begun : goal.returns-clause-begun
+unfolding queued_in is_marked pending_in
+returns-clause-begun g c = record {
+  sized = c.open.ensures.sized;
+  queue = λ light on. sym (c.open.ensures.opening.listed light) ∙ on;
+  seeds = c.open.ensures.opening.seeds;
+  spare = ap (λ (net : Net). net.spare) c.open.ensures.rest;
+  pending = λ slot letter gone.
+      let pending = with_items_is c.args.self.now.pending c.forget_lights.new.pending (omega (arith, c.forget_lights.auto.pending, c.deref_mut-2.ensures.len)) in
+      ap (λ (net : Net). set_has net.pending.items slot letter) c.open.ensures.rest ∙ ap (λ ps. set_has ps slot letter) pending
+      ∙ false_from_ne_true (set_has c.forget_lights.new.pending slot letter) (λ pends.
+      both_ways (set_has c.args.self.now.pending.items slot letter) gone (ap (λ ps. set_has ps slot letter) (sym c.deref_mut-2.ensures.value) ∙ c.forget_lights.ensures.less slot letter pends));
+  room = record { rows = c.open.ensures.room.rows; base = c.open.ensures.room.base };
+}

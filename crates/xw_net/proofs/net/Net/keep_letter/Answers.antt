@@ -197,33 +197,33 @@ returns-then-not-find_support-clause-check g c = record {
   fewer = c.drop_letter.ensures.fewer;
   waits = λ other waits. c.drop_letter.ensures.waits other waits;
   holding = λ dictionary position holding. let old = c.args.self.now in
-    let board = c.args.board.now in
-    let i = c.args.here.light in
-    let q = c.args.here.place in
-    let b = c.args.letter in
-    let entries = g.R.Rows.entries c.args.rows.now in
-    let there = c.requires.there in
-    let shaped = c.requires.net.shaped in
-    let k = c.find_support in
-    let new : Net = record old { held = with_items old.held k.new.held; restart = with_items old.restart k.new.restart } in
-    let held_is = with_items_is old.held k.new.held (omega (arith, k.ensures.held, c.deref_mut.ensures.len)) in
-    let restart_is = with_items_is old.restart k.new.restart (omega (arith, k.ensures.restart, c.deref_mut-2.ensures.len)) in
-    let in_rows : i < length old.rows.items = omega (arith, there.place.0, shaped.rows) in
-    let row_is = slice_get_read old.rows.items (length old.rows.items) i c.index-row.result.now refl in_rows c.index-row.ensures in
-    let before : Held = record { places = old.held.items; restart = old.restart.items } in
-    let after : Held = record { places = new.held.items; restart = new.restart.items } in
-    let no_entry : get_or old.entered.items i false ≡ false = c.requires.open in
-    let spent = g.R.Rows.ticks k.new.rows - g.R.Rows.ticks c.args.rows.now in
-    let outcome = finds_at c.index-row.result.now.bits (bits_for old i) (entries c.args.here.len) (entries (length (light_at board i))) q b c.args.here.slot (slot_at board i q) spent k.result
-    (record { places = c.deref_mut.result.now; restart = c.deref_mut-2.result.now }) before (record { places = k.new.held; restart = k.new.restart }) after
-    (sym (ap bits_at row_is)) (ap entries there.len) there.slot (λ t. record { places = c.deref_mut.ensures.value t; restart = c.deref_mut-2.ensures.value t }) (λ t. record { places = sym held_is t; restart = sym restart_is t }) k.ensures.finds in
-    let in_held : 26 * slot_at board i q + (b - 65) < length old.held.items = omega (arith, there.slot, there.in_slots, shaped.held, c.requires.letter) in
-    same_holding board dictionary (marks_of new) (marks_of c.drop_letter.new.self) (λ s d. ap (λ (net : Net). held_in net s d) c.drop_letter.ensures.same)
-    (found_holding board entries dictionary position old new c.requires.net.bits i q b there.place c.requires.letter (λ j k. refl) (λ x d. refl) (λ s d. refl) (λ j. refl) in_held spent k.result no_entry outcome holding);
+      let board = c.args.board.now in
+      let i = c.args.here.light in
+      let q = c.args.here.place in
+      let b = c.args.letter in
+      let entries = g.R.Rows.entries c.args.rows.now in
+      let there = c.requires.there in
+      let shaped = c.requires.net.shaped in
+      let k = c.find_support in
+      let new : Net = record old { held = with_items old.held k.new.held; restart = with_items old.restart k.new.restart } in
+      let held_is = with_items_is old.held k.new.held (omega (arith, k.ensures.held, c.deref_mut.ensures.len)) in
+      let restart_is = with_items_is old.restart k.new.restart (omega (arith, k.ensures.restart, c.deref_mut-2.ensures.len)) in
+      let in_rows : i < length old.rows.items = omega (arith, there.place.0, shaped.rows) in
+      let row_is = slice_get_read old.rows.items (length old.rows.items) i c.index-row.result.now refl in_rows c.index-row.ensures in
+      let before : Held = record { places = old.held.items; restart = old.restart.items } in
+      let after : Held = record { places = new.held.items; restart = new.restart.items } in
+      let no_entry : get_or old.entered.items i false ≡ false = c.requires.open in
+      let spent = g.R.Rows.ticks k.new.rows - g.R.Rows.ticks c.args.rows.now in
+      let outcome = finds_at c.index-row.result.now.bits (bits_for old i) (entries c.args.here.len) (entries (length (light_at board i))) q b c.args.here.slot (slot_at board i q) spent k.result
+      (record { places = c.deref_mut.result.now; restart = c.deref_mut-2.result.now }) before (record { places = k.new.held; restart = k.new.restart }) after
+      (sym (ap bits_at row_is)) (ap entries there.len) there.slot (λ t. record { places = c.deref_mut.ensures.value t; restart = c.deref_mut-2.ensures.value t }) (λ t. record { places = sym held_is t; restart = sym restart_is t }) k.ensures.finds in
+      let in_held : 26 * slot_at board i q + (b - 65) < length old.held.items = omega (arith, there.slot, there.in_slots, shaped.held, c.requires.letter) in
+      same_holding board dictionary (marks_of new) (marks_of c.drop_letter.new.self) (λ s d. ap (λ (net : Net). held_in net s d) c.drop_letter.ensures.same)
+      (found_holding board entries dictionary position old new c.requires.net.bits i q b there.place c.requires.letter (λ j k. refl) (λ x d. refl) (λ s d. refl) (λ j. refl) in_held spent k.result no_entry outcome holding);
   pending = λ slot other pends. elim (c.drop_letter.ensures.drops.pending_new slot other pends) [
-      | inl before ↦ inl before
-      | inr at ↦ inr (at.1.0, at.1.1, at.1.2.place_there, at.1.3)
-    ];
+    | inl before ↦ inl before
+    | inr at ↦ inr (at.1.0, at.1.1, at.1.2.place_there, at.1.3)
+  ];
 }
 
 pub returns-else-not-find_support-clause-check : goal.returns-else-not-find_support-clause-check
@@ -232,27 +232,27 @@ returns-else-not-find_support-clause-check g c = record {
   fewer = omega arith;
   waits = λ other waits is. waits is;
   holding = λ dictionary position holding. let old = c.args.self.now in
-    let board = c.args.board.now in
-    let i = c.args.here.light in
-    let q = c.args.here.place in
-    let b = c.args.letter in
-    let entries = g.R.Rows.entries c.args.rows.now in
-    let there = c.requires.there in
-    let shaped = c.requires.net.shaped in
-    let k = c.find_support in
-    let new : Net = record old { held = with_items old.held k.new.held; restart = with_items old.restart k.new.restart } in
-    let held_is = with_items_is old.held k.new.held (omega (arith, k.ensures.held, c.deref_mut.ensures.len)) in
-    let restart_is = with_items_is old.restart k.new.restart (omega (arith, k.ensures.restart, c.deref_mut-2.ensures.len)) in
-    let in_rows : i < length old.rows.items = omega (arith, there.place.0, shaped.rows) in
-    let row_is = slice_get_read old.rows.items (length old.rows.items) i c.index-row.result.now refl in_rows c.index-row.ensures in
-    let before : Held = record { places = old.held.items; restart = old.restart.items } in
-    let after : Held = record { places = new.held.items; restart = new.restart.items } in
-    let no_entry : get_or old.entered.items i false ≡ false = c.requires.open in
-    let spent = g.R.Rows.ticks k.new.rows - g.R.Rows.ticks c.args.rows.now in
-    let outcome = finds_at c.index-row.result.now.bits (bits_for old i) (entries c.args.here.len) (entries (length (light_at board i))) q b c.args.here.slot (slot_at board i q) spent k.result
-    (record { places = c.deref_mut.result.now; restart = c.deref_mut-2.result.now }) before (record { places = k.new.held; restart = k.new.restart }) after
-    (sym (ap bits_at row_is)) (ap entries there.len) there.slot (λ t. record { places = c.deref_mut.ensures.value t; restart = c.deref_mut-2.ensures.value t }) (λ t. record { places = sym held_is t; restart = sym restart_is t }) k.ensures.finds in
-    let in_held : 26 * slot_at board i q + (b - 65) < length old.held.items = omega (arith, there.slot, there.in_slots, shaped.held, c.requires.letter) in
-    found_holding board entries dictionary position old new c.requires.net.bits i q b there.place c.requires.letter (λ j k. refl) (λ x d. refl) (λ s d. refl) (λ j. refl) in_held spent k.result no_entry outcome holding;
+      let board = c.args.board.now in
+      let i = c.args.here.light in
+      let q = c.args.here.place in
+      let b = c.args.letter in
+      let entries = g.R.Rows.entries c.args.rows.now in
+      let there = c.requires.there in
+      let shaped = c.requires.net.shaped in
+      let k = c.find_support in
+      let new : Net = record old { held = with_items old.held k.new.held; restart = with_items old.restart k.new.restart } in
+      let held_is = with_items_is old.held k.new.held (omega (arith, k.ensures.held, c.deref_mut.ensures.len)) in
+      let restart_is = with_items_is old.restart k.new.restart (omega (arith, k.ensures.restart, c.deref_mut-2.ensures.len)) in
+      let in_rows : i < length old.rows.items = omega (arith, there.place.0, shaped.rows) in
+      let row_is = slice_get_read old.rows.items (length old.rows.items) i c.index-row.result.now refl in_rows c.index-row.ensures in
+      let before : Held = record { places = old.held.items; restart = old.restart.items } in
+      let after : Held = record { places = new.held.items; restart = new.restart.items } in
+      let no_entry : get_or old.entered.items i false ≡ false = c.requires.open in
+      let spent = g.R.Rows.ticks k.new.rows - g.R.Rows.ticks c.args.rows.now in
+      let outcome = finds_at c.index-row.result.now.bits (bits_for old i) (entries c.args.here.len) (entries (length (light_at board i))) q b c.args.here.slot (slot_at board i q) spent k.result
+      (record { places = c.deref_mut.result.now; restart = c.deref_mut-2.result.now }) before (record { places = k.new.held; restart = k.new.restart }) after
+      (sym (ap bits_at row_is)) (ap entries there.len) there.slot (λ t. record { places = c.deref_mut.ensures.value t; restart = c.deref_mut-2.ensures.value t }) (λ t. record { places = sym held_is t; restart = sym restart_is t }) k.ensures.finds in
+      let in_held : 26 * slot_at board i q + (b - 65) < length old.held.items = omega (arith, there.slot, there.in_slots, shaped.held, c.requires.letter) in
+      found_holding board entries dictionary position old new c.requires.net.bits i q b there.place c.requires.letter (λ j k. refl) (λ x d. refl) (λ s d. refl) (λ j. refl) in_held spent k.result no_entry outcome holding;
   pending = λ slot other pends. inl pends;
 }

@@ -169,8 +169,8 @@ returns-then-count-eq0-clause-check g c = record {
   fewer = c.empty_place.ensures.fewer;
   waits = c.empty_place.ensures.waits;
   holding = λ dictionary position. let e = c.empty_place.ensures in
-    still_holding c.args.board.now (g.R.Rows.entries c.args.rows.now) dictionary position c.args.self.now c.empty_place.new.self c.place_of-here.result.light c.place_of-here.result.place c.place_of-here.ensures.there.place e.same e.letters e.leaves;
+      still_holding c.args.board.now (g.R.Rows.entries c.args.rows.now) dictionary position c.args.self.now c.empty_place.new.self c.place_of-here.result.light c.place_of-here.result.place c.place_of-here.ensures.there.place e.same e.letters e.leaves;
   pending = λ slot letter pends. let board = c.args.board.now in
-    pends_at board (marks_of c.args.self.now) (marks_of c.empty_place.new.self) c.place_of-here.result.light c.place_of-here.result.place
-    (letter_stands c.args.self.now (cell_at c.args.board.now c.place_of-here.result.light c.place_of-here.result.place)) c.empty_place.ensures.leaves slot letter pends;
+      pends_at board (marks_of c.args.self.now) (marks_of c.empty_place.new.self) c.place_of-here.result.light c.place_of-here.result.place
+      (letter_stands c.args.self.now (cell_at c.args.board.now c.place_of-here.result.light c.place_of-here.result.place)) c.empty_place.ensures.leaves slot letter pends;
 }

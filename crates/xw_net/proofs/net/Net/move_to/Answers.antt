@@ -46,7 +46,7 @@ returns-clause-moved g c was now before lights read filled =
       queue = rest.queue;
       queued_long = omega (arith, rest.queued_long, many);
       is_queued = rest.is_queued;
-      stack = rest.stack;
+      taken = rest.taken;
       marked_long = omega (arith, rest.marked_long, many);
       is_marked = rest.is_marked;
     })

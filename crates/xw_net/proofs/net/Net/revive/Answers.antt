@@ -2,26 +2,27 @@ use Rattle.std.proofs.Common.{sym, subst}
 use Rattle.std.specs.Prelude.{vec_len}
 use Rattle.xw_net.specs.Nets.{IsShaped, HasBits}
 use Rattle.xw_net.specs.Update.{IsSized}
-use Rattle.xw_net.specs.Filled.{HasRowRoom}
+use Rattle.xw_net.specs.Filled.{AreLong, HasRowRoom}
 use Rattle.xw_net.specs.Room.{counts_of}
 use Rattle.xw_net.proofs.AtRest.{stood_rest, stood_rows, stood_base}
 use Rattle.xw_net.proofs.Resting.{rest_shaped, rest_chained, rest_bits, rest_base, rest_room, rest_queued, rest_marked}
 use Rattle.xw_net.proofs.net.Net.revive.Goals as goal
 
-pub revive_moved-requires-clause-sized : goal.revive_moved-requires-clause-sized
-revive_moved-requires-clause-sized g c =
-    subst (λ b. IsSized b (g.R.Rows.entries c.args.rows.now) c.move_to.new.self) (sym c.new-board.ensures) (record {
-      shaped = rest_shaped c.args.grid.now c.args.lights.now (vec_len c.args.self.now.letters) c.move_to.new.self c.requires.lights c.requires.cells c.move_to.ensures.rest;
-      chained = rest_chained c.args.grid.now c.args.lights.now (vec_len c.args.self.now.letters) c.move_to.new.self c.requires.lights c.requires.cells c.move_to.ensures.rest;
-      bits = rest_bits c.args.grid.now c.args.lights.now (vec_len c.args.self.now.letters) c.move_to.new.self c.requires.lights c.requires.cells c.move_to.ensures.rest (g.R.Rows.entries c.args.rows.now) c.move_to.ensures.whole.rows;
-      base = rest_base c.args.grid.now c.args.lights.now (vec_len c.args.self.now.letters) c.move_to.new.self c.requires.lights c.requires.cells c.move_to.ensures.rest (g.R.Rows.entries c.args.rows.now) c.move_to.ensures.whole.base;
-    })
-
-pub revive_moved-requires-clause-queued : goal.revive_moved-requires-clause-queued
-revive_moved-requires-clause-queued g c = rest_queued c.args.grid.now c.args.lights.now (vec_len c.args.self.now.letters) c.move_to.new.self c.requires.lights c.requires.cells c.move_to.ensures.rest
-
-pub revive_moved-requires-clause-seeds : goal.revive_moved-requires-clause-seeds
-revive_moved-requires-clause-seeds g c = rest_marked c.args.grid.now c.args.lights.now (vec_len c.args.self.now.letters) c.move_to.new.self c.requires.lights c.requires.cells c.move_to.ensures.rest
+pub revive_moved-requires : goal.revive_moved-requires
+revive_moved-requires g c = record {
+  boards = c.new-board.ensures;
+  are_lights = c.requires.lights;
+  inside = c.requires.inside;
+  long = subst (λ b. AreLong b (g.R.Rows.entries c.args.rows.now)) (sym c.new-board.ensures) c.requires.long;
+  sized = subst (λ b. IsSized b (g.R.Rows.entries c.args.rows.now) c.move_to.new.self) (sym c.new-board.ensures) (record {
+    shaped = rest_shaped c.args.grid.now c.args.lights.now (vec_len c.args.self.now.letters) c.move_to.new.self c.requires.lights c.requires.cells c.move_to.ensures.rest;
+    chained = rest_chained c.args.grid.now c.args.lights.now (vec_len c.args.self.now.letters) c.move_to.new.self c.requires.lights c.requires.cells c.move_to.ensures.rest;
+    bits = rest_bits c.args.grid.now c.args.lights.now (vec_len c.args.self.now.letters) c.move_to.new.self c.requires.lights c.requires.cells c.move_to.ensures.rest (g.R.Rows.entries c.args.rows.now) c.move_to.ensures.whole.rows;
+    base = rest_base c.args.grid.now c.args.lights.now (vec_len c.args.self.now.letters) c.move_to.new.self c.requires.lights c.requires.cells c.move_to.ensures.rest (g.R.Rows.entries c.args.rows.now) c.move_to.ensures.whole.base;
+  });
+  queued = rest_queued c.args.grid.now c.args.lights.now (vec_len c.args.self.now.letters) c.move_to.new.self c.requires.lights c.requires.cells c.move_to.ensures.rest;
+  seeds = rest_marked c.args.grid.now c.args.lights.now (vec_len c.args.self.now.letters) c.move_to.new.self c.requires.lights c.requires.cells c.move_to.ensures.rest;
+}
 
 pub move_to-requires-clause-rest : goal.move_to-requires-clause-rest
 move_to-requires-clause-rest g c = stood_rest c.args.change.now.before.now (counts_of (g.R.Rows.entries c.args.rows.now)) c.args.self.now c.requires.stood

@@ -49,46 +49,46 @@ cost_of now member board entries same read =
 
 pub returns-clause-queue : goal.returns-clause-queue
 unfolding queued_in
-returns-clause-queue g c = subst (λ (net : Net). IsQueue net) (sym c.unmark.ensures.rest) (c.bring_back.ensures.queue c.begin.ensures.queue)
+returns-clause-queue g c = subst (λ (net : Net). IsQueue net) (sym c.unmark.ensures.rest) (c.bring_back.ensures.queue c.begin.ensures.begun.queue)
 
 pub returns-clause-revived : goal.returns-clause-revived
 unfolding word_stands letter_stands held_in restart_in pending_in queued_in is_marked
 returns-clause-revived g c before words action settled read is filled moved room base_room =
     let board = c.args.board.now in
     let opened = c.begin.ensures.opened before words action settled read is filled moved in
-    let position = position_of before (record { grid = c.args.grid.now; words = words }) action c.args.change.now c.args.board.now (g.R.Rows.entries c.args.rows.now) c.requires.board read is in
-    let is_base = base_of before (record { grid = c.args.grid.now; words = words }) action settled c.begin.new.self c.args.board.now c.requires.board opened in
-    let begun = begun_of before (record { grid = c.args.grid.now; words = words }) action settled c.begin.new.self c.args.board.now c.requires.board opened in
+    let position = position_of before (record { grid = c.args.grid.now; words = words }) action c.args.change.now c.args.board.now (g.R.Rows.entries c.args.rows.now) c.requires.boards read is in
+    let is_base = base_of before (record { grid = c.args.grid.now; words = words }) action settled c.begin.new.self c.args.board.now c.requires.boards opened in
+    let begun = begun_of before (record { grid = c.args.grid.now; words = words }) action settled c.begin.new.self c.args.board.now c.requires.boards opened in
     let covers = c.bring_back.ensures.covers (board_of before.grid) before.words words (same_light before.grid c.args.grid.now) (word_stands settled) (letter_stands settled) is_base
-    (matching_of before (record { grid = c.args.grid.now; words = words }) c.args.board.now c.requires.board is.width) filled.exact begun in
-    let start = ready_of before (record { grid = c.args.grid.now; words = words }) action settled c.begin.new.self c.args.board.now c.requires.board opened in
+    (matching_of before (record { grid = c.args.grid.now; words = words }) c.args.board.now c.requires.boards is.width) filled.exact begun in
+    let start = ready_of before (record { grid = c.args.grid.now; words = words }) action settled c.begin.new.self c.args.board.now c.requires.boards opened in
     let ready = c.bring_back.ensures.ready (g.R.Rows.entries c.args.rows.now) words position is_base start covers in
     let words_read : (light : ℕ) → length (g.R.Rows.entries c.args.rows.now (length (light_at c.args.board.now light))) ≡ length (row words (length (light_at c.args.board.now light))) =
     λ light. ap (λ (entries : List Entry). length entries) (read (length (light_at board light))) in
     let whole : IsWholeNet c.args.board.now (row words) c.begin.new.self = record {
-      shaped = c.begin.ensures.sized.shaped;
-      chained = c.begin.ensures.sized.chained;
-      bits = λ light lt. c.begin.ensures.sized.bits light lt ∙ words_read light;
-      base = base_read board (g.R.Rows.entries c.args.rows.now) (row words) c.begin.new.self.base.items read c.begin.ensures.sized.base;
-      room = λ light lt. omega (arith, room light lt, c.begin.ensures.room.rows light, words_read light);
-      base_room = λ light lt. omega (arith, base_room light lt, c.begin.ensures.room.base light, words_read light);
+      shaped = c.begin.ensures.begun.sized.shaped;
+      chained = c.begin.ensures.begun.sized.chained;
+      bits = λ light lt. c.begin.ensures.begun.sized.bits light lt ∙ words_read light;
+      base = base_read board (g.R.Rows.entries c.args.rows.now) (row words) c.begin.new.self.base.items read c.begin.ensures.begun.sized.base;
+      room = λ light lt. omega (arith, room light lt, c.begin.ensures.begun.room.rows light, words_read light);
+      base_room = λ light lt. omega (arith, base_room light lt, c.begin.ensures.begun.room.base light, words_read light);
     } in
     let none_pending : (slot letter : ℕ) → pending_in c.begin.new.self slot letter ≡ false =
-    λ slot letter. c.begin.ensures.pending slot letter (ap (λ ps. set_has ps slot letter) moved.pending ∙ filled.pending slot letter) in
+    λ slot letter. c.begin.ensures.begun.pending slot letter (ap (λ ps. set_has ps slot letter) moved.pending ∙ filled.pending slot letter) in
     let brought = c.bring_back.ensures.brought words is_base in
     let unstripped = brought_unstripped board words c.begin.new.self c.bring_back.new.self c.unmark.new.self whole is_base
     (c.unmark.ensures.shaped board c.bring_back.ensures.shaped) (c.unmark.ensures.chained board c.bring_back.ensures.chained)
     (c.bring_back.ensures.bits (row words) whole.bits) c.bring_back.ensures.base c.unmark.ensures.empty c.bring_back.ensures.row_room (is_marked c.bring_back.new.self.chain.marks) brought
     ready start.hits none_pending c.unmark.ensures.rest c.unmark.ensures.marked in
     record {
-      unstripped = subst (λ b. IsUnstripped b words c.unmark.new.self) c.requires.board unstripped;
+      unstripped = subst (λ b. IsUnstripped b words c.unmark.new.self) c.requires.boards unstripped;
       queued = λ member region light on.
           let seeds : (l : ℕ) → is_marked c.begin.new.self.chain.marks l ≡ true → member (light_at c.args.board.now l) ≡ true =
-          λ l marked. ap (λ b. member (light_at b l)) c.requires.board ∙ opened.within member region l marked in
-          let chain = c.bring_back.ensures.region before (record { grid = c.args.grid.now; words = words }) action member (word_stands settled) (letter_stands settled) c.requires.board region filled.exact begun.letters_kept seeds in
+          λ l marked. ap (λ b. member (light_at b l)) c.requires.boards ∙ opened.within member region l marked in
+          let chain = c.bring_back.ensures.region before (record { grid = c.args.grid.now; words = words }) action member (word_stands settled) (letter_stands settled) c.requires.boards region filled.exact begun.letters_kept seeds in
           let back : queued_in c.bring_back.new.self light ≡ true = ap (λ (net : Net). queued_in net light) (sym c.unmark.ensures.rest) ∙ on in
           elim (cases_Bool (is_marked c.bring_back.new.self.chain.marks light)) [
-            | inl marked ↦ ap (λ b. member (light_at b light)) (sym c.requires.board) ∙ chain light marked
+            | inl marked ↦ ap (λ b. member (light_at b light)) (sym c.requires.boards) ∙ chain light marked
             | inr off ↦ opened.queued_within member region light (sym (brought.queued_off light off) ∙ back)
           ];
     }
@@ -99,13 +99,13 @@ returns-clause-cost g c before words action settled member read is filled moved 
     let entries : g.R.Rows.entries c.args.rows.now ≡ row words = λ t. λ len. read len t in
     let read_within : (light : ℕ) → light < length c.args.board.now.lights → is_read c.args.board.now c.args.change.now.word (is_marked c.begin.new.self.queue.marks) light ≡ true → member (light_at c.args.board.now light) ≡ true =
     λ light in_board is_in. elim (or_cases (is_marked c.begin.new.self.queue.marks light) (is_long c.args.change.now.word (length (light_at c.args.board.now light))) is_in) [
-      | inl on ↦ ap (λ b. member (light_at b light)) c.requires.board ∙ opened.queued_within member region light on
+      | inl on ↦ ap (λ b. member (light_at b light)) c.requires.boards ∙ opened.queued_within member region light on
       | inr long ↦
           let word = long_word c.args.change.now.word (length (light_at c.args.board.now light)) long in
-          ap (λ b. member (light_at b light)) c.requires.board
+          ap (λ b. member (light_at b light)) c.requires.boards
           ∙ long_within before (record { grid = c.args.grid.now; words = words }) action c.args.change.now is member region (length (light_at c.args.board.now light)) word.0 light word.1
-          (subst (λ (b : Board). light < length b.lights) c.requires.board in_board) (ap (λ b. length (light_at b light)) (sym c.requires.board))
+          (subst (λ (b : Board). light < length b.lights) c.requires.boards in_board) (ap (λ b. length (light_at b light)) (sym c.requires.boards))
     ] in
     let reading = c.begin.ensures.cost (λ light. member (light_at c.args.board.now light)) read_within in
-    let bases = cost_of (record { grid = c.args.grid.now; words = words }) member c.args.board.now (g.R.Rows.entries c.args.rows.now) c.requires.board entries in
+    let bases = cost_of (record { grid = c.args.grid.now; words = words }) member c.args.board.now (g.R.Rows.entries c.args.rows.now) c.requires.boards entries in
     omega (arith, reading, bases, revival-is (record { grid = c.args.grid.now; words = words }) member)

@@ -1,4 +1,4 @@
-use Rattle.std.proofs.Common.{◌+◌, ◌-◌, ◌^◌, true, false, ◌∷◌, length, get_or, refl, sym, ap, ◌∙◌, subst, inl, inr, arith, rules}
+use Rattle.std.proofs.Common.{◌≡◌, ◌+◌, ◌-◌, ◌^◌, ℕ, true, false, [], ◌∷◌, length, get_or, refl, sym, ap, ◌∙◌, subst, inl, inr, arith, rules}
 use Rattle.std.specs.Prelude.{vec_items}
 use Rattle.std.proofs.lemmas.Bool.{false_from_ne_true, both_ways}
 use Rattle.std.proofs.lemmas.List.Sorted.{length_permutation}
@@ -16,6 +16,8 @@ use Rattle.xw_net.proofs.Dues.{due-bound}
 use Rattle.xw_net.proofs.Ending.{settled_net, settled_exact}
 use Rattle.xw_net.proofs.Emptied.{left_noted, shaped_noted}
 use Rattle.xw_net.proofs.Left.{left_left, left_queue, left_chained}
+use Rattle.xw_net.specs.Steps.{KeepsHolding, SettlesMarks, LeavesNonePending, LeavesFeasible}
+use Rattle.xw_net.proofs.net.Net.strip_queued.Given.{Over}
 use Rattle.xw_net.proofs.net.Net.strip_queued.Goals as goal
 
 pub see_to-requires-clause-light : goal.see_to-requires-clause-light
@@ -26,7 +28,7 @@ note_emptied-requires-clause-light g c = omega (arith, c.in-Some.ensures.within,
 
 pub see_to-requires-clause-queued : goal.see_to-requires-clause-queued
 unfolding queued_in is_marked
-see_to-requires-clause-queued g c = ap (λ marks. is_marked marks c.in-Some.light) c.take_turn.ensures.marks ∙ c.in-Some.ensures.marked
+see_to-requires-clause-queued g c = ap (λ marks. is_marked marks c.in-Some.light) (ap (λ (l : ListOfLights). l.marks) c.take_turn.ensures.rest) ∙ c.in-Some.ensures.marked
 
 pub see_to-requires-clause-net : goal.see_to-requires-clause-net
 see_to-requires-clause-net g c =
@@ -40,7 +42,7 @@ see_to-requires-clause-net g c =
         held = shaped.held;
         restart = shaped.restart;
         pending = shaped.pending;
-        queue = ap length c.take_turn.ensures.marks ∙ shaped.queue;
+        queue = ap length (ap (λ (l : ListOfLights). l.marks) c.take_turn.ensures.rest) ∙ shaped.queue;
       };
       bits = subst (λ e. HasBits c.args.board.now e c.loop-light.self) (sym c.loop-light.invariant.same) c.loop-light.invariant.bits;
     }
@@ -81,7 +83,7 @@ loop-light-preserved g c =
       shaped = shaped_noted c.args.board.now seen noted e k.ensures.step.shaped;
       bits = subst (λ (n : Net). HasBits c.args.board.now (g.R.Rows.entries c.args.rows.now) n) (sym e) (subst (λ f. HasBits c.args.board.now f seen) inv.same k.ensures.step.bits);
       queue = subst (λ (n : Net). IsQueue n) (sym e) (λ light. k.ensures.waits light (λ apart is.
-          waits_taken c.loop-light.self.queue.lights c.take_turn.new.self.lights c.in-Some.light light c.in-Some.ensures.taken apart (inv.queue light (ap (λ marks. get_or marks light false) (sym c.take_turn.ensures.marks) ∙ is))));
+          waits_taken c.loop-light.self.queue.lights c.take_turn.new.self.lights c.in-Some.light light c.in-Some.ensures.taken apart (inv.queue light (ap (λ marks. get_or marks light false) (sym (ap (λ (l : ListOfLights). l.marks) c.take_turn.ensures.rest)) ∙ is))));
       pending = λ slot letter pends. elim (k.ensures.pending slot letter (sym (ap (λ (n : Net). pending_in n slot letter) e) ∙ pends)) [ inl before ↦ inv.pending slot letter before | inr at ↦ inr at ];
       holding = λ dictionary position holding.
           subst (λ (n : Net). IsHolding c.args.board.now dictionary (marks_of n)) (sym e) (k.ensures.holding dictionary (subst (λ e. IsPosition c.args.board.now e dictionary) (sym inv.same) position) (inv.holding dictionary position holding));
@@ -89,22 +91,22 @@ loop-light-preserved g c =
           subst (λ (n : Net). IsUnderway c.args.board.now dictionary measure (marks_of n) (queued_in n) (g.R.Rows.ticks k.new.rows)) (sym e) (k.ensures.kept dictionary measure (subst (λ e. IsPosition c.args.board.now e dictionary) (sym inv.same) position) (subst (λ (q : ListOfLights). IsUnderway c.args.board.now dictionary measure (marks_of (record c.loop-light.self { queue = q })) (queued_in (record c.loop-light.self { queue = q })) (g.R.Rows.ticks c.loop-light.rows)) (sym c.take_turn.ensures.rest) (inv.kept dictionary measure position under)));
     }
 
-pub returns-clause-empty : goal.returns-clause-empty
-returns-clause-empty g c = c.in_default.ensures.left
+none_wait : (g : Over) (c : goal.In_default g) → c.take_turn.new.self.lights ≡ []
+none_wait g c = c.in_default.ensures.left
 
-pub returns-clause-none_queued : goal.returns-clause-none_queued
+none_queued : (g : Over) (c : goal.In_default g) → (light : ℕ) → queued_in (record c.loop-light.self { queue = c.take_turn.new.self }) light ≡ false
 unfolding queued_in
-returns-clause-none_queued g c light =
-    ap (λ marks. get_or marks light false) c.take_turn.ensures.marks
+none_queued g c light =
+    ap (λ marks. get_or marks light false) (ap (λ (l : ListOfLights). l.marks) c.take_turn.ensures.rest)
     ∙ false_from_ne_true (queued_in c.loop-light.self light) (λ is. both_ways (is_waiting c.loop-light.self.queue.lights light) (waiting-none c.loop-light.self.queue.lights light c.in_default.ensures.none) (c.loop-light.invariant.queue light is))
 
-pub returns-clause-holding : goal.returns-clause-holding
+still_holding : (g : Over) (c : goal.In_default g) → KeepsHolding c.args.board.now (g.R.Rows.entries c.args.rows.now) c.args.self.now (record c.loop-light.self { queue = c.take_turn.new.self })
 unfolding word_stands letter_stands held_in restart_in pending_in queued_in
-returns-clause-holding g c = c.loop-light.invariant.holding
+still_holding g c = c.loop-light.invariant.holding
 
-pub returns-clause-settled : goal.returns-clause-settled
+settles : (g : Over) (c : goal.In_default g) → SettlesMarks c.args.board.now (g.R.Rows.entries c.args.rows.now) c.args.self.now (record c.loop-light.self { queue = c.take_turn.new.self })
 unfolding word_stands letter_stands held_in restart_in pending_in queued_in
-returns-clause-settled g c dictionary position ready =
+settles g c dictionary position ready =
     let board = c.args.board.now in
     let old = c.args.self.now in
     let ticks = g.R.Rows.ticks c.args.rows.now in
@@ -120,18 +122,18 @@ returns-clause-settled g c dictionary position ready =
     false_from_ne_true (queued_in c.loop-light.self light) (λ is.
     both_ways (is_waiting c.loop-light.self.queue.lights light) (waiting-none c.loop-light.self.queue.lights light c.in_default.ensures.none) (inv.queue light is))))
 
-pub returns-clause-none_pending : goal.returns-clause-none_pending
+none_pending : (g : Over) (c : goal.In_default g) → LeavesNonePending c.args.board.now (g.R.Rows.entries c.args.rows.now) c.args.self.now (record c.loop-light.self { queue = c.take_turn.new.self })
 unfolding word_stands letter_stands held_in restart_in pending_in queued_in
-returns-clause-none_pending g c dictionary position ready placed slot letter =
+none_pending g c dictionary position ready placed slot letter =
     let last = c.loop-light.self in
     false_from_ne_true (pending_in last slot letter) (λ pends.
     let at : IsSlot c.args.board.now slot = elim (c.loop-light.invariant.pending slot letter pends) [ inl before ↦ placed slot letter before | inr at ↦ at ] in
-    both_ways (pending_in last slot letter) (ap (λ s. pending_in last s letter) (sym at.3) ∙ (returns-clause-settled g c dictionary position ready).none_pending at.0 at.1 letter at.2) pends)
+    both_ways (pending_in last slot letter) (ap (λ s. pending_in last s letter) (sym at.3) ∙ (settles g c dictionary position ready).none_pending at.0 at.1 letter at.2) pends)
 
-pub returns-clause-exact : goal.returns-clause-exact
+leaves_feasible : (g : Over) (c : goal.In_default g) → LeavesFeasible c.args.board.now (g.R.Rows.entries c.args.rows.now) c.args.self.now (record c.loop-light.self { queue = c.take_turn.new.self })
 unfolding word_stands letter_stands held_in restart_in pending_in queued_in
-returns-clause-exact g c dictionary position ready =
-    settled_exact c.args.board.now (g.R.Rows.entries c.args.rows.now) dictionary position (marks_of (record c.loop-light.self { queue = c.take_turn.new.self })) (returns-clause-settled g c dictionary position ready)
+leaves_feasible g c dictionary position ready =
+    settled_exact c.args.board.now (g.R.Rows.entries c.args.rows.now) dictionary position (marks_of (record c.loop-light.self { queue = c.take_turn.new.self })) (settles g c dictionary position ready)
 
 pub returns-clause-filled : goal.returns-clause-filled
 unfolding word_stands letter_stands held_in restart_in pending_in queued_in
@@ -152,14 +154,14 @@ returns-clause-filled g c dictionary position from =
         base_room = λ light lt. omega (arith, from.whole.base_room light lt, ap (λ rows. (row_at rows light).room) base);
       };
       is_base = subst (IsBase c.args.board.now dictionary) (sym base) from.is_base;
-      settled = returns-clause-settled g c dictionary position from.ready;
-      holding = returns-clause-holding g c dictionary position from.holding;
-      exact = returns-clause-exact g c dictionary position from.ready;
-      pending = returns-clause-none_pending g c dictionary position from.ready (λ slot letter pends. absurd (both_ways (pending_in old slot letter) (from.pending slot letter) pends));
+      settled = settles g c dictionary position from.ready;
+      holding = still_holding g c dictionary position from.holding;
+      exact = leaves_feasible g c dictionary position from.ready;
+      pending = none_pending g c dictionary position from.ready (λ slot letter pends. absurd (both_ways (pending_in old slot letter) (from.pending slot letter) pends));
       quiet = record {
-        queue = returns-clause-empty g c;
-        queued = returns-clause-none_queued g c;
-        stack = ap (λ list. list.lights) rest.chain ∙ from.stack;
+        queue = none_wait g c;
+        queued = none_queued g c;
+        taken = ap (λ list. list.lights) rest.chain ∙ from.taken;
         marked = λ light. ap (λ list. is_marked list.marks light) rest.chain ∙ from.marked light;
       };
     }

@@ -33,7 +33,7 @@ returns-in-Some-clause-rest g c =
       queue = ap (λ (list : ListOfLights). list.lights) is.queue;
       queued_long = queued_long;
       is_queued = λ light. ap (λ (list : ListOfLights). is_marked list.marks light) is.queue ∙ none_marked (length c.args.lights.now) light;
-      stack = ap (λ (list : ListOfLights). list.lights) is.chain;
+      taken = ap (λ (list : ListOfLights). list.lights) is.chain;
       marked_long = marked_long;
       is_marked = λ light. ap (λ (list : ListOfLights). is_marked list.marks light) is.chain ∙ none_marked (length c.args.lights.now) light;
     }
