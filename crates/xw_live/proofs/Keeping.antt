@@ -39,7 +39,7 @@ use Rattle.xw_net.specs.Net.{flags_of, flags_at, sets_of, IsSettledFor, HasRoomI
 use Rattle.xw_net.specs.Room.{HasRoom}
 use Rattle.xw_net.specs.Fit.{HasRoomBetween}
 use Rattle.xw_net.specs.declared.room.Spare.{Spare}
-use Rattle.xw_net.proofs.Settled.{filled_room}
+use Rattle.xw_net.proofs.Nets.SettledNets.{filled_room}
 
 settled_answers : (state : State) (net : Net) → IsSettledFor state net → AreAnswers (board_of state.grid) state.words (net_answers state net)
 settled_answers state net settled = AreAnswers-rows (board_of state.grid) state.words (flags_of (lights_of state.grid) net) (sets_of net) settled.rows settled.exact

@@ -17,7 +17,7 @@ use Rattle.xw_net.specs.declared.net.Net.{Net}
 use Rattle.xw_net.specs.Copy.{IsReusable, CanCopy, IsCopy}
 use Rattle.xw_net.specs.Net.{flags_of, sets_of, known_counts}
 use Rattle.xw_net.specs.Tally.{net_tally}
-use Rattle.xw_net.proofs.Copies.{settled_reusable}
+use Rattle.xw_net.proofs.Nets.CopiedNets.{settled_reusable}
 use Rattle.xw_live.specs.Engine.{IsKept, net_answers}
 use Rattle.xw_live.proofs.Keeping.{kept_from, kept_cells}
 

@@ -40,9 +40,9 @@ pub record Held : Type 0 where
   pub places : List ℕ
   pub restart : List ℕ
 
--- these arrays
-abbrev pub held_by : List ℕ → List ℕ → Held
-held_by places restart = record { places = places; restart = restart }
+-- the two arrays together
+abbrev pub holds : List ℕ → List ℕ → Held
+holds places restart = record { places = places; restart = restart }
 
 -- the word held for a letter at a slot
 abbrev pub place_for : Held → ℕ → ℕ → ℕ

@@ -37,7 +37,7 @@ fn move_row(
 }
 
 /// Moves the rows of the lights that stay to their new indices.
-#[tactic(auto, using(crate::proofs::Renumbers::moving_steps))]
+#[tactic(auto, using(crate::proofs::Nets::RenumberedLights::moving_steps))]
 fn move_rows<R: Rows>(
     words: &R,
     rows: &mut [BitRow],
@@ -57,7 +57,7 @@ fn move_rows<R: Rows>(
 }
 
 /// Copies the flags of the lights that stay to their new indices.
-#[tactic(auto, using(crate::proofs::Renumbers::moving_steps))]
+#[tactic(auto, using(crate::proofs::Nets::RenumberedLights::moving_steps))]
 fn move_flags(flags: &[bool], spare: &mut [bool], before: &Lights, after: &Lights)
     requires flags { length before.now ≤ length flags.now }
     requires spare { spare.old ≡ replicate (length after.now) false }

@@ -16,7 +16,7 @@ pub(crate) const NOWHERE: usize = usize::MAX;
 const MOST_CHUNKS: usize = 1 << 40;
 
 /// The number of cells of a light.
-#[tactic(auto, using(crate::proofs::Rooms::size_nowhere))]
+#[tactic(auto, using(crate::proofs::Nets::RowRoom::size_nowhere))]
 pub(crate) fn size_at(lights: &Lights, light: usize) -> usize
     ensures { result ≡ size_of_light lights.now light }
 {
@@ -27,7 +27,7 @@ pub(crate) fn size_at(lights: &Lights, light: usize) -> usize
 }
 
 /// The number of known words of a length.
-#[tactic(auto, using(crate::proofs::Rooms::known_few))]
+#[tactic(auto, using(crate::proofs::Nets::RowRoom::known_few))]
 fn known(bank: &Bank, len: usize) -> usize
     ensures words { result ≡ counts_of (words_of bank.now.words) len }
     ensures few { result ≤ 1048576 }

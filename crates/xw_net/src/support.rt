@@ -3,7 +3,7 @@ ghost use Rattle.std.specs.Prelude.{◌≡◌, ℕ, ◌+◌, ◌-◌, ◌*◌, �
 ghost use Rattle.xw_letters.specs.Letter.{IsLetter};
 ghost use Rattle.xw_letters.specs.LetterSet.{has};
 ghost use Rattle.xw_net.specs.Region.{chunks_of};
-ghost use Rattle.xw_net.specs.Support.{held_by, supports, letter_count, Finds, StrikesRow, NoneSupports};
+ghost use Rattle.xw_net.specs.Support.{holds, supports, letter_count, Finds, StrikesRow, NoneSupports};
 
 use crate::place::Place;
 use xw_bits::bit_row::BitRow;
@@ -122,7 +122,7 @@ pub(crate) fn find_support<R: Rows>(
     ensures risen { R.ticks rows.old ≤ R.ticks rows.new }
     ensures held { length held.new ≡ length held.old }
     ensures restart { length restart.new ≡ length restart.old }
-    ensures finds { Finds row.now.bits (R.entries rows.old here.len) here.place here.slot letter (held_by held.old restart.old) (held_by held.new restart.new) result (R.ticks rows.new - R.ticks rows.old) }
+    ensures finds { Finds row.now.bits (R.entries rows.old here.len) here.place here.slot letter (holds held.old restart.old) (holds held.new restart.new) result (R.ticks rows.new - R.ticks rows.old) }
 {
     let at = 26 * here.slot + (letter.byte() - b'A') as usize;
     let Some(from) = search_start(row, held[at], restart[here.slot].has(letter)) else {

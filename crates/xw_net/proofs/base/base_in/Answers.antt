@@ -5,7 +5,7 @@ use Rattle.xw_words.specs.Columns.{is_active}
 use Rattle.xw_bits.proofs.BitLemmas.{has_bit-and, has_bit-none}
 use Rattle.xw_feas.specs.Board.{entry}
 use Rattle.xw_net.specs.Base.{has_entry}
-use Rattle.xw_net.proofs.BaseLemmas.{base_so_far, base_first, base_more, base_all, base_never}
+use Rattle.xw_net.proofs.BaseRows.BaseBits.{base_so_far, base_first, base_more, base_all, base_never}
 use Rattle.xw_net.proofs.base.base_in.Goals as goal
 
 pub loop-place-init : goal.loop-place-init

@@ -1,7 +1,7 @@
 use Rattle.std.proofs.Common.{◌≡◌, ℕ, ◌+◌, ◌*◌, ◌<◌, ◌≤◌, length}
 use Rattle.xw_bits.specs.Bits.{has_bit}
 use Rattle.xw_words.specs.Dictionary.{entry_at}
-use Rattle.xw_net.proofs.BaseLemmas.{base_so_far}
+use Rattle.xw_net.proofs.BaseRows.BaseBits.{base_so_far}
 use Rattle.xw_net.proofs.base.base_in.Given as goal
 
 -- the bits are those of the words that agree with the first entries

@@ -2,7 +2,7 @@ use Rattle.std.proofs.Common.{◌≡◌, ◌≤◌, ◌*◌, length, arith}
 use Rattle.std.proofs.Math.Nat.{mul-le-mul_right}
 use Rattle.xw_letters.specs.LetterSet.{letters_in}
 use Rattle.xw_net.specs.Region.{chunks_of}
-use Rattle.xw_net.proofs.Striking.{only_one}
+use Rattle.xw_net.proofs.Stripping.StruckRows.{only_one}
 use Rattle.xw_net.proofs.base.keep_agreeing.Goals as goal
 
 pub returns-in-Some-clause-cost : goal.returns-in-Some-clause-cost

@@ -2,7 +2,7 @@ use Rattle.std.proofs.Common.{not, ◌&&◌, length, ap, sym, ◌∙◌}
 use Rattle.xw_bits.specs.Bits.{RowOfBits}
 use Rattle.xw_words.specs.Dictionary.{entry_at}
 use Rattle.xw_feas.specs.Board.{agrees, is_wholly_entered, light_at}
-use Rattle.xw_net.proofs.BaseLemmas.{all_read}
+use Rattle.xw_net.proofs.BaseRows.BaseBits.{all_read}
 use Rattle.xw_net.proofs.base.read_base.Goals as goal
 
 pub returns-then-has_all_entries-clause-bits : goal.returns-then-has_all_entries-clause-bits

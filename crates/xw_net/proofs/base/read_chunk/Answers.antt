@@ -2,7 +2,7 @@ use Rattle.std.proofs.Common.{◌+◌, ◌*◌, ◌/◌, length, ap, ◌∙◌, 
 use Rattle.xw_words.specs.Dictionary.{entry_at}
 use Rattle.xw_feas.specs.Board.{light_at}
 use Rattle.xw_net.specs.Base.{is_base_word}
-use Rattle.xw_net.proofs.BaseLemmas.{chunk_read, none_to_read}
+use Rattle.xw_net.proofs.BaseRows.BaseBits.{chunk_read, none_to_read}
 use Rattle.xw_net.proofs.base.read_chunk.Goals as goal
 
 pub returns-then-place-len-clause-bits : goal.returns-then-place-len-clause-bits

@@ -7,8 +7,8 @@ use Rattle.xw_net.specs.Begin.{is_read}
 use Rattle.xw_net.specs.Region.{chunks_of}
 use Rattle.xw_net.specs.Spread.{bits_in}
 use Rattle.xw_net.specs.Worklist.{is_marked}
-use Rattle.xw_net.proofs.CostLemmas.{cost_here, cost_more, cost_in, cost_all}
-use Rattle.xw_net.proofs.Rowwise.{bits_read, bits_here, bits_other, room_other}
+use Rattle.xw_net.proofs.Costs.BaseRowCosts.{cost_here, cost_more, cost_in, cost_all}
+use Rattle.xw_net.proofs.BaseRows.WrittenRows.{bits_read, bits_here, bits_other, room_other}
 use Rattle.xw_net.proofs.base.read_marked.Goals as goal
 
 pub read_changed-requires-clause-bits : goal.read_changed-requires-clause-bits

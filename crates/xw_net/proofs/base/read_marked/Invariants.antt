@@ -5,7 +5,7 @@ use Rattle.xw_net.specs.Spread.{bits_in}
 use Rattle.xw_net.specs.Worklist.{is_marked}
 use Rattle.xw_net.specs.Begin.{is_read}
 use Rattle.xw_net.specs.Brought.{HasBase}
-use Rattle.xw_net.proofs.CostLemmas.{cost_below}
+use Rattle.xw_net.proofs.Costs.BaseRowCosts.{cost_below}
 use Rattle.xw_net.specs.Room.{row_at}
 use Rattle.xw_net.proofs.base.read_marked.Given as goal
 

@@ -4,7 +4,7 @@ use Rattle.xw_words.specs.Columns.{is_active}
 use Rattle.xw_feas.specs.Board.{entry}
 use Rattle.xw_net.specs.Base.{has_entry}
 use Rattle.xw_net.specs.Region.{chunks_of}
-use Rattle.xw_net.proofs.BaseLemmas.{base_so_far, base_first, base_more, base_all}
+use Rattle.xw_net.proofs.BaseRows.BaseBits.{base_so_far, base_first, base_more, base_all}
 use Rattle.xw_net.proofs.base.read_open.Goals as goal
 
 pub loop-place-init : goal.loop-place-init

@@ -1,7 +1,7 @@
 use Rattle.std.proofs.Common.{◌≡◌, ℕ, ◌+◌, ◌*◌, ◌≤◌, false, length, get_or}
 use Rattle.xw_words.specs.Dictionary.{entry_at}
 use Rattle.xw_net.specs.Region.{chunks_of}
-use Rattle.xw_net.proofs.BaseLemmas.{base_so_far}
+use Rattle.xw_net.proofs.BaseRows.BaseBits.{base_so_far}
 use Rattle.xw_net.proofs.base.read_open.Given as goal
 
 -- the words that agree with the first entries

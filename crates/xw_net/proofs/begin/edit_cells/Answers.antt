@@ -6,7 +6,7 @@ use Rattle.xw_grid.specs.Grid.{index_of}
 use Rattle.xw_net.specs.Spread.{IsThrough}
 use Rattle.xw_net.specs.Worklist.{is_marked}
 use Rattle.xw_net.specs.Begin.{IsEdited, IsThroughListed}
-use Rattle.xw_net.proofs.Worklists.{grows_none, grows_more}
+use Rattle.xw_net.proofs.Lists.ListsOfLights.{grows_none, grows_more}
 use Rattle.xw_net.proofs.begin.edit_cells.Goals as goal
 
 pub loop-at-init : goal.loop-at-init

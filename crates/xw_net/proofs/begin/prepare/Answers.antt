@@ -4,10 +4,10 @@ use Rattle.std.proofs.lemmas.Bool.{cases_Bool, both_ways, false_from_ne_true, or
 use Rattle.xw_feas.specs.Board.{Board, light_at}
 use Rattle.xw_net.specs.Base.{base_bits}
 use Rattle.xw_net.specs.Begin.{is_long, is_read, is_seed, may_have, IsNarrowedRow, HasLength, IsConcerned, IsQueuedSeed}
-use Rattle.xw_net.proofs.Worklists.{only_as}
+use Rattle.xw_net.proofs.Lists.ListsOfLights.{only_as}
 use Rattle.xw_net.specs.Spread.{bits_in}
 use Rattle.xw_net.specs.Worklist.{is_marked}
-use Rattle.xw_net.proofs.Long.{long_word, may_have_long, has_changed_long}
+use Rattle.xw_net.proofs.Edits.ChangedWord.{long_word, may_have_long, has_changed_long}
 use Rattle.xw_net.proofs.begin.prepare.Goals as goal
 
 pub returns-clause-words : goal.returns-clause-words

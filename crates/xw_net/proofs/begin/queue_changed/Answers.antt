@@ -7,8 +7,8 @@ use Rattle.xw_feas.specs.Board.{light_at}
 use Rattle.xw_net.specs.Begin.{has_changed, MayConcern, IsConcerned}
 use Rattle.xw_net.specs.Room.{no_row}
 use Rattle.xw_net.specs.Spread.{bits_in}
-use Rattle.xw_net.proofs.Rooms.{bits_are}
-use Rattle.xw_net.proofs.Worklists.{adds_none, adds_as, adds_insert, adds_start, adds_next, adds_end}
+use Rattle.xw_net.proofs.Nets.RowRoom.{bits_are}
+use Rattle.xw_net.proofs.Lists.ListsOfLights.{adds_none, adds_as, adds_insert, adds_start, adds_next, adds_end}
 use Rattle.xw_net.proofs.begin.queue_changed.Goals as goal
 
 none_concerned : (word : Option (ℕ × ℕ)) (len : ℕ) (base words : List Bool) → is_some word ≡ false → has_changed word len base words ≡ true → ⊥

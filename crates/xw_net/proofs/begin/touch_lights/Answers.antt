@@ -4,7 +4,7 @@ use Rattle.xw_feas.specs.Board.{light_at}
 use Rattle.xw_net.specs.Spread.{bits_in}
 use Rattle.xw_net.specs.Worklist.{ListOfLights, is_marked, Adds}
 use Rattle.xw_net.specs.Begin.{is_seed, IsSeed, IsQueuedSeed, IsNarrowedRow}
-use Rattle.xw_net.proofs.Worklists.{adds_start, adds_next, adds_as, adds_none, adds_insert}
+use Rattle.xw_net.proofs.Lists.ListsOfLights.{adds_start, adds_next, adds_as, adds_none, adds_insert}
 use Rattle.xw_net.proofs.begin.touch_lights.Goals as goal
 
 pub loop-light-init : goal.loop-light-init

@@ -1,5 +1,5 @@
 use Rattle.std.proofs.Common.{◌≡◌, length, arith}
-use Rattle.xw_net.proofs.BaseAlike.{same_entries}
+use Rattle.xw_net.proofs.BaseRows.BaseRowsAlike.{same_entries}
 use Rattle.xw_net.proofs.copy.have_same_entries.Goals as goal
 
 pub returns : goal.returns

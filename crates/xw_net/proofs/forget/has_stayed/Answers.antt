@@ -1,5 +1,5 @@
 use Rattle.std.proofs.Common.{◌∙◌}
-use Rattle.xw_net.proofs.Same.{some_old}
+use Rattle.xw_net.proofs.Edits.SameLights.{some_old}
 use Rattle.xw_net.proofs.forget.has_stayed.Goals as goal
 
 pub returns-then-stays : goal.returns-then-stays

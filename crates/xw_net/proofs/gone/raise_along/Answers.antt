@@ -3,9 +3,9 @@ use Rattle.xw_feas.specs.Flags.{set_has}
 use Rattle.xw_net.specs.Spread.{HasAll}
 use Rattle.xw_net.specs.Worklist.{is_marked, is_waiting}
 use Rattle.xw_net.specs.Gone.{IsAlong, IsAmong, Raises}
-use Rattle.xw_net.proofs.Worklists.{seeds_grow}
-use Rattle.xw_net.proofs.SpreadLemmas.{spread_start}
-use Rattle.xw_net.proofs.Freed.{raises_none, raises_more, among_more, among_last, among_split}
+use Rattle.xw_net.proofs.Lists.ListsOfLights.{seeds_grow}
+use Rattle.xw_net.proofs.Revivals.LettersComeBack.{spread_start}
+use Rattle.xw_net.proofs.Revivals.FreedCells.{raises_none, raises_more, among_more, among_last, among_split}
 use Rattle.xw_net.proofs.gone.raise_along.Goals as goal
 
 pub loop-k-preserved : goal.loop-k-preserved

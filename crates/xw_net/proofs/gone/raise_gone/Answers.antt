@@ -1,6 +1,6 @@
 use Rattle.std.proofs.Common.{◌+◌, length}
 use Rattle.xw_net.specs.Gone.{IsFreed, IsFreedAt}
-use Rattle.xw_net.proofs.Freed.{raises_none, none_freed, raises_more, freed_more, freed_last, freed_split}
+use Rattle.xw_net.proofs.Revivals.FreedCells.{raises_none, none_freed, raises_more, freed_more, freed_last, freed_split}
 use Rattle.xw_net.proofs.gone.raise_gone.Goals as goal
 
 pub loop-other-preserved : goal.loop-other-preserved

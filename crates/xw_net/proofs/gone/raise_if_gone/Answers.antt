@@ -2,7 +2,7 @@ use Rattle.std.proofs.Common.{◌≡◌, Some, sym, ◌∙◌, ap, subst}
 use Rattle.std.specs.Prelude.{unwrap_or}
 use Rattle.xw_grid.specs.declared.lights.Light.{Light}
 use Rattle.xw_net.specs.Gone.{IsAmong, IsFreedAt}
-use Rattle.xw_net.proofs.Freed.{raises_as}
+use Rattle.xw_net.proofs.Revivals.FreedCells.{raises_as}
 use Rattle.xw_net.proofs.gone.raise_if_gone.Goals as goal
 
 same_light : (a b : Light) → Some a ≡ Some b → a ≡ b

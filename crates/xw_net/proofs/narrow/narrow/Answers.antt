@@ -1,7 +1,7 @@
 use Rattle.std.proofs.Common.{subst, sym, ap, ◌∙◌}
 use Rattle.xw_bits.specs.Bits.{RowOfBits}
 use Rattle.xw_net.specs.Begin.{IsNarrowedRow}
-use Rattle.xw_net.proofs.Narrowed.{common_narrowed}
+use Rattle.xw_net.proofs.BaseRows.NarrowedRows.{common_narrowed}
 use Rattle.xw_net.proofs.narrow.narrow.Goals as goal
 
 pub returns-in-Some-clause-narrowed : goal.returns-in-Some-clause-narrowed

@@ -3,7 +3,7 @@ use Rattle.std.proofs.lemmas.Bool.{cases_lt}
 use Rattle.std.proofs.lemmas.List.{get_or_past}
 use Rattle.xw_bits.specs.Bits.{has_bit}
 use Rattle.xw_bits.proofs.BitLemmas.{has_bit-and}
-use Rattle.xw_net.proofs.Narrowed.{chunk_narrowed}
+use Rattle.xw_net.proofs.BaseRows.NarrowedRows.{chunk_narrowed}
 use Rattle.xw_net.proofs.narrow.narrow_at.Goals as goal
 
 pub returns-clause-narrowed : goal.returns-clause-narrowed

@@ -1,7 +1,7 @@
 use Rattle.std.proofs.Common.{◌≡◌, ℕ, length, sym, ◌∙◌, ap, subst}
 use Rattle.xw_net.specs.Room.{counts_of, size_at, row_at}
 use Rattle.xw_net.specs.Renumber.{same_before}
-use Rattle.xw_net.proofs.Renumbers.{IsFrom, moved_more}
+use Rattle.xw_net.proofs.Nets.RenumberedLights.{IsFrom, moved_more}
 use Rattle.xw_net.proofs.renumber.move_rows.Goals as goal
 
 pub loop-light-preserved : goal.loop-light-preserved

@@ -1,5 +1,5 @@
 use Rattle.std.proofs.Common.{◌*◌, false, replicate, ap, ◌∙◌, arith}
-use Rattle.xw_net.proofs.Rooms.{clear_row}
+use Rattle.xw_net.proofs.Nets.RowRoom.{clear_row}
 use Rattle.xw_net.proofs.room.push_chunks.Goals as goal
 
 pub loop-preserved : goal.loop-preserved

@@ -2,7 +2,7 @@ use Rattle.std.proofs.Common.{◌∙◌, arith}
 use Rattle.xw_feas.specs.Flags.{set_has}
 use Rattle.xw_net.specs.Spread.{no_places}
 use Rattle.xw_net.specs.Worklist.{is_marked, is_waiting}
-use Rattle.xw_net.proofs.SpreadLemmas.{set_has-here, set_has-there, spread_grows, spread_raise}
+use Rattle.xw_net.proofs.Revivals.LettersComeBack.{set_has-here, set_has-there, spread_grows, spread_raise}
 use Rattle.xw_net.proofs.seeds.free_cell.Goals as goal
 
 pub returns-clause-here : goal.returns-clause-here

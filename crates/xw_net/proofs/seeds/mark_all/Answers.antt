@@ -1,7 +1,7 @@
 use Rattle.std.proofs.Common.{◌≡◌, ◌<◌, ◌+◌, subst, inl, inr, arith}
 use Rattle.std.proofs.lemmas.Bool.{cases_eq}
 use Rattle.xw_net.specs.Worklist.{Adds}
-use Rattle.xw_net.proofs.Worklists.{adds_none, adds_more, adds_insert}
+use Rattle.xw_net.proofs.Lists.ListsOfLights.{adds_none, adds_more, adds_insert}
 use Rattle.xw_net.proofs.seeds.mark_all.Goals as goal
 
 pub loop-light-init : goal.loop-light-init

@@ -1,6 +1,6 @@
 use Rattle.std.proofs.Common.{◌≡◌, ◌<◌, ℕ, length, subst, sym, ap, ◌∙◌}
 use Rattle.std.specs.Prelude.{IfSome, Some, unwrap_or}
-use Rattle.xw_net.proofs.Worklists.{adds_insert, adds_none, adds_as}
+use Rattle.xw_net.proofs.Lists.ListsOfLights.{adds_insert, adds_none, adds_as}
 use Rattle.xw_net.proofs.seeds.mark_found.Goals as goal
 
 same_light : (a b : ℕ) → Some a ≡ Some b → b ≡ a

@@ -5,8 +5,8 @@ use Rattle.xw_grid.specs.declared.lights.Light.{Light}
 use Rattle.xw_net.specs.Begin.{IsNewLight}
 use Rattle.xw_net.specs.Renumber.{same_before}
 use Rattle.xw_net.specs.Worklist.{ListOfLights, Grows, Adds}
-use Rattle.xw_net.proofs.Worklists.{adds_none, adds_as, adds_insert, adds_start, adds_next, adds_end}
-use Rattle.xw_net.proofs.Same.{none_new}
+use Rattle.xw_net.proofs.Lists.ListsOfLights.{adds_none, adds_as, adds_insert, adds_start, adds_next, adds_end}
+use Rattle.xw_net.proofs.Edits.SameLights.{none_new}
 use Rattle.xw_net.proofs.seeds.mark_new.Goals as goal
 
 pub loop-light-init : goal.loop-light-init

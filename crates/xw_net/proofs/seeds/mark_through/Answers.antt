@@ -2,7 +2,7 @@ use Rattle.std.proofs.Common.{◌≡◌, ℕ, subst}
 use Rattle.std.specs.Prelude.{IfSome, Option, Some}
 use Rattle.xw_feas.specs.Passes.{Passes}
 use Rattle.xw_net.specs.Spread.{IsThrough}
-use Rattle.xw_net.proofs.Worklists.{adds_more}
+use Rattle.xw_net.proofs.Lists.ListsOfLights.{adds_more}
 use Rattle.xw_net.proofs.seeds.mark_through.Goals as goal
 
 -- a light that was found has the property of those that are found

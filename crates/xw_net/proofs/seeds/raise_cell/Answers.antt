@@ -3,7 +3,7 @@ use Rattle.std.specs.Prelude.{List}
 use Rattle.xw_feas.specs.Flags.{set_has}
 use Rattle.xw_net.specs.Spread.{no_places, IsSpread}
 use Rattle.xw_net.specs.Worklist.{is_marked, is_waiting}
-use Rattle.xw_net.proofs.SpreadLemmas.{spread_grows, spread_raise}
+use Rattle.xw_net.proofs.Revivals.LettersComeBack.{spread_grows, spread_raise}
 use Rattle.xw_net.proofs.seeds.raise_cell.Goals as goal
 
 pub returns-then-raise-clause-within : goal.returns-then-raise-clause-within

@@ -1,6 +1,6 @@
 use Rattle.std.proofs.Common.{arith}
 use Rattle.std.proofs.lemmas.Grind.{common_steps}
-use Rattle.xw_net.proofs.Rooms.{bits_are}
+use Rattle.xw_net.proofs.Nets.RowRoom.{bits_are}
 use Rattle.xw_net.proofs.spread.bring_row.Goals as goal
 
 pub returns-clause-here : goal.returns-clause-here

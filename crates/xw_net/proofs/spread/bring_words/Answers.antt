@@ -2,8 +2,8 @@ use Rattle.std.proofs.Common.{◌≡◌, Bool, true, set, subst, sym, ap, ◌∙
 use Rattle.std.specs.Prelude.{List}
 use Rattle.xw_feas.specs.Board.{light_at, is_wholly_entered}
 use Rattle.xw_net.specs.Spread.{Lit, lit, IsLit}
-use Rattle.xw_net.proofs.Worklists.{waits_grow}
-use Rattle.xw_net.proofs.LitLemmas.{lit_bring}
+use Rattle.xw_net.proofs.Lists.ListsOfLights.{waits_grow}
+use Rattle.xw_net.proofs.Revivals.WordsComeBack.{lit_bring}
 use Rattle.xw_net.proofs.spread.bring_words.Goals as goal
 
 pub returns-clause-listed : goal.returns-clause-listed

@@ -3,7 +3,7 @@ use Rattle.std.proofs.lemmas.Bool.{cases_eq}
 use Rattle.xw_feas.specs.Board.{IsCrossing}
 use Rattle.xw_net.specs.Marks.{cell_at}
 use Rattle.xw_net.specs.Worklist.{is_marked, Adds}
-use Rattle.xw_net.proofs.Worklists.{adds_insert}
+use Rattle.xw_net.proofs.Lists.ListsOfLights.{adds_insert}
 use Rattle.xw_net.proofs.spread.mark_crossing.Goals as goal
 use Rattle.xw_net.proofs.spread.mark_crossing.Goals.{In-Some}
 

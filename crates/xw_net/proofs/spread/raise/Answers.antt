@@ -2,7 +2,7 @@ use Rattle.std.proofs.Common.{◌≡◌, ℕ, Bool, true, false, ◌&&◌, get_o
 use Rattle.std.proofs.lemmas.Bool.{both_ways}
 use Rattle.std.proofs.lemmas.List.{get_or_default}
 use Rattle.xw_letters.specs.LetterSet.{has}
-use Rattle.xw_net.proofs.SpreadLemmas.{same_set}
+use Rattle.xw_net.proofs.Revivals.LettersComeBack.{same_set}
 use Rattle.xw_net.proofs.spread.raise.Goals as goal
 
 both_true : (a b : Bool) → (b ≡ true → a ≡ true) → (a && b) ≡ b

@@ -2,8 +2,8 @@ use Rattle.std.proofs.Common.{length, refl, ap, ◌∙◌, arith}
 use Rattle.xw_feas.specs.Flags.{set_has}
 use Rattle.xw_net.specs.Spread.{places_from}
 use Rattle.xw_net.specs.Worklist.{is_marked, is_waiting}
-use Rattle.xw_net.proofs.Worklists.{grows_none, grows_more}
-use Rattle.xw_net.proofs.SpreadLemmas.{spread_place, spread_light}
+use Rattle.xw_net.proofs.Lists.ListsOfLights.{grows_none, grows_more}
+use Rattle.xw_net.proofs.Revivals.LettersComeBack.{spread_place, spread_light}
 use Rattle.xw_net.proofs.spread.raise_light.Goals as goal
 
 pub loop-place-init : goal.loop-place-init

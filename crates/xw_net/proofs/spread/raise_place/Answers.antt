@@ -5,7 +5,7 @@ use Rattle.xw_feas.specs.Flags.{set_has}
 use Rattle.xw_net.specs.Marks.{cell_at}
 use Rattle.xw_net.specs.Spread.{HasAll, IsSpread}
 use Rattle.xw_net.specs.Worklist.{is_marked, is_waiting}
-use Rattle.xw_net.proofs.SpreadLemmas.{spread_grows, spread_raise, lacks_old}
+use Rattle.xw_net.proofs.Revivals.LettersComeBack.{spread_grows, spread_raise, lacks_old}
 use Rattle.xw_net.proofs.spread.raise_place.Goals as goal
 
 pub returns-then-raise-clause-spread : goal.returns-then-raise-clause-spread

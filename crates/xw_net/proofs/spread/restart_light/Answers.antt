@@ -4,7 +4,7 @@ use Rattle.std.proofs.lemmas.List.{length-set, get_or-set_other}
 use Rattle.xw_letters.specs.Letter.{is_capital}
 use Rattle.xw_feas.specs.Flags.{set_has}
 use Rattle.xw_net.specs.Marks.{slot_at}
-use Rattle.xw_net.proofs.SpreadLemmas.{set_has-here, set_has-there}
+use Rattle.xw_net.proofs.Revivals.LettersComeBack.{set_has-here, set_has-there}
 use Rattle.xw_net.proofs.spread.restart_light.Goals as goal
 
 pub loop-place-preserved : goal.loop-place-preserved

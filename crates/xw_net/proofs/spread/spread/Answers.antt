@@ -2,9 +2,9 @@ use Rattle.std.proofs.Common.{◌≡◌, ℕ, true, length, refl, sym, subst, ap
 use Rattle.xw_feas.specs.Flags.{set_has}
 use Rattle.xw_net.specs.Spread.{Lit, lit, IsLit, IsSpread, places_from, none_waits, no_places}
 use Rattle.xw_net.specs.Worklist.{ListOfLights, is_marked, is_waiting}
-use Rattle.xw_net.proofs.Worklists.{waits_pop, quiet_pop, waiting-none}
-use Rattle.xw_net.proofs.SpreadLemmas.{spread_start, spread_taken, spread_end}
-use Rattle.xw_net.proofs.LitLemmas.{lit_start, lit_grows, lit_end}
+use Rattle.xw_net.proofs.Lists.ListsOfLights.{waits_pop, quiet_pop, waiting-none}
+use Rattle.xw_net.proofs.Revivals.LettersComeBack.{spread_start, spread_taken, spread_end}
+use Rattle.xw_net.proofs.Revivals.WordsComeBack.{lit_start, lit_grows, lit_end}
 use Rattle.xw_net.proofs.spread.spread.Goals as goal
 
 pub loop-light-init : goal.loop-light-init

@@ -4,7 +4,7 @@ use Rattle.xw_letters.specs.LetterSet.{has}
 use Rattle.xw_feas.specs.Flags.{set_has}
 use Rattle.xw_net.specs.Support.{Held, place_for, search_from}
 use Rattle.xw_net.specs.Support.Finds.{moves}
-use Rattle.xw_net.proofs.Searches.{search_is, without_letter}
+use Rattle.xw_net.proofs.Stripping.SearchPlaces.{search_is, without_letter}
 use Rattle.xw_net.proofs.support.find_support.Goals as goal
 
 pub returns-in-Some-first_support-clause-finds : goal.returns-in-Some-first_support-clause-finds

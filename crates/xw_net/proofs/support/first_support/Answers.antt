@@ -1,6 +1,6 @@
 use Rattle.std.proofs.Common.{◌&&◌, sym, ap, ◌∙◌}
 use Rattle.xw_words.specs.Columns.{has_letter}
-use Rattle.xw_net.proofs.ClearRow.{none_set}
+use Rattle.xw_net.proofs.BaseRows.ClearRows.{none_set}
 use Rattle.xw_net.specs.Support.{supports}
 use Rattle.xw_net.proofs.support.first_support.Goals as goal
 

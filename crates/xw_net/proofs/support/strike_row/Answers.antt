@@ -1,5 +1,5 @@
 use Rattle.std.proofs.Common.{sym, ◌∙◌}
-use Rattle.xw_net.proofs.ClearRow.{none_set}
+use Rattle.xw_net.proofs.BaseRows.ClearRows.{none_set}
 use Rattle.xw_net.proofs.support.strike_row.Goals as goal
 
 pub returns-then-count-eq0-clause-strikes : goal.returns-then-count-eq0-clause-strikes

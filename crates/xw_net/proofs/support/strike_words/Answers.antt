@@ -3,8 +3,8 @@ use Rattle.std.proofs.Math.Nat.{mul-le-mul_right}
 use Rattle.xw_letters.specs.LetterSet.{letters_in}
 use Rattle.xw_net.specs.Region.{chunks_of}
 use Rattle.xw_net.specs.Support.{letter_count}
-use Rattle.xw_net.proofs.Sums.{letter_count-is}
-use Rattle.xw_net.proofs.Striking.{kept_alive, pending_gone}
+use Rattle.xw_net.proofs.Costs.SumsBelow.{letter_count-is}
+use Rattle.xw_net.proofs.Stripping.StruckRows.{kept_alive, pending_gone}
 use Rattle.xw_net.proofs.support.strike_words.Goals as goal
 
 pub returns-then-len-clause-strikes : goal.returns-then-len-clause-strikes

@@ -2,7 +2,7 @@ use Rattle.std.proofs.Common.{sym, ap, ◌∙◌, arith}
 use Rattle.std.proofs.lemmas.Nat.{and_le_l}
 use Rattle.xw_bits.specs.Bits.{has_bit}
 use Rattle.xw_bits.proofs.BitLemmas.{has_bit-and}
-use Rattle.xw_net.proofs.Tallies.{tally_none, tally_both}
+use Rattle.xw_net.proofs.Nets.TalliedLetters.{tally_none, tally_both}
 use Rattle.xw_net.proofs.tally.count_chunk.Goals as goal
 
 pub returns-then-words-eq0-clause-tally : goal.returns-then-words-eq0-clause-tally

@@ -1,6 +1,6 @@
 use Rattle.std.proofs.Common.{ℕ, ◌*◌, List, refl, ap, ◌∙◌, arith}
 use Rattle.xw_words.specs.Dictionary.{Entry}
-use Rattle.xw_net.proofs.Tallies.{tally_more, tally_whole}
+use Rattle.xw_net.proofs.Nets.TalliedLetters.{tally_more, tally_whole}
 use Rattle.xw_net.specs.Tally.{row_tally}
 use Rattle.xw_net.proofs.tally.count_row.Goals as goal
 

@@ -16,8 +16,8 @@ use Rattle.xw_net.specs.Renumber.{same_before}
 use Rattle.xw_net.specs.Worklist.{is_marked}
 use Rattle.xw_net.specs.Forget.{lost_from, Forgets}
 use Rattle.xw_net.specs.Opened.{Arrays, IsOpening}
-use Rattle.xw_net.proofs.Slots.{slots_apart}
-use Rattle.xw_net.proofs.Openings.{opens}
+use Rattle.xw_net.proofs.Nets.SlotsApart.{slots_apart}
+use Rattle.xw_net.proofs.Revivals.OpenedNet.{opens}
 use Rattle.xw_net.proofs.net.Net.begin.Goals as goal
 
 abbrev Lost : Change → Board → List Light → (ℕ → List Entry) → List ℕ → List ℕ → List ℕ → List ℕ → Type 0

@@ -9,9 +9,9 @@ use Rattle.xw_net.specs.Spread.{bits_in, none_waits, no_places, Lit, lit, IsLit,
 use Rattle.xw_net.specs.Worklist.{is_marked}
 use Rattle.xw_net.specs.Brought.{IsBase}
 use Rattle.xw_bits.specs.Bits.{RowOfBits}
-use Rattle.xw_net.proofs.Worklists.{marked_below}
-use Rattle.xw_net.proofs.NetLemmas.{lit_of, lit_same, brought_from}
-use Rattle.xw_net.proofs.Brought.{brought_is_revival, brought_covers, brought_ready, region_reach_closed}
+use Rattle.xw_net.proofs.Lists.ListsOfLights.{marked_below}
+use Rattle.xw_net.proofs.Revivals.ChainOfNet.{lit_of, lit_same, brought_from}
+use Rattle.xw_net.proofs.Revivals.ChainIsRevival.{brought_is_revival, brought_covers, brought_ready, region_reach_closed}
 use Rattle.std.proofs.lemmas.Grind.{common_steps}
 use Rattle.xw_net.proofs.net.Net.bring_back.Goals as goal
 

@@ -4,7 +4,7 @@ use Rattle.xw_net.specs.Blank.{IsBlank}
 use Rattle.xw_net.specs.Copy.{IsReusable}
 use Rattle.xw_net.specs.Net.{known_counts}
 use Rattle.xw_net.specs.Room.{counts_of, HasRoom}
-use Rattle.xw_net.proofs.Copies.{blank_reusable, settled_reusable}
+use Rattle.xw_net.proofs.Nets.CopiedNets.{blank_reusable, settled_reusable}
 use Rattle.xw_net.proofs.net.Net.copy.Goals as goal
 
 pub copy_arrays-requires-clause-can : goal.copy_arrays-requires-clause-can

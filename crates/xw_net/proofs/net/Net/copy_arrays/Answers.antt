@@ -3,7 +3,7 @@ use Rattle.std.proofs.lemmas.List.{with_items_is}
 use Rattle.xw_grid.specs.declared.lights.Light.{Light}
 use Rattle.xw_feas.specs.Board.{Board}
 use Rattle.xw_feas.proofs.BoardLemmas.{length-lights}
-use Rattle.xw_net.proofs.Copies.{rows_are, copied_is_copy}
+use Rattle.xw_net.proofs.Nets.CopiedNets.{rows_are, copied_is_copy}
 use Rattle.xw_net.proofs.net.Net.copy_arrays.Goals as goal
 
 pub returns-clause-copied : goal.returns-clause-copied

@@ -1,6 +1,6 @@
 use Rattle.std.proofs.Common.{length, sym, ap, ◌∙◌, refl, arith}
 use Rattle.xw_feas.specs.State.{State}
-use Rattle.xw_net.proofs.BaseAlike.{settled_alike}
+use Rattle.xw_net.proofs.BaseRows.BaseRowsAlike.{settled_alike}
 use Rattle.xw_net.proofs.net.Net.copy_from.Goals as goal
 
 pub copy_arrays-requires-clause-alike : goal.copy_arrays-requires-clause-alike

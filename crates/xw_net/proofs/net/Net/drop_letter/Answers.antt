@@ -7,8 +7,8 @@ use Rattle.xw_net.specs.Marks.{side_of, cell_at}
 use Rattle.xw_net.specs.Nets.{marks_of, pending_in, queued_in, letter_stands}
 use Rattle.xw_net.specs.declared.net.Net.{Net}
 use Rattle.std.specs.Vec.{with_item}
-use Rattle.xw_net.proofs.Searches.{without_letter}
-use Rattle.xw_net.proofs.Deaths.{sum-less, crossed_drops, alone_drops}
+use Rattle.xw_net.proofs.Stripping.SearchPlaces.{without_letter}
+use Rattle.xw_net.proofs.Stripping.RemovedLetters.{sum-less, crossed_drops, alone_drops}
 use Rattle.xw_net.proofs.net.Net.drop_letter.Goals as goal
 
 pub returns-in-Some-clause-fewer : goal.returns-in-Some-clause-fewer

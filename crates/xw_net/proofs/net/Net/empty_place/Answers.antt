@@ -9,8 +9,8 @@ use Rattle.xw_net.specs.Marks.{side_of, cell_at}
 use Rattle.xw_net.specs.Marks.LeavesPending.{crossed, alone}
 use Rattle.xw_net.specs.Nets.{pending_in, queued_in, letter_stands}
 use Rattle.xw_net.specs.declared.net.Net.{Net}
-use Rattle.xw_net.proofs.Deaths.{sum-less}
-use Rattle.xw_net.proofs.Searches.{without_all}
+use Rattle.xw_net.proofs.Stripping.RemovedLetters.{sum-less}
+use Rattle.xw_net.proofs.Stripping.SearchPlaces.{without_all}
 use Rattle.xw_net.proofs.net.Net.empty_place.Goals as goal
 
 positive : (set letter : ℕ) → has set letter ≡ true → 0 < set

@@ -15,14 +15,14 @@ use Rattle.xw_net.specs.Brought.{HasBase, IsBase}
 use Rattle.xw_net.specs.Room.{row_at}
 use Rattle.xw_net.specs.Nets.{IsQueue, marks_of, word_stands, letter_stands, held_in, restart_in, pending_in, queued_in}
 use Rattle.xw_net.specs.declared.net.Net.{Net}
-use Rattle.xw_net.proofs.Left.{base_read}
-use Rattle.xw_net.proofs.Rooms.{known_few}
-use Rattle.xw_net.proofs.Quiet.{quiet_queue, quiet_seeds}
-use Rattle.xw_net.proofs.Worklists.{seeds_grow}
+use Rattle.xw_net.proofs.Stripping.LeftByStripping.{base_read}
+use Rattle.xw_net.proofs.Nets.RowRoom.{known_few}
+use Rattle.xw_net.proofs.Lists.QuietNets.{quiet_queue, quiet_seeds}
+use Rattle.xw_net.proofs.Lists.ListsOfLights.{seeds_grow}
 use Rattle.xw_net.specs.Filled.{IsWholeNet}
-use Rattle.xw_net.proofs.Alike.{roomier_filled}
-use Rattle.xw_net.proofs.Unstripped.{brought_unstripped}
-use Rattle.xw_net.proofs.Fresh.{brought_ready_all}
+use Rattle.xw_net.proofs.Nets.NetsAlike.{roomier_filled}
+use Rattle.xw_net.proofs.Revivals.UnstrippedNet.{brought_unstripped}
+use Rattle.xw_net.proofs.Nets.FreshNets.{brought_ready_all}
 use Rattle.std.proofs.lemmas.Grind.{common_steps}
 use Rattle.xw_net.proofs.net.Net.fill.Goals as goal
 

@@ -9,9 +9,9 @@ use Rattle.xw_net.specs.Marks.{cell_at, slot_at}
 use Rattle.xw_net.specs.Support.{Held}
 use Rattle.xw_net.specs.Nets.{marks_of, bits_at, bits_for, word_stands, letter_stands, held_in, restart_in, pending_in, queued_in}
 use Rattle.xw_net.specs.declared.net.Net.{Net}
-use Rattle.xw_net.proofs.Striking.{set_letter}
-use Rattle.xw_net.proofs.HeldWords.{same_holding}
-use Rattle.xw_net.proofs.Found.{finds_at, found_held, found_stays, found_holding, found_kept, none_kept, none_stays}
+use Rattle.xw_net.proofs.Stripping.StruckRows.{set_letter}
+use Rattle.xw_net.proofs.Stripping.HeldWords.{same_holding}
+use Rattle.xw_net.proofs.Stripping.FoundSupports.{finds_at, found_held, found_stays, found_holding, found_kept, none_kept, none_stays}
 use Rattle.xw_net.proofs.net.Net.keep_letter.Goals as goal
 
 not_both : (b : Bool) → not (b && false) ≡ true

@@ -4,8 +4,8 @@ use Rattle.std.proofs.lemmas.List.{get_or_default}
 use Rattle.xw_words.specs.Dictionary.{Dictionary}
 use Rattle.xw_net.specs.Marks.{IsPosition, IsHeld, cell_at, known}
 use Rattle.xw_net.specs.Nets.{HasBits, marks_of, letter_stands}
-use Rattle.xw_net.proofs.Left.{left_left}
-use Rattle.xw_net.proofs.Rows.{entered_is, bits_known}
+use Rattle.xw_net.proofs.Stripping.LeftByStripping.{left_left}
+use Rattle.xw_net.proofs.Stripping.WordsByNumber.{entered_is, bits_known}
 use Rattle.xw_net.proofs.net.Net.keep_light.Goals as goal
 
 pub keep_place-requires-clause-net : goal.keep_place-requires-clause-net

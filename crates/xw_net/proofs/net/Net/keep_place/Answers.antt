@@ -6,12 +6,12 @@ use Rattle.xw_words.specs.Dictionary.{Dictionary}
 use Rattle.xw_net.specs.Marks.{IsPosition, IsHeld, Stays, cell_at}
 use Rattle.xw_net.specs.Due.{IsUnderway, and_light}
 use Rattle.xw_net.specs.Nets.{HasBits, marks_of, bits_at, bits_for, word_stands, letter_stands, queued_in}
-use Rattle.xw_net.proofs.Striking.{set_letter}
-use Rattle.xw_net.proofs.Left.{left_left, left_same}
+use Rattle.xw_net.proofs.Stripping.StruckRows.{set_letter}
+use Rattle.xw_net.proofs.Stripping.LeftByStripping.{left_left, left_same}
 use Rattle.xw_net.specs.declared.net.Net.{Net}
 use Rattle.std.proofs.lemmas.Option.{slice_get_read}
-use Rattle.xw_net.proofs.ClearRow.{none_set}
-use Rattle.xw_net.proofs.EmptiedCell.{no_words, still_held, alive_before, still_holding, still_under, pends_at}
+use Rattle.xw_net.proofs.BaseRows.ClearRows.{none_set}
+use Rattle.xw_net.proofs.Stripping.EmptiedCells.{no_words, still_held, alive_before, still_holding, still_under, pends_at}
 use Rattle.xw_net.proofs.net.Net.keep_place.Goals as goal
 
 -- each letter at the start is among those the loop visits

@@ -5,10 +5,10 @@ use Rattle.xw_feas.specs.Board.{light_at}
 use Rattle.xw_feas.specs.Flags.{set_has}
 use Rattle.xw_net.specs.Marks.{side_of}
 use Rattle.xw_net.specs.Nets.{pending_in, queued_in}
-use Rattle.xw_net.proofs.Searches.{with_letters}
+use Rattle.xw_net.proofs.Stripping.SearchPlaces.{with_letters}
 use Rattle.xw_net.specs.Worklist.{is_marked}
-use Rattle.xw_net.proofs.Worklists.{waits_grow}
-use Rattle.xw_net.proofs.Queues.{queued_more, grown_longer}
+use Rattle.xw_net.proofs.Lists.ListsOfLights.{waits_grow}
+use Rattle.xw_net.proofs.Lists.QueuedLights.{queued_more, grown_longer}
 use Rattle.xw_net.proofs.net.Net.leave_all_pending.Goals as goal
 
 pub returns-clause-shaped : goal.returns-clause-shaped

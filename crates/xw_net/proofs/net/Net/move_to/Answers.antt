@@ -7,7 +7,7 @@ use Rattle.xw_grid.specs.declared.lights.Light.{Light}
 use Rattle.xw_grid.specs.Light.{lights_of}
 use Rattle.xw_net.specs.Room.{counts_of, row_at}
 use Rattle.xw_net.specs.Fit.{AreFitted, IsTurned}
-use Rattle.xw_net.proofs.Moving.{moved_net}
+use Rattle.xw_net.proofs.Nets.MovedNets.{moved_net}
 use Rattle.std.proofs.lemmas.Grind.{common_steps}
 use Rattle.xw_net.proofs.net.Net.move_to.Goals as goal
 

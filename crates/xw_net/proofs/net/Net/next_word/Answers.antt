@@ -3,8 +3,8 @@ use Rattle.std.proofs.lemmas.List.{get_or_default}
 use Rattle.std.proofs.lemmas.Option.{slice_get_read}
 use Rattle.xw_bits.proofs.PlaceLemmas.{within_row}
 use Rattle.xw_net.specs.Nets.{bits_at, bits_for}
-use Rattle.xw_net.proofs.Settled.{stands_shaped}
-use Rattle.xw_net.proofs.First.{first_listed, first_entered, first_nowhere}
+use Rattle.xw_net.proofs.Nets.SettledNets.{stands_shaped}
+use Rattle.xw_net.proofs.Nets.FirstFlag.{first_listed, first_entered, first_nowhere}
 use Rattle.xw_net.proofs.net.Net.next_word.Goals as goal
 use Rattle.xw_net.proofs.net.Net.next_word.Goals.{else-from-len-via-then-from-len+else-index, else-from-len-via-else-from-len}
 

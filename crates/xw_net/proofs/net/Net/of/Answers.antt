@@ -8,9 +8,9 @@ use Rattle.xw_net.specs.Room.{counts_of, HasRoom}
 use Rattle.xw_net.specs.Net.{HasRoomIn, known_counts}
 use Rattle.xw_net.specs.Blank.{IsBlank}
 use Rattle.xw_net.specs.Filled.{IsFresh, IsFilled}
-use Rattle.xw_net.proofs.Slots.{slots_apart}
-use Rattle.xw_net.proofs.Settled.{filled_settled, filled_room}
-use Rattle.xw_net.proofs.Blanks.{blank_fresh}
+use Rattle.xw_net.proofs.Nets.SlotsApart.{slots_apart}
+use Rattle.xw_net.proofs.Nets.SettledNets.{filled_settled, filled_room}
+use Rattle.xw_net.proofs.Nets.BlankNets.{blank_fresh}
 use Rattle.xw_net.proofs.net.Net.of.Goals as goal
 
 pub fill-requires-clause-fresh : goal.fill-requires-clause-fresh

@@ -8,8 +8,8 @@ use Rattle.xw_net.specs.Opened.IsTouched.{by_light, by_cell, by_word}
 use Rattle.xw_net.specs.Opened.MayGain.{if_touched, if_queued, if_freed}
 use Rattle.xw_net.specs.Spread.{IsSpread, no_places}
 use Rattle.xw_net.specs.Worklist.{ListOfLights, is_marked, is_waiting}
-use Rattle.xw_net.proofs.Worklists.{seeds_grow, grows_more}
-use Rattle.xw_net.proofs.SpreadLemmas.{spread_grows, spread_start}
+use Rattle.xw_net.proofs.Lists.ListsOfLights.{seeds_grow, grows_more}
+use Rattle.xw_net.proofs.Revivals.LettersComeBack.{spread_grows, spread_start}
 use Rattle.xw_net.proofs.net.Net.open.Goals as goal
 
 -- equal arrays

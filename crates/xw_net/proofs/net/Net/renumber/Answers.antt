@@ -1,6 +1,6 @@
 use Rattle.std.proofs.Common.{rules}
 use Rattle.xw_net.specs.Room.{counts_of}
-use Rattle.xw_net.proofs.Renumbers.{room_after}
+use Rattle.xw_net.proofs.Nets.RenumberedLights.{room_after}
 use Rattle.xw_net.proofs.net.Net.renumber.Goals as goal
 
 pub returns-clause-room : goal.returns-clause-room

@@ -1,6 +1,6 @@
 use Rattle.std.proofs.Common.{None}
-use Rattle.xw_net.proofs.Alike.{roomier_alike}
-use Rattle.xw_net.proofs.Settled.{stands_rows}
+use Rattle.xw_net.proofs.Nets.NetsAlike.{roomier_alike}
+use Rattle.xw_net.proofs.Nets.SettledNets.{stands_rows}
 use Rattle.xw_net.proofs.net.Net.reserve_length.Goals as goal
 
 pub reserve_word-requires-clause-rows : goal.reserve_word-requires-clause-rows

@@ -1,5 +1,5 @@
 use Rattle.std.proofs.Common.{Some}
-use Rattle.xw_net.proofs.Alike.{roomier_alike}
+use Rattle.xw_net.proofs.Nets.NetsAlike.{roomier_alike}
 use Rattle.xw_net.proofs.net.Net.reserve_shape.Goals as goal
 
 pub returns-in-Ok-clause-same : goal.returns-in-Ok-clause-same

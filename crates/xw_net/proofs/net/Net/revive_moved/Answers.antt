@@ -15,13 +15,13 @@ use Rattle.xw_net.specs.Brought.{IsBase, IsBegun, IsReadyBut, base_cost}
 use Rattle.xw_net.specs.Filled.{IsWholeNet, IsUnstripped}
 use Rattle.xw_net.specs.Begin.{is_long, is_read}
 use Rattle.xw_net.specs.Opened.{IsOpened}
-use Rattle.xw_net.proofs.Changed.{long_within}
-use Rattle.xw_net.proofs.Long.{long_word}
-use Rattle.xw_net.proofs.Same.{same_is_matching}
-use Rattle.xw_net.proofs.Slots.{slots_apart}
-use Rattle.xw_net.proofs.Left.{base_read}
-use Rattle.xw_net.proofs.Unstripped.{brought_unstripped}
-use Rattle.xw_net.proofs.CostBound.{revival-is}
+use Rattle.xw_net.proofs.Edits.ChangedLights.{long_within}
+use Rattle.xw_net.proofs.Edits.ChangedWord.{long_word}
+use Rattle.xw_net.proofs.Edits.SameLights.{same_is_matching}
+use Rattle.xw_net.proofs.Nets.SlotsApart.{slots_apart}
+use Rattle.xw_net.proofs.Stripping.LeftByStripping.{base_read}
+use Rattle.xw_net.proofs.Revivals.UnstrippedNet.{brought_unstripped}
+use Rattle.xw_net.proofs.Costs.CostBounds.{revival-is}
 use Rattle.xw_net.proofs.net.Net.revive_moved.Goals as goal
 
 position_of : (before now : State) (action : Action) (change : Change) (board : Board) (entries : ℕ → List Entry) → board ≡ board_of now.grid → AreReadsOf entries now.words → IsChange before now action change → IsPosition board entries now.words

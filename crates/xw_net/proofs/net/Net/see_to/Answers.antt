@@ -4,9 +4,9 @@ use Rattle.xw_net.specs.Marks.{IsPosition}
 use Rattle.xw_net.specs.Nets.{marks_of, word_stands, letter_stands, held_in, restart_in, pending_in, queued_in}
 use Rattle.xw_net.specs.Worklist.{ListOfLights, is_waiting}
 use Rattle.xw_net.specs.declared.net.Net.{Net}
-use Rattle.xw_net.proofs.Queues.{marked_less}
-use Rattle.xw_net.proofs.Ending.{taken_under, kept_all}
-use Rattle.xw_net.proofs.HeldWords.{same_holding}
+use Rattle.xw_net.proofs.Lists.QueuedLights.{marked_less}
+use Rattle.xw_net.proofs.Stripping.EndOfStripping.{taken_under, kept_all}
+use Rattle.xw_net.proofs.Stripping.HeldWords.{same_holding}
 use Rattle.xw_net.proofs.net.Net.see_to.Goals as goal
 
 pub returns-clause-kept : goal.returns-clause-kept

@@ -1,8 +1,8 @@
 use Rattle.std.proofs.Common.{ℕ, List, ◌∙◌, ap, arith}
 use Rattle.xw_words.specs.Dictionary.{Entry}
 use Rattle.xw_net.specs.Layout.{layout_of}
-use Rattle.xw_net.proofs.Alike.{roomier_alike}
-use Rattle.xw_net.proofs.CostBound.{settled_cost}
+use Rattle.xw_net.proofs.Nets.NetsAlike.{roomier_alike}
+use Rattle.xw_net.proofs.Costs.CostBounds.{settled_cost}
 use Rattle.xw_net.proofs.net.Net.settle.Goals as goal
 
 pub returns-clause-settled : goal.returns-clause-settled

@@ -2,7 +2,7 @@ use Rattle.std.proofs.Common.{◌≡◌, false, length, get_or, sym, ap, ◌∙�
 use Rattle.std.proofs.lemmas.Bool.{cases_lt}
 use Rattle.xw_net.specs.Marks.{IsPosition, slot_at}
 use Rattle.xw_net.specs.Nets.{HasBits, pending_in, queued_in}
-use Rattle.xw_net.proofs.Left.{left_left}
+use Rattle.xw_net.proofs.Stripping.LeftByStripping.{left_left}
 use Rattle.xw_net.proofs.net.Net.strike_light.Goals as goal
 
 pub strike_place-requires-clause-net : goal.strike_place-requires-clause-net

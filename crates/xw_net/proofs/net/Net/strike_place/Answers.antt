@@ -11,9 +11,9 @@ use Rattle.xw_net.specs.Support.{letter_count, AreApart, Strikes}
 use Rattle.xw_net.specs.Nets.{marks_of, pending_in, bits_at}
 use Rattle.xw_net.specs.declared.net.Net.{Net}
 use Rattle.std.specs.Vec.{with_item}
-use Rattle.xw_net.proofs.Searches.{emptied}
-use Rattle.xw_net.proofs.Rows.{net_struck, bits_known}
-use Rattle.xw_net.proofs.Steps.{strike_kept, strike_paid}
+use Rattle.xw_net.proofs.Stripping.SearchPlaces.{emptied}
+use Rattle.xw_net.proofs.Stripping.WordsByNumber.{net_struck, bits_known}
+use Rattle.xw_net.proofs.Stripping.StepsKeepInvariant.{strike_kept, strike_paid}
 use Rattle.xw_net.proofs.net.Net.strike_place.Goals as goal
 
 pub returns-clause-cleared : goal.returns-clause-cleared

@@ -9,10 +9,10 @@ use Rattle.xw_net.specs.Due.{IsClosed, HasQueued, set_cost}
 use Rattle.xw_net.specs.Nets.{marks_of, letter_stands}
 use Rattle.xw_net.specs.Steps.{IsStrippable}
 use Rattle.xw_net.specs.Filled.{IsUnstripped, IsFilled}
-use Rattle.xw_net.proofs.Slots.{slots_apart}
-use Rattle.xw_net.proofs.Closed.{region_is_closed}
-use Rattle.xw_net.proofs.CostBound.{stripping-is}
-use Rattle.xw_net.proofs.Settled.{filled_settled}
+use Rattle.xw_net.proofs.Nets.SlotsApart.{slots_apart}
+use Rattle.xw_net.proofs.Costs.ClosedForStripping.{region_is_closed}
+use Rattle.xw_net.proofs.Costs.CostBounds.{stripping-is}
+use Rattle.xw_net.proofs.Nets.SettledNets.{filled_settled}
 use Rattle.xw_net.proofs.net.Net.strip.Goals as goal
 
 position_of : (state : State) (board : Board) (entries : ℕ → List Entry) → board ≡ board_of state.grid → AreReadsOf entries state.words → IsWellFormed state → IsPosition board entries state.words

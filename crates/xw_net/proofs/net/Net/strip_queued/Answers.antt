@@ -6,16 +6,16 @@ use Rattle.xw_words.specs.Dictionary.{row}
 use Rattle.xw_feas.specs.Board.{light_at}
 use Rattle.xw_net.specs.Room.{row_at}
 use Rattle.xw_net.specs.Worklist.{ListOfLights, is_marked, is_waiting}
-use Rattle.xw_net.proofs.Worklists.{waiting-none, waits_taken}
+use Rattle.xw_net.proofs.Lists.ListsOfLights.{waiting-none, waits_taken}
 use Rattle.xw_net.specs.Brought.{HasBase, IsBase}
 use Rattle.xw_net.specs.declared.net.Net.{Net}
 use Rattle.xw_net.specs.Marks.{IsHolding, IsPosition, IsSettledNet, IsSlot}
 use Rattle.xw_net.specs.Due.{Measure, IsUnderway, due, set_cost}
 use Rattle.xw_net.specs.Nets.{IsLeft, HasBits, IsQueue, left_of, marks_of, word_stands, letter_stands, held_in, restart_in, pending_in, queued_in}
-use Rattle.xw_net.proofs.Dues.{due-bound}
-use Rattle.xw_net.proofs.Ending.{settled_net, settled_exact}
-use Rattle.xw_net.proofs.Emptied.{left_noted, shaped_noted}
-use Rattle.xw_net.proofs.Left.{left_left, left_queue, left_chained}
+use Rattle.xw_net.proofs.Costs.DueTicks.{due-bound}
+use Rattle.xw_net.proofs.Stripping.EndOfStripping.{settled_net, settled_exact}
+use Rattle.xw_net.proofs.Stripping.NotedLight.{left_noted, shaped_noted}
+use Rattle.xw_net.proofs.Stripping.LeftByStripping.{left_left, left_queue, left_chained}
 use Rattle.xw_net.specs.Steps.{KeepsHolding, SettlesMarks, LeavesNonePending, LeavesFeasible}
 use Rattle.xw_net.proofs.net.Net.strip_queued.Given.{Over}
 use Rattle.xw_net.proofs.net.Net.strip_queued.Goals as goal

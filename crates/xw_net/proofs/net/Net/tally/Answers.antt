@@ -8,9 +8,9 @@ use Rattle.xw_feas.specs.State.{State}
 use Rattle.xw_net.specs.Net.{StandsFor}
 use Rattle.xw_net.specs.Nets.{bits_for}
 use Rattle.xw_net.specs.Tally.{row_tally}
-use Rattle.xw_net.proofs.Rowwise.{bits_read}
-use Rattle.xw_net.proofs.Settled.{stands_shaped}
-use Rattle.xw_net.proofs.Tallies.{net_tally_is}
+use Rattle.xw_net.proofs.BaseRows.WrittenRows.{bits_read}
+use Rattle.xw_net.proofs.Nets.SettledNets.{stands_shaped}
+use Rattle.xw_net.proofs.Nets.TalliedLetters.{net_tally_is}
 use Rattle.xw_net.proofs.net.Net.tally.Goals as goal
 
 pub index-row-requires : goal.index-row-requires

@@ -9,7 +9,7 @@ use Rattle.xw_net.specs.Nets.{word_stands}
 use Rattle.xw_net.specs.Fit.{HasRoomBetween, IsTurned}
 use Rattle.xw_net.specs.declared.net.Net.{Net}
 use Rattle.xw_net.specs.declared.room.Spare.{Spare}
-use Rattle.xw_net.proofs.Turning.{same_self, none_marked, turned_row, turned_near, turned_flag, turned_lights}
+use Rattle.xw_net.proofs.Nets.TurnedNets.{same_self, none_marked, turned_row, turned_near, turned_flag, turned_lights}
 use Rattle.xw_net.proofs.net.Net.turn_to.Goals as goal
 
 pub returns-in-Some-clause-rest : goal.returns-in-Some-clause-rest

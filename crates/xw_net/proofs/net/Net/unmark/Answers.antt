@@ -1,6 +1,6 @@
 use Rattle.std.proofs.Common.{length, ap, ◌∙◌}
 use Rattle.xw_net.specs.Worklist.{is_marked}
-use Rattle.xw_net.proofs.Quiet.{all_false}
+use Rattle.xw_net.proofs.Lists.QuietNets.{all_false}
 use Rattle.xw_net.proofs.net.Net.unmark.Goals as goal
 
 pub returns-clause-marked : goal.returns-clause-marked

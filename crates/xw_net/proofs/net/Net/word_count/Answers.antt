@@ -3,7 +3,7 @@ use Rattle.std.specs.Prelude.{count_by}
 use Rattle.std.proofs.lemmas.List.{get_or_default}
 use Rattle.std.proofs.lemmas.Option.{slice_get_read}
 use Rattle.xw_net.specs.Nets.{bits_at, bits_for}
-use Rattle.xw_net.proofs.Settled.{stands_shaped, count_flags}
+use Rattle.xw_net.proofs.Nets.SettledNets.{stands_shaped, count_flags}
 use Rattle.xw_net.proofs.net.Net.word_count.Goals as goal
 
 pub index-row-requires : goal.index-row-requires

@@ -1,6 +1,6 @@
 use Rattle.std.proofs.Common.{arith}
 use Rattle.std.proofs.lemmas.Grind.{common_steps}
-use Rattle.xw_net.proofs.Worklists.{empty_list}
+use Rattle.xw_net.proofs.Lists.ListsOfLights.{empty_list}
 use Rattle.xw_net.proofs.worklist.Worklist.clear.Goals as goal
 
 pub invariant_of-self : goal.invariant_of-self

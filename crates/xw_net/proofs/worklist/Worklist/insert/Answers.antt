@@ -3,7 +3,7 @@ use Rattle.std.specs.Prelude.{List, vec_capacity}
 use Rattle.std.proofs.lemmas.Bool.{cond-true, cond-false}
 use Rattle.std.proofs.lemmas.List.{get_or_default}
 use Rattle.xw_net.specs.Worklist.{ListOfLights, is_marked, IsWorklist, Grows}
-use Rattle.xw_net.proofs.Worklists.{inserted_list, room_for, grows_none, grows_insert}
+use Rattle.xw_net.proofs.Lists.ListsOfLights.{inserted_list, room_for, grows_none, grows_insert}
 use Rattle.xw_net.proofs.worklist.Worklist.insert.Goals as goal
 
 lt_in : (g : goal.After-push) → g.args.light < length g.self.inside.marks.items

@@ -1,6 +1,6 @@
 use Rattle.std.proofs.Common.{arith}
 use Rattle.std.proofs.lemmas.Grind.{common_steps}
-use Rattle.xw_net.proofs.Worklists.{empty_list}
+use Rattle.xw_net.proofs.Lists.ListsOfLights.{empty_list}
 use Rattle.xw_net.proofs.worklist.Worklist.new.Goals as goal
 
 pub invariant_of-result : goal.invariant_of-result

@@ -1,6 +1,6 @@
 use Rattle.std.proofs.Common.{◌≡◌, false, subst, sym}
 use Rattle.xw_net.specs.Worklist.{ListOfLights, is_waiting}
-use Rattle.xw_net.proofs.Worklists.{released_list}
+use Rattle.xw_net.proofs.Lists.ListsOfLights.{released_list}
 use Rattle.xw_net.proofs.worklist.Worklist.release.Goals as goal
 
 pub invariant_of-self : goal.invariant_of-self

@@ -1,6 +1,6 @@
 use Rattle.std.proofs.Common.{arith, ap}
 use Rattle.xw_net.specs.Worklist.{ListOfLights}
-use Rattle.xw_net.proofs.Worklists.{empty_list}
+use Rattle.xw_net.proofs.Lists.ListsOfLights.{empty_list}
 use Rattle.xw_net.proofs.worklist.Worklist.renew.Goals as goal
 
 pub invariant_of-self : goal.invariant_of-self

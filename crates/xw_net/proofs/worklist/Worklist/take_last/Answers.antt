@@ -4,7 +4,7 @@ use Rattle.std.specs.Option.{option_to_list}
 use Rattle.std.proofs.lemmas.List.{append-nil}
 use Rattle.std.specs.Prelude.{Bool}
 use Rattle.xw_net.specs.Worklist.{ListOfLights, is_marked, IsWorklist}
-use Rattle.xw_net.proofs.Worklists.{marked_below, taken_list, taken_marked, last_moved}
+use Rattle.xw_net.proofs.Lists.ListsOfLights.{marked_below, taken_list, taken_marked, last_moved}
 use Rattle.xw_net.proofs.worklist.Worklist.take_last.Goals as goal
 
 left : (marks : List Bool) (lights rest : List ℕ) (room : ℕ) (last : Option ℕ) → IsWorklist marks lights room → lights ≡ rest ++ option_to_list last → IsWorklist marks rest room

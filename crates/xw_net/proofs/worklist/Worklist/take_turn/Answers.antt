@@ -2,7 +2,7 @@ use Rattle.std.proofs.Common.{◌≡◌, ◌<◌, length, ℕ, ◌∷◌, List, 
 use Rattle.std.specs.Prelude.{IfSome, IfNone, Option, Some, None, Bool}
 use Rattle.std.specs.List.Sorted.{IsPermutation}
 use Rattle.xw_net.specs.Worklist.{ListOfLights, is_marked, is_waiting, IsWorklist}
-use Rattle.xw_net.proofs.Worklists.{marked_below, taken_list, taken_marked, taken_once}
+use Rattle.xw_net.proofs.Lists.ListsOfLights.{marked_below, taken_list, taken_marked, taken_once}
 use Rattle.xw_net.proofs.worklist.Worklist.take_turn.Goals as goal
 
 module _ (marks : List Bool) (lights rest : List ℕ) (room : ℕ) where

@@ -1,0 +1,255 @@
+-- What an edit keeps: the squares of the cells it does not write, and the known words of other
+-- lengths.
+use Rattle.std.proofs.Common.{◌≡◌, ℕ, zero, suc, ◌*◌, Bool, true, false, cond, not, List, [], ◌∷◌, map, length, get_or, set, eqb, Some, None, refl, sym, ◌∙◌, ap, subst, arith, inl, inr}
+use Rattle.std.specs.Prelude.{Option, Result, Ok, Err, Contains, slice_get, position, filter}
+use Rattle.std.proofs.lemmas.Bool.{cases_lt, cases_Bool, eqb-true, false≢true}
+use Rattle.std.proofs.lemmas.List.{get_or-map, length-map}
+use Rattle.std.proofs.lemmas.List.Elements.{Contains-get_or}
+use Rattle.std.proofs.lemmas.List.FromFn.{get_or-map-range_with_len}
+use Rattle.std.proofs.lemmas.Option.{slice_get-get_or, slice_get_past}
+use Rattle.xw_words.specs.declared.fault.WordFault.{WordFault}
+use Rattle.xw_letters.specs.Letter.{folded}
+use Rattle.xw_words.specs.Word.{is_bad_letter}
+use Rattle.xw_words.specs.Dictionary.{Dictionary}
+use Rattle.xw_grid.specs.declared.cell.Cell.{Cell}
+use Rattle.xw_grid.specs.declared.cell.Square.{Square}
+use Rattle.xw_grid.specs.declared.cell.Square.TheVariants.{Block, Open}
+use Rattle.xw_grid.specs.declared.cell.LightName.{LightName}
+use Rattle.xw_grid.specs.declared.lights.Light.{Light}
+use Rattle.xw_grid.specs.declared.cell.Side.{Side}
+use Rattle.xw_grid.specs.declared.cell.Symmetry.{Symmetry}
+use Rattle.xw_grid.specs.declared.fault.GridFault.{GridFault}
+use Rattle.xw_grid.specs.declared.fault.GridFault.TheVariants as grids
+use Rattle.xw_grid.specs.Grid.{Grid, IsGrid, is_inside, is_block, is_barred, is_open_square, letter_in, entry as entry_of, index_of, cells, cell_at}
+use Rattle.xw_grid.specs.Light.{lights_of, cells_of, place_named, no_light}
+use Rattle.xw_grid.specs.Edit.{with_entry, set_entry, set_symmetry, toggle_block, toggle_bar, with_orbit, with_edges, turned, square_of}
+use Rattle.xw_grid.specs.Orbit.{is_in_orbit, orbit_of}
+use Rattle.xw_grid.proofs.GridLemmas.{index_of-cell_at, length-cells, cell_at-inside}
+use Rattle.xw_feas.specs.declared.edit.Refusal.{Refusal}
+use Rattle.xw_feas.specs.declared.edit.Refusal.TheVariants as refusals
+use Rattle.xw_feas.specs.Board.{board_of, entry, is_open}
+use Rattle.xw_feas.specs.State.{State, Action, letter_set, cell_cleared, word_placed, list_written, block_toggled, bar_toggled, symmetry_chosen, word_added, word_struck, after, grid_after, with_grid, with_words, by_fault, write_list, with_letters, place_word, placed_in, spelled_in, add_word, strike_word}
+use Rattle.xw_feas.proofs.BoardLemmas.{is_open-square, entry-square}
+use Rattle.xw_net.specs.Region.{cells_named, same_entry, cells_changed, edited_cells}
+use Rattle.xw_net.proofs.Edits.WrittenCells.{StaysOrOpen, LeavesOpen, list_leaves}
+
+-- a write keeps the other elements
+slice_get-set_other : {X : Type 0} (xs : List X) (at place : ℕ) (x : X) → (place ≡ at → ⊥) → slice_get (set xs at x) place ≡ slice_get xs place
+slice_get-set_other [] at place x apart = refl
+slice_get-set_other (y ∷ ys) zero zero x apart = absurd (apart refl)
+slice_get-set_other (y ∷ ys) zero (suc place) x apart = refl
+slice_get-set_other (y ∷ ys) (suc at) zero x apart = refl
+slice_get-set_other (y ∷ ys) (suc at) (suc place) x apart = slice_get-set_other ys at place x (λ e. apart (omega (arith, e)))
+
+pub contains_first : {X : Type 0} (x : X) (xs : List X) → Contains (x ∷ xs) x
+contains_first x xs = (0, omega arith, refl)
+
+pub contains_later : {X : Type 0} (x y : X) (xs : List X) → Contains xs x → Contains (y ∷ xs) x
+contains_later x y xs (k, below, at) = (suc k, omega arith, at)
+
+-- ---- the grid
+
+pub entry_written : (grid new : Grid) (cell : Cell) (letter : Option ℕ) → set_entry grid cell letter ≡ Ok new → with_entry grid cell letter ≡ new
+entry_written grid new cell letter ok = by_tests (not (is_inside grid cell)) (is_block grid cell) ok where
+  by_tests : (out block : Bool) → cond out (Err grids.OutOfGrid) (cond block (Err grids.OnBlock) (Ok (with_entry grid cell letter))) ≡ Ok new → with_entry grid cell letter ≡ new
+  by_tests true block h = cc
+  by_tests false true h = cc
+  by_tests false false h = cc
+
+-- the squares of all other cells and the size are unchanged
+pub record IsWrittenAt (old new : Grid) (places : List ℕ) : Type 0 where
+  pub width : new.width ≡ old.width
+  pub height : new.height ≡ old.height
+  pub squares : (place : ℕ) → ¬ Contains places place → slice_get new.squares place ≡ slice_get old.squares place
+
+entry_kept : (grid new : Grid) (cell : Cell) (letter : Option ℕ) → set_entry grid cell letter ≡ Ok new → IsWrittenAt grid new (index_of grid cell ∷ [])
+entry_kept grid new cell letter ok = subst (λ g. IsWrittenAt grid g (index_of grid cell ∷ [])) (entry_written grid new cell letter ok) (record {
+  width = refl;
+  height = refl;
+  squares = λ place outside. slice_get-set_other grid.squares (index_of grid cell) place (Open letter) (λ e. outside (subst (λ p. Contains (index_of grid cell ∷ []) p) (sym e) (contains_first (index_of grid cell) [])));
+})
+
+-- placing a word writes the cells of its light only
+letters_kept : (grid : Grid) (light_cells : List Cell) (letters : List ℕ) → IsWrittenAt grid (with_letters grid light_cells letters) (map (index_of grid) light_cells)
+letters_kept grid [] letters = record { width = refl; height = refl; squares = λ place outside. refl }
+letters_kept grid (cell ∷ light_cells) [] = record { width = refl; height = refl; squares = λ place outside. refl }
+letters_kept grid (cell ∷ light_cells) (letter ∷ letters) =
+    let rest = letters_kept (with_entry grid cell (Some letter)) light_cells letters in
+    record {
+      width = rest.width;
+      height = rest.height;
+      squares = λ place outside.
+          rest.squares place (λ later. outside (contains_later place (index_of grid cell) (map (index_of grid) light_cells) later))
+          ∙ slice_get-set_other grid.squares (index_of grid cell) place (Open (Some letter)) (λ e. outside (subst (λ p. Contains (index_of grid cell ∷ map (index_of grid) light_cells) p) (sym e) (contains_first (index_of grid cell) (map (index_of grid) light_cells))));
+    }
+
+word_kept : (grid new : Grid) (name : LightName) (bytes : List ℕ) → place_word grid name bytes ≡ Ok new → IsWrittenAt grid new (edited_cells grid (word_placed name bytes))
+word_kept grid new name bytes ok = by_place (place_named (lights_of grid) name) ok where
+  by_size : (light : Light) (fits : Bool) → cond fits (Ok (with_letters grid (cells_of light) (map folded bytes))) (Err refusals.PlaceLength) ≡ Ok new → IsWrittenAt grid new (map (index_of grid) (cells_of light))
+  by_size light false h = cc
+  by_size light true h =
+      let is_new : with_letters grid (cells_of light) (map folded bytes) ≡ new = cc in
+      subst (λ g. IsWrittenAt grid g (map (index_of grid) (cells_of light))) is_new (letters_kept grid (cells_of light) (map folded bytes))
+
+  by_word : (light : Light) (bad : Option ℕ) → spelled_in grid light bad bytes ≡ Ok new → IsWrittenAt grid new (map (index_of grid) (cells_of light))
+  by_word light (Some at) h = cc
+  by_word light None h = by_size light (eqb (length bytes) light.size) h
+
+  by_place : (found : Option ℕ) → placed_in grid found bytes ≡ Ok new → IsWrittenAt grid new (map (index_of grid) (cells_named grid found))
+  by_place None h = cc
+  by_place (Some place) h = by_word (get_or (lights_of grid) place no_light) (position is_bad_letter bytes) h
+
+-- an element that passes a filter is in the result
+pub contains_filtered : {X : Type 0} (test : X → Bool) (xs : List X) (x : X) → Contains xs x → test x ≡ true → Contains (filter test xs) x
+contains_filtered test [] x (k, below, at) passes = absurd (omega arith)
+contains_filtered test (y ∷ ys) x (zero, below, at) passes = rw (at, passes) (contains_first x (filter test ys))
+contains_filtered test (y ∷ ys) x (suc k, below, at) passes =
+    let later = contains_filtered test ys x (k, omega arith, at) passes in
+    elim (cases_Bool (test y)) [
+      | inl also ↦ rw also (contains_later x y (filter test ys) later)
+      | inr fails ↦ rw fails later
+    ]
+
+pub contains_mapped : {X Y : Type 0} (f : X → Y) (xs : List X) (x : X) → Contains xs x → Contains (map f xs) (f x)
+contains_mapped f xs x (k, below, at) = (k, omega (arith, below, length-map xs f), get_or-map f xs k x (f x) below ∙ ap f at)
+
+block_kept : (grid new : Grid) (cell : Cell) → IsGrid grid → toggle_block grid cell ≡ Ok new → IsWrittenAt grid new (map (index_of grid) (orbit_of grid cell))
+block_kept grid new cell is ok = by_tests (is_inside grid cell) _ refl ok where
+  value : Cell → Square
+  value other = cond (is_in_orbit grid cell other) (turned (not (is_block grid cell)) (square_of grid other)) (square_of grid other)
+
+  kept_at : is_inside grid cell ≡ true → (place : ℕ) → ¬ Contains (map (index_of grid) (orbit_of grid cell)) place → slice_get (map value (cells grid)) place ≡ slice_get grid.squares place
+  kept_at inside place outside = elim (cases_lt place (length (cells grid))) [
+    | inr past ↦ slice_get_past (map value (cells grid)) place (omega (arith, length-map (cells grid) value)) ∙ sym (slice_get_past grid.squares place (omega (arith, length-cells grid, is.squares)))
+    | inl below ↦
+        let here : get_or (cells grid) place (cell_at grid place) ≡ cell_at grid place = get_or-map-range_with_len (cell_at grid) 0 (grid.width * grid.height) place place (cell_at grid place) (omega (arith, length-cells grid)) (omega arith) in
+        let among : Contains (cells grid) (cell_at grid place) = subst (Contains (cells grid)) here (Contains-get_or (cells grid) place (cell_at grid place) below) in
+        let off : is_in_orbit grid cell (cell_at grid place) ≡ false = elim (cases_Bool (is_in_orbit grid cell (cell_at grid place))) [
+          | inr outside_orbit ↦ outside_orbit
+          | inl in_orbit ↦ absurd (outside (subst (Contains (map (index_of grid) (orbit_of grid cell))) (index_of-cell_at grid place)
+              (contains_mapped (index_of grid) (orbit_of grid cell) (cell_at grid place)
+              (rw inside (contains_filtered (is_in_orbit grid cell) (cells grid) (cell_at grid place) among in_orbit)))))
+        ] in
+        slice_get-get_or (map value (cells grid)) place Block (omega (arith, length-map (cells grid) value))
+        ∙ ap Some (get_or-map value (cells grid) place (cell_at grid place) Block below ∙ ap value here ∙ rw off (ap (λ p. get_or grid.squares p Block) (index_of-cell_at grid place)))
+        ∙ sym (slice_get-get_or grid.squares place Block (omega (arith, length-cells grid, is.squares)))
+  ]
+
+  by_tests : (inside occupied : Bool) → is_inside grid cell ≡ inside → cond (not inside) (Err grids.OutOfGrid) (cond occupied (Err grids.Occupied) (Ok (with_orbit grid cell (not (is_block grid cell))))) ≡ Ok new → IsWrittenAt grid new (map (index_of grid) (orbit_of grid cell))
+  by_tests false occupied inside h = cc
+  by_tests true true inside h = cc
+  by_tests true false inside h =
+      let is_new : with_orbit grid cell (not (is_block grid cell)) ≡ new = cc in
+      subst (λ g. IsWrittenAt grid g (map (index_of grid) (orbit_of grid cell))) is_new (record { width = refl; height = refl; squares = kept_at inside })
+
+same_squares : (grid : Grid) (places : List ℕ) → IsWrittenAt grid grid places
+same_squares grid places = record { width = refl; height = refl; squares = λ place outside. refl }
+
+symmetry_kept : (grid new : Grid) (kind : Symmetry) → set_symmetry grid kind ≡ Ok new → IsWrittenAt grid new []
+symmetry_kept grid new kind ok = by_test _ ok where
+  by_test : (b : Bool) → cond b (Err grids.NotSquare) (Ok (record grid { symmetry = kind })) ≡ Ok new → IsWrittenAt grid new []
+  by_test true h = cc
+  by_test false h =
+      let is_new : record grid { symmetry = kind } ≡ new = cc in
+      subst (λ g. IsWrittenAt grid g []) is_new (record { width = refl; height = refl; squares = λ place outside. refl })
+
+bar_kept : (grid new : Grid) (cell : Cell) (side : Side) → toggle_bar grid cell side ≡ Ok new → IsWrittenAt grid new []
+bar_kept grid new cell side ok = by_tests _ _ ok where
+  by_tests : (out border : Bool) → cond out (Err grids.OutOfGrid) (cond border (Err grids.Border) (Ok (with_edges grid cell side (not (is_barred grid cell side))))) ≡ Ok new → IsWrittenAt grid new []
+  by_tests true border h = cc
+  by_tests false true h = cc
+  by_tests false false h =
+      let is_new : with_edges grid cell side (not (is_barred grid cell side)) ≡ new = cc in
+      subst (λ g. IsWrittenAt grid g []) is_new (record { width = refl; height = refl; squares = λ place outside. refl })
+
+-- entries that compare as equal are equal
+same_entries : (one other : Option ℕ) → same_entry one other ≡ true → one ≡ other
+same_entries None None h = refl
+same_entries None (Some y) h = absurd (false≢true h)
+same_entries (Some x) None h = absurd (false≢true h)
+same_entries (Some x) (Some y) h = ap Some (eqb-true x y h)
+
+-- writing a list changes only the cells whose entry differs afterwards
+list_kept : (grid new : Grid) (list : List (Cell × Option ℕ)) → IsGrid grid → write_list list grid ≡ Ok new → IsWrittenAt grid new (edited_cells grid (list_written list))
+list_kept grid new list is ok = subst (λ r. IsWrittenAt grid new (map (index_of grid) (cells_changed grid (by_fault r)))) (sym ok) (record {
+  width = ap (λ (g : Grid). g.width) leaves.alone;
+  height = ap (λ (g : Grid). g.height) leaves.alone;
+  squares = λ place outside. kept_at place outside (leaves.squares place);
+}) where
+  leaves : LeavesOpen grid new
+  leaves = list_leaves list grid new ok
+
+  test : Cell → Bool
+  test cell = not (same_entry (entry_of grid cell) (entry_of new cell))
+
+  kept_at : (place : ℕ) → ¬ Contains (map (index_of grid) (filter test (cells grid))) place → StaysOrOpen (slice_get grid.squares place) (slice_get new.squares place) → slice_get new.squares place ≡ slice_get grid.squares place
+  kept_at place outside (inl same) = same
+  kept_at place outside (inr (one, other, old, now)) = elim (cases_lt place (length (cells grid))) [
+    | inr past ↦ let none = slice_get_past grid.squares place (omega (arith, past, length-cells grid, is.squares)) in cc
+    | inl below ↦
+        let cell = cell_at grid place in
+        let here : get_or (cells grid) place (cell_at grid place) ≡ cell_at grid place = get_or-map-range_with_len (cell_at grid) 0 (grid.width * grid.height) place place (cell_at grid place) (omega (arith, below, length-cells grid)) (omega arith) in
+        let among : Contains (cells grid) (cell_at grid place) = subst (Contains (cells grid)) here (Contains-get_or (cells grid) place (cell_at grid place) below) in
+        let inside : is_inside grid (cell_at grid place) ≡ true = cell_at-inside grid place is (omega (arith, below, length-cells grid)) in
+        let entry_old : entry_of grid (cell_at grid place) ≡ one =
+        ap (λ b. letter_in (cond b (slice_get grid.squares (index_of grid (cell_at grid place))) None)) inside ∙ ap (λ p. letter_in (slice_get grid.squares p)) (index_of-cell_at grid place) ∙ ap letter_in old in
+        let entry_new : entry_of new (cell_at grid place) ≡ other =
+        ap (λ (g : Grid). entry_of g (cell_at grid place)) leaves.alone
+        ∙ ap (λ b. letter_in (cond b (slice_get new.squares (index_of grid (cell_at grid place))) None)) inside ∙ ap (λ p. letter_in (slice_get new.squares p)) (index_of-cell_at grid place) ∙ ap letter_in now in
+        let same : one ≡ other = elim (cases_Bool (same_entry one other)) [
+          | inl alike ↦ same_entries one other alike
+          | inr apart ↦ absurd (outside (subst (Contains (map (index_of grid) (filter test (cells grid)))) (index_of-cell_at grid place)
+              (contains_mapped (index_of grid) (filter test (cells grid)) (cell_at grid place)
+              (contains_filtered test (cells grid) (cell_at grid place) among (ap (λ e. not (same_entry e (entry_of new (cell_at grid place)))) entry_old ∙ ap (λ e. not (same_entry one e)) entry_new ∙ ap not apart)))))
+        ] in
+        now ∙ ap (λ e. Some (Open e)) (sym same) ∙ sym old
+  ]
+
+pub by_fault-Ok : (result : Result Grid GridFault) (new : Grid) → by_fault result ≡ Ok new → result ≡ Ok new
+by_fault-Ok (Ok grid) new h = cc
+by_fault-Ok (Err fault) new h = cc
+
+-- an edit writes its edited cells only
+pub written_after : (grid new : Grid) (action : Action) → IsGrid grid → grid_after grid action ≡ Ok new → IsWrittenAt grid new (edited_cells grid action)
+written_after grid new (letter_set cell letter) is h = entry_kept grid new cell (Some letter) (by_fault-Ok (set_entry grid cell (Some letter)) new h)
+written_after grid new (cell_cleared cell) is h = entry_kept grid new cell None (by_fault-Ok (set_entry grid cell None) new h)
+written_after grid new (word_placed name bytes) is h = word_kept grid new name bytes h
+written_after grid new (list_written list) is h = list_kept grid new list is (by_fault-Ok (write_list list grid) new h)
+written_after grid new (block_toggled cell) is h = block_kept grid new cell is (by_fault-Ok (toggle_block grid cell) new h)
+written_after grid new (bar_toggled cell side) is h = bar_kept grid new cell side (by_fault-Ok (toggle_bar grid cell side) new h)
+written_after grid new (symmetry_chosen kind) is h = symmetry_kept grid new kind (by_fault-Ok (set_symmetry grid kind) new h)
+written_after grid new (word_added word) is h = let is_new : grid ≡ new = cc in subst (λ g. IsWrittenAt grid g []) is_new (same_squares grid [])
+written_after grid new (word_struck word) is h = let is_new : grid ≡ new = cc in subst (λ g. IsWrittenAt grid g []) is_new (same_squares grid [])
+
+-- ---- the two parts of a state
+
+pub with_grid-Ok : (state next : State) (result : Result Grid Refusal) → with_grid state result ≡ Ok next → (result ≡ Ok next.grid) × (next.words ≡ state.words)
+with_grid-Ok state next (Ok grid) h =
+    let is : record state { grid = grid } ≡ next = cc in
+    (ap (λ (s : State). Ok s.grid) is, sym (ap (λ (s : State). s.words) is))
+with_grid-Ok state next (Err refusal) h = cc
+
+pub with_words-Ok : (state next : State) (result : Result Dictionary WordFault) → with_words state result ≡ Ok next → (result ≡ Ok next.words) × (next.grid ≡ state.grid)
+with_words-Ok state next (Ok words) h =
+    let is : record state { words = words } ≡ next = cc in
+    (ap (λ (s : State). Ok s.words) is, sym (ap (λ (s : State). s.grid) is))
+with_words-Ok state next (Err fault) h = cc
+
+pub grid_of_after : (state next : State) (action : Action) → after state action ≡ Ok next → grid_after state.grid action ≡ Ok next.grid
+grid_of_after state next (letter_set cell letter) h = (with_grid-Ok state next (grid_after state.grid (letter_set cell letter)) h).0
+grid_of_after state next (cell_cleared cell) h = (with_grid-Ok state next (grid_after state.grid (cell_cleared cell)) h).0
+grid_of_after state next (word_placed name bytes) h = (with_grid-Ok state next (grid_after state.grid (word_placed name bytes)) h).0
+grid_of_after state next (list_written list) h = (with_grid-Ok state next (grid_after state.grid (list_written list)) h).0
+grid_of_after state next (block_toggled cell) h = (with_grid-Ok state next (grid_after state.grid (block_toggled cell)) h).0
+grid_of_after state next (bar_toggled cell side) h = (with_grid-Ok state next (grid_after state.grid (bar_toggled cell side)) h).0
+grid_of_after state next (symmetry_chosen kind) h = (with_grid-Ok state next (grid_after state.grid (symmetry_chosen kind)) h).0
+grid_of_after state next (word_added word) h = ap Ok (sym (with_words-Ok state next (add_word state.words word) h).1)
+grid_of_after state next (word_struck word) h = ap Ok (sym (with_words-Ok state next (strike_word state.words word) h).1)
+
+-- ---- the board
+
+pub entry_after : (grid new : Grid) (places : List ℕ) (place : ℕ) → IsWrittenAt grid new places → ¬ Contains places place → entry (board_of new) place ≡ entry (board_of grid) place
+entry_after grid new places place written outside = entry-square new place ∙ ap letter_in (written.squares place outside) ∙ sym (entry-square grid place)
+
+pub open_after : (grid new : Grid) (places : List ℕ) (place : ℕ) → IsWrittenAt grid new places → ¬ Contains places place → is_open (board_of new) place ≡ is_open (board_of grid) place
+open_after grid new places place written outside = is_open-square new place ∙ ap is_open_square (written.squares place outside) ∙ sym (is_open-square grid place)

@@ -1,0 +1,13 @@
+-- How words and letters come back after an edit.
+pub mod RevivalCovers
+pub mod LettersComeBack
+pub mod WordsComeBack
+pub mod ChainIsRevival
+pub mod ChainOfNet
+pub mod CarriedIsReady
+pub mod UnstrippedNet
+pub mod StartIsRevival
+pub mod FreedCells
+pub mod OpenedRows
+pub mod OpenedSupports
+pub mod OpenedNet

@@ -1,0 +1,13 @@
+-- How words and letters without support are removed.
+pub mod StruckRows
+pub mod SearchPlaces
+pub mod StepsKeepInvariant
+pub mod HeldWords
+pub mod WordsByNumber
+pub mod RemovedLetters
+pub mod FoundSupports
+pub mod EndOfStripping
+pub mod LeftByStripping
+pub mod EmptiedCells
+pub mod EmptiedAtOnce
+pub mod NotedLight

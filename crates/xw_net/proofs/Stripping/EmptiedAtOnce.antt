@@ -1,0 +1,239 @@
+-- A light without words loses all letters of a cell at once: the same as losing them one by one.
+use Rattle.std.proofs.Common.{◌≡◌, ℕ, zero, suc, ◌/◌, ◌<◌, Bool, true, false, not, ◌&&◌, ◌||◌, cond, eqb, ltb, refl, sym, ap, ◌∙◌, subst, inl, inr, arith}
+use Rattle.std.proofs.lemmas.Bool.{cases_Bool, cases_lt, cases_eq, both_ways, false_from_ne_true, and_parts, or_cases, or_left, or_right, lt-ltb, le-ltb, eq-eqb, ne_eqb, eqb-true}
+use Rattle.xw_letters.specs.Letter.{IsLetter}
+use Rattle.xw_words.specs.Dictionary.{Dictionary}
+use Rattle.xw_feas.specs.Board.{Board}
+use Rattle.xw_net.specs.Marks.{Marks, IsPlace, cell_at, slot_at, known, AreSlotsApart, Drops}
+use Rattle.xw_net.specs.Due.{Measure, IsUnderway, and_light}
+use Rattle.xw_net.proofs.Costs.DueTicks.{IsFrom}
+use Rattle.xw_net.proofs.Stripping.StepsKeepInvariant.{IsDropped, same_stays, drops_sound, drops_paid}
+
+-- whether some number below a bound passes
+abbrev pub any : (ℕ → Bool) → ℕ → Bool
+any f zero = false
+any f (suc k) = any f k || f k
+
+-- the chunk from which the next search starts
+from_of : ℕ → ℕ → Bool → ℕ
+from_of n h again = cond (ltb h n && not again) (h / 64) 0
+
+from_is : (n h : ℕ) (again : Bool) → IsFrom n h again (from_of n h again)
+unfolding from_of
+from_is n h again = (
+  (λ lt never. ap (λ b. cond (b && not again) (h / 64) 0) (lt-ltb h n lt) ∙ ap (λ b. cond (true && not b) (h / 64) 0) never),
+  (λ le. ap (λ b. cond (b && not again) (h / 64) 0) (le-ltb h n le)),
+  (λ is. ap (λ b. cond (ltb h n && not b) (h / 64) 0) is ∙ off (ltb h n)),
+) where
+  off : (b : Bool) → cond (b && false) (h / 64) 0 ≡ 0
+  off true = refl
+  off false = refl
+
+below_next : (d k : ℕ) → ltb d (suc k) ≡ (ltb d k || eqb d k)
+below_next d k = elim (cases_lt d k) [
+  | inl lt ↦ lt-ltb d (suc k) (omega (arith, lt)) ∙ sym (ap (λ b. b || eqb d k) (lt-ltb d k lt))
+  | inr le ↦ elim (cases_eq d k) [
+    | inl same ↦ lt-ltb d (suc k) (omega (arith, same)) ∙ sym (or_right (ltb d k) (eqb d k) (eq-eqb d k same))
+    | inr apart ↦ le-ltb d (suc k) (omega (arith, le, apart)) ∙ sym (ap (λ b. b || eqb d k) (le-ltb d k le) ∙ ne_eqb d k apart)
+  ]
+]
+
+letters_step : (stood here before last : Bool) → (stood && not (here && (before || last))) ≡ ((stood && not (here && before)) && not (here && last))
+letters_step true true true true = refl
+letters_step true true true false = refl
+letters_step true true false true = refl
+letters_step true true false false = refl
+letters_step true false before last = refl
+letters_step false here before last = refl
+
+pending_step : (was slot before last stood : Bool) → (last ≡ true → stood ≡ true) → (was || (slot && ((before || last) && stood))) ≡ ((was || (slot && (before && stood))) || (slot && last))
+pending_step true slot before last stood has = refl
+pending_step false false before last stood has = refl
+pending_step false true true true true has = refl
+pending_step false true true false true has = refl
+pending_step false true false true true has = refl
+pending_step false true false false true has = refl
+pending_step false true before true false has = absurd (both_ways false refl (has refl))
+pending_step false true true false false has = refl
+pending_step false true false false false has = refl
+
+queued_step : (was it some : Bool) → (was || (it && (some || true))) ≡ ((was || (it && some)) || it)
+queued_step true it some = refl
+queued_step false true true = refl
+queued_step false true false = refl
+queued_step false false some = refl
+
+or_false : (b : Bool) → (b || false) ≡ b
+or_false true = refl
+or_false false = refl
+
+and_false : (b : Bool) → (b && false) ≡ false
+and_false true = refl
+and_false false = refl
+
+and_true : (b : Bool) → (b && true) ≡ b
+and_true true = refl
+and_true false = refl
+
+any_from : (f : ℕ → Bool) (n k : ℕ) → k < n → f k ≡ true → any f n ≡ true
+any_from f zero k below is = absurd (omega (arith, below))
+any_from f (suc n) k below is = elim (cases_lt k n) [
+  | inl lt ↦ or_left (any f n) (f n) (any_from f n k lt is)
+  | inr le ↦
+      let same : k ≡ n = omega (arith, below, le) in
+      or_right (any f n) (f n) (ap f (sym same) ∙ is)
+]
+
+module _ (board : Board) (dictionary : Dictionary) (apart : AreSlotsApart board) (i q : ℕ) (place : IsPlace board i q) (old : Marks)
+    (slot it : ℕ → Bool)
+    (make : (b : ℕ) (from to : Marks) → ((y d : ℕ) → to.letters y d ≡ (from.letters y d && not (eqb y (cell_at board i q) && eqb d b)))
+    → ((s d : ℕ) → to.pending s d ≡ (from.pending s d || (slot s && eqb d b))) → ((j : ℕ) → to.queued j ≡ (from.queued j || it j)) → Drops board i q b from to)
+    (none_stands : (k : ℕ) → old.words i k ≡ false)
+    (are_letters : (y d : ℕ) → old.letters y d ≡ true → IsLetter d) where
+  -- the marks once the letters below a bound are gone
+  abbrev stage : ℕ → Marks
+  stage k = record old {
+    letters = λ y d. old.letters y d && not (eqb y (cell_at board i q) && ltb d k);
+    pending = λ s d. old.pending s d || (slot s && (ltb d k && old.letters (cell_at board i q) d));
+    queued = λ j. old.queued j || (it j && any (old.letters (cell_at board i q)) k);
+  }
+
+  stage_drops : (k : ℕ) → old.letters (cell_at board i q) k ≡ true → Drops board i q k (stage k) (stage (suc k))
+  stage_drops k alive = make k (stage k) (stage (suc k)) letters pending queued where
+    letters : (y d : ℕ) → (old.letters y d && not (eqb y (cell_at board i q) && ltb d (suc k))) ≡ ((old.letters y d && not (eqb y (cell_at board i q) && ltb d k)) && not (eqb y (cell_at board i q) && eqb d k))
+    letters y d = ap (λ b. old.letters y d && not (eqb y (cell_at board i q) && b)) (below_next d k) ∙ letters_step (old.letters y d) (eqb y (cell_at board i q)) (ltb d k) (eqb d k)
+
+    pending : (s d : ℕ) → (old.pending s d || (slot s && (ltb d (suc k) && old.letters (cell_at board i q) d))) ≡ ((old.pending s d || (slot s && (ltb d k && old.letters (cell_at board i q) d))) || (slot s && eqb d k))
+    pending s d =
+        ap (λ b. old.pending s d || (slot s && (b && old.letters (cell_at board i q) d))) (below_next d k)
+        ∙ pending_step (old.pending s d) (slot s) (ltb d k) (eqb d k) (old.letters (cell_at board i q) d) (λ is. ap (old.letters (cell_at board i q)) (eqb-true d k is) ∙ alive)
+
+    queued : (j : ℕ) → (old.queued j || (it j && (any (old.letters (cell_at board i q)) k || old.letters (cell_at board i q) k))) ≡ ((old.queued j || (it j && any (old.letters (cell_at board i q)) k)) || it j)
+    queued j = ap (λ b. old.queued j || (it j && (any (old.letters (cell_at board i q)) k || b))) alive ∙ queued_step (old.queued j) (it j) (any (old.letters (cell_at board i q)) k)
+
+  -- a letter that was not there changes nothing
+  stage_same : (k : ℕ) → old.letters (cell_at board i q) k ≡ false → stage k ≡ stage (suc k)
+  stage_same k dead = λ t. record old {
+    letters = λ y d. letters y d t;
+    pending = λ s d. pending s d t;
+    queued = λ j. queued j t;
+  } where
+    letters : (y d : ℕ) → (old.letters y d && not (eqb y (cell_at board i q) && ltb d k)) ≡ (old.letters y d && not (eqb y (cell_at board i q) && ltb d (suc k)))
+    letters y d = elim (cases_eq d k) [
+      | inl same ↦ elim (cases_eq y (cell_at board i q)) [
+        | inl here ↦
+            let gone : old.letters y d ≡ false = ap (λ n. old.letters n d) here ∙ ap (old.letters (cell_at board i q)) same ∙ dead in
+            ap (λ b. b && not (eqb y (cell_at board i q) && ltb d k)) gone ∙ sym (ap (λ b. b && not (eqb y (cell_at board i q) && ltb d (suc k))) gone)
+        | inr there ↦ ap (λ b. old.letters y d && not (b && ltb d k)) (ne_eqb y (cell_at board i q) there) ∙ sym (ap (λ b. old.letters y d && not (b && ltb d (suc k))) (ne_eqb y (cell_at board i q) there))
+      ]
+      | inr other ↦ sym (ap (λ b. old.letters y d && not (eqb y (cell_at board i q) && b)) (below_next d k ∙ ap (λ b. ltb d k || b) (ne_eqb d k other) ∙ or_false (ltb d k)))
+    ]
+
+    pending : (s d : ℕ) → (old.pending s d || (slot s && (ltb d k && old.letters (cell_at board i q) d))) ≡ (old.pending s d || (slot s && (ltb d (suc k) && old.letters (cell_at board i q) d)))
+    pending s d = elim (cases_eq d k) [
+      | inl same ↦
+          let gone : old.letters (cell_at board i q) d ≡ false = ap (old.letters (cell_at board i q)) same ∙ dead in
+          ap (λ b. old.pending s d || (slot s && (ltb d k && b))) gone ∙ ap (λ b. old.pending s d || (slot s && b)) (and_false (ltb d k))
+          ∙ sym (ap (λ b. old.pending s d || (slot s && (ltb d (suc k) && b))) gone ∙ ap (λ b. old.pending s d || (slot s && b)) (and_false (ltb d (suc k))))
+      | inr other ↦ sym (ap (λ b. old.pending s d || (slot s && (b && old.letters (cell_at board i q) d))) (below_next d k ∙ ap (λ b. ltb d k || b) (ne_eqb d k other) ∙ or_false (ltb d k)))
+    ]
+
+    queued : (j : ℕ) → (old.queued j || (it j && any (old.letters (cell_at board i q)) k)) ≡ (old.queued j || (it j && (any (old.letters (cell_at board i q)) k || old.letters (cell_at board i q) k)))
+    queued j = sym (ap (λ b. old.queued j || (it j && (any (old.letters (cell_at board i q)) k || b))) dead ∙ ap (λ b. old.queued j || (it j && b)) (or_false (any (old.letters (cell_at board i q)) k)))
+
+  module _ (measure : Measure) (ticks : ℕ) (in_set : measure.member i ≡ true) where
+    is_under : ℕ → Type 0
+    is_under k = IsUnderway board dictionary measure (stage k) (and_light (stage k).queued i) ticks
+
+    under_drop : (k : ℕ) → old.letters (cell_at board i q) k ≡ true → is_under k → is_under (suc k)
+    unfolding is_under
+    under_drop k alive under =
+        let drops = stage_drops k alive in
+        let s = slot_at board i q in
+        let from = from_of (known board dictionary i) (old.held s k) (old.restart s k) in
+        let letter = are_letters (cell_at board i q) k alive in
+        let dropped : IsDropped board dictionary (stage k) (stage (suc k)) i q k (from_of (known board dictionary i) (old.held (slot_at board i q) k) (old.restart (slot_at board i q) k)) = record {
+          words = λ j n. refl;
+          held = λ u d. refl;
+          restart = λ u d. refl;
+          stood = ap (λ b. old.letters (cell_at board i q) k && not (eqb (cell_at board i q) (cell_at board i q) && b)) (le-ltb k k (omega arith)) ∙ ap (λ b. old.letters (cell_at board i q) k && not b) (and_false (eqb (cell_at board i q) (cell_at board i q))) ∙ ap (λ b. b && true) alive;
+          drops = drops;
+          no_word = λ n stands has. both_ways (old.words i n) (none_stands n) stands;
+          from_is = from_is (known board dictionary i) (old.held s k) (old.restart s k);
+        } in
+        record {
+          kept = record {
+            sound = drops_sound board dictionary apart (stage k) (stage (suc k)) i q k place letter from dropped under.kept.sound;
+            held = λ j r d here off alive.
+                let before : (stage k).letters (cell_at board j r) d ≡ true = (and_parts ((stage k).letters (cell_at board j r) d) (not (eqb (cell_at board j r) (cell_at board i q) && eqb d k)) (sym (drops.letters (cell_at board j r) d) ∙ alive)).0 in
+                same_stays board dictionary apart (stage k) (stage (suc k)) (λ a b. refl) (λ a b. refl) j r d (under.kept.held j r d here (free_before j off) before);
+          };
+          paid = drops_paid board dictionary apart (stage k) (stage (suc k)) i q k place letter from dropped measure ticks ticks under.kept.sound under.paid in_set (omega arith);
+        } where
+          free_before : (j : ℕ) → and_light (stage (suc k)).queued i j ≡ false → and_light (stage k).queued i j ≡ false
+          free_before j off = false_from_ne_true (and_light (stage k).queued i j) (λ h.
+              both_ways (and_light (stage (suc k)).queued i j) off
+              (elim (or_cases ((stage k).queued j) (eqb j i) h) [
+                | inl waits ↦ or_left ((stage (suc k)).queued j) (eqb j i) ((stage_drops k alive).queued_more j waits)
+                | inr same ↦ or_right ((stage (suc k)).queued j) (eqb j i) same
+              ]))
+
+    under_next : (k : ℕ) → is_under k → is_under (suc k)
+    unfolding is_under
+    under_next k under = elim (cases_Bool (old.letters (cell_at board i q) k)) [
+      | inl alive ↦ under_drop k alive under
+      | inr dead ↦ subst (λ m. IsUnderway board dictionary measure m (and_light m.queued i) ticks) (stage_same k dead) under
+    ]
+
+    under_all : (k : ℕ) → is_under 0 → is_under k
+    under_all zero under = under
+    under_all (suc k) under = under_next k (under_all k under)
+
+    module _ (new : Marks) (words : (j k : ℕ) → new.words j k ≡ old.words j k) (held : (s d : ℕ) → new.held s d ≡ old.held s d) (restart : (s d : ℕ) → new.restart s d ≡ old.restart s d)
+        (letters : (y d : ℕ) → new.letters y d ≡ (old.letters y d && not (eqb y (cell_at board i q))))
+        (pending : (s d : ℕ) → new.pending s d ≡ (old.pending s d || (slot s && old.letters (cell_at board i q) d)))
+        (queued : (j : ℕ) → new.queued j ≡ (old.queued j || it j)) (first : ℕ) (stood : old.letters (cell_at board i q) first ≡ true) where
+      start_same : old ≡ stage 0
+      start_same = λ t. record old {
+        letters = λ y d. starts y d t;
+        pending = λ s d. waits s d t;
+        queued = λ j. queues j t;
+      } where
+        starts : (y d : ℕ) → old.letters y d ≡ (old.letters y d && not (eqb y (cell_at board i q) && ltb d 0))
+        starts y d = sym (ap (λ b. old.letters y d && not (eqb y (cell_at board i q) && b)) (le-ltb d 0 (omega arith)) ∙ ap (λ b. old.letters y d && not b) (and_false (eqb y (cell_at board i q))) ∙ and_true (old.letters y d))
+
+        waits : (s d : ℕ) → old.pending s d ≡ (old.pending s d || (slot s && (ltb d 0 && old.letters (cell_at board i q) d)))
+        waits s d = sym (ap (λ b. old.pending s d || (slot s && (b && old.letters (cell_at board i q) d))) (le-ltb d 0 (omega arith)) ∙ ap (λ b. old.pending s d || b) (and_false (slot s)) ∙ or_false (old.pending s d))
+
+        queues : (j : ℕ) → old.queued j ≡ (old.queued j || (it j && false))
+        queues j = sym (ap (λ b. old.queued j || b) (and_false (it j)) ∙ or_false (old.queued j))
+
+      end_same : stage 91 ≡ new
+      end_same = λ t. record {
+        words = λ j k. sym (words j k) t;
+        letters = λ y d. ends y d t;
+        held = λ s d. sym (held s d) t;
+        restart = λ s d. sym (restart s d) t;
+        pending = λ s d. waits s d t;
+        queued = λ j. queues j t;
+      } where
+        ends : (y d : ℕ) → (old.letters y d && not (eqb y (cell_at board i q) && ltb d 91)) ≡ new.letters y d
+        ends y d = elim (cases_Bool (old.letters y d)) [
+          | inl alive ↦ ap (λ b. old.letters y d && not (eqb y (cell_at board i q) && b)) (lt-ltb d 91 (omega (arith, are_letters y d alive))) ∙ ap (λ b. old.letters y d && not b) (and_true (eqb y (cell_at board i q))) ∙ sym (letters y d)
+          | inr dead ↦ ap (λ b. b && not (eqb y (cell_at board i q) && ltb d 91)) dead ∙ sym (letters y d ∙ ap (λ b. b && not (eqb y (cell_at board i q))) dead)
+        ]
+
+        waits : (s d : ℕ) → (old.pending s d || (slot s && (ltb d 91 && old.letters (cell_at board i q) d))) ≡ new.pending s d
+        waits s d = elim (cases_Bool (old.letters (cell_at board i q) d)) [
+          | inl alive ↦ ap (λ b. old.pending s d || (slot s && (b && old.letters (cell_at board i q) d))) (lt-ltb d 91 (omega (arith, are_letters (cell_at board i q) d alive))) ∙ sym (pending s d)
+          | inr dead ↦ ap (λ b. old.pending s d || (slot s && (ltb d 91 && b))) dead ∙ ap (λ b. old.pending s d || (slot s && b)) (and_false (ltb d 91)) ∙ sym (pending s d ∙ ap (λ b. old.pending s d || (slot s && b)) dead)
+        ]
+
+        queues : (j : ℕ) → (old.queued j || (it j && any (old.letters (cell_at board i q)) 91)) ≡ new.queued j
+        queues j = ap (λ b. old.queued j || (it j && b)) (any_from (old.letters (cell_at board i q)) 91 first (omega (arith, are_letters (cell_at board i q) first stood)) stood) ∙ ap (λ b. old.queued j || b) (and_true (it j)) ∙ sym (queued j)
+
+      pub emptied_under : IsUnderway board dictionary measure old (and_light old.queued i) ticks → IsUnderway board dictionary measure new (and_light new.queued i) ticks
+      unfolding is_under
+      emptied_under under =
+          subst (λ m. IsUnderway board dictionary measure m (and_light m.queued i) ticks) end_same
+          (under_all 91 (subst (λ m. IsUnderway board dictionary measure m (and_light m.queued i) ticks) start_same under))

@@ -1,0 +1,87 @@
+-- What holds of a net after a light without words lost all letters of a cell.
+use Rattle.std.proofs.Common.{◌≡◌, ◌⊎◌, ℕ, zero, suc, ◌+◌, ◌*◌, Bool, true, false, not, ◌&&◌, ◌||◌, eqb, List, [], ◌∷◌, ◌++◌, get_or, refl, sym, ap, ◌∙◌, inl, inr}
+use Rattle.std.proofs.lemmas.Bool.{and_parts, or_cases, eqb-true}
+use Rattle.xw_letters.specs.Letter.{IsLetter}
+use Rattle.xw_words.specs.Dictionary.{Dictionary, Entry}
+use Rattle.xw_feas.specs.Board.{Board, light_at}
+use Rattle.xw_net.specs.Marks.{Marks, side_of, IsPlace, IsSlot, IsPosition, IsHeld, IsHolding, LeavesPending, cell_at}
+use Rattle.xw_net.specs.Marks.LeavesPending.{crossed, alone}
+use Rattle.xw_net.specs.Due.{Measure, IsUnderway, and_light}
+use Rattle.xw_net.specs.Nets.{marks_of, bits_for, word_stands, letter_stands, held_in, restart_in, pending_in, queued_in}
+use Rattle.xw_net.specs.declared.net.Net.{Net}
+use Rattle.xw_net.proofs.Stripping.RemovedLetters.{crossed_drops, alone_drops}
+use Rattle.xw_net.proofs.Stripping.EmptiedAtOnce.{emptied_under}
+use Rattle.xw_net.proofs.Stripping.HeldWords.{same_holding}
+use Rattle.xw_net.proofs.Stripping.StepsKeepInvariant.{same_stays}
+use Rattle.xw_net.proofs.Stripping.StruckRows.{set_letter}
+
+or_none : (b : Bool) → (b || false) ≡ b
+or_none true = refl
+or_none false = refl
+
+-- a row of clear bits and no entered word
+all_clear : (bits : List Bool) → ((i : ℕ) → get_or bits i false ≡ false) → (choice : ℕ) → get_or (bits ++ false ∷ []) choice false ≡ false
+all_clear [] clear zero = refl
+all_clear [] clear (suc choice) = refl
+all_clear (bit ∷ bits) clear zero = clear 0
+all_clear (bit ∷ bits) clear (suc choice) = all_clear bits (λ i. clear (suc i)) choice
+
+pub no_words : (net : Net) (light : ℕ) → get_or net.entered.items light false ≡ false → ((i : ℕ) → get_or (bits_for net light) i false ≡ false) → (choice : ℕ) → word_stands net light choice ≡ false
+unfolding word_stands
+no_words net light unentered clear choice = ap (λ flag. get_or (bits_for net light ++ flag ∷ []) choice false) unentered ∙ all_clear (bits_for net light) clear choice
+
+module _ (board : Board) (entries : ℕ → List Entry) (dictionary : Dictionary) (position : IsPosition board entries dictionary) (old new : Net) (i q : ℕ) (place : IsPlace board i q)
+    (same : new ≡ record old { letters = new.letters; pending = new.pending; queue = new.queue })
+    (letters : (cell letter : ℕ) → letter_stands new cell letter ≡ (letter_stands old cell letter && not (eqb cell (cell_at board i q))))
+    (leaves : LeavesPending board i q (letter_stands old (cell_at board i q)) (marks_of old) (marks_of new)) where
+  words : (j k : ℕ) → word_stands new j k ≡ word_stands old j k
+  unfolding word_stands
+  words j k = ap (λ (net : Net). word_stands net j k) same
+
+  held : (s d : ℕ) → held_in new s d ≡ held_in old s d
+  unfolding held_in
+  held s d = ap (λ (net : Net). held_in net s d) same
+
+  restart : (s d : ℕ) → restart_in new s d ≡ restart_in old s d
+  unfolding restart_in
+  restart s d = ap (λ (net : Net). restart_in net s d) same
+
+  are_letters : (y d : ℕ) → letter_stands old y d ≡ true → IsLetter d
+  unfolding letter_stands
+  are_letters y d h = set_letter (get_or old.letters.items y 0) d h
+
+  pub still_held : (j r d : ℕ) → IsHeld board dictionary (marks_of old) j r d → IsHeld board dictionary (marks_of new) j r d
+  still_held j r d = same_stays board dictionary position.apart (marks_of old) (marks_of new) words held j r d
+
+  pub alive_before : (cell letter : ℕ) → letter_stands new cell letter ≡ true → letter_stands old cell letter ≡ true
+  alive_before cell letter alive = (and_parts (letter_stands old cell letter) (not (eqb cell (cell_at board i q))) (sym (letters cell letter) ∙ alive)).0
+
+  pub still_holding : IsHolding board dictionary (marks_of old) → IsHolding board dictionary (marks_of new)
+  still_holding = same_holding board dictionary (marks_of old) (marks_of new) held
+
+  pub still_under : ((k : ℕ) → word_stands old i k ≡ false) → (first : ℕ) → letter_stands old (cell_at board i q) first ≡ true → (measure : Measure) (ticks : ℕ) → measure.member i ≡ true
+      → IsUnderway board dictionary measure (marks_of old) (and_light (queued_in old) i) ticks → IsUnderway board dictionary measure (marks_of new) (and_light (queued_in new) i) ticks
+  still_under none first stood measure ticks in_set under = go leaves where
+    go : LeavesPending board i q (letter_stands old (cell_at board i q)) (marks_of old) (marks_of new) → IsUnderway board dictionary measure (marks_of new) (and_light (queued_in new) i) ticks
+    go (crossed other crossing only pending queued) =
+        emptied_under board dictionary position.apart i q place (marks_of old)
+        (λ s. eqb s (2 * cell_at board i q + side_of (light_at board other))) (λ j. eqb j other)
+        (λ b from to ls ps qs. crossed_drops board i q b place from to ls other crossing only ps qs)
+        none are_letters measure ticks in_set (marks_of new) words held restart letters pending queued first stood under
+    go (alone none_crosses pending queued) =
+        emptied_under board dictionary position.apart i q place (marks_of old)
+        (λ s. false) (λ j. false)
+        (λ b from to ls ps qs. alone_drops board i q b place from to ls none_crosses (λ s d. ps s d ∙ or_none (from.pending s d)) (λ j. qs j ∙ or_none (from.queued j)))
+        none are_letters measure ticks in_set (marks_of new) words held restart letters
+        (λ s d. pending s d ∙ sym (or_none (pending_in old s d))) (λ j. queued j ∙ sym (or_none (queued_in old j))) first stood under
+
+-- a letter that became pending is pending at a slot of the board
+pub pends_at : (board : Board) (old new : Marks) (i q : ℕ) (gone : ℕ → Bool) → LeavesPending board i q gone old new → (slot letter : ℕ) → new.pending slot letter ≡ true → (old.pending slot letter ≡ true) ⊎ IsSlot board slot
+pends_at board old new i q gone (crossed other crossing only pending queued) slot letter pends =
+    elim (or_cases (old.pending slot letter) (eqb slot (2 * cell_at board i q + side_of (light_at board other)) && gone letter) (sym (pending slot letter) ∙ pends)) [
+      | inl before ↦ inl before
+      | inr both ↦
+          let is = eqb-true slot (2 * cell_at board i q + side_of (light_at board other)) (and_parts (eqb slot (2 * cell_at board i q + side_of (light_at board other))) (gone letter) both).0 in
+          inr (other, crossing.place, (crossing.in_board, crossing.below), ap (λ n. 2 * n + side_of (light_at board other)) crossing.meets ∙ sym is)
+    ]
+pends_at board old new i q gone (alone none pending queued) slot letter pends = inl (sym (pending slot letter) ∙ pends)
