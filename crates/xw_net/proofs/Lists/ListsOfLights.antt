@@ -37,9 +37,6 @@ waiting-any (x ∷ xs) i = ap (λ b. b || is_waiting xs i) (nat_eq_equiv.symm x 
 pub waits_pop : (lights lights' : List ℕ) (o i : ℕ) → lights ≡ lights' ++ o ∷ [] → is_waiting lights' i ≡ true → is_waiting lights i ≡ true
 waits_pop lights lights' o i is h = ap (λ l. is_waiting l i) is ∙ waiting-push lights' o i ∙ or_left (is_waiting lights' i) (eqb o i) h
 
-pub waits_top : (lights lights' : List ℕ) (o : ℕ) → lights ≡ lights' ++ o ∷ [] → is_waiting lights o ≡ true
-waits_top lights lights' o is = ap (λ l. is_waiting l o) is ∙ waiting-push lights' o o ∙ or_right (is_waiting lights' o) (eqb o o) (eq-eqb o o refl)
-
 -- only the last light no longer waits
 pub quiet_pop : (lights lights' : List ℕ) (o i : ℕ) → lights ≡ lights' ++ o ∷ [] → (i ≡ o → ⊥) → is_waiting lights' i ≡ false → is_waiting lights i ≡ false
 quiet_pop lights lights' o i is n h =
@@ -89,9 +86,6 @@ marked_below marks i h =
 pub few_wait : (marks : List Bool) (lights : List ℕ) (room : ℕ) → IsWorklist marks lights room → length lights ≤ length marks
 few_wait marks lights room list =
     length-le_from_distinct_below lights (length marks) list.once (λ i h. marked_below marks i (list.marked i (waiting-any lights i ∙ h)))
-
-pub still_list : (marks : List Bool) (lights : List ℕ) (room room' : ℕ) → IsWorklist marks lights room → room ≤ room' → IsWorklist marks lights room'
-still_list marks lights room room' list more = record { marked = list.marked; once = list.once; roomy = omega (arith, list.roomy, more) }
 
 idle_list : (light : ℕ) → is_waiting [] light ≡ true → ⊥
 idle_list light h = both_ways (is_waiting [] light) (waiting-none [] light refl) h

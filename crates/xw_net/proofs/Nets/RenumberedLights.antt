@@ -13,7 +13,7 @@ use Rattle.std.proofs.lemmas.Bool.{cases_eq}
 use Rattle.std.proofs.lemmas.List.{length-replicate}
 use Rattle.std.proofs.Common.{◌+◌, inl, inr}
 use Rattle.xw_bits.specs.Bits.{RowOfBits}
-use Rattle.xw_net.specs.Room.{size_at, row_at, HaveBits, HaveRoom, IsWhole, HasRoom}
+use Rattle.xw_net.specs.Room.{size_at, row_at, HaveBits, HaveRoom, HasRoom}
 use Rattle.xw_net.specs.Renumber.{AreLights, same_before, bits_from, room_from, AreRowsMoved, IsRenumbered}
 use Rattle.xw_net.specs.declared.net.Net.{Net}
 
@@ -106,13 +106,6 @@ module _ (before after : List Light) (are : AreLights after) (counts : ℕ → �
         let there = have other (other_there before after light other is) in
         let sizes : counts (size_at after light) ≡ counts (size_at before other) = ap counts (same_size before after are light other is) in
         omega (arith, there, room, sizes)
-
--- the net's rows have a bit for each known word
-pub whole_after : (before after : List Light) → AreLights after → (counts : ℕ → ℕ) (old new : Net) → IsRenumbered before after counts old new → IsWhole before counts old → IsWhole after counts new
-whole_after before after are counts old new is whole = record {
-  rows = moved_bits before after are counts old.rows.items new.rows.items is.rows whole.rows;
-  base = moved_bits before after are counts old.base.items new.base.items is.base whole.base;
-}
 
 pub room_after : (before after : List Light) → AreLights after → (counts : ℕ → ℕ) (old new : Net) → IsRenumbered before after counts old new → HasRoom before counts old → HasRoom after counts new
 room_after before after are counts old new is room = record {
