@@ -8,6 +8,7 @@ import subprocess
 from samples import PLAIN
 from steps import ACCEPTED, FAILED, FORMAT, REFUSED, USAGE, absent, compare, end, holds, link, run, write
 
+from runs.devices import fails
 from runs.replacing import folder, is_link, is_no_file, set_mode
 
 BEGUN = b"size 2 1\nset 1 1 A\n"
@@ -102,18 +103,6 @@ def is_locked_by_another(room, program):
     compare("journal", (room / "mine.xw").read_bytes(), b"size 2 1\n")
     session.ask(b"set 1 1 A", b"ok\n")
     compare("end", session.end(), (b"", b"", ACCEPTED))
-
-
-def fails_in_the_middle(words, fault, typed=b"", can_be_read=True):
-    """Runs the program with a full output, or with an input that cannot be read."""
-
-    def step(room, program):
-        (room / "input").write_bytes(typed)
-        with open(room / "input", "rb" if can_be_read else "ab") as source, open("/dev/full", "wb") as full:
-            ended = end(room, program, words, stdin=source, stdout=full)
-        compare("messages and status", (ended.stderr, ended.returncode), (f"xw: {fault}\n".encode(), FAILED))
-
-    return step
 
 
 def pipe(name):
@@ -323,12 +312,12 @@ CASES = {
     # A run that does not come to the end of its input leaves the journal as it is.
     "input_fault": [
         write("mine.xw", BEGUN),
-        fails_in_the_middle("edit --journal mine.xw --save new.xw", "input fault", can_be_read=False),
+        fails("edit --journal mine.xw --save new.xw", "input fault", can_be_read=False),
         holds("mine.xw", BEGUN),
         holds("new.xw", record(b"set 1 1 A\n")),
     ],
     "output_fault": [
-        fails_in_the_middle("edit --journal mine.xw --save new.xw", "output fault", b"size 2 1\nsize 3 1\n"),
+        fails("edit --journal mine.xw --save new.xw", "output fault", b"size 2 1\nsize 3 1\n"),
         holds("mine.xw", b"size 2 1\n"),
         holds("new.xw", record()),
     ],
