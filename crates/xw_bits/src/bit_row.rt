@@ -4,7 +4,7 @@
 //! first. A block is eight consecutive chunks, as one SIMD vector.
 ghost use Rattle.std.specs.Prelude.{◌≡◌, ℕ, ◌+◌, ◌-◌, ◌*◌, ◌/◌, ◌%◌, ◌^◌, ◌<◌, ◌≤◌, Bool, false, not, ◌&&◌, [], ◌∷◌, ◌++◌, length, min, slice_index, slice_index_or, slice_set, count_by, OnOk, OnErr, IfSome, IfNone, None, true, if◌then◌else◌, nat_eq};
 ghost use Rattle.std.specs.Simd.Lanes.{zip2};
-ghost use Rattle.xw_bits.specs.Bits.{RowOfBits, has_bit};
+ghost use Rattle.xw_bits.specs.Bits.{RowOfBits, has_bit, chunk_bit};
 ghost use Rattle.xw_bits.specs.Places.{set_places};
 
 use crate::kernels::{
@@ -113,7 +113,7 @@ impl BitRow {
     /// The eight chunks from chunk `at` on. Bits past the end of the row are 0.
     pub fn block(&self, at: usize) -> u64x8
         requires { 64 * at + 448 < length self.now.bits }
-        ensures { (chunk k : ℕ) → chunk < 8 → k < 64 → has_bit (slice_index result chunk) k ≡ slice_index_or self.now.bits (64 * (at + chunk) + k) false }
+        ensures { (chunk k : ℕ) → chunk < 8 → k < 64 → has_bit (slice_index result chunk) k ≡ chunk_bit self.now.bits (at + chunk) k }
     {
         block_at(&self.words, at)
     }
@@ -132,7 +132,7 @@ impl BitRow {
         requires { 64 * at + 448 < length self.old.bits }
         ensures len { length self.new.bits ≡ length self.old.bits }
         ensures below { (i : ℕ) → i < 64 * at → slice_index_or self.new.bits i false ≡ slice_index_or self.old.bits i false }
-        ensures inside { (chunk k : ℕ) → chunk < 8 → k < 64 → slice_index_or self.new.bits (64 * (at + chunk) + k) false ≡ (slice_index_or self.old.bits (64 * (at + chunk) + k) false && has_bit (slice_index block chunk) k) }
+        ensures inside { (chunk k : ℕ) → chunk < 8 → k < 64 → chunk_bit self.new.bits (at + chunk) k ≡ (chunk_bit self.old.bits (at + chunk) k && has_bit (slice_index block chunk) k) }
         ensures above { (i : ℕ) → 64 * at + 512 ≤ i → slice_index_or self.new.bits i false ≡ slice_index_or self.old.bits i false }
         ensures room { self.new.room ≡ self.old.room }
     {
@@ -145,7 +145,7 @@ impl BitRow {
         requires { 64 * at + 448 < length self.old.bits }
         ensures len { length self.new.bits ≡ length self.old.bits }
         ensures below { (i : ℕ) → i < 64 * at → slice_index_or self.new.bits i false ≡ slice_index_or self.old.bits i false }
-        ensures inside { (chunk k : ℕ) → chunk < 8 → k < 64 → slice_index_or self.new.bits (64 * (at + chunk) + k) false ≡ (slice_index_or self.old.bits (64 * (at + chunk) + k) false && not (has_bit (slice_index block chunk) k)) }
+        ensures inside { (chunk k : ℕ) → chunk < 8 → k < 64 → chunk_bit self.new.bits (at + chunk) k ≡ (chunk_bit self.old.bits (at + chunk) k && not (has_bit (slice_index block chunk) k)) }
         ensures above { (i : ℕ) → 64 * at + 512 ≤ i → slice_index_or self.new.bits i false ≡ slice_index_or self.old.bits i false }
         ensures room { self.new.room ≡ self.old.room }
     {
@@ -230,7 +230,7 @@ impl BitRow {
     /// The 64 bits from `64 * chunk` on, the first one lowest. Bits past the end of the row are 0.
     pub fn chunk(&self, chunk: usize) -> u64
         requires { 64 * chunk < length self.now.bits }
-        ensures { (k : ℕ) → k < 64 → has_bit result k ≡ slice_index_or self.now.bits (64 * chunk + k) false }
+        ensures { (k : ℕ) → k < 64 → has_bit result k ≡ chunk_bit self.now.bits chunk k }
     {
         self.words[chunk]
     }
@@ -239,7 +239,7 @@ impl BitRow {
     pub fn set_chunk(&mut self, chunk: usize, word: u64)
         requires { 64 * chunk < length self.old.bits }
         ensures len { length self.new.bits ≡ length self.old.bits }
-        ensures inside { (k : ℕ) → k < 64 → 64 * chunk + k < length self.old.bits → slice_index_or self.new.bits (64 * chunk + k) false ≡ has_bit word k }
+        ensures inside { (k : ℕ) → k < 64 → 64 * chunk + k < length self.old.bits → chunk_bit self.new.bits chunk k ≡ has_bit word k }
         ensures others { (i : ℕ) → (i / 64 ≡ chunk → ⊥) → slice_index_or self.new.bits i false ≡ slice_index_or self.old.bits i false }
         ensures room { self.new.room ≡ self.old.room }
     {
