@@ -1,4 +1,5 @@
 pub mod Grid
+pub mod GridView
 pub mod Orbit
 pub mod Edit
 pub mod Light

@@ -4,7 +4,7 @@ use Rattle.xw_grid.specs.declared.cell.Cell.{Cell}
 use Rattle.xw_grid.specs.declared.cell.Direction.{Direction}
 use Rattle.xw_grid.specs.declared.cell.Direction.TheVariants.{Across, Down}
 use Rattle.xw_grid.specs.declared.lights.Light.{Light}
-use Rattle.std.specs.Option.{option_and_then}
+use Rattle.std.specs.Option.{option_and_then, unwrap_or}
 use Rattle.xw_grid.specs.Grid.{Grid, IsGrid, cell_at, same_cell}
 use Rattle.xw_grid.specs.Light.{lights_of, place_through}
 
@@ -17,6 +17,14 @@ entry_for width height places cell =
 pub record ArePlaces (grid : Grid) (lights : List Light) (direction : Direction) (places : List (Option ℕ)) : Type 0 where
   pub long : length places ≡ grid.width * grid.height
   pub each : (k : ℕ) → k < grid.width * grid.height → slice_index_or places k None ≡ place_through lights direction (cell_at grid k)
+
+-- the entry of a table for a square after an index was entered there; an entry that was there stays
+abbrev pub marked : List (Option ℕ) → ℕ → ℕ → Option ℕ
+marked places index square = Some (unwrap_or (slice_index_or places square None) index)
+
+-- a table after an index was entered for each cell of a grid that passes a test and has no entry yet
+abbrev pub IsEntered : Grid → (Cell → Bool) → ℕ → List (Option ℕ) → List (Option ℕ) → Type 0
+IsEntered grid test index old new = (k : ℕ) → k < length old → slice_index_or new k None ≡ (if test (cell_at grid k) then marked old index k else slice_index_or old k None)
 
 -- the invariant of `Lights`: the lights of some grid, with a table for each direction
 pub record AreKept (width height : ℕ) (lights : List Light) (across down : List (Option ℕ)) : Type 0 where

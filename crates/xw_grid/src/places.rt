@@ -1,9 +1,8 @@
 //! Tables from each cell to the index of the light through it.
-ghost use Rattle.std.specs.Prelude.{◌≡◌, ℕ, ◌*◌, ◌<◌, ◌≤◌, true, Some, None, length, if◌then◌else◌, ◌&&◌, slice_index_or, slice_set, IfOk};
-ghost use Rattle.std.specs.Option.{unwrap_or};
-ghost use Rattle.xw_grid.specs.Grid.{cell_at, index_of, is_inside};
+ghost use Rattle.std.specs.Prelude.{◌≡◌, ℕ, ◌*◌, ◌<◌, ◌≤◌, true, length, slice_set, IfOk};
+ghost use Rattle.xw_grid.specs.Grid.{index_of, is_inside};
 ghost use Rattle.xw_grid.specs.Light.{lights_of, is_on_line, passes, same_direction, step as cell_after};
-ghost use Rattle.xw_grid.specs.Places.{ArePlaces, entry_for};
+ghost use Rattle.xw_grid.specs.Places.{ArePlaces, entry_for, marked, IsEntered};
 
 use crate::cell::{Cell, Direction};
 use crate::grid::Grid;
@@ -50,7 +49,7 @@ fn enter_towards(
     requires long { length places.old ≡ grid.now.width * grid.now.height }
     requires inside { (k : ℕ) → k < light.now.size → is_inside grid.now (cell_after light.now.name.direction light.now.start k) ≡ true }
     ensures long { length places.new ≡ length places.old }
-    ensures each { (k : ℕ) → k < length places.old → slice_index_or places.new k None ≡ (if passes direction (cell_at grid.now k) light.now then Some (unwrap_or (slice_index_or places.old k None) place) else slice_index_or places.old k None) }
+    ensures each { IsEntered grid.now (λ cell. passes direction cell light.now) place places.old places.new }
 {
     if is_towards(light, direction) {
         enter(places, grid, light, place);
@@ -71,7 +70,7 @@ fn enter(places: &mut [Option<usize>], grid: &Grid, light: &Light, place: usize)
     requires long { length places.old ≡ grid.now.width * grid.now.height }
     requires inside { (k : ℕ) → k < light.now.size → is_inside grid.now (cell_after light.now.name.direction light.now.start k) ≡ true }
     ensures long { length places.new ≡ length places.old }
-    ensures each { (k : ℕ) → k < length places.old → slice_index_or places.new k None ≡ (if is_on_line light.now.name.direction light.now.start light.now.size (cell_at grid.now k) then Some (unwrap_or (slice_index_or places.old k None) place) else slice_index_or places.old k None) }
+    ensures each { IsEntered grid.now (is_on_line light.now.name.direction light.now.start light.now.size) place places.old places.new }
 {
     grid.well_formed();
     for k in 0..light.size {
@@ -92,7 +91,7 @@ fn square_inside(grid: &Grid, cell: Cell) -> usize
 
 fn mark(places: &mut [Option<usize>], square: usize, place: usize)
     requires { square < length places.old }
-    ensures { places.new ≡ slice_set places.old square (Some (unwrap_or (slice_index_or places.old square None) place)) }
+    ensures { places.new ≡ slice_set places.old square (marked places.old place square) }
 {
     places[square] = Some(places[square].unwrap_or(place));
 }

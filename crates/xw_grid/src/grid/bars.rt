@@ -1,0 +1,120 @@
+//! Bars: whether an edge is barred, and toggling its orbit.
+ghost use Rattle.std.specs.Prelude.{◌≡◌, true, All, Ok, Err, OnOk, IfErr, OnErr, IsOk};
+ghost use Rattle.xw_grid.specs.Grid.{IsGrid, is_inside, is_edge, is_barred as is_barred_edge, beyond as cell_beyond};
+ghost use Rattle.xw_grid.specs.Edit.{toggle_bar as bar_toggled, with_bar, with_edges};
+ghost use Rattle.xw_grid.specs.Orbit.{moved as moved_cell, images_of, IsEdgeBetween, AreEdgesBetween};
+
+use crate::cell::{Cell, Edge, Side};
+use crate::fault::GridFault;
+use crate::grid::Grid;
+use crate::orbit::edge_between;
+
+impl Grid {
+    /// Whether an edge is barred; false on the border and outside the grid.
+    pub fn is_barred(&self, cell: Cell, side: Side) -> bool
+        ensures { result ≡ is_barred_edge self.now cell side }
+    {
+        if !self.contains(cell) || !self.contains(self.beyond(cell, side)) {
+            return false;
+        }
+        let index = self.index_inside(cell);
+        match side {
+            Side::Right => self.right[index],
+            Side::Below => self.below[index],
+        }
+    }
+
+    /// Whether `toggle_bar` would succeed, or why it would not.
+    pub fn judge_bar(&self, cell: Cell, side: Side) -> Result<(), GridFault>
+        ensures ok { OnOk result (IsOk (bar_toggled self.now cell side)) }
+        ensures refused { IfErr result (λ fault. bar_toggled self.now cell side ≡ Err fault) }
+    {
+        if !self.contains(cell) {
+            return Err(GridFault::OutOfGrid);
+        }
+        if !self.contains(self.beyond(cell, side)) {
+            return Err(GridFault::Border);
+        }
+        Ok(())
+    }
+
+    /// Bars the whole orbit of an edge, or removes its bars; which one depends on the edge itself.
+    /// Returns `OutOfGrid`, then `Border` if the edge is on the border of the grid.
+    pub fn toggle_bar(&mut self, cell: Cell, side: Side) -> Result<(), GridFault>
+        ensures ok { OnOk result (bar_toggled self.old cell side ≡ Ok self.new) }
+        ensures refused { IfErr result (λ fault. bar_toggled self.old cell side ≡ Err fault) }
+        ensures same { OnErr result (self.new ≡ self.old) }
+    {
+        self.judge_bar(cell, side)?;
+        let barred = !self.is_barred(cell, side);
+        self.bar_orbit(cell, side, barred);
+        Ok(())
+    }
+
+    /// Sets or removes the bars of an edge's orbit.
+    fn bar_orbit(&mut self, cell: Cell, side: Side, barred: bool)
+        requires { is_edge self.old cell side ≡ true }
+        ensures { self.new ≡ with_edges self.old cell side barred }
+    {
+        let edges = self.edges(cell, side);
+        for edge in &edges {
+            self.bar(*edge, barred);
+        }
+    }
+
+    /// An edge and its images under one, two and three moves.
+    fn edges(&self, cell: Cell, side: Side) -> [Edge; 4]
+        requires { is_edge self.now cell side ≡ true }
+        ensures between { AreEdgesBetween (images_of self.now cell) (images_of self.now (cell_beyond side cell)) result }
+        ensures inside { All (λ edge. is_edge self.now edge.cell edge.side ≡ true) result }
+        ensures grid { IsGrid self.now }
+    {
+        let _ = &self.width;
+        let first = Edge { cell, side };
+        let second = self.moved_edge(first);
+        let third = self.moved_edge(second);
+        [first, second, third, self.moved_edge(third)]
+    }
+
+    /// The image of an edge: the edge between the images of its two cells.
+    fn moved_edge(&self, edge: Edge) -> Edge
+        requires { is_edge self.now edge.cell edge.side ≡ true }
+        ensures between { IsEdgeBetween (moved_cell self.now edge.cell) (moved_cell self.now (cell_beyond edge.side edge.cell)) result }
+        ensures inside { is_edge self.now result.cell result.side ≡ true }
+    {
+        let _ = &self.width;
+        let near = self.moved(edge.cell);
+        let far = self.moved(self.beyond(edge.cell, edge.side));
+        edge_between(near, far)
+    }
+
+    fn bar(&mut self, edge: Edge, barred: bool)
+        requires { is_edge self.old edge.cell edge.side ≡ true }
+        ensures { self.new ≡ with_bar self.old edge.cell edge.side barred }
+    {
+        let index = self.index_inside(edge.cell);
+        match edge.side {
+            Side::Right => self.right[index] = barred,
+            Side::Below => self.below[index] = barred,
+        }
+    }
+
+    /// The cell on the other side of an edge.
+    #[tactic(auto, using(crate::proofs::GridLemmas::inside_steps))]
+    fn beyond(&self, cell: Cell, side: Side) -> Cell
+        requires { is_inside self.now cell ≡ true }
+        ensures { result ≡ cell_beyond side cell }
+    {
+        let _ = &self.width;
+        match side {
+            Side::Right => Cell {
+                row: cell.row,
+                col: cell.col + 1,
+            },
+            Side::Below => Cell {
+                row: cell.row + 1,
+                col: cell.col,
+            },
+        }
+    }
+}

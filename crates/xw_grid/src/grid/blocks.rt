@@ -1,0 +1,83 @@
+//! Blocks: whether an orbit can be toggled, and toggling it.
+ghost use Rattle.std.specs.Prelude.{◌≡◌, ◌<◌, true, length, All, fold, Ok, Err, OnOk, IfErr, OnErr, IsOk};
+ghost use Rattle.xw_grid.specs.Grid.{IsSquare, is_inside};
+ghost use Rattle.xw_grid.specs.Edit.{turned, turn_at, with_orbit, is_occupied as is_occupied_orbit, toggle_block as block_toggled};
+
+use crate::cell::{Cell, Square};
+use crate::fault::GridFault;
+use crate::grid::Grid;
+
+impl Grid {
+    /// Whether `toggle_block` would succeed, or why it would not.
+    pub fn judge_block(&self, cell: Cell) -> Result<(), GridFault>
+        ensures ok { OnOk result (IsOk (block_toggled self.now cell)) }
+        ensures refused { IfErr result (λ fault. block_toggled self.now cell ≡ Err fault) }
+    {
+        if !self.contains(cell) {
+            return Err(GridFault::OutOfGrid);
+        }
+        if !self.is_block(cell) && self.is_occupied(cell) {
+            return Err(GridFault::Occupied);
+        }
+        Ok(())
+    }
+
+    /// Turns the whole orbit of a cell into blocks, or opens it; which one depends on the cell
+    /// itself. An opened block is empty; cells that are open keep their letters.
+    ///
+    /// Returns `OutOfGrid`, then `Occupied` if the orbit would become blocks and one of its cells
+    /// holds a letter.
+    pub fn toggle_block(&mut self, cell: Cell) -> Result<(), GridFault>
+        ensures ok { OnOk result (block_toggled self.old cell ≡ Ok self.new) }
+        ensures refused { IfErr result (λ fault. block_toggled self.old cell ≡ Err fault) }
+        ensures same { OnErr result (self.new ≡ self.old) }
+    {
+        self.judge_block(cell)?;
+        let blocked = !self.is_block(cell);
+        self.paint(cell, blocked);
+        Ok(())
+    }
+
+    /// Whether a cell of the orbit holds a letter.
+    fn is_occupied(&self, cell: Cell) -> bool
+        requires { is_inside self.now cell ≡ true }
+        ensures { result ≡ is_occupied_orbit self.now cell }
+    {
+        self.images(cell)
+            .iter()
+            .any(|image| self.entry(*image).is_some())
+    }
+
+    /// Turns the orbit of a cell into blocks, or opens it.
+    fn paint(&mut self, cell: Cell, blocked: bool)
+        requires inside { is_inside self.old cell ≡ true }
+        ensures { self.new ≡ with_orbit self.old cell blocked }
+    {
+        let indices = self.indices(cell);
+        turn_each(&mut self.squares, &indices, blocked);
+    }
+}
+
+/// Turns the squares at several indices into blocks, or opens them.
+fn turn_each(squares: &mut [Square], indices: &[usize], blocked: bool)
+    requires places { All (λ index. index < length squares.old) indices.now }
+    requires letters { All IsSquare squares.old }
+    ensures turned { squares.new ≡ fold (turn_at blocked) squares.old indices.now }
+    ensures letters { All IsSquare squares.new }
+{
+    for index in indices {
+        squares[*index] = turned(blocked, squares[*index]);
+    }
+}
+
+fn turned(blocked: bool, square: Square) -> Square
+    requires letter { IsSquare square }
+    ensures turned { result ≡ turned blocked square }
+    ensures letter { IsSquare result }
+{
+    match (blocked, square) {
+        (true, _) => Square::Block,
+        (false, Square::Block) => Square::Open(None),
+        (false, Square::Open(entered)) => Square::Open(entered),
+    }
+}
