@@ -1,8 +1,7 @@
 //! Filters a row of words by a set of letters at a position, eight chunks at a time.
-ghost use Rattle.std.specs.Prelude.{◌≡◌, ℕ, ◌+◌, ◌*◌, ◌/◌, ◌<◌, ◌≤◌, Bool, true, false, List, ◌&&◌, length, bit_or, slice_index, slice_index_or};
+ghost use Rattle.std.specs.Prelude.{◌≡◌, ℕ, ◌+◌, ◌*◌, ◌/◌, ◌<◌, ◌≤◌, false, length, bit_or, slice_index, slice_index_or};
 ghost use Rattle.xw_bits.specs.Bits.{has_bit};
-ghost use Rattle.xw_words.specs.Columns.{column_at, AreColumns, has_one_of, stays};
-ghost use Rattle.xw_words.specs.Dictionary.{Entry};
+ghost use Rattle.xw_words.specs.Columns.{column_at, TellsOneOf, IsSifted};
 ghost use Rattle.xw_words.specs.Rows.{chunks_in};
 
 use std::simd::prelude::*;
@@ -23,7 +22,7 @@ fn either_block(block: u64x8, other: u64x8) -> u64x8
 fn block_with(columns: &[BitRow], letters: LetterSet, at: usize) -> u64x8
     requires many { length columns.now ≡ 26 }
     requires within { (k : ℕ) → k < 26 → 64 * at + 448 < length (column_at columns.now k).bits }
-    ensures { (entries : List Entry) (position : ℕ) → AreColumns entries position columns.now → (chunk k : ℕ) → chunk < 8 → k < 64 → has_bit (slice_index result chunk) k ≡ has_one_of entries position letters (64 * (at + chunk) + k) }
+    ensures { (chunk k : ℕ) → chunk < 8 → k < 64 → TellsOneOf columns.now letters (64 * (at + chunk) + k) (has_bit (slice_index result chunk) k) }
 {
     let mut found = u64x8::splat(0);
     let mut from = 0;
@@ -38,7 +37,7 @@ fn block_with(columns: &[BitRow], letters: LetterSet, at: usize) -> u64x8
 fn chunk_with(columns: &[BitRow], letters: LetterSet, at: usize) -> u64
     requires many { length columns.now ≡ 26 }
     requires within { (k : ℕ) → k < 26 → 64 * at < length (column_at columns.now k).bits }
-    ensures { (entries : List Entry) (position : ℕ) → AreColumns entries position columns.now → (k : ℕ) → k < 64 → has_bit result k ≡ has_one_of entries position letters (64 * at + k) }
+    ensures { (k : ℕ) → k < 64 → TellsOneOf columns.now letters (64 * at + k) (has_bit result k) }
 {
     let mut found = 0;
     let mut from = 0;
@@ -57,7 +56,7 @@ fn sift_block(row: &mut BitRow, columns: &[BitRow], letters: LetterSet, keep: bo
     requires row { 64 * at + 448 < length row.old.bits }
     ensures len { length row.new.bits ≡ length row.old.bits }
     ensures below { (i : ℕ) → i < 64 * at → slice_index_or row.new.bits i false ≡ slice_index_or row.old.bits i false }
-    ensures inside { (entries : List Entry) (position : ℕ) → AreColumns entries position columns.now → (i : ℕ) → 64 * at ≤ i → i < 64 * at + 512 → slice_index_or row.new.bits i false ≡ (slice_index_or row.old.bits i false && stays keep (has_one_of entries position letters i)) }
+    ensures inside { (i : ℕ) → 64 * at ≤ i → i < 64 * at + 512 → IsSifted columns.now letters keep row.old.bits row.new.bits i }
     ensures above { (i : ℕ) → 64 * at + 512 ≤ i → slice_index_or row.new.bits i false ≡ slice_index_or row.old.bits i false }
     ensures room { row.new.room ≡ row.old.room }
 {
@@ -79,7 +78,7 @@ fn sift_chunk(row: &mut BitRow, columns: &[BitRow], letters: LetterSet, keep: bo
     requires row { 64 * at < length row.old.bits }
     ensures len { length row.new.bits ≡ length row.old.bits }
     ensures below { (i : ℕ) → i < 64 * at → slice_index_or row.new.bits i false ≡ slice_index_or row.old.bits i false }
-    ensures inside { (entries : List Entry) (position : ℕ) → AreColumns entries position columns.now → (i : ℕ) → 64 * at ≤ i → i < 64 * at + 64 → slice_index_or row.new.bits i false ≡ (slice_index_or row.old.bits i false && stays keep (has_one_of entries position letters i)) }
+    ensures inside { (i : ℕ) → 64 * at ≤ i → i < 64 * at + 64 → IsSifted columns.now letters keep row.old.bits row.new.bits i }
     ensures above { (i : ℕ) → 64 * at + 64 ≤ i → slice_index_or row.new.bits i false ≡ slice_index_or row.old.bits i false }
     ensures room { row.new.room ≡ row.old.room }
 {
@@ -100,7 +99,7 @@ fn sift_blocks(row: &mut BitRow, columns: &[BitRow], letters: LetterSet, keep: b
     requires many { length columns.now ≡ 26 }
     requires long { (k : ℕ) → k < 26 → length (column_at columns.now k).bits ≡ 64 * chunks_in (length row.old.bits) }
     ensures len { length row.new.bits ≡ length row.old.bits }
-    ensures inside { (entries : List Entry) (position : ℕ) → AreColumns entries position columns.now → (i : ℕ) → i < 512 * (length row.old.bits / 512) → slice_index_or row.new.bits i false ≡ (slice_index_or row.old.bits i false && stays keep (has_one_of entries position letters i)) }
+    ensures inside { (i : ℕ) → i < 512 * (length row.old.bits / 512) → IsSifted columns.now letters keep row.old.bits row.new.bits i }
     ensures above { (i : ℕ) → 512 * (length row.old.bits / 512) ≤ i → slice_index_or row.new.bits i false ≡ slice_index_or row.old.bits i false }
     ensures room { row.new.room ≡ row.old.room }
 {
@@ -115,7 +114,7 @@ fn sift_rest(row: &mut BitRow, columns: &[BitRow], letters: LetterSet, keep: boo
     requires long { (k : ℕ) → k < 26 → length (column_at columns.now k).bits ≡ 64 * chunks_in (length row.old.bits) }
     ensures len { length row.new.bits ≡ length row.old.bits }
     ensures below { (i : ℕ) → i < 512 * (length row.old.bits / 512) → slice_index_or row.new.bits i false ≡ slice_index_or row.old.bits i false }
-    ensures inside { (entries : List Entry) (position : ℕ) → AreColumns entries position columns.now → (i : ℕ) → 512 * (length row.old.bits / 512) ≤ i → slice_index_or row.new.bits i false ≡ (slice_index_or row.old.bits i false && stays keep (has_one_of entries position letters i)) }
+    ensures inside { (i : ℕ) → 512 * (length row.old.bits / 512) ≤ i → IsSifted columns.now letters keep row.old.bits row.new.bits i }
     ensures room { row.new.room ≡ row.old.room }
 {
     for chunk in row.len() / 512 * BLOCK..row.len().div_ceil(64) {
@@ -129,7 +128,7 @@ pub(crate) fn sift(row: &mut BitRow, columns: &[BitRow], letters: LetterSet, kee
     requires many { length columns.now ≡ 26 }
     requires long { (k : ℕ) → k < 26 → length (column_at columns.now k).bits ≡ 64 * chunks_in (length row.old.bits) }
     ensures len { length row.new.bits ≡ length row.old.bits }
-    ensures bits { (entries : List Entry) (position : ℕ) → AreColumns entries position columns.now → (i : ℕ) → slice_index_or row.new.bits i false ≡ (slice_index_or row.old.bits i false && stays keep (has_one_of entries position letters i)) }
+    ensures bits { (i : ℕ) → IsSifted columns.now letters keep row.old.bits row.new.bits i }
     ensures room { row.new.room ≡ row.old.room }
 {
     sift_blocks(row, columns, letters, keep);

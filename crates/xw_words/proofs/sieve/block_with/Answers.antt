@@ -11,7 +11,7 @@ use Rattle.xw_words.proofs.sieve.block_with.Goals as goal
 pub loop-place-init : goal.loop-place-init
 loop-place-init c = record {
   within = omega arith;
-  found = λ entries position are chunk k in_block lt.
+  found = λ chunk k in_block lt entries position are.
       ap (λ w. has_bit w k) (get_or-replicate 8 chunk 0 0 in_block) ∙ has_bit-none k ∙ among_none c.args.letters (slice_get (entry_at entries (64 * (c.args.at + chunk) + k)).word position);
 }
 
@@ -31,18 +31,18 @@ loop-place-preserved c =
     let column : column_at c.args.columns.now c.in-Some.place ≡ c.index-columns-place.result = sym (c.index-columns-place.is ∙ get_or_default c.args.columns.now place c.index-columns-place.result no_column (omega (arith, set.1, c.requires.many))) in
     record {
       within = omega (arith, set.1);
-      found = λ entries position are chunk k in_block lt.
+      found = λ chunk k in_block lt entries position are.
           let i = 64 * (c.args.at + chunk) + k in
           let o = slice_get (entry_at entries (64 * (c.args.at + chunk) + k)).word position in
           let mine = get_or c.loop-place.found chunk 0 in
           let its = get_or c.block.result chunk 0 in
           ap (λ w. has_bit w k) (c.either_block-found.ensures chunk in_block)
           ∙ has_bit-or mine its k
-          ∙ ap (λ b. b || has_bit its k) (c.loop-place.invariant.found entries position are chunk k in_block lt)
+          ∙ ap (λ b. b || has_bit its k) (c.loop-place.invariant.found chunk k in_block lt entries position are)
           ∙ ap (λ b. is_among_first letters from o || b) (c.block.ensures chunk k in_block lt ∙ ap (λ (row : RowOfBits). get_or row.bits i false) (sym column) ∙ (are.each place set.1).says i)
           ∙ among_next letters from place set.0 set.2 c.in-Some.ensures.first o;
     }
 
 pub returns : goal.returns
-returns c entries position are chunk k in_block lt =
-    c.loop-place.invariant.found entries position are chunk k in_block lt ∙ among_all c.args.letters c.loop-place.from c.in_default.ensures.none (slice_get (entry_at entries (64 * (c.args.at + chunk) + k)).word position)
+returns c chunk k in_block lt entries position are =
+    c.loop-place.invariant.found chunk k in_block lt entries position are ∙ among_all c.args.letters c.loop-place.from c.in_default.ensures.none (slice_get (entry_at entries (64 * (c.args.at + chunk) + k)).word position)

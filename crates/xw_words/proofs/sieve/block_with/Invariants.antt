@@ -9,7 +9,7 @@ use Rattle.xw_words.proofs.sieve.block_with.Given as goal
 abbrev pub invariant-loop-place : goal.invariant-loop-place
 invariant-loop-place l = record {
   within : l.from ≤ 26;
-  found : (entries : List Entry) (position : ℕ) → AreColumns entries position l.columns → (chunk k : ℕ) → chunk < 8 → k < 64 → has_bit (get_or l.found chunk 0) k ≡ is_among_first l.letters l.from (slice_get (entry_at entries (64 * (l.at + chunk) + k)).word position);
+  found : (chunk k : ℕ) → chunk < 8 → k < 64 → (entries : List Entry) (position : ℕ) → AreColumns entries position l.columns → has_bit (get_or l.found chunk 0) k ≡ is_among_first l.letters l.from (slice_get (entry_at entries (64 * (l.at + chunk) + k)).word position);
 }
 
 abbrev pub decreases-loop-place : goal.decreases-loop-place

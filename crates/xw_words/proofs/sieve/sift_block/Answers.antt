@@ -4,21 +4,21 @@ use Rattle.xw_words.proofs.Sieving.{in_block, none_stays}
 use Rattle.xw_words.proofs.sieve.sift_block.Goals as goal
 
 pub returns-then-is_clear-clause-inside : goal.returns-then-is_clear-clause-inside
-returns-then-is_clear-clause-inside c entries position are i low high =
+returns-then-is_clear-clause-inside c i low high entries position are =
     none_stays _ (get_or c.args.row.now.bits i false) (stays c.args.keep (has_one_of entries position c.args.letters i)) refl (c.is_clear.ensures c.if-is_clear.true i low high)
 
 pub returns-then-keep-clause-inside : goal.returns-then-keep-clause-inside
-returns-then-keep-clause-inside c entries position are =
+returns-then-keep-clause-inside c i low high entries position are =
     let old = c.args.row.now.bits in
     in_block (λ i. get_or c.keep_block.new.self.bits i false ≡ (get_or c.args.row.now.bits i false && stays c.args.keep (has_one_of entries position c.args.letters i))) c.args.at (λ chunk k in_words lt.
     let i = 64 * (c.args.at + chunk) + k in
     c.keep_block.ensures.inside chunk k in_words lt
-    ∙ ap (λ b. get_or old i false && b) (c.block_with-found.ensures entries position are chunk k in_words lt ∙ ap (λ keep. stays keep (has_one_of entries position c.args.letters i)) (sym c.if-keep.true)))
+    ∙ ap (λ b. get_or old i false && b) (c.block_with-found.ensures chunk k in_words lt entries position are ∙ ap (λ keep. stays keep (has_one_of entries position c.args.letters i)) (sym c.if-keep.true))) i low high
 
 pub returns-else-keep-clause-inside : goal.returns-else-keep-clause-inside
-returns-else-keep-clause-inside c entries position are =
+returns-else-keep-clause-inside c i low high entries position are =
     let old = c.args.row.now.bits in
     in_block (λ i. get_or c.strike_block.new.self.bits i false ≡ (get_or c.args.row.now.bits i false && stays c.args.keep (has_one_of entries position c.args.letters i))) c.args.at (λ chunk k in_words lt.
     let i = 64 * (c.args.at + chunk) + k in
     c.strike_block.ensures.inside chunk k in_words lt
-    ∙ ap (λ b. get_or old i false && b) (ap not (c.block_with-found.ensures entries position are chunk k in_words lt) ∙ ap (λ keep. stays keep (has_one_of entries position c.args.letters i)) (sym c.if-keep.false)))
+    ∙ ap (λ b. get_or old i false && b) (ap not (c.block_with-found.ensures chunk k in_words lt entries position are) ∙ ap (λ keep. stays keep (has_one_of entries position c.args.letters i)) (sym c.if-keep.false))) i low high
