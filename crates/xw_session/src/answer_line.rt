@@ -2,6 +2,7 @@
 ghost use Rattle.std.specs.Prelude.{◌≡◌, ◌+◌, ◌<◌, ◌≤◌, true, false, [], ◌∷◌, ◌++◌, length, map};
 ghost use Rattle.xw_session.specs.Text.{line_of};
 
+use arrayvec::ArrayVec;
 use std::marker::Model;
 use xw_letters::Letter;
 
@@ -11,28 +12,15 @@ const MOST: usize = 512;
 /// A fixed-size buffer for answer lines. It allocates nothing.
 #[derive(Drop)]
 pub struct AnswerLine {
-    bytes: [u8; MOST],
-    len: usize,
+    bytes: ArrayVec<u8, MOST>,
 }
 
 impl Model for AnswerLine {
-    ghost use Rattle.std.specs.Prelude.{ℕ, ◌≤◌, List, take};
+    ghost use Rattle.std.specs.Prelude.{ℕ, List};
 
     ghost Value = { List ℕ };
 
-    ghost view = { λ line. take line.len line.bytes };
-
-    ghost invariant = { λ line. line.len ≤ 512 };
-}
-
-/// Copies letters into a buffer of the same length.
-fn put_letters(bytes: &mut [u8], letters: &[Letter])
-    requires { length bytes.old ≡ length letters.now }
-    ensures { bytes.new ≡ letters.now }
-{
-    for place in 0..letters.len() {
-        bytes[place] = letters[place].byte();
-    }
+    ghost view = { λ line. line.bytes.items };
 }
 
 impl AnswerLine {
@@ -40,8 +28,7 @@ impl AnswerLine {
         ensures { result ≡ [] }
     {
         AnswerLine {
-            bytes: [0; MOST],
-            len: 0,
+            bytes: ArrayVec::new(),
         }
     }
 
@@ -49,7 +36,7 @@ impl AnswerLine {
     pub fn clear(&mut self)
         ensures { self.new ≡ [] }
     {
-        self.len = 0;
+        self.bytes.clear();
     }
 
     /// Appends a byte if it fits. Returns whether it did.
@@ -57,12 +44,7 @@ impl AnswerLine {
         ensures fits { result ≡ true → self.new ≡ self.old ++ byte ∷ [] }
         ensures room { length self.old < 512 → result ≡ true }
     {
-        if self.len >= MOST {
-            return false;
-        }
-        self.bytes[self.len] = byte;
-        self.len += 1;
-        true
+        self.bytes.try_push(byte).is_ok()
     }
 
     /// Appends two bytes. Returns whether both fit; the contents are unspecified if not.
@@ -70,7 +52,7 @@ impl AnswerLine {
         ensures fits { result ≡ true → self.new ≡ self.old ++ pair }
         ensures room { length self.old + 2 ≤ 512 → result ≡ true }
     {
-        self.push_byte(pair[0]) && self.push_byte(pair[1])
+        self.push(&pair)
     }
 
     /// Appends bytes if they fit. Returns whether they did.
@@ -78,13 +60,7 @@ impl AnswerLine {
         ensures fits { result ≡ true → self.new ≡ self.old ++ bytes.now }
         ensures room { length self.old + length bytes.now ≤ 512 → result ≡ true }
     {
-        if bytes.len() > MOST - self.len {
-            return false;
-        }
-        let end = self.len + bytes.len();
-        self.bytes[self.len..end].copy_from_slice(bytes);
-        self.len = end;
-        true
+        self.bytes.try_extend_from_slice(bytes).is_ok()
     }
 
     /// Appends a word and an LF if both fit. Returns whether they did; the buffer is unchanged if not.
@@ -92,12 +68,12 @@ impl AnswerLine {
         ensures fits { result ≡ true → self.new ≡ self.old ++ line_of (word.now ∷ []) }
         ensures full { result ≡ false → self.new ≡ self.old }
     {
-        if word.len() >= MOST - self.len {
+        if word.len() >= self.bytes.remaining_capacity() {
             return false;
         }
-        let end = self.len + word.len();
-        put_letters(&mut self.bytes[self.len..end], word);
-        self.len = end;
+        for letter in word {
+            self.bytes.push(letter.byte());
+        }
         self.push_byte(b'\n')
     }
 
@@ -116,6 +92,6 @@ impl AnswerLine {
     pub fn bytes(&self) -> &[u8]
         ensures { result.now ≡ self.now }
     {
-        &self.bytes[..self.len]
+        self.bytes.as_slice()
     }
 }
