@@ -262,8 +262,8 @@ def press_in_terminal(board):
         while board.open and key != "^C":
             height, width = window.getmaxyx()
             window.erase()
-            for place, line in enumerate(board.screen()[:height]):
-                window.addnstr(place, 0, line, width - 1)
+            for index, line in enumerate(board.screen()[:height]):
+                window.addnstr(index, 0, line, width - 1)
             code = window.getch()
             if code < 0:
                 raise EOFError

@@ -212,8 +212,8 @@ def each_line(words, lines):
         session = Stopped(room, program, words.split())
         session.order(b"G", b"R")
         before = session.send(STATE)
-        for place, marked in enumerate(lines):
-            line = Line(session, marked, lines[place + 1 :])
+        for index, marked in enumerate(lines):
+            line = Line(session, marked, lines[index + 1 :])
             for number in range(1, line.count + 1):
                 line.try_refused(session, before, number, number)
                 line.try_refused(session, before, number, ALL)
@@ -265,7 +265,7 @@ class Call:
     def wanted(self, without=frozenset()):
         """A run with ample memory, without some of its lines."""
         if without not in self.known:
-            self.known[without] = self.run([line for place, line in enumerate(self.lines) if place not in without])
+            self.known[without] = self.run([line for index, line in enumerate(self.lines) if index not in without])
         return self.known[without]
 
     def try_refused(self, number, last):
@@ -283,24 +283,24 @@ class Call:
 
     def refused_lines(self, what, output):
         """The indices of the lines that were refused with `Memory`."""
-        places = frozenset(place for place, answer in enumerate(answers_of(output)) if answer == REFUSAL)
-        for place in places:
-            assert may_be_refused(self.lines[place]), f"{what}no Memory to {self.lines[place]!r}"
-        return places
+        indices = frozenset(index for index, answer in enumerate(answers_of(output)) if answer == REFUSAL)
+        for index in indices:
+            assert may_be_refused(self.lines[index]), f"{what}no Memory to {self.lines[index]!r}"
+        return indices
 
     def has_refused(self, what, status, output, errors, left):
         """Some lines were refused, and all else is as without them."""
-        places = self.refused_lines(what, output)
-        ample = self.wanted(places)
+        indices = self.refused_lines(what, output)
+        ample = self.wanted(indices)
         compare(what + "other answers", [it for it in answers_of(output) if it != REFUSAL], answers_of(ample[1]))
         compare(what + "messages", errors, ample[2])
         compare(what + "files", left, ample[3])
-        compare(what + "status", status, REFUSED if places and ample[0] == ACCEPTED else ample[0])
+        compare(what + "status", status, REFUSED if indices and ample[0] == ACCEPTED else ample[0])
 
     def has_ended(self, what, status, output, errors, left):
         """The run ended because an allocation failed: before it answered any line, or after it answered all of them."""
-        places = self.refused_lines(what, output) if output else frozenset(range(len(self.lines)))
-        ample = self.wanted(places)
+        indices = self.refused_lines(what, output) if output else frozenset(range(len(self.lines)))
+        ample = self.wanted(indices)
         compare(what + "status", status, FAILED)
         assert ample[2].startswith(errors.removesuffix(MESSAGE)), f"{what}messages {errors!r}"
         if output:

@@ -71,15 +71,15 @@ def feasible(position, entries):
             words[name] = {now}
     through = {}
     for name, cells in position.lights.items():
-        for place, cell in enumerate(cells):
-            through.setdefault(cell, []).append((name, place))
+        for pos, cell in enumerate(cells):
+            through.setdefault(cell, []).append((name, pos))
     changed = True
     while changed:
         changed = False
         for crossing in through.values():
-            letters = set.intersection(*({word[place] for word in words[name]} for name, place in crossing))
-            for name, place in crossing:
-                kept = {word for word in words[name] if word[place] in letters}
+            letters = set.intersection(*({word[pos] for word in words[name]} for name, pos in crossing))
+            for name, pos in crossing:
+                kept = {word for word in words[name] if word[pos] in letters}
                 if len(kept) < len(words[name]):
                     words[name], changed = kept, True
     return words

@@ -44,12 +44,12 @@ def of_size(line):
 
 
 def leaves_at(*texts):
-    """Checks the fault and the place of each file."""
+    """Checks the fault and the location of each file."""
 
     def step(room, program):
-        for data, fault, place in texts:
+        for data, fault, location in texts:
             (room / "file").write_bytes(data)
-            run("check --explain file", errors=f"xw: file: {fault}\nxw: {place}\n".encode(), status=FORMAT)(room, program)
+            run("check --explain file", errors=f"xw: file: {fault}\nxw: {location}\n".encode(), status=FORMAT)(room, program)
 
     return [step]
 

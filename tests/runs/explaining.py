@@ -1,20 +1,20 @@
-"""Runs with `--explain`, which prints the place of a fault."""
+"""Runs with `--explain`, which prints the location of a fault."""
 from samples import CIRCLED, PLAIN, TEXT, WRONG_SUM
 from steps import FORMAT, run, write
 
 
-def told(data, fault, place):
-    """Checks the message for a file with a fault, without and with its place."""
+def told(data, fault, location):
+    """Checks the message for a file with a fault, without and with its location."""
     return [
         write("told", data),
         run("check told", errors=f"xw: told: {fault}\n".encode(), status=FORMAT),
-        run("check --explain told", errors=f"xw: told: {fault}\nxw: {place}\n".encode(), status=FORMAT),
+        run("check --explain told", errors=f"xw: told: {fault}\nxw: {location}\n".encode(), status=FORMAT),
     ]
 
 
-def is_not_written(file, typed, fault, place=None):
+def is_not_written(file, typed, fault, location=None):
     """Runs commands on the plain puzzle, and checks the fault of writing it."""
-    errors = f"xw: {file}: {fault}\n" + (f"xw: {place}\n" if place else "")
+    errors = f"xw: {file}: {fault}\n" + (f"xw: {location}\n" if location else "")
     output = b"ok\n" * typed.count(b"\n")
     return [
         write("refused", PLAIN),
@@ -23,7 +23,7 @@ def is_not_written(file, typed, fault, place=None):
 
 
 CASES = {
-    # A `.puz` file that is cut off at several places.
+    # A `.puz` file that is cut off at several offsets.
     "puz_faults_told, notes": told(PLAIN[:71], "NoNul", "notes"),
     "puz_faults_told, clue": told(PLAIN[:66], "NoNul", "clue 2 (1 down)"),
     "puz_faults_told, header": told(PLAIN[:51], "Short", "header"),
@@ -41,7 +41,7 @@ CASES = {
     "empty_cell_told": is_not_written("empty.puz", b"clear 2 1\nclear 2 2\n", "NotFilled", "row 2, column 1"),
     "unspelled_clue_told": is_not_written("clue.txt", b"clue 2 down\n", "Field", "clue 3 (2 down)"),
     "unspelled_title_told": is_not_written("title.txt", b"title <x>\n", "Field", "title"),
-    # The fault of a bar has no place.
+    # The fault of a bar has no location.
     "barred_told": is_not_written("barred.txt", b"bar 1 1 right\n", "Barred"),
     "circle_told": [
         write("circled", CIRCLED),

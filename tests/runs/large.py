@@ -24,12 +24,12 @@ def letter(number):
 
 def words(count):
     """Returns this many different words of five letters, at most 17,576."""
-    return "".join(f"AB{letter(place // 676)}{letter(place // 26)}{letter(place)}\n" for place in range(count)).encode()
+    return "".join(f"AB{letter(index // 676)}{letter(index // 26)}{letter(index)}\n" for index in range(count)).encode()
 
 
 def letters(lines, count):
     """Returns lines of a tab and `count` letters. Each line starts one letter later in the alphabet."""
-    return "".join("\t" + "".join(letter(line + place) for place in range(count)) + "\n" for line in range(lines)).encode()
+    return "".join("\t" + "".join(letter(line + index) for index in range(count)) + "\n" for line in range(lines)).encode()
 
 
 # A text file with 255 by 255 letters, 510 clues and long texts.

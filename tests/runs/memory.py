@@ -206,7 +206,7 @@ CALLS = {
     "a_text_without_end": ("check --explain cut", [], {}),
     "a_line_that_is_missing": ("check --explain misshapen", [], {}),
     "a_cell_that_is_wrong": ("check --explain misspelt", [], {}),
-    "a_fault_without_its_place": ("check wrong", [], {}),
+    "a_fault_without_its_location": ("check wrong", [], {}),
     "a_list_that_is_not_there": ("edit --dict gone", [], {}),
     "a_puzzle_that_is_not_there": ("edit --from gone", [], {}),
     "a_session_that_is_not_there": ("edit --resume gone --save new.xw", [], NEW_XW),
@@ -278,7 +278,7 @@ WITHOUT_MEMORY = {
 }
 IN_THE_SQUARE = [b"!" + line for line in WITHOUT_MEMORY] + [b"add OX", b"clear 1 1", b"clear 1 2", b"block 1 1"]
 
-PLACED = [write(name, data) for name, data in FILES.items()]
+WRITTEN = [write(name, data) for name, data in FILES.items()]
 
 
 def while_locked(name, step):
@@ -296,8 +296,8 @@ CASES = {
     "each_of_the_manual": [has_each_of_the_manual],
     "square_without_memory": [without_memory(lines("\n".join(SQUARE)), list(WITHOUT_MEMORY), b"".join(WITHOUT_MEMORY.values()))],
     "square_refused_line_by_line": [each_line("edit", lines("\n".join(SQUARE)) + IN_THE_SQUARE)],
-    **{f"refused_in_{name}": [*PLACED, each_line(words, typed)] for name, (words, typed) in SESSIONS.items()},
-    **{f"refused_in_{name}": [*PLACED, each_call(words, typed, files)] for name, (words, typed, files) in CALLS.items()},
-    **{f"refused_in_{name}": [*PLACED, each_call(*call)] for name, call in JOURNALED.items()},
-    "refused_in_a_journal_in_use": [*PLACED, while_locked("mine.xw", each_call("edit --journal mine.xw", [b"record"]))],
+    **{f"refused_in_{name}": [*WRITTEN, each_line(words, typed)] for name, (words, typed) in SESSIONS.items()},
+    **{f"refused_in_{name}": [*WRITTEN, each_call(words, typed, files)] for name, (words, typed, files) in CALLS.items()},
+    **{f"refused_in_{name}": [*WRITTEN, each_call(*call)] for name, call in JOURNALED.items()},
+    "refused_in_a_journal_in_use": [*WRITTEN, while_locked("mine.xw", each_call("edit --journal mine.xw", [b"record"]))],
 }

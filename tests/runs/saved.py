@@ -92,7 +92,7 @@ CASES = {
         write("words.txt", b"CAT\nCOT\n"),
         word_list_resumed("--resume words.txt --save words.txt", b"add DOG\n"),
         holds("words.txt", b"CAT\nCOT\n"),
-        # The same with its place, which is told already.
+        # The same with its location, which is told already.
         word_list_resumed("--explain --resume words.txt --save words.txt", b"add DOG\n"),
         holds("words.txt", b"CAT\nCOT\n"),
         word_list_resumed("--resume words.txt --save new.xw"),

@@ -56,8 +56,8 @@ function occupied() {
   const images = {
     half: [[down, right]], leftright: [[row, right]], updown: [[down, column]], quarter: [[column, down], [down, right], [right, row]], none: [],
   };
-  const place = images[sym].find(([r, c]) => board.cells[board.index(r, c)].letter);
-  return place ? `the letter at row ${place[0]}, column ${place[1]} is in the way of the block's image` : refusalText('Occupied');
+  const at = images[sym].find(([r, c]) => board.cells[board.index(r, c)].letter);
+  return at ? `the letter at row ${at[0]}, column ${at[1]} is in the way of the block's image` : refusalText('Occupied');
 }
 
 // Sets a text to what a field holds. A text that is refused stays in the field, which is marked.
@@ -76,7 +76,7 @@ async function editText(field, linesOf) {
 async function place(word) {
   const { light } = editor;
   editor.edited = editor.cursor;
-  const cells = light.cells.filter((index, at) => editor.board.cells[index].letter !== word[at]).map((index) => editor.board.cells[index].place);
+  const cells = light.cells.filter((index, at) => editor.board.cells[index].letter !== word[at]).map((index) => editor.board.cells[index].coordinates);
   const pencil = new Set([...editor.pencil].filter((cell) => !cells.includes(cell)));
   return edit([`place ${light.name} ${word}`], { pencil });
 }
@@ -187,7 +187,7 @@ const words = new WordsView(
   editor,
   {
     name: $('light-name'), spelled: $('light-letters'), summary: $('light-summary'), filter: $('filter'), order: $('order'), list: $('candidates'),
-    legend: $('legend'), letters: $('letters'), place: $('cell-place'),
+    legend: $('legend'), letters: $('letters'), coordinates: $('cell-coordinates'),
   },
   { place, strike, toGrid, isFilling: () => filler.isRunning, enter: (letter) => grid.enter(letter) },
 );

@@ -3,7 +3,7 @@
 export class Board {
   width = 0;
   height = 0;
-  // for each cell, in reading order: { place, block, letter, left, number, right, below, circle, across, down }, where `left` has its feasible
+  // for each cell, in reading order: { coordinates, block, letter, left, number, right, below, circle, across, down }, where `left` has its feasible
   // letters, `right` and `below` are whether a bar is there, and `across` and `down` are lights
   cells = [];
   // in order: { name, number, direction, cells, count }, where `cells` has indices
@@ -48,7 +48,7 @@ export class Board {
     for (let column = 1; column <= this.width; column++) {
       const entry = line[2 * column - 2];
       this.cells.push({
-        place: `${row} ${column}`, block: entry === '#', letter: /[A-Z]/.test(entry) ? entry : '', left: '', number: '', right: line[2 * column - 1] === '|',
+        coordinates: `${row} ${column}`, block: entry === '#', letter: /[A-Z]/.test(entry) ? entry : '', left: '', number: '', right: line[2 * column - 1] === '|',
         below: false, circle: false, across: null, down: null,
       });
     }

@@ -146,8 +146,8 @@ export class CluesView {
     field.value = field.value.trim();
     const light = this.#editor.board.byName.get(field.dataset.light);
     if (!light) return;
-    const { place } = this.#editor.board.cells[light.cells[0]];
-    this.actions.text(field, (text) => textLines(`clue ${place} ${light.direction}`, escapeText(text)));
+    const { coordinates } = this.#editor.board.cells[light.cells[0]];
+    this.actions.text(field, (text) => textLines(`clue ${coordinates} ${light.direction}`, escapeText(text)));
   }
 }
 

@@ -13,11 +13,11 @@ export class Editor extends EventTarget {
   cursor = 0;
   direction = 'across';
   sym = 'none';
-  // cells whose letters a fill entered, by place; another fill may change them
+  // cells whose letters a fill entered, by coordinates; another fill may change them
   pencil = new Set();
   // names of the lights to fill; all if there are none
   chosen = new Set();
-  // the place of the last edit
+  // where the last edit was
   edited = null;
   // cells of a reason, and cells of lights that no word matches, by index
   reason = new Set();
@@ -83,13 +83,13 @@ export class Editor extends EventTarget {
     this.sym = parseRecord(this.record).sym;
     const { cells } = this.board;
     if (this.cursor >= cells.length) this.cursor = 0;
-    for (const place of this.pencil) if (!this.cellAt(place)?.letter) this.pencil.delete(place);
+    for (const coordinates of this.pencil) if (!this.cellAt(coordinates)?.letter) this.pencil.delete(coordinates);
     for (const name of this.chosen) if (!this.board.byName.has(name)) this.chosen.delete(name);
     this.#tell('whole');
   }
 
-  cellAt(place) {
-    const [row, column] = place.split(' ').map(Number);
+  cellAt(coordinates) {
+    const [row, column] = coordinates.split(' ').map(Number);
     return row <= this.board.height && column <= this.board.width ? this.board.cells[this.board.index(row, column)] : null;
   }
 

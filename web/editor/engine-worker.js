@@ -84,7 +84,7 @@ function probe({ light, words }) {
   const end = performance.now() + SLICE;
   const [, , row, column, letters] = asked('lights').find((line) => line.startsWith(`${light} `)).split(' ');
   const [down, right] = light.endsWith('down') ? [1, 0] : [0, 1];
-  const cells = Array.from(letters, (letter, at) => ({ place: `${Number(row) + down * at} ${Number(column) + right * at}`, letter }));
+  const cells = Array.from(letters, (letter, at) => ({ coordinates: `${Number(row) + down * at} ${Number(column) + right * at}`, letter }));
   const answers = {};
   for (const word of words) {
     answers[word] = leftAfter(light, word, cells);
@@ -97,7 +97,7 @@ function leftAfter(light, word, cells) {
   if (ask(`place ${light} ${word}`).refusal) return 0;
   const open = asked('lights').map((line) => /\.[A-Z.]*$/.test(line));
   const left = counts().filter((_, at) => open[at]);
-  for (const { place, letter } of cells) ask(letter === '.' ? `clear ${place}` : `set ${place} ${letter}`);
+  for (const { coordinates, letter } of cells) ask(letter === '.' ? `clear ${coordinates}` : `set ${coordinates} ${letter}`);
   return left.length ? Math.min(...left) : 'done';
 }
 

@@ -89,7 +89,7 @@ export class Files {
     }
   }
 
-  // Says why a file cannot be made, and goes to the place.
+  // Says why a file cannot be made, and goes to where that is.
   #explain(status) {
     const editor = this.#editor;
     const { board } = editor;

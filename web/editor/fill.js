@@ -33,7 +33,7 @@ export class Filler {
   async run(isAnother) {
     if (this.isRunning) return;
     const cells = this.#cells();
-    const emptied = isAnother ? cells.filter((cell) => cell.letter && this.#editor.pencil.has(cell.place)) : [];
+    const emptied = isAnother ? cells.filter((cell) => cell.letter && this.#editor.pencil.has(cell.coordinates)) : [];
     if (!emptied.length && cells.every((cell) => cell.letter)) {
       const isLocked = 'every letter here is locked: choose other lights, or put letters in pencil (=)';
       return refuse(isAnother ? isLocked : 'every cell is filled already: ask for another fill');
@@ -56,8 +56,8 @@ export class Filler {
     const editor = this.#editor;
     const pencil = new Set(editor.pencil);
     const names = [...editor.chosen].map((name) => ` ${name}`).join('');
-    await editor.inOrder(() => editor.engine.call('edit', { lines: emptied.map((cell) => `clear ${cell.place}`), isWhole: false }));
-    const before = new Set(cells.filter((cell) => cell.letter && !emptied.includes(cell)).map((cell) => cell.place));
+    await editor.inOrder(() => editor.engine.call('edit', { lines: emptied.map((cell) => `clear ${cell.coordinates}`), isWhole: false }));
+    const before = new Set(cells.filter((cell) => cell.letter && !emptied.includes(cell)).map((cell) => cell.coordinates));
     const { answer, placements } = await this.#slices(names);
     if (answer !== 'filled') {
       await editor.restore();
@@ -66,7 +66,7 @@ export class Filler {
       else refuse(`no fill was found in ${placements.toLocaleString('en')} placements: try again, add blocks, or take a letter back`);
       return;
     }
-    for (const cell of cells) if (!before.has(cell.place)) pencil.add(cell.place);
+    for (const cell of cells) if (!before.has(cell.coordinates)) pencil.add(cell.coordinates);
     await editor.edit([], { pencil });
     say('filled; another fill changes the letters in pencil (coloured), and keeps the others', 'good');
   }

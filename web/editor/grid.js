@@ -108,7 +108,7 @@ export class GridView {
     if (cell.right) classes.push('bar-right');
     if (cell.below) classes.push('bar-below');
     if (cell.circle && !cell.block) classes.push('circled');
-    if (cell.letter && pencil.has(cell.place)) classes.push('pencil');
+    if (cell.letter && pencil.has(cell.coordinates)) classes.push('pencil');
     if (reason.has(index)) classes.push('reason');
     if (unmatched.has(index)) classes.push('unmatched');
     const isOpen = !cell.block && !cell.letter;
@@ -188,9 +188,9 @@ export class GridView {
   #lay(element, first, columns, rows) {
     const { board } = this.#editor;
     const [column, row] = [board.columnOf(first) - 1, board.rowOf(first) - 1];
-    const place = [column, row, columns, rows].join();
-    if (element.dataset.place === place) return;
-    element.dataset.place = place;
+    const bounds = [column, row, columns, rows].join();
+    if (element.dataset.bounds === bounds) return;
+    element.dataset.bounds = bounds;
     const cells = (count) => `calc(var(--cell) * ${count})`;
     element.style.transform = `translate(${cells(column)}, ${cells(row)})`;
     element.style.width = cells(columns);
@@ -321,10 +321,10 @@ export class GridView {
     if (cell.block) return refuse(refusalText('OnBlock'));
     if (!this.actions.mayEdit()) return;
     const index = editor.cursor;
-    const sent = this.#send([`set ${cell.place} ${letter}`], { isWhole: false });
+    const sent = this.#send([`set ${cell.coordinates} ${letter}`], { isWhole: false });
     if (typedAt) mark('letter typed', { startTime: typedAt });
     editor.edited = index;
-    editor.pencil.delete(cell.place);
+    editor.pencil.delete(cell.coordinates);
     cell.letter = letter;
     this.#step(1);
     this.#drawSoon(index);
@@ -345,9 +345,9 @@ export class GridView {
       return;
     }
     if (!this.actions.mayEdit()) return;
-    this.#send([`clear ${cell.place}`], { isWhole: false });
+    this.#send([`clear ${cell.coordinates}`], { isWhole: false });
     editor.edited = index;
-    editor.pencil.delete(cell.place);
+    editor.pencil.delete(cell.coordinates);
     cell.letter = '';
     if (step) this.#step(step);
     this.#drawSoon(index);
@@ -375,7 +375,7 @@ export class GridView {
     const cells = free.length ? free : lettered;
     if (cells.length === 0) return;
     editor.edited = editor.cursor;
-    this.#send(editor.commands.has('erase') ? [`erase ${light.name}`] : cells.map((index) => `clear ${board.cells[index].place}`));
+    this.#send(editor.commands.has('erase') ? [`erase ${light.name}`] : cells.map((index) => `clear ${board.cells[index].coordinates}`));
   }
 
   #toEnd(at) {
@@ -413,31 +413,31 @@ export class GridView {
     const editor = this.#editor;
     const { board } = editor;
     const cell = board.cells[index];
-    const lines = [...(cell.letter ? [`clear ${cell.place}`] : []), `block ${cell.place}`];
+    const lines = [...(cell.letter ? [`clear ${cell.coordinates}`] : []), `block ${cell.coordinates}`];
     editor.edited = null;
     const refused = await this.#send(lines, { isBlock: true });
     if (!refused && isTyped && editor.cursor === index) this.#stepFreely(1);
   }
 
   toggleBar(index, side) {
-    return this.#send([`bar ${this.#editor.board.cells[index].place} ${side}`]);
+    return this.#send([`bar ${this.#editor.board.cells[index].coordinates} ${side}`]);
   }
 
   toggleCircle(index) {
-    return this.#send([`circle ${this.#editor.board.cells[index].place}`]);
+    return this.#send([`circle ${this.#editor.board.cells[index].coordinates}`]);
   }
 
   // Letters in pencil are changed by another fill; the others are locked.
   async togglePencil(indices) {
     const editor = this.#editor;
     if (!this.actions.mayEdit()) return;
-    const places = indices.map((index) => editor.board.cells[index]).filter((cell) => cell.letter).map((cell) => cell.place);
-    if (!places.length) return refuse('there is no letter to lock');
+    const entered = indices.map((index) => editor.board.cells[index]).filter((cell) => cell.letter).map((cell) => cell.coordinates);
+    if (!entered.length) return refuse('there is no letter to lock');
     const pencil = new Set(editor.pencil);
-    const isLocked = places.every((place) => !pencil.has(place));
-    for (const place of places) {
-      if (isLocked) pencil.add(place);
-      else pencil.delete(place);
+    const isLocked = entered.every((coordinates) => !pencil.has(coordinates));
+    for (const coordinates of entered) {
+      if (isLocked) pencil.add(coordinates);
+      else pencil.delete(coordinates);
     }
     await editor.setPencil(pencil);
     say(isLocked ? 'in pencil: another fill may change it' : 'locked: another fill keeps it');

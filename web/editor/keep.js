@@ -37,7 +37,7 @@ export function keepSession(session) {
   }
 }
 
-// Tells when the editor in another tab keeps its session in the place of this one.
+// Tells when the editor in another tab keeps its session in place of this one.
 export function onOtherKeeper(action) {
   addEventListener('storage', ({ key }) => key === NAME && action());
 }

@@ -37,7 +37,7 @@ export function textLines(field, spelled) {
   return lines;
 }
 
-// What a record says: sets of places (`R C`, and for a bar `R C SIDE`), letters by place, and texts as they are spelled, by field.
+// What a record says: sets of cells and bars by their coordinates (`R C`, and for a bar `R C SIDE`), letters by coordinates, and texts as they are spelled, by field.
 export function parseRecord(text) {
   const state = {
     added: [], struck: [], width: 15, height: 15, sym: 'none', blocks: new Set(), bars: new Set(), circles: new Set(), letters: new Map(),
@@ -113,16 +113,16 @@ function gridLines(from, to) {
   const circles = [...without(from.circles, to.circles), ...without(to.circles, from.circles)];
   const toggles = opened.length + closed.length + bars.length > 0;
   const cleared = without(from.letters.keys(), to.letters);
-  const entered = [...to.letters].filter(([place, letter]) => from.letters.get(place) !== letter);
+  const entered = [...to.letters].filter(([coordinates, letter]) => from.letters.get(coordinates) !== letter);
   return [
     ...(toggles ? ['sym none'] : []),
-    ...cleared.map((place) => `clear ${place}`),
-    ...opened.map((place) => `block ${place}`),
-    ...circles.map((place) => `circle ${place}`),
-    ...bars.map((place) => `bar ${place}`),
-    ...closed.map((place) => `block ${place}`),
+    ...cleared.map((coordinates) => `clear ${coordinates}`),
+    ...opened.map((coordinates) => `block ${coordinates}`),
+    ...circles.map((coordinates) => `circle ${coordinates}`),
+    ...bars.map((coordinates) => `bar ${coordinates}`),
+    ...closed.map((coordinates) => `block ${coordinates}`),
     ...(toggles || from.sym !== to.sym ? [`sym ${to.sym}`] : []),
-    ...entered.map(([place, letter]) => `set ${place} ${letter}`),
+    ...entered.map(([coordinates, letter]) => `set ${coordinates} ${letter}`),
   ];
 }
 
@@ -140,7 +140,7 @@ export function transition(before, after) {
   const [from, to] = [parseRecord(before), parseRecord(after)];
   // a circle under a block cannot be toggled
   const circles = [...without(from.circles, to.circles), ...without(to.circles, from.circles)];
-  const isHidden = circles.some((place) => from.blocks.has(place) && to.blocks.has(place));
+  const isHidden = circles.some((coordinates) => from.blocks.has(coordinates) && to.blocks.has(coordinates));
   if (from.width !== to.width || from.height !== to.height || isHidden) {
     // a new size drops clues, and keeps the other texts
     const kept = without(from.texts.keys(), to.texts).filter((field) => !field.startsWith('clue '));

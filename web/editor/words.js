@@ -297,19 +297,19 @@ export class WordsView {
   async #askLetters(turn) {
     const { board, cursor } = this.#editor;
     const cell = board.cells[cursor];
-    const { letters, place } = this.#elements;
+    const { letters, coordinates } = this.#elements;
     if (cell.block) {
       this.#lettered = cursor;
-      setText(place, '');
+      setText(coordinates, '');
       this.#showBusy();
       letters.classList.remove('none');
       fit(letters, this.#buttons, 0, makeButton);
       return;
     }
-    const [lines] = await this.#editor.ask(`tally ${cell.place}`);
+    const [lines] = await this.#editor.ask(`tally ${cell.coordinates}`);
     if (turn !== this.#turn) return;
     this.#lettered = cursor;
-    setText(place, `Row ${board.rowOf(cursor)}, column ${board.columnOf(cursor)}`);
+    setText(coordinates, `Row ${board.rowOf(cursor)}, column ${board.columnOf(cursor)}`);
     this.#showBusy();
     letters.classList.toggle('none', !lines?.length);
     const rows = (lines ?? []).map((line) => line.split(' '));

@@ -127,26 +127,26 @@ export class Browser {
   }
 
   async #middle(selector) {
-    const place = await this.value(`(() => {
+    const point = await this.value(`(() => {
       const element = document.querySelector(${JSON.stringify(selector)});
       if (!element) return null;
       element.scrollIntoView({ block: 'nearest' });
       const { x, y, width, height } = element.getBoundingClientRect();
       return width ? { x: x + width / 2, y: y + height / 2 } : null;
     })()`);
-    if (!place) throw new Error(`nothing to click: ${selector}`);
-    return place;
+    if (!point) throw new Error(`nothing to click: ${selector}`);
+    return point;
   }
 
-  #mouse(type, place, modifiers = 0, buttons = 1) {
-    return this.send('Input.dispatchMouseEvent', { type, ...place, button: 'left', buttons, clickCount: 1, modifiers });
+  #mouse(type, point, modifiers = 0, buttons = 1) {
+    return this.send('Input.dispatchMouseEvent', { type, ...point, button: 'left', buttons, clickCount: 1, modifiers });
   }
 
   async click(selector, modifiers = 0) {
-    const place = await this.#middle(selector);
-    await this.#mouse('mouseMoved', place, modifiers, 0);
-    await this.#mouse('mousePressed', place, modifiers);
-    await this.#mouse('mouseReleased', place, modifiers, 0);
+    const point = await this.#middle(selector);
+    await this.#mouse('mouseMoved', point, modifiers, 0);
+    await this.#mouse('mousePressed', point, modifiers);
+    await this.#mouse('mouseReleased', point, modifiers, 0);
   }
 
   async drag(from, to) {
@@ -159,8 +159,8 @@ export class Browser {
 
   // Taps with a finger.
   async tap(selector) {
-    const place = await this.#middle(selector);
-    await this.send('Input.dispatchTouchEvent', { type: 'touchStart', touchPoints: [place] });
+    const point = await this.#middle(selector);
+    await this.send('Input.dispatchTouchEvent', { type: 'touchStart', touchPoints: [point] });
     await this.send('Input.dispatchTouchEvent', { type: 'touchEnd', touchPoints: [] });
   }
 

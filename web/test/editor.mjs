@@ -256,7 +256,7 @@ const CASES = {
     await browser.click('#candidates li:nth-child(3)');
     await browser.until(`document.getElementById('cell-1-6').textContent.includes('${other[0]}')`);
     await browser.click('#cell-2-2');
-    await browser.until("document.getElementById('cell-place').textContent === 'Row 2, column 2' && document.querySelector('#letters[aria-busy=false] button')");
+    await browser.until("document.getElementById('cell-coordinates').textContent === 'Row 2, column 2' && document.querySelector('#letters[aria-busy=false] button')");
     const letter = await browser.value("document.querySelector('#letters button').dataset.letter");
     await browser.click('#letters button');
     await browser.until(`document.querySelector('#cell-2-2 .letter').textContent === '${letter}'`);
@@ -318,14 +318,14 @@ const CASES = {
     const bytes = await saved('tiny-one.puz', () => browser.press('Control+s'));
     const lights = filledLights(bytes, count);
     const texts = Xw.open(module, { puzzle: bytes }).line('texts').lines;
-    expect(texts.includes('title Tiny one') && texts.includes('author A. Setter') && texts.includes(`clue ${lights[2].split(' ').slice(0, 2).join(' ')} clue ${await place(2)}`), `texts: ${texts}`);
+    expect(texts.includes('title Tiny one') && texts.includes('author A. Setter') && texts.includes(`clue ${lights[2].split(' ').slice(0, 2).join(' ')} clue ${await clueNumber(2)}`), `texts: ${texts}`);
     const told = judged('tiny-one.puz');
     const text = await saved('tiny-one.txt', () => menu('save-text'));
     expect(text.toString().startsWith('<ACROSS PUZZLE>'), 'no text file');
     return told;
 
-    // the place in the list of clues, which has those across first, of a light of the engine's order
-    async function place(at) {
+    // the number in the list of clues, which has those across first, of a light of the engine's order
+    async function clueNumber(at) {
       const name = lights[at].split(' ').slice(0, 2).join(' ');
       return browser.value(`[...document.querySelectorAll('#clue-list input')].findIndex((field) => field.dataset.light === '${name}') + 1`);
     }

@@ -34,11 +34,11 @@ function someSession(width, height) {
 }
 
 function someEdit(width, height) {
-  const place = `${1 + below(height)} ${1 + below(width)}`;
-  const texts = () => textLines(one(['title', 'author', 'copyright', 'notes', `clue ${place} across`, `clue ${place} down`]), escapeText(one(TEXTS)));
+  const coordinates = `${1 + below(height)} ${1 + below(width)}`;
+  const texts = () => textLines(one(['title', 'author', 'copyright', 'notes', `clue ${coordinates} across`, `clue ${coordinates} down`]), escapeText(one(TEXTS)));
   return one([
-    () => [`set ${place} ${one([...'ABCDE'])}`], () => [`set ${place} ${one([...'ABCDE'])}`], () => [`clear ${place}`], () => [`block ${place}`],
-    () => [`bar ${place} ${one(['right', 'below'])}`], () => [`circle ${place}`], () => [`sym ${one(['none', 'half', 'quarter', 'leftright', 'updown'])}`],
+    () => [`set ${coordinates} ${one([...'ABCDE'])}`], () => [`set ${coordinates} ${one([...'ABCDE'])}`], () => [`clear ${coordinates}`], () => [`block ${coordinates}`],
+    () => [`bar ${coordinates} ${one(['right', 'below'])}`], () => [`circle ${coordinates}`], () => [`sym ${one(['none', 'half', 'quarter', 'leftright', 'updown'])}`],
     () => [`strike ${one(LIST.trim().split('\n'))}`], () => [`add ${one(['new', 'newer', 'cat', 'zzz'])}`], () => [`strike ${one(['new', 'zzz'])}`], texts,
   ])();
 }
