@@ -10,13 +10,13 @@ ghost use Rattle.xw_feas.specs.Laws.{together, WantNothing, write_of, IsRefusedI
 
 /// The union of two supported families is supported.
 pub fn families_join()
-    ensures { (board : Board) (dictionary : Dictionary) (one other : Family) → IsSupported board dictionary one → IsSupported board dictionary other → IsSupported board dictionary (together one other) }
+    ensures { (board : Board) (words : Dictionary) (one other : Family) → IsSupported board words one → IsSupported board words other → IsSupported board words (together one other) }
 {}
 
 /// If no edit of a list allocates, that is none is a `Block`, a `Bar` or the addition of a new
 /// word, then the list leads to exactly one state and one number of refused edits.
 pub fn edits_lead_to_one_state()
-    ensures { (state one other : State) (actions : List Action) (m n : ℕ) → WantNothing state actions → IsAfter state actions m one → IsAfter state actions n other → (m ≡ n) × (one ≡ other) }
+    ensures { (state one other : State) (list : List Action) (m n : ℕ) → WantNothing state list → IsAfter state list m one → IsAfter state list n other → (m ≡ n) × (one ≡ other) }
 {}
 
 /// Writing a list of cells has the result of writing the cells one by one, if none is refused. Else
