@@ -1,12 +1,12 @@
 -- When bytes are a `.puz` file of a puzzle.
-use Rattle.std.specs.Prelude.{◌≡◌, ℕ, ◌*◌, false, List, [], map, length, Option, Some, None}
+use Rattle.std.specs.Prelude.{◌≡◌, ℕ, ◌*◌, false, List, [], ◌++◌, map, length, Option, Some, None}
 use Rattle.xw_grid.specs.Puzzle.{TextsShown, PuzzleShown}
 use Rattle.xw_files.specs.Part.{light_clues, circled_cells}
 use Rattle.xw_files.specs.Finished.{has_bar}
 use Rattle.xw_files.specs.Puz.Reading.{Fields}
 use Rattle.xw_files.specs.Puz.Spelling.{FitsFile, file_bytes}
 use Rattle.xw_files.specs.Puz.Sums.{sum_from, sums_of, HasSums}
-use Rattle.xw_files.specs.Puz.Sections.{Section, AreSections, first_gext, marked_cells}
+use Rattle.xw_files.specs.Puz.Sections.{Section, AreBytes, AreSections, HasNoGext, first_gext, marked_cells}
 use Rattle.xw_files.specs.Puz.Board.{square_of}
 
 -- the open circled cells are exactly those that the first GEXT section marks
@@ -37,3 +37,8 @@ pub record IsPuz (bytes : List ℕ) (puzzle : PuzzleShown) : Type 0 where
   pub texts : puzzle.texts ≡ texts_of fields
   pub clues : light_clues puzzle ≡ fields.clues
   pub circles : AreMarked puzzle (first_gext sections)
+
+-- With any bytes appended, the bytes are a file of the puzzle. If no open cell is circled, the appended bytes must have
+-- no GEXT section.
+abbrev pub IsPuzBefore : List ℕ → PuzzleShown → Type 0
+IsPuzBefore bytes puzzle = (tail : List ℕ) → AreBytes tail → (circled_cells puzzle ≡ [] → HasNoGext tail) → IsPuz (bytes ++ tail) puzzle

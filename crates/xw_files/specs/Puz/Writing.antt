@@ -1,10 +1,12 @@
 -- The bytes written for a puzzle, or why it is not written.
-use Rattle.std.specs.Prelude.{ℕ, ◌+◌, Bool, ◌==◌, List, [], ◌∷◌, map, length, replicate, Option, Some, None, Result, Ok, Err, if◌then◌else◌, codes}
+use Rattle.std.specs.Prelude.{◌≡◌, ℕ, ◌+◌, Bool, ◌==◌, List, [], ◌∷◌, ◌++◌, map, length, replicate, Option, Some, None, Result, Ok, Err, if◌then◌else◌, codes}
 use Rattle.std.specs.List.{list_any}
 use Rattle.xw_grid.specs.declared.cell.Cell.{Cell}
 use Rattle.xw_grid.specs.declared.cell.Square.{Square}
 use Rattle.xw_grid.specs.declared.cell.Square.TheVariants.{Block, Open}
 use Rattle.xw_grid.specs.Grid.{Grid, cells}
+use Rattle.xw_grid.specs.declared.lights.Light.{Light}
+use Rattle.xw_grid.specs.Clue.{ClueMap}
 use Rattle.xw_grid.specs.Light.{lights_of}
 use Rattle.xw_files.specs.declared.fault.WriteFault.{WriteFault}
 use Rattle.xw_files.specs.declared.fault.WriteFault.TheVariants.{Barred, NotFilled, Field}
@@ -13,7 +15,7 @@ use Rattle.xw_files.specs.declared.fault.TextName.TheVariants.{Title, Author, Co
 use Rattle.xw_files.specs.declared.puz.header.Header.{Header}
 use Rattle.xw_files.specs.declared.puz.sums.Sums.{Sums}
 use Rattle.xw_files.specs.Puz.Reading.{Fields}
-use Rattle.xw_grid.specs.Puzzle.{PuzzleShown}
+use Rattle.xw_grid.specs.Puzzle.{PuzzleShown, clue_of}
 use Rattle.xw_files.specs.Part.{light_clues, is_circled_open}
 use Rattle.xw_files.specs.Finished.{has_bar, empty_cell, square_byte}
 use Rattle.xw_files.specs.Puz.Sums.{sum_from, sums_of, masked_of}
@@ -95,6 +97,14 @@ has_nul text = list_any (λ byte. byte == 0) text
 abbrev pub clue_with_nul : ℕ → List (List ℕ) → Option TextName
 clue_with_nul k [] = None
 clue_with_nul k (clue ∷ clues) = if has_nul clue then Some (Clue k) else clue_with_nul (k + 1) clues
+
+-- none of some clues, counting from `first`, has a NUL; `next` is the number of the clue after them
+abbrev pub PassesClues : ClueMap → List Light → ℕ → ℕ → Type 0
+PassesClues clues passed first next = (lights : List Light) → clue_with_nul first (map (clue_of clues) (passed ++ lights)) ≡ clue_with_nul next (map (clue_of clues) lights)
+
+-- the text is the first of some clues, counting from `first`, that has a NUL
+abbrev pub StopsAtClue : ClueMap → List Light → ℕ → TextName → Type 0
+StopsAtClue clues passed first text = (lights : List Light) → clue_with_nul first (map (clue_of clues) (passed ++ lights)) ≡ Some text
 
 abbrev pub or_notes : List ℕ → Option TextName → Option TextName
 or_notes notes (Some text) = Some text

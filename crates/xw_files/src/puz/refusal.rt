@@ -1,10 +1,9 @@
 //! Decides whether a puzzle can be written as `.puz`, without allocating.
-ghost use Rattle.std.specs.Prelude.{◌≡◌, ◌+◌, ◌≤◌, ◌++◌, List, map, Some, IfOk, IfErr};
-ghost use Rattle.xw_grid.specs.declared.lights.Light.{Light};
+ghost use Rattle.std.specs.Prelude.{◌≡◌, ◌+◌, ◌≤◌, map, IfOk, IfErr};
 ghost use Rattle.xw_grid.specs.Grid.{IsGrid};
 ghost use Rattle.xw_grid.specs.Light.{light_from, lights_at, lights_of};
 ghost use Rattle.xw_grid.specs.Puzzle.{puzzle_view, clue_of};
-ghost use Rattle.xw_files.specs.Puz.Writing.{has_nul, clue_with_nul, text_with_nul, write_fault};
+ghost use Rattle.xw_files.specs.Puz.Writing.{has_nul, clue_with_nul, text_with_nul, write_fault, PassesClues, StopsAtClue};
 
 use crate::fault::{TextName, WriteFault};
 use crate::finished::{empty_cell, has_bar};
@@ -73,8 +72,8 @@ fn clue_with_nul(grid: &Grid, clues: &Clues) -> Option<TextName>
 /// Returns the position after the lights that begin at a cell, or the first of their clues with a NUL.
 fn pass_cell(grid: &Grid, clues: &Clues, cell: Cell, place: usize) -> Result<usize, TextName>
     requires { place ≤ 131072 }
-    ensures passed { IfOk result (λ next. (lights : List Light) → clue_with_nul place (map (clue_of clues.now) (lights_at grid.now cell ++ lights)) ≡ clue_with_nul next (map (clue_of clues.now) lights)) }
-    ensures stopped { IfErr result (λ text. (lights : List Light) → clue_with_nul place (map (clue_of clues.now) (lights_at grid.now cell ++ lights)) ≡ Some text) }
+    ensures passed { IfOk result (λ next. PassesClues clues.now (lights_at grid.now cell) place next) }
+    ensures stopped { IfErr result (λ text. StopsAtClue clues.now (lights_at grid.now cell) place text) }
     ensures small { IfOk result (λ next. next ≤ place + 2) }
 {
     let place = pass_light(grid, clues, Direction::Across, cell, place)?;
@@ -90,8 +89,8 @@ fn pass_light(
     place: usize,
 ) -> Result<usize, TextName>
     requires { place ≤ 131073 }
-    ensures passed { IfOk result (λ next. (lights : List Light) → clue_with_nul place (map (clue_of clues.now) (light_from grid.now cell direction ++ lights)) ≡ clue_with_nul next (map (clue_of clues.now) lights)) }
-    ensures stopped { IfErr result (λ text. (lights : List Light) → clue_with_nul place (map (clue_of clues.now) (light_from grid.now cell direction ++ lights)) ≡ Some text) }
+    ensures passed { IfOk result (λ next. PassesClues clues.now (light_from grid.now cell direction) place next) }
+    ensures stopped { IfErr result (λ text. StopsAtClue clues.now (light_from grid.now cell direction) place text) }
     ensures small { IfOk result (λ next. next ≤ place + 1) }
 {
     if !lights::begins(grid, direction, cell) {

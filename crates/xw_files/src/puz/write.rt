@@ -1,11 +1,9 @@
 //! Writes `.puz` files.
-ghost use Rattle.std.specs.Prelude.{◌≡◌, ◌≢◌, ℕ, [], List, map, Ok, Err, IfOk, IfErr, IsOk, IsOkUnless, ◌++◌};
+ghost use Rattle.std.specs.Prelude.{◌≡◌, ◌≢◌, map, Ok, Err, IfOk, IfErr, IsOk, IsOkUnless};
 ghost use Rattle.xw_grid.specs.Puzzle.{puzzle_view, clue_of};
-ghost use Rattle.xw_files.specs.Part.{circled_cells};
 ghost use Rattle.xw_files.specs.Finished.{square_byte};
 ghost use Rattle.xw_files.specs.Puz.View.{view};
-ghost use Rattle.xw_files.specs.Puz.Sections.{AreBytes, HasNoGext};
-ghost use Rattle.xw_files.specs.Puz.Relation.{IsPuz};
+ghost use Rattle.xw_files.specs.Puz.Relation.{IsPuzBefore};
 ghost use Rattle.xw_files.specs.Puz.Writing.{state_byte, unsealed, sealed, spelled_puzzle, written};
 ghost use Rattle.xw_files.specs.declared.fault.WriteFault.TheVariants as faults;
 
@@ -30,7 +28,7 @@ pub fn write_puz(alloc: Global, puzzle: &Puzzle) -> Result<Vec<u8>, WriteFault>
     ensures memory { result ≡ Err faults.Memory → IsOk (written (puzzle_view puzzle.now)) }
     // With any bytes appended, the result is still a file of this puzzle. If no open cell is circled, the appended
     // bytes must have no GEXT section.
-    ensures again { IfOk result (λ bytes. (tail : List ℕ) → AreBytes tail → (circled_cells (puzzle_view puzzle.now) ≡ [] → HasNoGext tail) → IsPuz (bytes.items ++ tail) (puzzle_view puzzle.now)) }
+    ensures again { IfOk result (λ bytes. IsPuzBefore bytes.items (puzzle_view puzzle.now)) }
 {
     match refusal::fault_of(puzzle) {
         Some(fault) => Err(fault),
