@@ -29,6 +29,10 @@ StayNoted placements before after = (light fewer : ℕ) → fewer ≤ placements
 abbrev pub AreEntered : Position → (ℕ → Bool) → Type 0
 AreEntered position is_noted = (light : ℕ) → light < light_count position → is_noted light ≡ is_entered position light
 
+-- each light with a note is wholly entered
+abbrev pub AreOnlyEntered : Position → (ℕ → Bool) → Type 0
+AreOnlyEntered position is_noted = (light : ℕ) → light < light_count position → is_noted light ≡ true → is_entered position light ≡ true
+
 -- no two lights with a note spell the same
 abbrev pub SpellApart : Position → (ℕ → Bool) → Type 0
 SpellApart position is_noted = (light other : ℕ) → other < light → light < light_count position → is_noted light ≡ true → is_noted other ≡ true → spell_same position light other ≡ false

@@ -1,9 +1,9 @@
 //! Notes when each light became wholly entered, so that a search tests only new words for repeats.
-ghost use Rattle.std.specs.Prelude.{◌≡◌, ◌<◌, length, ℕ, suc, true, is_some, IfSome};
+ghost use Rattle.std.specs.Prelude.{◌≡◌, ◌<◌, length, suc, true, is_some, IfSome};
 ghost use Rattle.xw_fill.specs.Position.{position_of};
 ghost use Rattle.xw_fill.specs.Below.{any_below};
 ghost use Rattle.xw_fill.specs.Search.{is_entered, is_repeat, light_count};
-ghost use Rattle.xw_fill.specs.Noted.{within, noted, has_note, is_spelled_again, AreEntered, SpellApart, StayNoted};
+ghost use Rattle.xw_fill.specs.Noted.{within, noted, has_note, is_spelled_again, AreEntered, AreOnlyEntered, SpellApart, StayNoted};
 
 use crate::scan::{agree, is_entered, light_count};
 use xw_feas::feasible::Feasible;
@@ -22,7 +22,7 @@ pub fn is_within(since: Option<usize>, placements: usize) -> bool
 /// and their lights are not read again.
 pub fn note_entered<E: Feasible>(engine: &E, since: &mut [Option<usize>], placements: usize)
     requires long { length since.old ≡ light_count (position_of (E.state engine.now)) }
-    requires before { (light : ℕ) → light < light_count (position_of (E.state engine.now)) → noted since.old placements light ≡ true → is_entered (position_of (E.state engine.now)) light ≡ true }
+    requires before { AreOnlyEntered (position_of (E.state engine.now)) (noted since.old placements) }
     ensures long { length since.new ≡ length since.old }
     ensures stay { StayNoted placements since.old since.new }
     ensures within { AreEntered (position_of (E.state engine.now)) (noted since.new (suc placements)) }
