@@ -15,9 +15,10 @@ ghost use Rattle.xw_feas.specs.Flags.{flag_at, set_has};
 ghost use Rattle.xw_feas.specs.Queries.{next_found, words_of};
 ghost use Rattle.xw_feas.specs.Rows.{HasWordRows, row_len};
 ghost use Rattle.xw_feas.specs.Shape.{SameCounts, GrowsAt, IsReturned, IsAddRefused, IsGridRefused};
-ghost use Rattle.xw_feas.specs.Single.{IsExact-prop, AreAnswers-prop, IsWellFormed-prop};
+ghost use Rattle.xw_feas.specs.Single.{IsExact-prop, IsWellFormed-prop};
 ghost use Rattle.xw_feas.specs.Standing.{HasRows};
 ghost use Rattle.xw_feas.specs.WellFormed.{IsWellFormed};
+ghost use Rattle.xw_plain.specs.Stands.{AreAnswered, AreAnswered-prop};
 ghost use Rattle.xw_feas.specs.State.{after, grid_after, is_of_letters, action_of, symmetry_chosen, letter_set, cell_cleared, word_placed, word_added, word_struck, block_toggled as toggle_of_block, bar_toggled as toggle_of_bar, IsRefused, place_word, add_word, strike_word};
 
 use crate::flags::Flags;
@@ -99,7 +100,7 @@ pub struct Plain {
     ghost light_list: { lights ≡ lights_of grid },
     ghost rows: { HasRows (board_of grid) bank.words words.items letters.items },
     ghost exact: { IsExact (board_of grid) bank.words (flag_at words.items) (set_has letters.items) } by { IsExact-prop (board_of grid) bank.words (flag_at words.items) (set_has letters.items) },
-    ghost answered: { AreAnswers (board_of grid) bank.words (answers_of (board_of grid) bank.words words.items letters.items) } by { AreAnswers-prop (board_of grid) bank.words (answers_of (board_of grid) bank.words words.items letters.items) },
+    ghost answered: { AreAnswered (board_of grid) bank.words words.items letters.items } by { AreAnswered-prop (board_of grid) bank.words words.items letters.items },
     ghost formed: { IsWellFormed (record { grid = grid; words = bank.words }) } by { IsWellFormed-prop (record { grid = grid; words = bank.words }) },
     ghost same_cells: { length before.items ≡ length letters.items },
 }

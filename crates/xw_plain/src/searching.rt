@@ -1,9 +1,9 @@
 //! Saved states of the engine, and the number of its words by letter.
-ghost use Rattle.std.specs.Prelude.{◌≡◌, ◌<◌, ◌≤◌, ◌&&◌, ◌==◌, length, slice_index, if◌then◌else◌};
+ghost use Rattle.std.specs.Prelude.{◌≡◌, ◌<◌, ◌≤◌, length, slice_index, if◌then◌else◌};
 ghost use Rattle.xw_grid.specs.Light.{lights_of};
 ghost use Rattle.xw_feas.specs.Board.{board_of, light_at};
 ghost use Rattle.xw_feas.specs.Choices.{choice_at, choices};
-ghost use Rattle.xw_feas.specs.Flags.{flag_at};
+ghost use Rattle.xw_plain.specs.Stands.{stands_with};
 
 use crate::plain::Plain;
 use std::snapshot::Snapshot;
@@ -45,7 +45,7 @@ impl Plain {
         requires choice { choice < length (choices (board_of self.now.grid) self.now.bank.words (light_at (board_of self.now.grid) light)) }
         requires position { position < length (light_at (board_of self.now.grid) light) }
         ensures small { result ≤ 1 }
-        ensures count { result ≡ (if flag_at self.now.words.items light choice && (slice_index (choice_at (board_of self.now.grid) self.now.bank.words light choice) position == letter) then 1 else 0) }
+        ensures count { result ≡ (if stands_with (board_of self.now.grid) self.now.bank.words self.now.words.items light choice position letter then 1 else 0) }
     {
         let row = &self.words[light];
         if row.at(choice) && self.letter_of(light, choice, position).byte() == letter.byte() {

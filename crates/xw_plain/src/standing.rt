@@ -10,6 +10,7 @@ ghost use Rattle.xw_feas.specs.Standing.{HasRows, HasWordWith, KeepsLettersBelow
 ghost use Rattle.xw_feas.specs.Feasible.{may_stand, AreAnswers};
 ghost use Rattle.xw_feas.specs.AnswersOf.{answers_of};
 ghost use Rattle.xw_feas.specs.WellFormed.{HasLetterEntries};
+ghost use Rattle.xw_plain.specs.Stands.{AreStripped};
 
 use crate::flags::Flags;
 use xw_feas::board::{Board, Cells, allowed, has_all_entries};
@@ -120,8 +121,7 @@ fn strip_words(
     requires long { length words.old ≡ length (spellings bank.now.words (length cells.now)) + 1 }
     requires in_board { All (λ cell. cell < length letters.now) cells.now }
     ensures long { length words.new ≡ length words.old }
-    ensures kept { (choice : ℕ) →
-        IsTrue (slice_index_or words.new choice false) ↔ (IsTrue (slice_index_or words.old choice false) × HasLetters (set_has letters.now) cells.now (slice_index_or (choices board.now bank.now.words cells.now) choice [])) }
+    ensures kept { AreStripped board.now bank.now.words cells.now letters.now words.old words.new }
     ensures fewer { standing_count words.new + (if result then 1 else 0) ≤ standing_count words.old }
     ensures same { IsFalse result → words.new ≡ words.old }
 {
