@@ -156,6 +156,17 @@ pub record Stands (start : State) (now : List (Option ℕ)) (positions : List (L
   pub at : IsAt start now state
   pub marks : AreMarks start positions held
 
+-- the search went on with a letter in a cell, from wherever it stood
+abbrev pub GoesOn : ℕ → ℕ → State → List State → State → List State → Type 0
+GoesOn cell letter old old_held new new_held =
+    (start : State) (now : List (Option ℕ)) (positions : List (List (Option ℕ))) → Stands start now positions old old_held → Stands start (slice_set now cell (Some letter)) (positions ++ now ∷ []) new new_held
+
+-- the search went back to where the cell was empty
+abbrev pub GoesBack : ℕ → State → List State → State → List State → Type 0
+GoesBack cell old old_held new new_held =
+    (start : State) (before now : List (Option ℕ)) (positions : List (List (Option ℕ))) →
+    slice_set now cell None ≡ before → Stands start now (positions ++ before ∷ []) old old_held → Stands start before positions new new_held
+
 -- what trying a letter led to: it was refuted, and the search stands where it stood; or it stands, and nothing speaks against it
 abbrev pub IsTried : (ℕ → Bool) → State → List (Option ℕ) → List (List (Option ℕ)) → ℕ → ℕ → Bool → State → List State → Type 0
 IsTried named start now positions cell letter true state held =
@@ -169,3 +180,9 @@ pub record MayTry (named : ℕ → Bool) (start : Position) (now : List (Option 
   pub target : is_target named start cell ≡ true
   pub empty : entry_in now cell ≡ None
   pub feasible : is_feasible_letter (holding start now) cell letter ≡ true
+
+-- a letter that may be tried in a cell was tried, from wherever the search stood
+abbrev pub Tries : Plan → ℕ → ℕ → Bool → State → List State → State → List State → Type 0
+Tries plan cell letter result old old_held new new_held =
+    (start : State) (now : List (Option ℕ)) (positions : List (List (Option ℕ))) →
+    IsPlan (position_of start) plan → MayTry (flags plan.named.items) (position_of start) now cell letter → Stands start now positions old old_held → IsTried (flags plan.named.items) start now positions cell letter result new new_held

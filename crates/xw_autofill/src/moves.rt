@@ -1,10 +1,9 @@
 //! Entering a letter, and going back.
-ghost use Rattle.std.specs.Prelude.{◌≡◌, ◌++◌, ◌∷◌, [], List, ℕ, Option, Some, None, true, slice_set};
+ghost use Rattle.std.specs.Prelude.{◌≡◌, Some, None, true, slice_set};
 ghost use Rattle.xw_feas.specs.Board.{board_of, is_open};
-ghost use Rattle.xw_feas.specs.State.{State};
 ghost use Rattle.xw_fill.specs.Marks.{held_of, AreTwins};
 ghost use Rattle.xw_fill.specs.Position.{DiffersInEntries};
-ghost use Rattle.xw_autofill.specs.Progress.{entries_of, Stands};
+ghost use Rattle.xw_autofill.specs.Progress.{entries_of, GoesOn, GoesBack};
 
 use xw_feas::edit::Edit;
 use xw_feas::feasible::Feasible;
@@ -38,7 +37,7 @@ pub fn go_on<E: Searchable>(engine: &mut E, marks: &mut Marks<E>, cell: usize, l
     requires twins { AreTwins E.saved marks.old (E.state engine.old) }
     ensures twins { AreTwins E.saved marks.new (E.state engine.new) }
     ensures rest { DiffersInEntries (E.state engine.old) (E.state engine.new) }
-    ensures entered { (start : State) (now : List (Option ℕ)) (positions : List (List (Option ℕ))) → Stands start now positions (E.state engine.old) (held_of E.saved marks.old) → Stands start (slice_set now cell (Some letter)) (positions ++ now ∷ []) (E.state engine.new) (held_of E.saved marks.new) }
+    ensures entered { GoesOn cell letter (E.state engine.old) (held_of E.saved marks.old) (E.state engine.new) (held_of E.saved marks.new) }
 {
     marks.mark(engine);
     set_letter(engine, cell, letter);
@@ -49,7 +48,7 @@ pub fn go_back<E: Searchable>(engine: &mut E, marks: &mut Marks<E>, cell: usize)
     requires open { is_open (board_of (E.state engine.old).grid) cell ≡ true }
     requires twins { AreTwins E.saved marks.old (E.state engine.old) }
     ensures twins { AreTwins E.saved marks.new (E.state engine.new) }
-    ensures back { (start : State) (before now : List (Option ℕ)) (positions : List (List (Option ℕ))) → slice_set now cell None ≡ before → Stands start now (positions ++ before ∷ []) (E.state engine.old) (held_of E.saved marks.old) → Stands start before positions (E.state engine.new) (held_of E.saved marks.new) }
+    ensures back { GoesBack cell (E.state engine.old) (held_of E.saved marks.old) (E.state engine.new) (held_of E.saved marks.new) }
 {
     if !marks.back(engine) {
         clear_cell(engine, cell);

@@ -1,14 +1,13 @@
 //! One run of the search: depth first by letters, until a fill, a cut or the end.
-ghost use Rattle.std.specs.Prelude.{◌≡◌, ◌<◌, ◌≤◌, ℕ, length, true, false, ◌||◌, ◌==◌, List, Option, [], ◌∷◌, ◌++◌, None, slice_set};
+ghost use Rattle.std.specs.Prelude.{◌≡◌, ◌<◌, ◌≤◌, ℕ, length, true, false, ◌||◌, ◌==◌, []};
 ghost use Rattle.xw_letters.specs.LetterSet.{has};
 ghost use Rattle.xw_feas.specs.Board.{board_of, is_open};
 ghost use Rattle.xw_feas.specs.Snapshot.{IsTwin};
-ghost use Rattle.xw_feas.specs.State.{State};
 ghost use Rattle.xw_fill.specs.Marks.{held_of, AreTwins};
 ghost use Rattle.xw_fill.specs.Position.{position_of, DiffersInEntries};
 ghost use Rattle.xw_fill.specs.Search.{light_count};
 ghost use Rattle.xw_autofill.specs.NamedFill.{flags, IsFillOf};
-ghost use Rattle.xw_autofill.specs.Progress.{entries_of, Stands, HasNone, IsPlan, IsOpen, IsTried, MayTry, IsRefuted, AreAlive, IsApartAt};
+ghost use Rattle.xw_autofill.specs.Progress.{entries_of, HasNone, IsPlan, IsOpen, GoesBack, Tries, IsRefuted, AreAlive, IsApartAt};
 
 use crate::checks::{first_dead, has_repeat_at};
 use crate::choice::{next_cell, next_letter};
@@ -103,7 +102,7 @@ fn try_letter<E: Searchable>(
     requires long { length plan.now.watched.items ≡ light_count (position_of (E.state engine.old)) }
     requires twins { AreTwins E.saved marks.old (E.state engine.old) }
     ensures twins { AreTwins E.saved marks.new (E.state engine.new) }
-    ensures tried { (start : State) (now : List (Option ℕ)) (positions : List (List (Option ℕ))) → IsPlan (position_of start) plan.now → MayTry (flags plan.now.named.items) (position_of start) now cell letter → Stands start now positions (E.state engine.old) (held_of E.saved marks.old) → IsTried (flags plan.now.named.items) start now positions cell letter result (E.state engine.new) (held_of E.saved marks.new) }
+    ensures tried { Tries plan.now cell letter result (E.state engine.old) (held_of E.saved marks.old) (E.state engine.new) (held_of E.saved marks.new) }
 {
     go_on(engine, marks, cell, letter);
     if is_refuted(engine, &plan.watched, weights, cell) {
@@ -120,7 +119,7 @@ fn take_back<E: Searchable>(engine: &mut E, marks: &mut Marks<E>, below: Frame) 
     ensures twins { AreTwins E.saved marks.new (E.state engine.new) }
     ensures cell { result.cell ≡ below.cell }
     ensures tried { (letter : ℕ) → has result.tried letter ≡ (has below.tried letter || (letter == below.letter)) }
-    ensures back { (start : State) (before now : List (Option ℕ)) (positions : List (List (Option ℕ))) → slice_set now below.cell None ≡ before → Stands start now (positions ++ before ∷ []) (E.state engine.old) (held_of E.saved marks.old) → Stands start before positions (E.state engine.new) (held_of E.saved marks.new) }
+    ensures back { GoesBack below.cell (E.state engine.old) (held_of E.saved marks.old) (E.state engine.new) (held_of E.saved marks.new) }
 {
     go_back(engine, marks, below.cell);
     let mut frame = below;
