@@ -1,20 +1,19 @@
 //! The steps of an edit that update the net.
-ghost use Rattle.std.specs.Prelude.{◌≡◌, ◌+◌, ◌≤◌, ℕ, length, if◌then◌else◌, true, false, is_some, IsTrue, Option, Some, Contains, IfErr, OnOk, OnErr};
+ghost use Rattle.std.specs.Prelude.{◌≡◌, ◌+◌, ◌≤◌, ℕ, length, if◌then◌else◌, true, false, is_some, IsTrue, Some, IfErr, OnOk, OnErr};
 ghost use Rattle.xw_words.specs.Bank.{has_room};
 ghost use Rattle.xw_words.specs.Dictionary.{Dictionary, add_answer, IsNew};
-ghost use Rattle.xw_grid.specs.declared.cell.Cell.{Cell as CellOfGrid};
-ghost use Rattle.xw_grid.specs.Grid.{is_inside};
 ghost use Rattle.xw_grid.specs.Light.{lights_of};
 ghost use Rattle.xw_feas.specs.Rows.{grows};
 ghost use Rattle.xw_feas.specs.State.{State, Action, action_of};
 ghost use Rattle.xw_feas.specs.WellFormed.{IsWellFormed};
-ghost use Rattle.xw_net.specs.Change.{IsChange, IsWordEdit};
+ghost use Rattle.xw_net.specs.Change.{before_of, cells_of, fields_of, IsChange, IsWordEdit};
 ghost use Rattle.xw_net.specs.Cost.{RoseWithinCost};
 ghost use Rattle.xw_live.specs.Engine.{IsKept};
 ghost use Rattle.xw_live.specs.Idle.{is_symmetry, IsIdle};
 ghost use Rattle.xw_net.specs.Net.{StandsFor, StoodFor, IsSettledFor, IsAlike, known_counts, sets_of};
 ghost use Rattle.xw_net.specs.Room.{HasRoom};
 ghost use Rattle.xw_net.specs.Fit.{HasRoomBetween};
+ghost use Rattle.xw_net.specs.Update.{AreInside};
 
 use xw_feas::dictionary::{known_distinct, reserve_in};
 use xw_feas::edit::{Edit, Refusal};
@@ -39,17 +38,17 @@ pub fn settle(
     bank: &Bank,
 ) -> u64
     requires lights { lights.now ≡ lights_of grid.now }
-    requires inside { (listed : CellOfGrid × Option ℕ) → Contains change.now.cells.now listed → is_inside grid.now listed.0 ≡ true }
+    requires inside { AreInside grid.now (cells_of change.now) }
     requires cells { length (sets_of net.old) ≡ length grid.now.squares }
-    requires stood { StoodFor change.now.before.now (known_counts bank.now.words) net.old }
-    requires room { HasRoomBetween change.now.before.now lights.now (known_counts bank.now.words) net.old net.old.spare }
+    requires stood { StoodFor (before_of lights.now change.now) (known_counts bank.now.words) net.old }
+    requires room { HasRoomBetween (before_of lights.now change.now) lights.now (known_counts bank.now.words) net.old net.old.spare }
     ensures risen { spent ≤ result }
     ensures kept { (before : State) (action : Action) →
-        IsChange before (record { grid = grid.now; words = bank.now.words }) action change.now →
+        IsChange before (record { grid = grid.now; words = bank.now.words }) action (fields_of lights.now change.now) →
         ∥ IsSettledFor before net.old ∥₁ →
         IsKept (record { grid = grid.now; words = bank.now.words }) net.new }
     ensures cost { (before : State) (action : Action) →
-        IsChange before (record { grid = grid.now; words = bank.now.words }) action change.now →
+        IsChange before (record { grid = grid.now; words = bank.now.words }) action (fields_of lights.now change.now) →
         ∥ IsSettledFor before net.old ∥₁ →
         RoseWithinCost before (record { grid = grid.now; words = bank.now.words }) action spent result }
 {
@@ -87,10 +86,9 @@ pub fn settle_word(
         RoseWithinCost (record { grid = grid.now; words = words }) (record { grid = grid.now; words = bank.now.words }) action spent result }
 {
     known_distinct(bank);
-    let change = Change {
-        cells: &[],
-        before: lights,
-        word: Some(word),
+    let change = Change::Word {
+        len: word.0,
+        index: word.1,
     };
     settle(net, spent, &change, grid, lights, bank)
 }

@@ -8,6 +8,8 @@ pub mod CarriedIsReady
 pub mod UnstrippedNet
 pub mod StartIsRevival
 pub mod FreedCells
+pub mod Forgetting
+pub mod Touching
 pub mod OpenedRows
 pub mod OpenedSupports
 pub mod OpenedNet

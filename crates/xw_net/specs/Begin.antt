@@ -15,8 +15,8 @@ use Rattle.xw_grid.specs.declared.cell.Cell.{Cell}
 use Rattle.xw_grid.specs.declared.lights.Light.{Light}
 use Rattle.xw_grid.specs.Grid.{Grid, index_of}
 use Rattle.xw_net.specs.Renumber.{same_before}
-use Rattle.xw_net.specs.Spread.{HasAll, IsThrough, bits_in}
-use Rattle.xw_net.specs.Worklist.{ListOfLights, is_marked}
+use Rattle.xw_net.specs.Spread.{HasAll, IsThrough, KeepsSpread, bits_in}
+use Rattle.xw_net.specs.Worklist.{ListOfLights, is_marked, Grows, MarksOnly}
 
 -- whether an empty cell got a letter
 abbrev pub is_fill : Board → ℕ → Option ℕ → Bool
@@ -108,6 +108,16 @@ IsThroughListed grid board cells light = (listed : Cell × Option ℕ) × Contai
 -- the state at all cells that the edit wrote
 abbrev pub AreEdited : Grid → Board → List (Cell × Option ℕ) → (ℕ → ℕ → Bool) → (ℕ → Bool) → (ℕ → Bool) → Type 0
 AreEdited grid board cells letters in_queue in_chain = (listed : Cell × Option ℕ) → Contains cells listed → IsEdited board letters in_queue in_chain (index_of grid listed.0) listed.1
+
+-- the edited cells got their letters, and lights through them were queued and marked
+pub record EditsCells (grid : Grid) (board : Board) (cells : List (Cell × Option ℕ)) (letters : List ℕ) (queue chain : ListOfLights) (letters' : List ℕ) (queue' chain' : ListOfLights) : Type 0 where
+  pub letters_len : length letters' ≡ length letters
+  pub queue_grows : Grows queue queue'
+  pub queued_within : MarksOnly (IsThroughListed grid board cells) queue queue'
+  pub chain_grows : Grows chain chain'
+  pub within : MarksOnly (IsThroughListed grid board cells) chain chain'
+  pub edited : AreEdited grid board cells (set_has letters') (is_marked queue'.marks) (is_marked chain'.marks)
+  pub spread : KeepsSpread board letters chain letters' chain'
 
 -- the state at which a revival starts: the lights that the edit touches are queued, and those that
 -- may get words back are seeds

@@ -6,11 +6,42 @@ use Rattle.xw_words.specs.declared.bank.Added.TheVariants.{New, Returned}
 use Rattle.xw_words.specs.Dictionary.{Entry, Dictionary, row, entry_at, add_answer, strike_answer}
 use Rattle.xw_grid.specs.declared.cell.Cell.{Cell}
 use Rattle.xw_grid.specs.Grid.{Grid, entry, index_of}
+use Rattle.xw_grid.specs.declared.lights.Light.{Light}
 use Rattle.xw_grid.specs.Light.{lights_of}
 use Rattle.xw_feas.specs.State.{State, Action, after, word_added, word_struck}
 use Rattle.xw_feas.specs.WellFormed.{IsWellFormed}
 use Rattle.xw_net.specs.declared.change.Change.{Change}
+use Rattle.xw_net.specs.declared.change.Change.TheVariants.{Letters, Shape, Word}
 use Rattle.xw_net.specs.Region.{same_entry, cells_written}
+
+-- the fields of a change, as a view: the cells that were written, each with its entry before; the
+-- lights before; the length and index of the word that was added or struck
+pub record Fields : Type 0 where
+  pub cells : List (Cell × Option ℕ)
+  pub before : List Light
+  pub word : Option (ℕ × ℕ)
+
+-- the cells of a change
+abbrev pub cells_of : Change → List (Cell × Option ℕ)
+cells_of (Letters cells) = cells.now
+cells_of (Shape before cells) = cells.now
+cells_of (Word len index) = []
+
+-- the lights before a change; after a change of letters or of a word they are the lights of now
+abbrev pub before_of : List Light → Change → List Light
+before_of lights (Letters cells) = lights
+before_of lights (Shape before cells) = before.now
+before_of lights (Word len index) = lights
+
+-- the word of a change
+abbrev pub word_of : Change → Option (ℕ × ℕ)
+word_of (Letters cells) = None
+word_of (Shape before cells) = None
+word_of (Word len index) = Some (len, index)
+
+-- the fields of a change, given the lights after it
+abbrev pub fields_of : List Light → Change → Fields
+fields_of lights change = record { cells = cells_of change; before = before_of lights change; word = word_of change }
 
 -- a cell with its entry
 abbrev pub with_entry_of : Grid → Cell → Cell × Option ℕ
@@ -51,21 +82,21 @@ IsPlaceOf None len place = ⊥
 IsPlaceOf (Some word) len place = (word.0 ≡ len) × (word.1 ≡ place)
 
 -- the change describes this edit
-pub record IsChange (before now : State) (action : Action) (change : Change) : Type 0 where
+pub record IsChange (before now : State) (action : Action) (change : Fields) : Type 0 where
   -- the edit was applied, and leads from a well-formed state to another
   pub made : after before action ≡ Ok now
   pub formed_before : IsWellFormed before
   pub formed_now : IsWellFormed now
   -- the change lists the cells that the edit writes, each with its entry before
-  pub cells : change.cells.now ≡ entries_written before.grid action
+  pub cells : change.cells ≡ entries_written before.grid action
   -- it has the lights before the edit
-  pub lights : change.before.now ≡ lights_of before.grid
+  pub lights : change.before ≡ lights_of before.grid
   -- it has the length and index of the word that was added or struck
   pub word : change.word ≡ word_changed before.words action
   -- the grid has the same size and, outside the listed cells, the same squares
   pub width : now.grid.width ≡ before.grid.width
   pub height : now.grid.height ≡ before.grid.height
-  pub squares : (place : ℕ) → ¬ Contains (places_listed before.grid change.cells.now) place → slice_get now.grid.squares place ≡ slice_get before.grid.squares place
+  pub squares : (place : ℕ) → ¬ Contains (places_listed before.grid change.cells) place → slice_get now.grid.squares place ≡ slice_get before.grid.squares place
   -- the known words are the same, except perhaps whether the changed word is known and active
   pub entries : (len place : ℕ) → ¬ IsPlaceOf change.word len place → slice_get (row now.words len) place ≡ slice_get (row before.words len) place
   pub spelling : (len place : ℕ) → place < length (row before.words len) → (entry_at (row now.words len) place).word ≡ (entry_at (row before.words len) place).word

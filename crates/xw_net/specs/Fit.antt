@@ -3,7 +3,7 @@ use Rattle.std.specs.Prelude.{◌≡◌, ℕ, ◌+◌, ◌*◌, ◌^◌, ◌<◌
 use Rattle.xw_bits.specs.Bits.{RowOfBits}
 use Rattle.xw_grid.specs.declared.lights.Light.{Light}
 use Rattle.xw_net.specs.Room.{size_at, row_at, HasRoom, HasSpare}
-use Rattle.xw_net.specs.Renumber.{same_before}
+use Rattle.xw_net.specs.Renumber.{same_before, AreLights}
 use Rattle.xw_net.specs.Nets.{word_stands}
 use Rattle.xw_net.specs.Worklist.{is_marked}
 use Rattle.xw_net.specs.declared.net.Net.{Net}
@@ -55,3 +55,21 @@ pub record IsTurned (before after : List Light) (old new : Net) : Type 0 where
   pub entered : (light other : ℕ) → light < length after → same_before before after light ≡ Some other → slice_index_or new.entered.items light false ≡ slice_index_or old.entered.items other false
   pub lights : ((light choice : ℕ) → word_stands old light choice ≡ true → light < length before) → (light choice : ℕ) → word_stands new light choice ≡ true → light < length after
   pub rest : new ≡ record old { rows = new.rows; base = new.base; entered = new.entered; queue = new.queue; chain = new.chain; spare = None }
+
+-- the net stands for the lights before an edit, with room for those after it and for the words; at
+-- most one bit is missing in each row
+pub record CanFollow (before after : List Light) (counts : ℕ → ℕ) (net : Net) : Type 0 where
+  pub lights : AreLights after
+  pub rest : IsAtRest before (vec_len net.letters) net
+  pub room : HasRoomBetween before after counts net net.spare
+  pub rows : AreNear before counts net.rows.items
+  pub base : AreNear before counts net.base.items
+
+-- the net has switched to the lights after an edit, with room for the words; at most one bit is
+-- missing in each row
+pub record Follows (before after : List Light) (counts : ℕ → ℕ) (old new : Net) : Type 0 where
+  pub rest : IsAtRest after (vec_len old.letters) new
+  pub rows : AreNear after counts new.rows.items
+  pub base : AreNear after counts new.base.items
+  pub room : HasRoom after counts new
+  pub turned : IsTurned before after old new

@@ -7,7 +7,7 @@ use Rattle.xw_feas.specs.Board.{Board, light_at}
 use Rattle.xw_feas.specs.Flags.{set_has}
 use Rattle.xw_net.specs.Marks.{IsPlace, slot_at}
 use Rattle.xw_net.specs.Renumber.{same_before}
-use Rattle.xw_net.specs.declared.change.Change.{Change}
+use Rattle.xw_net.specs.Change.{Fields}
 
 -- the value for no support
 abbrev pub nowhere : ℕ
@@ -46,9 +46,13 @@ module _ (board : Board) (light : ℕ) where
       → slice_index held' (26 * slot + (letter - 65)) ≡ slice_index held (26 * slot + (letter - 65))
 
 -- the least index of a support that a light of the board has to forget after an edit
-abbrev pub lost_at : Change → Board → List Light → (ℕ → List Entry) → ℕ → ℕ
+abbrev pub lost_at : Fields → Board → List Light → (ℕ → List Entry) → ℕ → ℕ
 lost_at change board lights entries light =
-    lost_from change.word (same_before change.before.now lights light) (length (light_at board light)) (length (entries (length (light_at board light))))
+    lost_from change.word (same_before change.before lights light) (length (light_at board light)) (length (entries (length (light_at board light))))
+
+-- no light of the board has to forget a support
+abbrev pub ForgetNone : Fields → Board → List Light → (ℕ → List Entry) → Type 0
+ForgetNone change board lights entries = (light : ℕ) → light < length board.lights → length lights ≡ length board.lights → lost_at change board lights entries light ≡ nowhere
 
 -- each light forgot its supports from its least index on, and has nothing pending if it had to
 -- forget any

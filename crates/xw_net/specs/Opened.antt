@@ -8,7 +8,7 @@ use Rattle.xw_feas.specs.Board.{Board, board_of, light_at}
 use Rattle.xw_feas.specs.Flags.{set_has}
 use Rattle.xw_feas.specs.State.{State, Action}
 use Rattle.xw_net.specs.declared.net.Net.{Net}
-use Rattle.xw_net.specs.declared.change.Change.{Change}
+use Rattle.xw_net.specs.Change.{Fields}
 use Rattle.xw_net.specs.Revival.{same_light}
 use Rattle.xw_net.specs.Region.{IsRegion}
 use Rattle.xw_net.specs.Marks.{known}
@@ -33,20 +33,34 @@ arrays_of net = record { rows = net.rows.items; base = net.base.items; letters =
 
 -- the edit may take words or letters from the light: it is new, an edited cell is in it, or it has
 -- the length of the changed word
-pub data IsTouched (grid : Grid) (board : Board) (lights : List Light) (change : Change) (light : ℕ) : Type 0 where
-  by_light : IsNewLight change.before.now lights light → IsTouched grid board lights change light
-  by_cell : IsThroughListed grid board change.cells.now light → IsTouched grid board lights change light
+pub data IsTouched (grid : Grid) (board : Board) (lights : List Light) (change : Fields) (light : ℕ) : Type 0 where
+  by_light : IsNewLight change.before lights light → IsTouched grid board lights change light
+  by_cell : IsThroughListed grid board change.cells light → IsTouched grid board lights change light
   by_word : HasLength board change.word light → IsTouched grid board lights change light
 
 -- the edit may give words or letters to the light: it is touched, was queued, or a letter is missing
 -- at a cell of it that was in a removed light
-pub data MayGain (grid : Grid) (board : Board) (lights : List Light) (change : Change) (old : Arrays) (light : ℕ) : Type 0 where
-  if_touched : IsTouched grid board lights change light → MayGain grid board lights change old light
-  if_queued : is_marked old.queue.marks light ≡ true → MayGain grid board lights change old light
-  if_freed : IsThroughFreed board (IsFreed grid change.before.now lights (length change.before.now)) old.letters light → MayGain grid board lights change old light
+pub data MayGain (grid : Grid) (board : Board) (lights : List Light) (change : Fields) (letters : List ℕ) (queue : ListOfLights) (light : ℕ) : Type 0 where
+  if_touched : IsTouched grid board lights change light → MayGain grid board lights change letters queue light
+  if_queued : is_marked queue.marks light ≡ true → MayGain grid board lights change letters queue light
+  if_freed : IsThroughFreed board (IsFreed grid change.before lights (length change.before)) letters light → MayGain grid board lights change letters queue light
+
+-- the new lights and those through edited cells were queued, those that may gain were marked, and
+-- the edited and freed cells got their letters
+pub record Touches (grid : Grid) (board : Board) (lights : List Light) (change : Fields) (letters : List ℕ) (queue chain : ListOfLights) (letters' : List ℕ) (queue' chain' : ListOfLights) : Type 0 where
+  pub letters_len : length letters' ≡ length letters
+  pub queue_grows : Grows queue queue'
+  pub chain_grows : Grows chain chain'
+  pub new_queued : MarksAll (IsNewLight change.before lights) queue'
+  pub new_marked : MarksAll (IsNewLight change.before lights) chain'
+  pub edited : AreEdited grid board change.cells (set_has letters') (is_marked queue'.marks) (is_marked chain'.marks)
+  pub spread : IsSpread board (set_has letters) (set_has letters') (is_marked chain'.marks) (is_waiting chain'.lights) no_places
+  pub freed : (cell : ℕ) → IsFreed grid change.before lights (length change.before) cell → HasAll board (set_has letters') cell
+  pub queued_within : MarksOnly (IsTouched grid board lights change) queue queue'
+  pub within : MarksOnly (MayGain grid board lights change letters queue) chain chain'
 
 -- what the start of an update has written, by the description of the edit
-pub record IsOpening (grid : Grid) (board : Board) (lights : List Light) (entries : ℕ → List Entry) (change : Change) (old new : Arrays) : Type 0 where
+pub record IsOpening (grid : Grid) (board : Board) (lights : List Light) (entries : ℕ → List Entry) (change : Fields) (old new : Arrays) : Type 0 where
   pub size : length new.queue.marks ≡ length board.lights
   -- exactly the marked lights are in the queue and in the chain
   pub queue : Grows old.queue new.queue
@@ -54,15 +68,15 @@ pub record IsOpening (grid : Grid) (board : Board) (lights : List Light) (entrie
   pub chain : Grows old.chain new.chain
   pub seeds : HasSeeds new.chain
   -- the new lights and those through edited cells are queued, and those that may gain are marked
-  pub new_queued : MarksAll (IsNewLight change.before.now lights) new.queue
-  pub new_marked : MarksAll (IsNewLight change.before.now lights) new.chain
-  pub edited : AreEdited grid board change.cells.now (set_has new.letters) (is_marked new.queue.marks) (is_marked new.chain.marks)
+  pub new_queued : MarksAll (IsNewLight change.before lights) new.queue
+  pub new_marked : MarksAll (IsNewLight change.before lights) new.chain
+  pub edited : AreEdited grid board change.cells (set_has new.letters) (is_marked new.queue.marks) (is_marked new.chain.marks)
   pub spread : IsSpread board (set_has old.letters) (set_has new.letters) (is_marked new.chain.marks) (is_waiting new.chain.lights) no_places
-  pub freed : (cell : ℕ) → IsFreed grid change.before.now lights (length change.before.now) cell → HasAll board (set_has new.letters) cell
+  pub freed : (cell : ℕ) → IsFreed grid change.before lights (length change.before) cell → HasAll board (set_has new.letters) cell
   pub prepared : Prepares board entries change.word old.rows new.rows old.base new.base new.queue new.chain
   -- no other light is
   pub queued_within : MarksOnly (IsTouched grid board lights change) old.queue new.queue
-  pub within : MarksOnly (MayGain grid board lights change old) old.chain new.chain
+  pub within : MarksOnly (MayGain grid board lights change old.letters old.queue) old.chain new.chain
 
 module _ (before now : State) where
   -- a settled net was adapted to the lights after an edit: each light that stays has its data,

@@ -9,14 +9,13 @@ use Rattle.xw_feas.specs.Board.{Board, board_of}
 use Rattle.xw_feas.specs.State.{State, Action}
 use Rattle.xw_feas.specs.WellFormed.{IsWellFormed}
 use Rattle.xw_net.specs.declared.net.Net.{Net}
-use Rattle.xw_net.specs.declared.change.Change.{Change}
 use Rattle.xw_net.specs.Room.{row_at}
 use Rattle.xw_net.specs.Region.{IsRegion, cost}
 use Rattle.xw_net.specs.Cost.{revival_cost, stripping_cost}
 use Rattle.xw_net.specs.Nets.{IsShaped, IsChained, HasBits, IsQueue}
 use Rattle.xw_net.specs.Brought.{HasBase}
 use Rattle.xw_net.specs.Filled.{AreLong, HasRowRoom, IsUnstripped, IsFilled}
-use Rattle.xw_net.specs.Change.{IsChange, AreReadsOf}
+use Rattle.xw_net.specs.Change.{Fields, IsChange, AreReadsOf}
 use Rattle.xw_net.specs.Net.{IsSettledFor, IsRevivedFor}
 use Rattle.xw_net.specs.Steps.{PendLess}
 use Rattle.xw_net.specs.Worklist.{HasSeeds}
@@ -35,10 +34,10 @@ pub record IsSized (board : Board) (entries : ℕ → List Entry) (net : Net) : 
 
 -- the net is adapted to the lights after the edit that the change describes, and only seeds are
 -- queued or marked
-pub record CanBegin (grid : Grid) (board : Board) (lights : List Light) (entries : ℕ → List Entry) (change : Change) (net : Net) : Type 0 where
+pub record CanBegin (grid : Grid) (board : Board) (lights : List Light) (entries : ℕ → List Entry) (change : Fields) (net : Net) : Type 0 where
   pub boards : board ≡ board_of grid
   pub are_lights : lights ≡ lights_of grid
-  pub inside : AreInside grid change.cells.now
+  pub inside : AreInside grid change.cells
   pub long : AreLong board entries
   pub sized : IsSized board entries net
   pub queued : HasSeeds net.queue
@@ -79,7 +78,7 @@ module _ (grid : Grid) (entries : ℕ → List Entry) where
       (before : State) (words : Dictionary) (action : Action) (member : List ℕ → Bool) → AreReadsOf entries words → IsWellFormed (state_of grid words)
       → IsRevivedFor before (state_of grid words) action old → IsRegion before (state_of grid words) action member → ticks' ≤ ticks + stripping_cost (state_of grid words) member
 
-  module _ (change : Change) where
+  module _ (change : Fields) where
     -- a net that was adapted to the lights is opened
     abbrev pub Opens : Net → Net → Type 0
     Opens old new =

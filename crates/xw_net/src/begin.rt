@@ -7,7 +7,7 @@ ghost use Rattle.xw_feas.specs.Board.{light_at};
 ghost use Rattle.xw_feas.specs.Feasible.{may_stand};
 ghost use Rattle.xw_feas.specs.Flags.{set_has};
 ghost use Rattle.xw_net.specs.Spread.{AreAsLong, IsThrough, KeepsSpread, bits_in, OtherCellsStay};
-ghost use Rattle.xw_net.specs.Begin.{IsEdited, StaysEdited, AreEdited, IsThroughListed, HasLength, IsQueuedSeed, IsConcerned, may_have, is_seed as is_seed_of, has_changed, is_read, AreNarrowed, Prepares};
+ghost use Rattle.xw_net.specs.Begin.{IsEdited, StaysEdited, EditsCells, HasLength, IsQueuedSeed, IsConcerned, may_have, is_seed as is_seed_of, has_changed, is_read, AreNarrowed, Prepares};
 ghost use Rattle.xw_net.specs.Brought.{HasBase, CostsAtMost};
 ghost use Rattle.xw_net.specs.Filled.{AreLong};
 ghost use Rattle.xw_net.specs.Room.{KeepRoom};
@@ -95,13 +95,7 @@ pub(crate) fn edit_cells(
     requires letters { AreByCell board.now letters.old }
     requires queue { HasLights board.now queue.old }
     requires chain { HasLights board.now chain.old }
-    ensures len { length letters.new ≡ length letters.old }
-    ensures queue { Grows queue.old queue.new }
-    ensures queued_within { MarksOnly (IsThroughListed grid.now board.now cells.now) queue.old queue.new }
-    ensures chain { Grows chain.old chain.new }
-    ensures within { MarksOnly (IsThroughListed grid.now board.now cells.now) chain.old chain.new }
-    ensures edited { AreEdited grid.now board.now cells.now (set_has letters.new) (is_marked queue.new.marks) (is_marked chain.new.marks) }
-    ensures spread { KeepsSpread board.now letters.old chain.old letters.new chain.new }
+    ensures { EditsCells grid.now board.now cells.now letters.old queue.old chain.old letters.new queue.new chain.new }
 {
     for at in 0..cells.len() {
         let (cell, old) = cells[at];

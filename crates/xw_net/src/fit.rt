@@ -3,6 +3,7 @@ ghost use Rattle.std.specs.Prelude.{◌≡◌, ℕ, ◌<◌, ◌≤◌, length};
 ghost use Rattle.xw_net.specs.Room.{counts_of, row_at, HaveRoom, KeepRoom};
 ghost use Rattle.xw_net.specs.Fit.{fitted, AreFitted};
 
+use crate::change::Change;
 use crate::net::Net;
 use crate::room::size_at;
 use xw_bits::bit_row::BitRow;
@@ -37,40 +38,42 @@ pub(crate) fn fit_rows<R: Rows>(words: &R, lights: &Lights, rows: &mut [BitRow])
 
 impl Net {
     ghost use Rattle.std.specs.Prelude.{◌≡◌, None, vec_len};
+    ghost use Rattle.xw_net.specs.Change.{before_of};
     ghost use Rattle.xw_net.specs.Update.{MovesTo};
     ghost use Rattle.xw_net.specs.Room.{counts_of, IsWhole, HasRoom};
-    ghost use Rattle.xw_net.specs.Renumber.{AreLights};
-    ghost use Rattle.xw_net.specs.Fit.{AreNear, IsAtRest, HasRoomBetween, IsTurned};
+    ghost use Rattle.xw_net.specs.Fit.{IsAtRest, CanFollow, Follows};
 
-    /// Switches to the spare arrays for the lights after an edit, if there are any.
+    /// Switches to the spare arrays for the lights after a change of shape, if there are any.
     fn turn_to<R: Rows>(&mut self, words: &R, before: &Lights, lights: &Lights)
-        requires lights { AreLights lights.now }
-        requires rest { IsAtRest before.now (vec_len self.old.letters) self.old }
-        requires room { HasRoomBetween before.now lights.now (counts_of (R.entries words.now)) self.old self.old.spare }
-        ensures rest { IsAtRest lights.now (vec_len self.old.letters) self.new }
-        ensures rows { AreNear before.now (counts_of (R.entries words.now)) self.old.rows.items → AreNear lights.now (counts_of (R.entries words.now)) self.new.rows.items }
-        ensures base { AreNear before.now (counts_of (R.entries words.now)) self.old.base.items → AreNear lights.now (counts_of (R.entries words.now)) self.new.base.items }
-        ensures room { HasRoom lights.now (counts_of (R.entries words.now)) self.new }
-        ensures turned { IsTurned before.now lights.now self.old self.new }
+        requires { CanFollow before.now lights.now (counts_of (R.entries words.now)) self.old }
+        ensures { Follows before.now lights.now (counts_of (R.entries words.now)) self.old self.new }
     {
         if let Some(spare) = self.spare.take() {
             self.renumber(words, spare, before, lights);
         }
     }
+    /// Follows the lights after an edit. Only a change of shape can have changed them; any other one
+    /// drops spare arrays.
+    fn follow<R: Rows>(&mut self, words: &R, change: &Change<'_>, lights: &Lights)
+        requires { CanFollow (before_of lights.now change.now) lights.now (counts_of (R.entries words.now)) self.old }
+        ensures { Follows (before_of lights.now change.now) lights.now (counts_of (R.entries words.now)) self.old self.new }
+    {
+        match *change {
+            Change::Letters(_) => self.spare = None,
+            Change::Shape { before, .. } => self.turn_to(words, before, lights),
+            Change::Word { .. } => self.spare = None,
+        }
+    }
     /// Adapts the net to the lights and the known words after an edit.
-    pub(crate) fn move_to<R: Rows>(&mut self, words: &R, before: &Lights, lights: &Lights)
-        requires lights { AreLights lights.now }
-        requires rest { IsAtRest before.now (vec_len self.old.letters) self.old }
-        requires room { HasRoomBetween before.now lights.now (counts_of (R.entries words.now)) self.old self.old.spare }
-        requires rows { AreNear before.now (counts_of (R.entries words.now)) self.old.rows.items }
-        requires base { AreNear before.now (counts_of (R.entries words.now)) self.old.base.items }
+    pub(crate) fn move_to<R: Rows>(&mut self, words: &R, change: &Change<'_>, lights: &Lights)
+        requires { CanFollow (before_of lights.now change.now) lights.now (counts_of (R.entries words.now)) self.old }
         ensures rest { IsAtRest lights.now (vec_len self.old.letters) self.new }
         ensures whole { IsWhole lights.now (counts_of (R.entries words.now)) self.new }
         ensures room { HasRoom lights.now (counts_of (R.entries words.now)) self.new }
         ensures spare { self.new.spare ≡ None }
-        ensures moved { MovesTo before.now lights.now (R.entries words.now) self.old self.new }
+        ensures moved { MovesTo (before_of lights.now change.now) lights.now (R.entries words.now) self.old self.new }
     {
-        self.turn_to(words, before, lights);
+        self.follow(words, change, lights);
         fit_rows(words, lights, &mut self.rows);
         fit_rows(words, lights, &mut self.base);
     }

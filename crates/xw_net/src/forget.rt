@@ -1,10 +1,12 @@
 //! Forgets supports that an edit may have made invalid.
-ghost use Rattle.std.specs.Prelude.{◌≡◌, ◌⊎◌, ℕ, ◌+◌, ◌-◌, ◌*◌, ◌^◌, ◌<◌, ◌≤◌, false, true, Option, is_some, length, slice_index};
-ghost use Rattle.xw_feas.specs.Board.{light_at};
+ghost use Rattle.std.specs.Prelude.{◌≡◌, ◌⊎◌, ℕ, ◌+◌, ◌-◌, ◌*◌, ◌^◌, ◌<◌, ◌≤◌, false, true, nat_le, List, Option, is_some, length, slice_index};
+ghost use Rattle.xw_grid.specs.declared.lights.Light.{Light};
+ghost use Rattle.xw_feas.specs.Board.{Board as BoardOfGrid, light_at};
 ghost use Rattle.xw_feas.specs.Flags.{set_has};
 ghost use Rattle.xw_net.specs.Marks.{slot_at, AreSlotsApart, AreBySlot, AreHeld, HasFewCells};
+ghost use Rattle.xw_net.specs.Change.{before_of, fields_of};
 ghost use Rattle.xw_net.specs.Renumber.{same_before};
-ghost use Rattle.xw_net.specs.Forget.{cut, lose, lost_from as lost_from_of, lost_at, nowhere, ChangesHeld, KeepsHeld, KeepsFewer, Forgets};
+ghost use Rattle.xw_net.specs.Forget.{cut, lose, lost_from as lost_from_of, lost_at, nowhere, ChangesHeld, KeepsHeld, KeepsFewer, ForgetNone, Forgets};
 
 use crate::change::Change;
 use crate::place::place_of;
@@ -69,18 +71,41 @@ fn lost_from(word: Option<(usize, usize)>, has_stayed: bool, size: usize, known:
         return 0;
     }
     match word {
-        Some((len, place)) if len == size && (known <= place || known - 1 == place) => place,
+        Some((len, index)) if len == size && (known <= index || known - 1 == index) => index,
         _ => NOWHERE,
     }
 }
 
-/// Whether a light has the same cells as one before the edit.
-fn has_stayed(lights: &Lights, before: &Lights, stays: bool, light: usize) -> bool
-    requires light { light < length lights.now }
-    requires stays { stays ≡ true → lights.now ≡ before.now }
-    ensures { result ≡ is_some (same_before before.now lights.now light) }
+/// Whether the word of this length and index is the last known one, or past it.
+fn is_last<R: Rows>(rows: &R, len: usize, index: usize) -> bool
+    ensures { result ≡ nat_le (length (R.entries rows.now len)) (index + 1) }
 {
-    stays || lights.same(light, before).is_some()
+    let known = rows.known(len);
+    known <= index || known - 1 == index
+}
+
+/// Whether no light has to forget a support: no light is new, and no index of a word may have got
+/// another meaning.
+fn forgets_none<R: Rows>(rows: &R, change: &Change<'_>) -> bool
+    ensures { (board : BoardOfGrid) (lights : List Light) → result ≡ true → ForgetNone (fields_of lights change.now) board lights (R.entries rows.now) }
+{
+    match *change {
+        Change::Letters(_) => true,
+        Change::Shape { .. } => false,
+        Change::Word { len, index } => !is_last(rows, len, index),
+    }
+}
+
+/// Whether a light has the same cells as one before the edit.
+fn has_stayed(lights: &Lights, change: &Change<'_>, light: usize) -> bool
+    requires { light < length lights.now }
+    ensures { result ≡ is_some (same_before (before_of lights.now change.now) lights.now light) }
+{
+    match *change {
+        Change::Letters(_) => true,
+        Change::Shape { before, .. } => lights.same(light, before).is_some(),
+        Change::Word { .. } => true,
+    }
 }
 
 /// The least index of a support that a light of a board has to forget after an edit.
@@ -89,18 +114,20 @@ fn lost_of<R: Rows>(
     board: &Board<'_>,
     lights: &Lights,
     change: &Change<'_>,
-    stays: bool,
     light: usize,
 ) -> usize
     requires light { light < length board.now.lights }
     requires lights { length lights.now ≡ length board.now.lights }
-    requires stays { stays ≡ true → lights.now ≡ change.now.before.now }
-    ensures { result ≡ lost_at change.now board.now lights.now (R.entries rows.now) light }
+    ensures { result ≡ lost_at (fields_of lights.now change.now) board.now lights.now (R.entries rows.now) light }
 {
     let size = board.light(light).len();
     let known = rows.known(size);
-    let has_stayed = has_stayed(lights, change.before, stays, light);
-    lost_from(change.word, has_stayed, size, known)
+    lost_from(
+        change.word(),
+        has_stayed(lights, change, light),
+        size,
+        known,
+    )
 }
 
 /// Forgets, for each light, the supports that may be invalid after an edit.
@@ -109,20 +136,21 @@ pub(crate) fn forget_lights<R: Rows>(
     board: &Board<'_>,
     lights: &Lights,
     change: &Change<'_>,
-    stays: bool,
     held: &mut [usize],
     pending: &mut [LetterSet],
 )
     requires lights { length lights.now ≡ length board.now.lights }
-    requires stays { stays ≡ true → lights.now ≡ change.now.before.now }
     requires few { HasFewCells board.now }
     requires apart { AreSlotsApart board.now }
     requires held { AreHeld board.now held.old }
     requires pending { AreBySlot board.now pending.old }
-    ensures { Forgets board.now (lost_at change.now board.now lights.now (R.entries rows.now)) held.old held.new pending.old pending.new }
+    ensures { Forgets board.now (lost_at (fields_of lights.now change.now) board.now lights.now (R.entries rows.now)) held.old held.new pending.old pending.new }
 {
+    if forgets_none(rows, change) {
+        return;
+    }
     for light in 0..board.light_count() {
-        let first = lost_of(rows, board, lights, change, stays, light);
+        let first = lost_of(rows, board, lights, change, light);
         forget_light(board, light, first, held, pending);
     }
 }

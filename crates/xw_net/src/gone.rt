@@ -70,27 +70,21 @@ fn raise_if_gone(
 }
 
 /// Gives the cells of each removed light all letters that they allow, and marks as seeds the lights
-/// through a cell that gets a letter back. If `stays` is true no light was removed, and it does
-/// nothing.
+/// through a cell that gets a letter back.
 pub(crate) fn raise_gone(
     grid: &Grid,
     board: &Board<'_>,
     lights: &Lights,
     before: &Lights,
-    stays: bool,
     letters: &mut [LetterSet],
     chain: &mut Worklist,
 )
-    requires stays { stays ≡ true → lights.now ≡ before.now }
     requires cells { length grid.now.squares ≡ length board.now.open_cells }
     requires letters { AreByCell board.now letters.old }
     requires chain { HasLights board.now chain.old }
     requires seeds { HasSeeds chain.old }
     ensures { Raises board.now (IsFreed grid.now before.now lights.now (length before.now)) letters.old chain.old letters.new chain.new }
 {
-    if stays {
-        return;
-    }
     for other in 0..before.len() {
         raise_if_gone(grid, board, lights, before, other, letters, chain);
     }

@@ -29,7 +29,7 @@ pub mod sizes;
 mod spread;
 mod support;
 mod tally;
-mod unmoved;
+mod touch;
 mod worklist;
 
 pub use change::Change;

@@ -68,23 +68,13 @@ pub fn raise_cell(board: &Board<'_>, cell: usize, letters: &mut [LetterSet], cha
     }
 }
 
-/// Queues and marks the lights whose cells no light before the edit has. If `stays` is true there is none, and it does nothing.
-pub(crate) fn mark_new(
-    lights: &Lights,
-    before: &Lights,
-    stays: bool,
-    queue: &mut Worklist,
-    chain: &mut Worklist,
-)
-    requires stays { stays ≡ true → lights.now ≡ before.now }
+/// Queues and marks the lights whose cells no light before the edit has.
+pub(crate) fn mark_new(lights: &Lights, before: &Lights, queue: &mut Worklist, chain: &mut Worklist)
     requires queue { length lights.now ≤ length queue.old.marks }
     requires chain { length lights.now ≤ length chain.old.marks }
     ensures queue { Adds (IsNewLight before.now lights.now) queue.old queue.new }
     ensures chain { Adds (IsNewLight before.now lights.now) chain.old chain.new }
 {
-    if stays {
-        return;
-    }
     for light in 0..lights.len() {
         if lights.same(light, before).is_some() {
             continue;

@@ -1,11 +1,9 @@
 //! Updates a net after an edit.
-use crate::begin::{edit_cells, prepare};
+use crate::begin::prepare;
 use crate::change::Change;
 use crate::forget::forget_lights;
-use crate::gone::raise_gone;
 use crate::net::Net;
-use crate::seeds::mark_new;
-use crate::unmoved::are_same;
+use crate::touch::touch;
 use xw_feas::board::Board;
 use xw_grid::grid::Grid;
 use xw_grid::lights::Lights;
@@ -17,6 +15,7 @@ impl Net {
     ghost use Rattle.xw_feas.specs.Board.{board_of};
     ghost use Rattle.xw_net.specs.Begin.{is_read};
     ghost use Rattle.xw_net.specs.Brought.{CostsAtMost};
+    ghost use Rattle.xw_net.specs.Change.{before_of, cells_of, word_of, fields_of};
     ghost use Rattle.xw_net.specs.Filled.{AreLong};
     ghost use Rattle.xw_net.specs.Fit.{HasRoomBetween};
     ghost use Rattle.xw_net.specs.Net.{StoodFor};
@@ -35,12 +34,10 @@ impl Net {
         board: &Board<'_>,
         lights: &Lights,
         change: &Change<'_>,
-        stays: bool,
     )
         requires cells { length grid.now.squares ≡ length board.now.open_cells }
-        requires inside { AreInside grid.now change.now.cells.now }
+        requires inside { AreInside grid.now (cells_of change.now) }
         requires lights { length lights.now ≡ length board.now.lights }
-        requires stays { stays ≡ true → lights.now ≡ change.now.before.now }
         requires long { AreLong board.now (R.entries rows.old) }
         requires sized { IsSized board.now (R.entries rows.old) self.old }
         requires queued { HasSeeds self.old.queue }
@@ -50,29 +47,14 @@ impl Net {
         ensures sized { IsSized board.now (R.entries rows.old) self.new }
         ensures room { KeepsRoom self.old self.new }
         ensures rest { self.new ≡ record self.old { rows = self.new.rows; base = self.new.base; letters = self.new.letters; queue = self.new.queue; chain = self.new.chain } }
-        ensures opening { IsOpening grid.now board.now lights.now (R.entries rows.old) change.now (arrays_of self.old) (arrays_of self.new) }
-        ensures cost { CostsAtMost board.now (R.entries rows.old) (is_read board.now change.now.word (is_marked self.new.queue.marks)) (R.ticks rows.old) (R.ticks rows.new) }
+        ensures opening { IsOpening grid.now board.now lights.now (R.entries rows.old) (fields_of lights.now change.now) (arrays_of self.old) (arrays_of self.new) }
+        ensures cost { CostsAtMost board.now (R.entries rows.old) (is_read board.now (word_of change.now) (is_marked self.new.queue.marks)) (R.ticks rows.old) (R.ticks rows.new) }
     {
-        mark_new(
-            lights,
-            change.before,
-            stays,
-            &mut self.queue,
-            &mut self.chain,
-        );
-        raise_gone(
+        touch(
             grid,
             board,
             lights,
-            change.before,
-            stays,
-            &mut self.letters,
-            &mut self.chain,
-        );
-        edit_cells(
-            grid,
-            board,
-            change.cells,
+            change,
             &mut self.letters,
             &mut self.queue,
             &mut self.chain,
@@ -80,7 +62,7 @@ impl Net {
         prepare(
             rows,
             board,
-            change.word,
+            change.word(),
             &mut self.queue,
             &mut self.base,
             &mut self.rows,
@@ -96,24 +78,22 @@ impl Net {
         lights: &Lights,
         change: &Change<'_>,
     )
-        requires { CanBegin grid.now board.now lights.now (R.entries rows.old) change.now self.old }
+        requires { CanBegin grid.now board.now lights.now (R.entries rows.old) (fields_of lights.now change.now) self.old }
         ensures entries { R.entries rows.new ≡ R.entries rows.old }
         ensures risen { R.ticks rows.old ≤ R.ticks rows.new }
         ensures begun { IsBegun board.now (R.entries rows.old) self.old self.new }
-        ensures opened { Opens grid.now (R.entries rows.old) change.now self.old self.new }
-        ensures cost { CostsAtMost board.now (R.entries rows.old) (is_read board.now change.now.word (is_marked self.new.queue.marks)) (R.ticks rows.old) (R.ticks rows.new) }
+        ensures opened { Opens grid.now (R.entries rows.old) (fields_of lights.now change.now) self.old self.new }
+        ensures cost { CostsAtMost board.now (R.entries rows.old) (is_read board.now (word_of change.now) (is_marked self.new.queue.marks)) (R.ticks rows.old) (R.ticks rows.new) }
     {
-        let stays = are_same(lights, change.before);
         forget_lights(
             rows,
             board,
             lights,
             change,
-            stays,
             &mut self.held,
             &mut self.pending,
         );
-        self.open(rows, grid, board, lights, change, stays);
+        self.open(rows, grid, board, lights, change);
     }
     /// Revives a net that is already adapted to the lights after an edit.
     fn revive_moved<R: Rows>(
@@ -124,7 +104,7 @@ impl Net {
         lights: &Lights,
         change: &Change<'_>,
     )
-        requires { CanBegin grid.now board.now lights.now (R.entries rows.old) change.now self.old }
+        requires { CanBegin grid.now board.now lights.now (R.entries rows.old) (fields_of lights.now change.now) self.old }
         ensures entries { R.entries rows.new ≡ R.entries rows.old }
         ensures risen { R.ticks rows.old ≤ R.ticks rows.new }
         ensures shaped { IsShaped board.now self.new }
@@ -132,8 +112,8 @@ impl Net {
         ensures queue { IsQueue self.new }
         ensures spare { self.new.spare ≡ self.old.spare }
         ensures room { KeepsRoom self.old self.new }
-        ensures revived { RevivesMoved grid.now (R.entries rows.old) change.now board.now self.old self.new }
-        ensures cost { RevivesMovedInRegion grid.now (R.entries rows.old) change.now self.old (R.ticks rows.old) (R.ticks rows.new) }
+        ensures revived { RevivesMoved grid.now (R.entries rows.old) (fields_of lights.now change.now) board.now self.old self.new }
+        ensures cost { RevivesMovedInRegion grid.now (R.entries rows.old) (fields_of lights.now change.now) self.old (R.ticks rows.old) (R.ticks rows.new) }
     {
         self.begin(rows, grid, board, lights, change);
         self.bring_back(board);
@@ -150,11 +130,11 @@ impl Net {
         lights: &Lights,
     )
         requires lights { lights.now ≡ lights_of grid.now }
-        requires inside { AreInside grid.now change.now.cells.now }
+        requires inside { AreInside grid.now (cells_of change.now) }
         requires long { AreLong (board_of grid.now) (R.entries rows.old) }
         requires cells { vec_len self.old.letters ≡ length grid.now.squares }
-        requires stood { StoodFor change.now.before.now (counts_of (R.entries rows.old)) self.old }
-        requires room { HasRoomBetween change.now.before.now lights.now (counts_of (R.entries rows.old)) self.old self.old.spare }
+        requires stood { StoodFor (before_of lights.now change.now) (counts_of (R.entries rows.old)) self.old }
+        requires room { HasRoomBetween (before_of lights.now change.now) lights.now (counts_of (R.entries rows.old)) self.old self.old.spare }
         ensures entries { R.entries rows.new ≡ R.entries rows.old }
         ensures risen { R.ticks rows.old ≤ R.ticks rows.new }
         ensures spare { self.new.spare ≡ None }
@@ -162,10 +142,10 @@ impl Net {
         ensures shaped { IsShaped (board_of grid.now) self.new }
         ensures bits { HasBits (board_of grid.now) (R.entries rows.old) self.new }
         ensures queue { IsQueue self.new }
-        ensures revived { Revives grid.now (R.entries rows.old) change.now self.old self.new }
-        ensures cost { RevivesInRegion grid.now (R.entries rows.old) change.now self.old (R.ticks rows.old) (R.ticks rows.new) }
+        ensures revived { Revives grid.now (R.entries rows.old) (fields_of lights.now change.now) self.old self.new }
+        ensures cost { RevivesInRegion grid.now (R.entries rows.old) (fields_of lights.now change.now) self.old (R.ticks rows.old) (R.ticks rows.new) }
     {
-        self.move_to(rows, change.before, lights);
+        self.move_to(rows, change, lights);
         let board = Board::new(grid, lights);
         self.revive_moved(rows, grid, &board, lights, change);
     }
@@ -201,17 +181,17 @@ impl Net {
         lights: &Lights,
     )
         requires lights { lights.now ≡ lights_of grid.now }
-        requires inside { AreInside grid.now change.now.cells.now }
+        requires inside { AreInside grid.now (cells_of change.now) }
         requires long { AreLong (board_of grid.now) (R.entries rows.old) }
         requires cells { vec_len self.old.letters ≡ length grid.now.squares }
-        requires stood { StoodFor change.now.before.now (counts_of (R.entries rows.old)) self.old }
-        requires room { HasRoomBetween change.now.before.now lights.now (counts_of (R.entries rows.old)) self.old self.old.spare }
+        requires stood { StoodFor (before_of lights.now change.now) (counts_of (R.entries rows.old)) self.old }
+        requires room { HasRoomBetween (before_of lights.now change.now) lights.now (counts_of (R.entries rows.old)) self.old self.old.spare }
         ensures entries { R.entries rows.new ≡ R.entries rows.old }
         ensures risen { R.ticks rows.old ≤ R.ticks rows.new }
         ensures spare { self.new.spare ≡ None }
         ensures room { HasRoom lights.now (counts_of (R.entries rows.old)) self.new }
-        ensures settled { Settles grid.now (R.entries rows.old) change.now self.old self.new }
-        ensures cost { SettlesInRegion grid.now (R.entries rows.old) change.now self.old (R.ticks rows.old) (R.ticks rows.new) }
+        ensures settled { Settles grid.now (R.entries rows.old) (fields_of lights.now change.now) self.old self.new }
+        ensures cost { SettlesInRegion grid.now (R.entries rows.old) (fields_of lights.now change.now) self.old (R.ticks rows.old) (R.ticks rows.new) }
     {
         self.revive(rows, change, grid, lights);
         self.strip(rows, change, grid, lights);

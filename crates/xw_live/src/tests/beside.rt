@@ -1,14 +1,13 @@
 //! A second net, updated by the same edits as the engine under test, to check the engine's ticks.
-ghost use Rattle.std.specs.Prelude.{◌≡◌, ℕ, length, true, false, is_some, Option, Contains, Ok};
+ghost use Rattle.std.specs.Prelude.{◌≡◌, ℕ, length, true, false, is_some, Ok};
 ghost use Rattle.xw_words.specs.Dictionary.{Dictionary, add_answer};
-ghost use Rattle.xw_grid.specs.declared.cell.Cell.{Cell as CellOfGrid};
-ghost use Rattle.xw_grid.specs.Grid.{is_inside};
 ghost use Rattle.xw_grid.specs.Light.{lights_of};
 ghost use Rattle.xw_feas.specs.State.{State, Action, action_of, is_of_letters, grid_after};
 ghost use Rattle.xw_feas.specs.WellFormed.{IsWellFormed};
-ghost use Rattle.xw_net.specs.Change.{IsChange, IsWordEdit};
+ghost use Rattle.xw_net.specs.Change.{before_of, cells_of, fields_of, IsChange, IsWordEdit};
 ghost use Rattle.xw_live.specs.Engine.{IsKept, IsKept-prop};
 ghost use Rattle.xw_net.specs.Fit.{HasRoomBetween};
+ghost use Rattle.xw_net.specs.Update.{AreInside};
 ghost use Rattle.xw_live.specs.Idle.{is_of_shape, is_list};
 ghost use Rattle.xw_net.specs.Net.{StoodFor, IsSettledFor, known_counts, sets_of};
 ghost use Rattle.xw_net.specs.Room.{HasRoom};
@@ -46,12 +45,12 @@ pub struct Beside {
 /// Updates a net after a change. Returns the ticks it took.
 fn settle(net: &mut Net, change: &Change<'_>, grid: &Grid, lights: &Lights, bank: &Bank) -> u64
     requires lights { lights.now ≡ lights_of grid.now }
-    requires inside { (listed : CellOfGrid × Option ℕ) → Contains change.now.cells.now listed → is_inside grid.now listed.0 ≡ true }
+    requires inside { AreInside grid.now (cells_of change.now) }
     requires cells { length (sets_of net.old) ≡ length grid.now.squares }
-    requires stood { StoodFor change.now.before.now (known_counts bank.now.words) net.old }
-    requires room { HasRoomBetween change.now.before.now lights.now (known_counts bank.now.words) net.old net.old.spare }
+    requires stood { StoodFor (before_of lights.now change.now) (known_counts bank.now.words) net.old }
+    requires room { HasRoomBetween (before_of lights.now change.now) lights.now (known_counts bank.now.words) net.old net.old.spare }
     ensures { (before : State) (action : Action) →
-        IsChange before (record { grid = grid.now; words = bank.now.words }) action change.now →
+        IsChange before (record { grid = grid.now; words = bank.now.words }) action (fields_of lights.now change.now) →
         ∥ IsSettledFor before net.old ∥₁ →
         IsKept (record { grid = grid.now; words = bank.now.words }) net.new }
 {
@@ -81,10 +80,9 @@ fn settle_word(
         IsKept (record { grid = grid.now; words = bank.now.words }) net.new }
 {
     known_distinct(bank);
-    let change = Change {
-        cells: &[],
-        before: lights,
-        word: Some(word),
+    let change = Change::Word {
+        len: word.0,
+        index: word.1,
     };
     settle(net, &change, grid, lights, bank)
 }
@@ -114,11 +112,7 @@ impl Beside {
         let written = Written::of(&self.grid, &self.lights, edit);
         edit_letters(&mut self.grid, &self.lights, edit)?;
         self.grid.well_formed();
-        let change = Change {
-            cells: written.as_slice(),
-            before: &self.lights,
-            word: None,
-        };
+        let change = Change::Letters(written.as_slice());
         Ok(settle(&mut self.net, &change, &self.grid, &self.lights, &self.bank))
     }
 
@@ -128,11 +122,7 @@ impl Beside {
         write(&mut self.grid, list)?;
         self.grid.well_formed();
         let count = keep_changed(noted.as_mut_slice(), &self.grid);
-        let change = Change {
-            cells: &noted[..count],
-            before: &self.lights,
-            word: None,
-        };
+        let change = Change::Letters(&noted[..count]);
         Ok(settle(&mut self.net, &change, &self.grid, &self.lights, &self.bank))
     }
 
@@ -145,10 +135,9 @@ impl Beside {
         let lights = Lights::of(self.alloc, &grid)?;
         self.net.reserve(&lights, &self.bank, None)?;
         let written = Written::of(&self.grid, &self.lights, edit);
-        let change = Change {
-            cells: written.as_slice(),
+        let change = Change::Shape {
             before: &self.lights,
-            word: None,
+            cells: written.as_slice(),
         };
         let ticks = settle(&mut self.net, &change, &grid, &lights, &self.bank);
         self.grid = grid;

@@ -15,8 +15,7 @@ use Rattle.xw_grid.specs.Light.{lights_of}
 use Rattle.xw_feas.specs.State.{State, Action, after, grid_after, letter_set, cell_cleared, word_placed, list_written, block_toggled, bar_toggled, symmetry_chosen, word_added, word_struck, answered, add_word, strike_word}
 use Rattle.xw_feas.specs.WellFormed.{IsWellFormed}
 use Rattle.xw_feas.proofs.AdditionLemmas.{new_word}
-use Rattle.xw_net.specs.declared.change.Change.{Change}
-use Rattle.xw_net.specs.Change.{IsChange, IsPlaceOf, with_entry_of, entries_written, places_listed, place_added, place_struck, word_changed}
+use Rattle.xw_net.specs.Change.{Fields, IsChange, IsPlaceOf, with_entry_of, entries_written, places_listed, place_added, place_struck, word_changed}
 use Rattle.xw_net.specs.Region.{cells_written, edited_cells}
 use Rattle.xw_net.proofs.Edits.KeptByEdits.{IsWrittenAt, grid_of_after, written_after, with_grid-Ok, with_words-Ok}
 
@@ -138,11 +137,11 @@ words_after before now (word_struck word) made = struck_but before.words now.wor
 
 -- ---- the change
 
-pub change_made : (before now : State) (action : Action) (change : Change) → after before action ≡ Ok now → IsWellFormed before → IsWellFormed now
-    → change.cells.now ≡ entries_written before.grid action → change.before.now ≡ lights_of before.grid → change.word ≡ word_changed before.words action → IsChange before now action change
+pub change_made : (before now : State) (action : Action) (change : Fields) → after before action ≡ Ok now → IsWellFormed before → IsWellFormed now
+    → change.cells ≡ entries_written before.grid action → change.before ≡ lights_of before.grid → change.word ≡ word_changed before.words action → IsChange before now action change
 change_made before now action change made formed_before formed_now cells lights word =
     let written = written_after before.grid now.grid action formed_before.grid (grid_of_after before now action made) in
-    let places : places_listed before.grid change.cells.now ≡ edited_cells before.grid action = ap (places_listed before.grid) cells ∙ written_places before.grid action in
+    let places : places_listed before.grid change.cells ≡ edited_cells before.grid action = ap (places_listed before.grid) cells ∙ written_places before.grid action in
     let words = words_after before now action made in
     record {
       made = made;

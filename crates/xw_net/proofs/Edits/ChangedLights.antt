@@ -20,8 +20,7 @@ use Rattle.xw_words.specs.declared.fault.WordFault.{WordFault}
 use Rattle.xw_words.specs.declared.bank.Added.{Added}
 use Rattle.xw_words.specs.declared.bank.Added.TheVariants.{New, Returned}
 use Rattle.xw_feas.proofs.BoardLemmas.{entry-square}
-use Rattle.xw_net.specs.declared.change.Change.{Change}
-use Rattle.xw_net.specs.Change.{IsChange, with_entry_of, places_listed, IsPlaceOf, word_changed, place_added, place_struck}
+use Rattle.xw_net.specs.Change.{Fields, IsChange, with_entry_of, places_listed, IsPlaceOf, word_changed, place_added, place_struck}
 use Rattle.xw_net.specs.Base.{base_bits, is_base_word}
 use Rattle.xw_net.specs.Spread.{bits_in, IsSpread, HasAll, no_places}
 use Rattle.xw_net.specs.Brought.{IsBase}
@@ -68,28 +67,28 @@ same_elements [] (y ∷ ys) h = let never : None ≡ Some y = h 0 in cc
 same_elements (x ∷ xs) [] h = let never : Some x ≡ None = h 0 in cc
 same_elements (x ∷ xs) (y ∷ ys) h = ap (λ z. z ∷ xs) (some_entry x y (h 0)) ∙ ap (λ zs. y ∷ zs) (same_elements xs ys (λ k. h (suc k)))
 
-module _ (before now : State) (action : Action) (change : Change) (is : IsChange before now action change) (letters : ℕ → ℕ → Bool) (queued seed : ℕ → Bool)
-    (inside : (listed : Cell × Option ℕ) → Contains change.cells.now listed → is_inside before.grid listed.0 ≡ true)
-    (edited : (listed : Cell × Option ℕ) → Contains change.cells.now listed → IsEdited (board_of now.grid) letters queued seed (index_of now.grid listed.0) listed.1) where
+module _ (before now : State) (action : Action) (change : Fields) (is : IsChange before now action change) (letters : ℕ → ℕ → Bool) (queued seed : ℕ → Bool)
+    (inside : (listed : Cell × Option ℕ) → Contains change.cells listed → is_inside before.grid listed.0 ≡ true)
+    (edited : (listed : Cell × Option ℕ) → Contains change.cells listed → IsEdited (board_of now.grid) letters queued seed (index_of now.grid listed.0) listed.1) where
   abbrev old_board : Board
   old_board = board_of before.grid
 
   abbrev new_board : Board
   new_board = board_of now.grid
 
-  entry_off : (cell : ℕ) → ¬ Contains (places_listed before.grid change.cells.now) cell → entry new_board cell ≡ entry old_board cell
-  entry_off cell outside = entry_after before.grid now.grid (places_listed before.grid change.cells.now) cell (record { width = is.width; height = is.height; squares = is.squares }) outside
+  entry_off : (cell : ℕ) → ¬ Contains (places_listed before.grid change.cells) cell → entry new_board cell ≡ entry old_board cell
+  entry_off cell outside = entry_after before.grid now.grid (places_listed before.grid change.cells) cell (record { width = is.width; height = is.height; squares = is.squares }) outside
 
   -- the cell is listed
   record IsListed (cell : ℕ) : Type 0 where
     pub listed : Cell × Option ℕ
-    pub has : Contains change.cells.now listed
+    pub has : Contains change.cells listed
     pub at : index_of now.grid listed.0 ≡ cell
     pub old : listed.1 ≡ entry old_board cell
 
-  listed_at : (cell : ℕ) → Contains (places_listed before.grid change.cells.now) cell → IsListed cell
+  listed_at : (cell : ℕ) → Contains (places_listed before.grid change.cells) cell → IsListed cell
   listed_at cell (k, below, at) =
-      let found = unmap (λ (listed : Cell × Option ℕ). index_of before.grid listed.0) change.cells.now k cell below at in
+      let found = unmap (λ (listed : Cell × Option ℕ). index_of before.grid listed.0) change.cells k cell below at in
       let written : Contains (map (with_entry_of before.grid) (cells_written before.grid action)) found.0 = subst (λ ls. Contains ls found.0) is.cells found.1 in
       record {
         listed = found.0;
@@ -225,9 +224,9 @@ base_bits_same before after cells (word ∷ entries) same =
     ∙ ap (λ b. (not b && (word.active && agrees after cells word.word)) ∷ base_bits before cells entries) (entered_same before after cells same)
     ∙ ap (λ b. (not (is_wholly_entered before cells) && (word.active && b)) ∷ base_bits before cells entries) (agrees_same before after cells word.word same)
 
-module _ (before now : State) (action : Action) (change : Change) (is : IsChange before now action change) (letters : ℕ → ℕ → Bool) (queued seed : ℕ → Bool)
-    (inside : (listed : Cell × Option ℕ) → Contains change.cells.now listed → is_inside before.grid listed.0 ≡ true)
-    (edited : (listed : Cell × Option ℕ) → Contains change.cells.now listed → IsEdited (board_of now.grid) letters queued seed (index_of now.grid listed.0) listed.1)
+module _ (before now : State) (action : Action) (change : Fields) (is : IsChange before now action change) (letters : ℕ → ℕ → Bool) (queued seed : ℕ → Bool)
+    (inside : (listed : Cell × Option ℕ) → Contains change.cells listed → is_inside before.grid listed.0 ≡ true)
+    (edited : (listed : Cell × Option ℕ) → Contains change.cells listed → IsEdited (board_of now.grid) letters queued seed (index_of now.grid listed.0) listed.1)
     (new : (light : ℕ) → light < length (board_of now.grid).lights → same_light before.grid now.grid light ≡ None → queued light ≡ true) where
   -- a light that the edit does not touch keeps its base row
   pub changed_base : (base_before base base' : List RowOfBits)
@@ -255,11 +254,11 @@ module _ (before now : State) (action : Action) (change : Change) (is : IsChange
 
   -- ---- letters
 
-  may_same : (cell letter : ℕ) → ¬ Contains (places_listed before.grid change.cells.now) cell → may_stand (board_of now.grid) cell letter ≡ may_stand (board_of before.grid) cell letter
+  may_same : (cell letter : ℕ) → ¬ Contains (places_listed before.grid change.cells) cell → may_stand (board_of now.grid) cell letter ≡ may_stand (board_of before.grid) cell letter
   may_same cell letter outside =
-      let written : IsWrittenAt before.grid now.grid (places_listed before.grid change.cells.now) = record { width = is.width; height = is.height; squares = is.squares } in
-      ap (λ o. (o && is_capital letter) && allows (entry (board_of now.grid) cell) letter) (open_after before.grid now.grid (places_listed before.grid change.cells.now) cell written outside)
-      ∙ ap (λ e. (is_open (board_of before.grid) cell && is_capital letter) && allows e letter) (entry_after before.grid now.grid (places_listed before.grid change.cells.now) cell written outside)
+      let written : IsWrittenAt before.grid now.grid (places_listed before.grid change.cells) = record { width = is.width; height = is.height; squares = is.squares } in
+      ap (λ o. (o && is_capital letter) && allows (entry (board_of now.grid) cell) letter) (open_after before.grid now.grid (places_listed before.grid change.cells) cell written outside)
+      ∙ ap (λ e. (is_open (board_of before.grid) cell && is_capital letter) && allows e letter) (entry_after before.grid now.grid (places_listed before.grid change.cells) cell written outside)
 
   -- each letter in the net is allowed, if it was allowed before
   pub changed_letters_may : (settled : ℕ → ℕ → Bool) → ((cell letter : ℕ) → settled cell letter ≡ true → may_stand (board_of before.grid) cell letter ≡ true)
@@ -276,7 +275,7 @@ module _ (before now : State) (action : Action) (change : Change) (is : IsChange
   ]
 
   -- a letter that is allowed, and was not before, is in the net, if only open cells were filled
-  pub changed_letters_come : ((listed : Cell × Option ℕ) → Contains change.cells.now listed → is_fill (board_of now.grid) (index_of now.grid listed.0) listed.1 ≡ true → is_open (board_of before.grid) (index_of now.grid listed.0) ≡ true)
+  pub changed_letters_come : ((listed : Cell × Option ℕ) → Contains change.cells listed → is_fill (board_of now.grid) (index_of now.grid listed.0) listed.1 ≡ true → is_open (board_of before.grid) (index_of now.grid listed.0) ≡ true)
       → (cell letter : ℕ) → may_stand (board_of now.grid) cell letter ≡ true → ¬ (may_stand (board_of before.grid) cell letter ≡ true) → letters cell letter ≡ true
   changed_letters_come opened cell letter may might_not = elim (cases_Bool (letters cell letter)) [
     | inl stands ↦ stands
@@ -323,7 +322,7 @@ changed_len words (block_toggled cell) word_len place h = cc
 changed_len words (bar_toggled cell side) word_len place h = cc
 changed_len words (symmetry_chosen kind) word_len place h = cc
 
-module _ (before now : State) (action : Action) (change : Change) (is : IsChange before now action change) (member : List ℕ → Bool) (region : IsRegion before now action member) where
+module _ (before now : State) (action : Action) (change : Fields) (is : IsChange before now action change) (member : List ℕ → Bool) (region : IsRegion before now action member) where
   -- the new lights, those through edited cells, and those with the length of the changed word are
   -- in the region
   pub new_within : (light : ℕ) → light < length (board_of now.grid).lights → same_light before.grid now.grid light ≡ None → member (light_at (board_of now.grid) light) ≡ true
@@ -332,10 +331,10 @@ module _ (before now : State) (action : Action) (change : Change) (is : IsChange
       let never : None ≡ Some found.0 = sym at ∙ found.2 in
       cc)
 
-  pub edited_within : (listed : Cell × Option ℕ) (light place : ℕ) → Contains change.cells.now listed → IsPlace (board_of now.grid) light place → cell_at (board_of now.grid) light place ≡ index_of now.grid listed.0 → member (light_at (board_of now.grid) light) ≡ true
+  pub edited_within : (listed : Cell × Option ℕ) (light place : ℕ) → Contains change.cells listed → IsPlace (board_of now.grid) light place → cell_at (board_of now.grid) light place ≡ index_of now.grid listed.0 → member (light_at (board_of now.grid) light) ≡ true
   edited_within listed light place has here at =
-      let among = mapped (λ (l : Cell × Option ℕ). index_of before.grid l.0) change.cells.now listed has.0 has.1 has.2 in
-      let cells : places_listed before.grid change.cells.now ≡ edited_cells before.grid action = ap (places_listed before.grid) is.cells ∙ written_places before.grid action in
+      let among = mapped (λ (l : Cell × Option ℕ). index_of before.grid l.0) change.cells listed has.0 has.1 has.2 in
+      let cells : places_listed before.grid change.cells ≡ edited_cells before.grid action = ap (places_listed before.grid) is.cells ∙ written_places before.grid action in
       let cell : cell_at (board_of now.grid) light place ≡ index_of before.grid listed.0 = at ∙ ap (λ w. (listed.0.row - 1) * w + (listed.0.col - 1)) is.width in
       region.edited (light_at (board_of now.grid) light) (cell_at (board_of now.grid) light place) (inr (light_stands now light here.0)) (Contains-get_or (light_at (board_of now.grid) light) place 0 here.1)
       (subst (Contains (edited_cells before.grid action)) (sym cell) (subst (λ ps. Contains ps (index_of before.grid listed.0)) cells among))
@@ -347,16 +346,16 @@ module _ (before now : State) (action : Action) (change : Change) (is : IsChange
 
 -- ---- the state at which a revival starts
 
-module _ (before now : State) (action : Action) (change : Change) (is : IsChange before now action change) (settled start : Marks) (seed waiting : ℕ → Bool)
+module _ (before now : State) (action : Action) (change : Fields) (is : IsChange before now action change) (settled start : Marks) (seed waiting : ℕ → Bool)
     (exact : IsExact (board_of before.grid) before.words settled.words settled.letters)
-    (inside : (listed : Cell × Option ℕ) → Contains change.cells.now listed → is_inside before.grid listed.0 ≡ true)
-    (edited : (listed : Cell × Option ℕ) → Contains change.cells.now listed → IsEdited (board_of now.grid) start.letters start.queued seed (index_of now.grid listed.0) listed.1)
+    (inside : (listed : Cell × Option ℕ) → Contains change.cells listed → is_inside before.grid listed.0 ≡ true)
+    (edited : (listed : Cell × Option ℕ) → Contains change.cells listed → IsEdited (board_of now.grid) start.letters start.queued seed (index_of now.grid listed.0) listed.1)
     (new : (light : ℕ) → light < length (board_of now.grid).lights → same_light before.grid now.grid light ≡ None → start.queued light ≡ true)
     (new_seeds : (light : ℕ) → light < length (board_of now.grid).lights → same_light before.grid now.grid light ≡ None → seed light ≡ true)
     (calm : (light : ℕ) → light < length (board_of now.grid).lights → start.queued light ≡ false → may_have change.word (length (light_at (board_of now.grid) light)) (base_bits (board_of now.grid) (light_at (board_of now.grid) light) (row now.words (length (light_at (board_of now.grid) light)))) ≡ false)
     (seeds : (light : ℕ) → light < length (board_of now.grid).lights → start.queued light ≡ true → is_seed (board_of now.grid) change.word (light_at (board_of now.grid) light) (base_bits (board_of now.grid) (light_at (board_of now.grid) light) (row now.words (length (light_at (board_of now.grid) light)))) ≡ true → seed light ≡ true)
     (spread : IsSpread (board_of now.grid) settled.letters start.letters seed waiting no_places)
-    (opened : (listed : Cell × Option ℕ) → Contains change.cells.now listed → is_fill (board_of now.grid) (index_of now.grid listed.0) listed.1 ≡ true → is_open (board_of before.grid) (index_of now.grid listed.0) ≡ true)
+    (opened : (listed : Cell × Option ℕ) → Contains change.cells listed → is_fill (board_of now.grid) (index_of now.grid listed.0) listed.1 ≡ true → is_open (board_of before.grid) (index_of now.grid listed.0) ≡ true)
     (lights : (light choice : ℕ) → start.words light choice ≡ true → light < length (board_of now.grid).lights)
     (words_on : (light other choice : ℕ) → light < length (board_of now.grid).lights → seed light ≡ false → start.queued light ≡ true → same_light before.grid now.grid light ≡ Some other → start.words light choice ≡ (settled.words other choice && is_base_at (board_of now.grid) now.words light choice))
     (words_off : (light other choice : ℕ) → light < length (board_of now.grid).lights → seed light ≡ false → start.queued light ≡ false → same_light before.grid now.grid light ≡ Some other → start.words light choice ≡ settled.words other choice)

@@ -19,8 +19,7 @@ use Rattle.xw_feas.specs.State.{State, Action, grid_after, write_list, letter_se
 use Rattle.xw_feas.specs.WellFormed.{IsLaidOut}
 use Rattle.xw_feas.proofs.BoardLemmas.{is_open-square, entry-square, length-lights, light_at-board}
 use Rattle.xw_feas.proofs.WordsLemmas.{named_within}
-use Rattle.xw_net.specs.declared.change.Change.{Change}
-use Rattle.xw_net.specs.Change.{IsChange, places_listed}
+use Rattle.xw_net.specs.Change.{Fields, IsChange, places_listed}
 use Rattle.xw_net.specs.Begin.{is_fill}
 use Rattle.xw_net.specs.Region.{cells_named, edited_cells}
 use Rattle.xw_net.proofs.Edits.WrittenCells.{list_open}
@@ -99,14 +98,14 @@ module _ (grid new : Grid) (other : Cell) (is : IsGrid grid) (laid_out : IsLaidO
   open_written (word_struck word) ok same inside_new among has = absurd (in_none [] (index_of grid other) refl among)
 
 -- a listed cell that was empty and has a letter now was open
-pub filled_was_open : (before now : State) (action : Action) (change : Change) → IsChange before now action change
-    → (listed : Cell × Option ℕ) → Contains change.cells.now listed → is_inside before.grid listed.0 ≡ true → is_inside now.grid listed.0 ≡ true
+pub filled_was_open : (before now : State) (action : Action) (change : Fields) → IsChange before now action change
+    → (listed : Cell × Option ℕ) → Contains change.cells listed → is_inside before.grid listed.0 ≡ true → is_inside now.grid listed.0 ≡ true
     → is_fill (board_of now.grid) (index_of now.grid listed.0) listed.1 ≡ true → is_open (board_of before.grid) (index_of now.grid listed.0) ≡ true
 filled_was_open before now action change is listed has inside inside_now fill =
     let same : index_of now.grid listed.0 ≡ index_of before.grid listed.0 = ap (λ w. (listed.0.row - 1) * w + (listed.0.col - 1)) is.width in
     let letter = (and_parts (is_none listed.1) (is_some (entry (board_of now.grid) (index_of now.grid listed.0))) fill).1 in
     let among : Contains (edited_cells before.grid action) (index_of before.grid listed.0) =
-    subst (λ ps. Contains ps (index_of before.grid listed.0)) (ap (places_listed before.grid) is.cells ∙ written_places before.grid action) (contains_mapped (λ (l : Cell × Option ℕ). index_of before.grid l.0) change.cells.now listed has) in
+    subst (λ ps. Contains ps (index_of before.grid listed.0)) (ap (places_listed before.grid) is.cells ∙ written_places before.grid action) (contains_mapped (λ (l : Cell × Option ℕ). index_of before.grid l.0) change.cells listed has) in
     subst (λ p. is_open (board_of before.grid) p ≡ true) (sym same)
     (open_written before.grid now.grid listed.0 is.formed_before.grid is.formed_before.board inside action (grid_of_after before now action is.made) same inside_now among
     (subst (λ p. is_some (entry (board_of now.grid) p) ≡ true) same letter))

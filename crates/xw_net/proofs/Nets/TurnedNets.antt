@@ -1,6 +1,6 @@
 -- A net switches to the lights after an edit.
 use Rattle.std.proofs.Common.{◌≡◌, ℕ, zero, suc, ◌<◌, Bool, true, false, List, [], ◌∷◌, ◌++◌, length, replicate, get_or, Some, None, refl, sym, ◌∙◌, ap, subst, inl, inr, arith}
-use Rattle.std.specs.Prelude.{Option}
+use Rattle.std.specs.Prelude.{Option, vec_len}
 use Rattle.std.proofs.lemmas.Bool.{cases_lt, both_ways}
 use Rattle.std.proofs.lemmas.List.{get_or_past, length-replicate, get_or-replicate}
 use Rattle.std.proofs.lemmas.Option.{slice_get_past}
@@ -11,11 +11,12 @@ use Rattle.xw_grid.specs.Light.{lights_of, no_light}
 use Rattle.xw_grid.proofs.LightLemmas.{size_of_light}
 use Rattle.xw_grid.proofs.OrderLemmas.{same_place}
 use Rattle.xw_grid.proofs.LookupLemmas.{alike}
-use Rattle.xw_net.specs.Room.{size_at, row_at}
+use Rattle.xw_net.specs.Room.{size_at, row_at, HasRoom}
 use Rattle.xw_net.specs.Renumber.{AreLights, same_before, bits_from, flag_from, AreRowsMoved, AreFlagsMoved, IsRenumbered}
 use Rattle.xw_net.specs.Nets.{bits_at, word_stands}
-use Rattle.xw_net.specs.Fit.{IsNear, AreNear}
+use Rattle.xw_net.specs.Fit.{IsNear, AreNear, IsAtRest, HasRoomBetween, IsTurned, Follows}
 use Rattle.xw_net.specs.declared.net.Net.{Net}
+use Rattle.xw_net.specs.declared.room.Spare.{Spare}
 use Rattle.xw_net.proofs.Nets.RenumberedLights.{found_before, other_there, same_size}
 
 -- no two lights of a grid have the same cells
@@ -66,3 +67,47 @@ module _ (before after : List Light) (are : AreLights after) (counts : ℕ → �
         let no_flag = get_or_past new.entered.items light false (omega (arith, past, is.entered.long)) in
         absurd (both_ways _ (ap (λ o. get_or (bits_at o ++ get_or new.entered.items light false ∷ []) choice false) no_row ∙ ap (λ e. get_or ([] ++ e ∷ []) choice false) no_flag ∙ only_false choice) stands)
   ]
+
+-- if the lights stay, the net is unchanged
+turned_none : (before after : List Light) (net : Net) (spare : Option Spare) → AreLights after → after ≡ before → spare ≡ None → IsTurned before after net (record net { spare = spare })
+unfolding word_stands
+turned_none before after net spare are same none = subst (λ ls. IsTurned ls after net (record net { spare = spare })) same (record {
+  rows = λ light other lt at. ap (λ l. (row_at net.rows.items l).bits) (sym (same_self after are light other at));
+  base = λ light other lt at. ap (λ l. (row_at net.base.items l).bits) (sym (same_self after are light other at));
+  entered = λ light other lt at. ap (λ l. get_or net.entered.items l false) (sym (same_self after are light other at));
+  lights = λ had. had;
+  rest = ap (λ s. record net { spare = s }) none;
+})
+
+-- if the lights stay, a net that had room has it without spare arrays
+room_kept : (before after : List Light) (counts : ℕ → ℕ) (net : Net) (spare : Option Spare) → after ≡ before → HasRoomBetween before after counts net spare → HasRoom after counts net
+room_kept before after counts net None same room = room.1
+room_kept before after counts net (Some spare) same room = subst (λ ls. HasRoom ls counts net) (sym same) room.0
+
+pub follows_kept : (before after : List Light) (counts : ℕ → ℕ) (net : Net) → after ≡ before → AreLights after → IsAtRest before (vec_len net.letters) net → AreNear before counts net.rows.items → AreNear before counts net.base.items
+    → HasRoomBetween before after counts net net.spare → Follows before after counts net (record net { spare = None })
+follows_kept before after counts net same are rest rows base room =
+    let had = subst (λ ls. IsAtRest ls (vec_len net.letters) net) (sym same) rest in
+    let has = room_kept before after counts net net.spare same room in
+    record {
+      rest = record {
+        few_cells = had.few_cells;
+        rows = had.rows;
+        base = had.base;
+        entered = had.entered;
+        letters = had.letters;
+        held = had.held;
+        restart = had.restart;
+        pending = had.pending;
+        queue = had.queue;
+        queued_long = had.queued_long;
+        is_queued = had.is_queued;
+        taken = had.taken;
+        marked_long = had.marked_long;
+        is_marked = had.is_marked;
+      };
+      rows = subst (λ ls. AreNear ls counts net.rows.items) (sym same) rows;
+      base = subst (λ ls. AreNear ls counts net.base.items) (sym same) base;
+      room = record { rows = has.rows; base = has.base };
+      turned = turned_none before after net None are same refl;
+    }

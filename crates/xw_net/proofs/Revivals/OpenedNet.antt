@@ -16,8 +16,7 @@ use Rattle.xw_feas.specs.Feasible.{may_stand}
 use Rattle.xw_feas.specs.Flags.{set_has}
 use Rattle.xw_feas.specs.State.{State, Action}
 use Rattle.xw_net.specs.declared.net.Net.{Net}
-use Rattle.xw_net.specs.declared.change.Change.{Change}
-use Rattle.xw_net.specs.Change.{IsChange}
+use Rattle.xw_net.specs.Change.{Fields, IsChange}
 use Rattle.xw_net.specs.Revival.{IsMatching, same_light, StandsOn}
 use Rattle.xw_net.specs.Region.{IsRegion}
 use Rattle.xw_net.specs.Marks.{IsPlace, cell_at}
@@ -43,17 +42,17 @@ use Rattle.xw_net.proofs.Edits.FilledCells.{filled_was_open}
 use Rattle.xw_net.proofs.Revivals.OpenedSupports.{opened_held, opened_pending, opened_hits}
 use Rattle.xw_net.proofs.Revivals.OpenedRows.{listed_inside, opened_prepared, new_queued, new_seeds, opened_base, opened_lights, opened_words_on, opened_words_off, opened_words_calm, opened_has_not, opened_freed}
 
-module _ (before now : State) (action : Action) (change : Change) (is : IsChange before now action change) (settled net opened : Net)
+module _ (before now : State) (action : Action) (change : Fields) (is : IsChange before now action change) (settled net opened : Net)
     (filled : IsFilled (board_of before.grid) before.words settled) (holding : IsHolding (board_of before.grid) before.words (marks_of settled)) (moved : IsMoved before now settled net)
     (opening : IsOpening now.grid (board_of now.grid) (lights_of now.grid) (row now.words) change (arrays_of net) (arrays_of opened))
-    (forgets : Forgets (board_of now.grid) (λ light. lost_from change.word (same_before change.before.now (lights_of now.grid) light) (length (light_at (board_of now.grid) light)) (length (row now.words (length (light_at (board_of now.grid) light)))))
+    (forgets : Forgets (board_of now.grid) (λ light. lost_from change.word (same_before change.before (lights_of now.grid) light) (length (light_at (board_of now.grid) light)) (length (row now.words (length (light_at (board_of now.grid) light)))))
     net.held.items opened.held.items net.pending.items opened.pending.items)
     (entered_kept : opened.entered.items ≡ net.entered.items) (restart_kept : opened.restart.items ≡ net.restart.items)
-    (inside : (listed : Cell × Option ℕ) → Contains change.cells.now listed → is_inside now.grid listed.0 ≡ true) where
+    (inside : (listed : Cell × Option ℕ) → Contains change.cells listed → is_inside now.grid listed.0 ≡ true) where
   matching : IsMatching (board_of before.grid) (board_of now.grid) (same_light before.grid now.grid)
   matching = same_is_matching before.grid now.grid is.width
 
-  inside_before : (listed : Cell × Option ℕ) → Contains change.cells.now listed → is_inside before.grid listed.0 ≡ true
+  inside_before : (listed : Cell × Option ℕ) → Contains change.cells listed → is_inside before.grid listed.0 ≡ true
   inside_before = listed_inside before now action change is settled net opened filled moved opening entered_kept inside
 
   prepared : IsPrepared (board_of now.grid) (row now.words) change.word net.rows.items opened.rows.items net.base.items opened.base.items (is_marked opened.queue.marks) (is_marked opened.chain.marks)
@@ -95,7 +94,7 @@ module _ (before now : State) (action : Action) (change : Change) (is : IsChange
   none_marked member light on = absurd (both_ways (is_marked net.chain.marks light) (moved.is_marked light) on)
 
   -- each light through a freed cell where a letter is missing is in the region
-  freed_within : (member : List ℕ → Bool) → IsRegion before now action member → (cell light place : ℕ) → IsFreed now.grid change.before.now (lights_of now.grid) (length change.before.now) cell
+  freed_within : (member : List ℕ → Bool) → IsRegion before now action member → (cell light place : ℕ) → IsFreed now.grid change.before (lights_of now.grid) (length change.before) cell
       → ¬ HasAll (board_of now.grid) (set_has net.letters.items) cell → IsPlace (board_of now.grid) light place → cell_at (board_of now.grid) light place ≡ cell → member (light_at (board_of now.grid) light) ≡ true
   unfolding letter_stands
   freed_within member region cell light place freed lacks here at = elim (cases_Bool (member (light_at (board_of now.grid) light))) [
@@ -140,7 +139,7 @@ module _ (before now : State) (action : Action) (change : Change) (is : IsChange
   touched_within member region light (by_word at) = long_within before now action change is member region (length (light_at (board_of now.grid) light)) at.0 light at.1 at.2 refl
 
   -- so is each light that may gain words or letters
-  gain_within : (member : List ℕ → Bool) → IsRegion before now action member → (light : ℕ) → MayGain now.grid (board_of now.grid) (lights_of now.grid) change (arrays_of net) light → member (light_at (board_of now.grid) light) ≡ true
+  gain_within : (member : List ℕ → Bool) → IsRegion before now action member → (light : ℕ) → MayGain now.grid (board_of now.grid) (lights_of now.grid) change net.letters.items net.queue light → member (light_at (board_of now.grid) light) ≡ true
   gain_within member region light (if_touched at) = touched_within member region light at
   gain_within member region light (if_queued on) = none_queued (λ l. member (light_at (board_of now.grid) l)) light on
   gain_within member region light (if_freed at) = freed_within member region at.0 light at.3.0 at.1 at.2 at.3.1 at.3.2

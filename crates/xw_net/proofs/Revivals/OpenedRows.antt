@@ -16,8 +16,7 @@ use Rattle.xw_feas.proofs.ChoicesLemmas.{base_flag_entered}
 use Rattle.xw_feas.proofs.Support.{set_flag_within}
 use Rattle.xw_feas.proofs.FormedLemmas.{light_in, length-light_at, within_lights, place_is, inside_at}
 use Rattle.xw_net.specs.declared.net.Net.{Net}
-use Rattle.xw_net.specs.declared.change.Change.{Change}
-use Rattle.xw_net.specs.Change.{IsChange, IsPlaceOf, word_changed}
+use Rattle.xw_net.specs.Change.{Fields, IsChange, IsPlaceOf, word_changed}
 use Rattle.xw_net.specs.Base.{base_bits, is_base_word}
 use Rattle.xw_net.specs.Revival.{IsMatching, same_light, StandsOn}
 use Rattle.xw_net.specs.Marks.{known}
@@ -64,11 +63,11 @@ same_flag (x ∷ xs) [] last k long same = absurd (omega (arith, long))
 same_flag (x ∷ xs) (y ∷ ys) last zero long same = same
 same_flag (x ∷ xs) (y ∷ ys) last (suc k) long same = same_flag xs ys last k (omega (arith, long)) same
 
-module _ (before now : State) (action : Action) (change : Change) (is : IsChange before now action change) (settled net opened : Net)
+module _ (before now : State) (action : Action) (change : Fields) (is : IsChange before now action change) (settled net opened : Net)
     (filled : IsFilled (board_of before.grid) before.words settled) (moved : IsMoved before now settled net)
     (opening : IsOpening now.grid (board_of now.grid) (lights_of now.grid) (row now.words) change (arrays_of net) (arrays_of opened))
     (entered_kept : opened.entered.items ≡ net.entered.items)
-    (inside : (listed : Cell × Option ℕ) → Contains change.cells.now listed → is_inside now.grid listed.0 ≡ true) where
+    (inside : (listed : Cell × Option ℕ) → Contains change.cells listed → is_inside now.grid listed.0 ≡ true) where
   abbrev seed : ℕ → Bool
   seed = is_marked opened.chain.marks
 
@@ -85,10 +84,10 @@ module _ (before now : State) (action : Action) (change : Change) (is : IsChange
   inside_now : (cell : Cell) → is_inside before.grid cell ≡ true → is_inside now.grid cell ≡ true
   inside_now = inside_sized before.grid now.grid is.width is.height
 
-  pub listed_inside : (listed : Cell × Option ℕ) → Contains change.cells.now listed → is_inside before.grid listed.0 ≡ true
+  pub listed_inside : (listed : Cell × Option ℕ) → Contains change.cells listed → is_inside before.grid listed.0 ≡ true
   listed_inside listed has = inside_before listed.0 (inside listed has)
 
-  pub is_new : (light : ℕ) → same_light before.grid now.grid light ≡ None → same_before change.before.now (lights_of now.grid) light ≡ None
+  pub is_new : (light : ℕ) → same_light before.grid now.grid light ≡ None → same_before change.before (lights_of now.grid) light ≡ None
   is_new light at = ap (λ ls. same_before ls (lights_of now.grid) light) is.lights ∙ at
 
   pub new_queued : (light : ℕ) → light < length (board_of now.grid).lights → same_light before.grid now.grid light ≡ None → queued light ≡ true

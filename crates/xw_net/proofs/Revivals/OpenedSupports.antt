@@ -11,8 +11,7 @@ use Rattle.xw_feas.specs.Board.{board_of, light_at, spelled}
 use Rattle.xw_feas.specs.Choices.{choices}
 use Rattle.xw_feas.specs.State.{State, Action}
 use Rattle.xw_net.specs.declared.net.Net.{Net}
-use Rattle.xw_net.specs.declared.change.Change.{Change}
-use Rattle.xw_net.specs.Change.{IsChange, IsPlaceOf}
+use Rattle.xw_net.specs.Change.{Fields, IsChange, IsPlaceOf}
 use Rattle.xw_net.specs.Base.{base_bits}
 use Rattle.xw_net.specs.Revival.{IsMatching, same_light}
 use Rattle.xw_net.specs.Marks.{IsPlace, slot_at, side_of, known, puts, IsSettledNet}
@@ -42,10 +41,10 @@ new_loses None size many = refl
 new_loses (Some word) size many = refl
 
 -- the held words of a net, moved to another position with the same slot
-module _ (before now : State) (action : Action) (change : Change) (is : IsChange before now action change) (settled net opened : Net)
+module _ (before now : State) (action : Action) (change : Fields) (is : IsChange before now action change) (settled net opened : Net)
     (is_settled : IsSettledNet (board_of before.grid) before.words (marks_of settled)) (holding : IsHolding (board_of before.grid) before.words (marks_of settled)) (moved : IsMoved before now settled net)
     (opening : IsOpening now.grid (board_of now.grid) (lights_of now.grid) (row now.words) change (arrays_of net) (arrays_of opened))
-    (forgets : Forgets (board_of now.grid) (λ light. lost_from change.word (same_before change.before.now (lights_of now.grid) light) (length (light_at (board_of now.grid) light)) (length (row now.words (length (light_at (board_of now.grid) light)))))
+    (forgets : Forgets (board_of now.grid) (λ light. lost_from change.word (same_before change.before (lights_of now.grid) light) (length (light_at (board_of now.grid) light)) (length (row now.words (length (light_at (board_of now.grid) light)))))
     net.held.items opened.held.items net.pending.items opened.pending.items)
     (has_not : (light : ℕ) → light < length (board_of now.grid).lights → is_marked opened.chain.marks light ≡ false
     → may_have change.word (length (light_at (board_of now.grid) light)) (base_bits (board_of now.grid) (light_at (board_of now.grid) light) (row now.words (length (light_at (board_of now.grid) light)))) ≡ false) where
@@ -58,7 +57,7 @@ module _ (before now : State) (action : Action) (change : Change) (is : IsChange
   abbrev lost : ℕ → ℕ
   lost light = lost_from change.word (same_light before.grid now.grid light) (length (light_at (board_of now.grid) light)) (known (board_of now.grid) now.words light)
 
-  lost_is : (light : ℕ) → lost_from change.word (same_before change.before.now (lights_of now.grid) light) (length (light_at (board_of now.grid) light)) (length (row now.words (length (light_at (board_of now.grid) light)))) ≡ lost light
+  lost_is : (light : ℕ) → lost_from change.word (same_before change.before (lights_of now.grid) light) (length (light_at (board_of now.grid) light)) (length (row now.words (length (light_at (board_of now.grid) light)))) ≡ lost light
   lost_is light = ap (λ ls. lost_from change.word (same_before ls (lights_of now.grid) light) (length (light_at (board_of now.grid) light)) (length (row now.words (length (light_at (board_of now.grid) light))))) is.lights
 
   matching : IsMatching (board_of before.grid) (board_of now.grid) (same_light before.grid now.grid)

@@ -46,3 +46,16 @@ loop-at-preserved c =
       ];
       spread = λ start h. k.ensures.spread start (inv.spread start h);
     }
+
+pub returns : goal.returns
+returns c =
+    let inv = c.loop-at.invariant in
+    record {
+      letters_len = inv.len;
+      queue_grows = inv.queue;
+      queued_within = inv.queued_within;
+      chain_grows = inv.chain;
+      within = inv.within;
+      edited = λ listed has. inv.edited listed has.0 (omega (arith, has.1, c.loop-at-test.false, c.loop-at.auto.at-end)) has.1 has.2;
+      spread = inv.spread;
+    }

@@ -5,6 +5,8 @@ use Rattle.xw_feas.specs.Flags.{set_has}
 use Rattle.xw_net.specs.Marks.{IsPlace, slot_at}
 use Rattle.xw_net.specs.Renumber.{same_before}
 use Rattle.xw_net.specs.Forget.{lose, lost_from, nowhere}
+use Rattle.xw_net.specs.Change.{before_of, word_of}
+use Rattle.xw_net.proofs.Revivals.Forgetting.{forgets_nothing}
 use Rattle.xw_net.proofs.forget.forget_lights.Goals as goal
 
 pub loop-light-preserved : goal.loop-light-preserved
@@ -18,10 +20,10 @@ loop-light-preserved g c =
       cuts = λ light place letter before here capital. elim (cases_eq light c.loop-light.light) [
         | inl e ↦
             let place_here = subst (λ n. IsPlace c.args.board.now n place) e here in
-            subst (λ n. get_or c.forget_light.new.held (26 * slot_at c.args.board.now n place + (letter - 65)) 0 ≡ lose (lost_from c.args.change.now.word (same_before c.args.change.now.before.now c.args.lights.now n) (length (light_at c.args.board.now n)) (length (g.R.Rows.entries c.args.rows.now (length (light_at c.args.board.now n))))) (get_or c.args.held.now (26 * slot_at c.args.board.now n place + (letter - 65)) 0)) (sym e)
+            subst (λ n. get_or c.forget_light.new.held (26 * slot_at c.args.board.now n place + (letter - 65)) 0 ≡ lose (lost_from (word_of c.args.change.now) (same_before (before_of c.args.lights.now c.args.change.now) c.args.lights.now n) (length (light_at c.args.board.now n)) (length (g.R.Rows.entries c.args.rows.now (length (light_at c.args.board.now n))))) (get_or c.args.held.now (26 * slot_at c.args.board.now n place + (letter - 65)) 0)) (sym e)
             (lost.cuts place letter place_here.1 capital
             ∙ ap (λ first. lose first (get_or c.loop-light.held (26 * slot_at c.args.board.now c.loop-light.light place + (letter - 65)) 0)) c.lost_of-first.ensures
-            ∙ ap (lose (lost_from c.args.change.now.word (same_before c.args.change.now.before.now c.args.lights.now c.loop-light.light) (length (light_at c.args.board.now c.loop-light.light)) (length (g.R.Rows.entries c.args.rows.now (length (light_at c.args.board.now c.loop-light.light)))))) (inv.left c.loop-light.light place letter (omega arith) place_here capital))
+            ∙ ap (lose (lost_from (word_of c.args.change.now) (same_before (before_of c.args.lights.now c.args.change.now) c.args.lights.now c.loop-light.light) (length (light_at c.args.board.now c.loop-light.light)) (length (g.R.Rows.entries c.args.rows.now (length (light_at c.args.board.now c.loop-light.light)))))) (inv.left c.loop-light.light place letter (omega arith) place_here capital))
         | inr other ↦
             lost.others (slot_at c.args.board.now light place) letter (λ place' lt at. other (sym (c.requires.apart c.loop-light.light place' light place (within, lt) here at).0)) capital
             ∙ inv.cuts light place letter (omega arith) here capital
@@ -33,8 +35,12 @@ loop-light-preserved g c =
       cleared = λ light place letter before here below. elim (cases_eq light c.loop-light.light) [
         | inl e ↦
             subst (λ n. set_has c.forget_light.new.pending (slot_at c.args.board.now n place) letter ≡ false) (sym e)
-            (lost.cleared place letter (subst (λ first. first < nowhere) (sym c.lost_of-first.ensures) (subst (λ n. lost_from c.args.change.now.word (same_before c.args.change.now.before.now c.args.lights.now n) (length (light_at c.args.board.now n)) (length (g.R.Rows.entries c.args.rows.now (length (light_at c.args.board.now n)))) < nowhere) e below)) (subst (λ n. IsPlace c.args.board.now n place) e here).1)
+            (lost.cleared place letter (subst (λ first. first < nowhere) (sym c.lost_of-first.ensures) (subst (λ n. lost_from (word_of c.args.change.now) (same_before (before_of c.args.lights.now c.args.change.now) c.args.lights.now n) (length (light_at c.args.board.now n)) (length (g.R.Rows.entries c.args.rows.now (length (light_at c.args.board.now n)))) < nowhere) e below)) (subst (λ n. IsPlace c.args.board.now n place) e here).1)
         | inr other ↦
             false_from_ne_true _ (λ has. both_ways _ (inv.cleared light place letter (omega arith) here below) (lost.less (slot_at c.args.board.now light place) letter has))
       ];
     }
+
+pub returns-then-forgets_none : goal.returns-then-forgets_none
+returns-then-forgets_none g c =
+    forgets_nothing c.args.board.now _ c.args.held.now c.args.pending.now (λ light within. c.forgets_none.ensures c.args.board.now c.args.lights.now c.if-forgets_none.true light within c.requires.lights)

@@ -5,6 +5,7 @@ use Rattle.xw_feas.specs.Flags.{set_has}
 use Rattle.xw_net.specs.Marks.{IsPlace, slot_at}
 use Rattle.xw_net.specs.Renumber.{same_before}
 use Rattle.xw_net.specs.Forget.{lose, lost_from, nowhere}
+use Rattle.xw_net.specs.Change.{before_of, word_of}
 use Rattle.xw_net.proofs.forget.forget_lights.Given as goal
 
 abbrev pub invariant-loop-light : goal.invariant-loop-light
@@ -13,11 +14,11 @@ invariant-loop-light g l = record {
   pending : length l.pending ≡ length l.fn.pending;
   cuts : (light place letter : ℕ) → light < l.light → IsPlace l.board light place → is_capital letter ≡ true
       → get_or l.held (26 * slot_at l.board light place + (letter - 65)) 0
-      ≡ lose (lost_from l.change.word (same_before l.change.before.now l.lights light) (length (light_at l.board light)) (length (g.R.Rows.entries l.rows (length (light_at l.board light))))) (get_or l.fn.held (26 * slot_at l.board light place + (letter - 65)) 0);
+      ≡ lose (lost_from (word_of l.change) (same_before (before_of l.lights l.change) l.lights light) (length (light_at l.board light)) (length (g.R.Rows.entries l.rows (length (light_at l.board light))))) (get_or l.fn.held (26 * slot_at l.board light place + (letter - 65)) 0);
   left : (light place letter : ℕ) → l.light ≤ light → IsPlace l.board light place → is_capital letter ≡ true
       → get_or l.held (26 * slot_at l.board light place + (letter - 65)) 0 ≡ get_or l.fn.held (26 * slot_at l.board light place + (letter - 65)) 0;
   less : (slot letter : ℕ) → set_has l.pending slot letter ≡ true → set_has l.fn.pending slot letter ≡ true;
   cleared : (light place letter : ℕ) → light < l.light → IsPlace l.board light place
-      → lost_from l.change.word (same_before l.change.before.now l.lights light) (length (light_at l.board light)) (length (g.R.Rows.entries l.rows (length (light_at l.board light)))) < nowhere
+      → lost_from (word_of l.change) (same_before (before_of l.lights l.change) l.lights light) (length (light_at l.board light)) (length (g.R.Rows.entries l.rows (length (light_at l.board light)))) < nowhere
       → set_has l.pending (slot_at l.board light place) letter ≡ false;
 }

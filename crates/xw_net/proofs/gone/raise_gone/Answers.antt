@@ -1,6 +1,6 @@
-use Rattle.std.proofs.Common.{◌+◌, length}
+use Rattle.std.proofs.Common.{◌+◌}
 use Rattle.xw_net.specs.Gone.{IsFreed, IsFreedAt}
-use Rattle.xw_net.proofs.Revivals.FreedCells.{raises_none, none_freed, raises_more, freed_more, freed_last, freed_split}
+use Rattle.xw_net.proofs.Revivals.FreedCells.{raises_more, freed_more, freed_last, freed_split}
 use Rattle.xw_net.proofs.gone.raise_gone.Goals as goal
 
 pub loop-other-preserved : goal.loop-other-preserved
@@ -9,9 +9,3 @@ loop-other-preserved c =
     (IsFreed c.args.grid.now c.args.before.now c.args.lights.now (c.loop-other.other + 1)) _ _ _ _ _ _
     (freed_more c.args.grid.now c.args.before.now c.args.lights.now c.loop-other.other) (freed_last c.args.grid.now c.args.before.now c.args.lights.now c.loop-other.other)
     (freed_split c.args.grid.now c.args.before.now c.args.lights.now c.loop-other.other) c.loop-other.invariant c.raise_if_gone.ensures
-
-pub returns-then-stays : goal.returns-then-stays
-returns-then-stays c =
-    let freed = IsFreed c.args.grid.now c.args.before.now c.args.lights.now (length c.args.before.now) in
-    raises_none c.args.board.now freed c.args.letters.now c.args.chain.now c.requires.seeds
-    (λ cell. none_freed c.args.grid.now c.args.before.now c.args.lights.now (length c.args.before.now) cell (c.requires.stays c.if-stays.true))

@@ -2,11 +2,9 @@ use Rattle.std.proofs.Common.{◌≡◌, ◌<◌, ℕ, true, false, None, Some, 
 use Rattle.std.specs.Prelude.{List, Option, is_some}
 use Rattle.std.proofs.lemmas.Bool.{both_ways}
 use Rattle.xw_grid.specs.declared.lights.Light.{Light}
-use Rattle.xw_net.specs.Begin.{IsNewLight}
 use Rattle.xw_net.specs.Renumber.{same_before}
 use Rattle.xw_net.specs.Worklist.{ListOfLights, Grows, Adds}
 use Rattle.xw_net.proofs.Lists.ListsOfLights.{adds_none, adds_as, adds_insert, adds_start, adds_next, adds_end}
-use Rattle.xw_net.proofs.Edits.SameLights.{none_new}
 use Rattle.xw_net.proofs.seeds.mark_new.Goals as goal
 
 pub loop-light-init : goal.loop-light-init
@@ -63,9 +61,3 @@ returns-clause-queue c =
 pub returns-clause-chain : goal.returns-clause-chain
 returns-clause-chain c =
     adds_end (λ other. same_before c.args.before.now c.args.lights.now other ≡ None) c.loop-light.light (length c.args.lights.now) c.args.chain.now c.loop-light.chain (omega (arith, c.loop-light-test.false, c.loop-light.auto.light-end, c.len-light-end.ensures.len)) c.loop-light.invariant.chain
-
-pub returns-then-stays-clause-queue : goal.returns-then-stays-clause-queue
-returns-then-stays-clause-queue c = adds_none (IsNewLight c.args.before.now c.args.lights.now) c.args.queue.now (λ light is. none_new c.args.before.now c.args.lights.now (c.requires.stays c.if-stays.true) light is.0 is.1)
-
-pub returns-then-stays-clause-chain : goal.returns-then-stays-clause-chain
-returns-then-stays-clause-chain c = adds_none (IsNewLight c.args.before.now c.args.lights.now) c.args.chain.now (λ light is. none_new c.args.before.now c.args.lights.now (c.requires.stays c.if-stays.true) light is.0 is.1)

@@ -8,7 +8,7 @@ use Rattle.xw_grid.specs.Light.{lights_of}
 use Rattle.xw_feas.specs.Board.{Board, board_of, light_at}
 use Rattle.xw_feas.specs.Flags.{set_has}
 use Rattle.xw_feas.proofs.BoardLemmas.{length-lights, length-open_cells}
-use Rattle.xw_net.specs.declared.change.Change.{Change}
+use Rattle.xw_net.specs.Change.{fields_of, Fields}
 use Rattle.xw_net.specs.declared.net.Net.{Net}
 use Rattle.xw_net.specs.Marks.{AreSlotsApart}
 use Rattle.xw_net.specs.Nets.{pending_in, queued_in}
@@ -20,22 +20,22 @@ use Rattle.xw_net.proofs.Nets.SlotsApart.{slots_apart}
 use Rattle.xw_net.proofs.Revivals.OpenedNet.{opens}
 use Rattle.xw_net.proofs.net.Net.begin.Goals as goal
 
-abbrev Lost : Change → Board → List Light → (ℕ → List Entry) → List ℕ → List ℕ → List ℕ → List ℕ → Type 0
+abbrev Lost : Fields → Board → List Light → (ℕ → List Entry) → List ℕ → List ℕ → List ℕ → List ℕ → Type 0
 Lost change board lights entries held held' pending pending' =
-    Forgets board (λ light. lost_from change.word (same_before change.before.now lights light) (length (light_at board light)) (length (entries (length (light_at board light))))) held held' pending pending'
+    Forgets board (λ light. lost_from change.word (same_before change.before lights light) (length (light_at board light)) (length (entries (length (light_at board light))))) held held' pending pending'
 
 -- the same for equal boards, lights and words
-opening_of : (grid : Grid) (change : Change) (old new : Arrays) (board board' : Board) (lights lights' : List Light) (entries entries' : ℕ → List Entry) → board ≡ board' → lights ≡ lights' → entries ≡ entries'
+opening_of : (grid : Grid) (change : Fields) (old new : Arrays) (board board' : Board) (lights lights' : List Light) (entries entries' : ℕ → List Entry) → board ≡ board' → lights ≡ lights' → entries ≡ entries'
     → IsOpening grid board lights entries change old new → IsOpening grid board' lights' entries' change old new
 opening_of grid change old new board board' lights lights' entries entries' b l e opening =
     subst (λ es. IsOpening grid board' lights' es change old new) e (subst (λ ls. IsOpening grid board' ls entries change old new) l (subst (λ bs. IsOpening grid bs lights entries change old new) b opening))
 
-lost_of : (change : Change) (held held' pending pending' : List ℕ) (board board' : Board) (lights lights' : List Light) (entries entries' : ℕ → List Entry) → board ≡ board' → lights ≡ lights' → entries ≡ entries'
+lost_of : (change : Fields) (held held' pending pending' : List ℕ) (board board' : Board) (lights lights' : List Light) (entries entries' : ℕ → List Entry) → board ≡ board' → lights ≡ lights' → entries ≡ entries'
     → Lost change board lights entries held held' pending pending' → Lost change board' lights' entries' held held' pending pending'
 lost_of change held held' pending pending' board board' lights lights' entries entries' b l e lost =
     subst (λ es. Lost change board' lights' es held held' pending pending') e (subst (λ ls. Lost change board' ls entries held held' pending pending') l (subst (λ bs. Lost change bs lights entries held held' pending pending') b lost))
 
-lost_by : (change : Change) (board : Board) (lights : List Light) (entries : ℕ → List Entry) (held held-2 held' held'-2 pending pending-2 pending' pending'-2 : List ℕ) → held ≡ held-2 → held' ≡ held'-2 → pending ≡ pending-2 → pending' ≡ pending'-2
+lost_by : (change : Fields) (board : Board) (lights : List Light) (entries : ℕ → List Entry) (held held-2 held' held'-2 pending pending-2 pending' pending'-2 : List ℕ) → held ≡ held-2 → held' ≡ held'-2 → pending ≡ pending-2 → pending' ≡ pending'-2
     → Lost change board lights entries held held' pending pending' → Lost change board lights entries held-2 held'-2 pending-2 pending'-2
 lost_by change board lights entries held held-2 held' held'-2 pending pending-2 pending' pending'-2 a b d e lost =
     subst (λ x. Lost change board lights entries held-2 held'-2 pending-2 x) e (subst (λ x. Lost change board lights entries held-2 held'-2 x pending') d
@@ -71,12 +71,12 @@ returns-clause-opened g c before words action settled read is filled moved =
     let rest = c.open.ensures.rest in
     let held = ap (λ (net : Net). net.held.items) rest ∙ with_items_is c.args.self.now.held c.forget_lights.new.held (omega (arith, c.forget_lights.auto.held, c.deref_mut.ensures.len)) in
     let pending = ap (λ (net : Net). net.pending.items) rest ∙ with_items_is c.args.self.now.pending c.forget_lights.new.pending (omega (arith, c.forget_lights.auto.pending, c.deref_mut-2.ensures.len)) in
-    let opening = opening_of c.args.grid.now c.args.change.now _ _ c.args.board.now (board_of c.args.grid.now) c.args.lights.now (lights_of c.args.grid.now) (g.R.Rows.entries c.args.rows.now) (row words) c.requires.boards c.requires.are_lights entries
+    let opening = opening_of c.args.grid.now (fields_of c.args.lights.now c.args.change.now) _ _ c.args.board.now (board_of c.args.grid.now) c.args.lights.now (lights_of c.args.grid.now) (g.R.Rows.entries c.args.rows.now) (row words) c.requires.boards c.requires.are_lights entries
     c.open.ensures.opening in
-    let lost = lost_of c.args.change.now _ _ _ _ c.args.board.now (board_of c.args.grid.now) c.args.lights.now (lights_of c.args.grid.now) (g.R.Rows.entries c.args.rows.now) (row words) c.requires.boards c.requires.are_lights entries
-    (lost_by c.args.change.now c.args.board.now c.args.lights.now (g.R.Rows.entries c.args.rows.now) c.deref_mut.result.now c.args.self.now.held.items c.forget_lights.new.held _ c.deref_mut-2.result.now c.args.self.now.pending.items c.forget_lights.new.pending _
+    let lost = lost_of (fields_of c.args.lights.now c.args.change.now) _ _ _ _ c.args.board.now (board_of c.args.grid.now) c.args.lights.now (lights_of c.args.grid.now) (g.R.Rows.entries c.args.rows.now) (row words) c.requires.boards c.requires.are_lights entries
+    (lost_by (fields_of c.args.lights.now c.args.change.now) c.args.board.now c.args.lights.now (g.R.Rows.entries c.args.rows.now) c.deref_mut.result.now c.args.self.now.held.items c.forget_lights.new.held _ c.deref_mut-2.result.now c.args.self.now.pending.items c.forget_lights.new.pending _
     c.deref_mut.ensures.value (sym held) c.deref_mut-2.ensures.value (sym pending) c.forget_lights.ensures) in
-    opens before (record { grid = c.args.grid.now; words = words }) action c.args.change.now is settled c.args.self.now c.open.new.self filled filled.holding moved opening lost
+    opens before (record { grid = c.args.grid.now; words = words }) action (fields_of c.args.lights.now c.args.change.now) is settled c.args.self.now c.open.new.self filled filled.holding moved opening lost
     (ap (λ (net : Net). net.entered.items) rest) (ap (λ (net : Net). net.restart.items) rest) c.requires.inside
 
 pub returns-clause-begun : goal.returns-clause-begun

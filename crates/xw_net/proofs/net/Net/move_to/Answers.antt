@@ -7,6 +7,7 @@ use Rattle.xw_grid.specs.declared.lights.Light.{Light}
 use Rattle.xw_grid.specs.Light.{lights_of}
 use Rattle.xw_net.specs.Room.{counts_of, row_at}
 use Rattle.xw_net.specs.Fit.{AreFitted, IsTurned}
+use Rattle.xw_net.specs.Change.{before_of}
 use Rattle.xw_net.proofs.Nets.MovedNets.{moved_net}
 use Rattle.std.proofs.lemmas.Grind.{common_steps}
 use Rattle.xw_net.proofs.net.Net.move_to.Goals as goal
@@ -24,15 +25,15 @@ others_of lights lights' old old' new new' l o n is light past =
 pub returns-clause-moved : goal.returns-clause-moved
 returns-clause-moved g c was now before lights read filled =
     let entries : g.R.Rows.entries c.args.words.now ≡ row now.words = λ t. λ len. read len t in
-    let rows = with_items_is c.turn_to.new.self.rows c.fit_rows.new.rows (omega (arith, c.fit_rows.auto.rows, c.deref_mut.ensures.len)) in
-    let base = with_items_is c.turn_to.new.self.base c.fit_rows-2.new.rows (omega (arith, c.fit_rows-2.auto.rows, c.deref_mut-2.ensures.len)) in
-    let rest = c.turn_to.ensures.rest in
-    let turned = subst (λ ls. IsTurned ls (lights_of now.grid) c.args.self.now c.turn_to.new.self) before (subst (λ ls. IsTurned c.args.before.now ls c.args.self.now c.turn_to.new.self) lights c.turn_to.ensures.turned) in
+    let rows = with_items_is c.follow.new.self.rows c.fit_rows.new.rows (omega (arith, c.fit_rows.auto.rows, c.deref_mut.ensures.len)) in
+    let base = with_items_is c.follow.new.self.base c.fit_rows-2.new.rows (omega (arith, c.fit_rows-2.auto.rows, c.deref_mut-2.ensures.len)) in
+    let rest = c.follow.ensures.rest in
+    let turned = subst (λ ls. IsTurned ls (lights_of now.grid) c.args.self.now c.follow.new.self) before (subst (λ ls. IsTurned (before_of c.args.lights.now c.args.change.now) ls c.args.self.now c.follow.new.self) lights c.follow.ensures.turned) in
     let many = ap (λ (ls : List Light). length ls) lights in
-    moved_net was now (vec_len c.args.self.now.letters) c.args.self.now c.turn_to.new.self _ turned
-    (fitted_of c.args.lights.now (lights_of now.grid) (g.R.Rows.entries c.args.words.now) (row now.words) c.deref_mut.result.now c.turn_to.new.self.rows.items c.fit_rows.new.rows _ lights entries c.deref_mut.ensures.value (sym rows) c.fit_rows.ensures.fitted)
-    (others_of c.args.lights.now (lights_of now.grid) c.deref_mut.result.now c.turn_to.new.self.rows.items c.fit_rows.new.rows _ lights c.deref_mut.ensures.value (sym rows) c.fit_rows.ensures.others)
-    (fitted_of c.args.lights.now (lights_of now.grid) (g.R.Rows.entries c.args.words.now) (row now.words) c.deref_mut-2.result.now c.turn_to.new.self.base.items c.fit_rows-2.new.rows _ lights entries c.deref_mut-2.ensures.value (sym base) c.fit_rows-2.ensures.fitted)
+    moved_net was now (vec_len c.args.self.now.letters) c.args.self.now c.follow.new.self _ turned
+    (fitted_of c.args.lights.now (lights_of now.grid) (g.R.Rows.entries c.args.words.now) (row now.words) c.deref_mut.result.now c.follow.new.self.rows.items c.fit_rows.new.rows _ lights entries c.deref_mut.ensures.value (sym rows) c.fit_rows.ensures.fitted)
+    (others_of c.args.lights.now (lights_of now.grid) c.deref_mut.result.now c.follow.new.self.rows.items c.fit_rows.new.rows _ lights c.deref_mut.ensures.value (sym rows) c.fit_rows.ensures.others)
+    (fitted_of c.args.lights.now (lights_of now.grid) (g.R.Rows.entries c.args.words.now) (row now.words) c.deref_mut-2.result.now c.follow.new.self.base.items c.fit_rows-2.new.rows _ lights entries c.deref_mut-2.ensures.value (sym base) c.fit_rows-2.ensures.fitted)
     refl
     (record {
       few_cells = rest.few_cells;

@@ -4,6 +4,7 @@ use Rattle.xw_net.specs.Nets.{IsShaped, HasBits}
 use Rattle.xw_net.specs.Update.{IsSized}
 use Rattle.xw_net.specs.Filled.{AreLong, HasRowRoom}
 use Rattle.xw_net.specs.Room.{counts_of}
+use Rattle.xw_net.specs.Change.{before_of}
 use Rattle.xw_net.proofs.Nets.NetsAtRest.{stood_rest, stood_rows, stood_base}
 use Rattle.xw_net.proofs.Nets.SizesAtRest.{rest_shaped, rest_chained, rest_bits, rest_base, rest_room, rest_queued, rest_marked}
 use Rattle.xw_net.proofs.net.Net.revive.Goals as goal
@@ -24,14 +25,17 @@ revive_moved-requires g c = record {
   seeds = rest_marked c.args.grid.now c.args.lights.now (vec_len c.args.self.now.letters) c.move_to.new.self c.requires.lights c.requires.cells c.move_to.ensures.rest;
 }
 
-pub move_to-requires-clause-rest : goal.move_to-requires-clause-rest
-move_to-requires-clause-rest g c = stood_rest c.args.change.now.before.now (counts_of (g.R.Rows.entries c.args.rows.now)) c.args.self.now c.requires.stood
-
-pub move_to-requires-clause-rows : goal.move_to-requires-clause-rows
-move_to-requires-clause-rows g c = stood_rows c.args.change.now.before.now (counts_of (g.R.Rows.entries c.args.rows.now)) c.args.self.now c.requires.stood
-
-pub move_to-requires-clause-base : goal.move_to-requires-clause-base
-move_to-requires-clause-base g c = stood_base c.args.change.now.before.now (counts_of (g.R.Rows.entries c.args.rows.now)) c.args.self.now c.requires.stood
+pub move_to-requires : goal.move_to-requires
+move_to-requires g c =
+    let before = before_of c.args.lights.now c.args.change.now in
+    let counts = counts_of (g.R.Rows.entries c.args.rows.now) in
+    record {
+      lights = record { grid = c.args.grid.now; are = c.requires.lights };
+      rest = stood_rest before counts c.args.self.now c.requires.stood;
+      room = c.requires.room;
+      rows = stood_rows before counts c.args.self.now c.requires.stood;
+      base = stood_base before counts c.args.self.now c.requires.stood;
+    }
 
 pub returns-clause-shaped : goal.returns-clause-shaped
 returns-clause-shaped g c = subst (λ b. IsShaped b c.revive_moved.new.self) c.new-board.ensures c.revive_moved.ensures.shaped

@@ -5,8 +5,7 @@ use Rattle.xw_feas.specs.Board.{Board, board_of, light_at}
 use Rattle.xw_feas.specs.Flags.{set_has}
 use Rattle.xw_feas.specs.State.{State, Action}
 use Rattle.xw_net.specs.declared.net.Net.{Net}
-use Rattle.xw_net.specs.declared.change.Change.{Change}
-use Rattle.xw_net.specs.Change.{IsChange, AreReadsOf}
+use Rattle.xw_net.specs.Change.{word_of, fields_of, Fields, IsChange, AreReadsOf}
 use Rattle.xw_net.specs.Revival.{IsMatching, same_light}
 use Rattle.xw_net.specs.Marks.{IsPosition}
 use Rattle.xw_net.specs.Nets.{marks_of, word_stands, letter_stands, held_in, restart_in, pending_in, queued_in, IsQueue}
@@ -24,7 +23,7 @@ use Rattle.xw_net.proofs.Revivals.UnstrippedNet.{brought_unstripped}
 use Rattle.xw_net.proofs.Costs.CostBounds.{revival-is}
 use Rattle.xw_net.proofs.net.Net.revive_moved.Goals as goal
 
-position_of : (before now : State) (action : Action) (change : Change) (board : Board) (entries : ℕ → List Entry) → board ≡ board_of now.grid → AreReadsOf entries now.words → IsChange before now action change → IsPosition board entries now.words
+position_of : (before now : State) (action : Action) (change : Fields) (board : Board) (entries : ℕ → List Entry) → board ≡ board_of now.grid → AreReadsOf entries now.words → IsChange before now action change → IsPosition board entries now.words
 position_of before now action change board entries same read is =
     subst (λ b. IsPosition b entries now.words) (sym same) (record { laid_out = is.formed_now.board; apart = slots_apart now.grid; words = is.formed_now.dictionary; read = read })
 
@@ -56,7 +55,7 @@ unfolding word_stands letter_stands held_in restart_in pending_in queued_in is_m
 returns-clause-revived g c before words action settled read is filled moved room base_room =
     let board = c.args.board.now in
     let opened = c.begin.ensures.opened before words action settled read is filled moved in
-    let position = position_of before (record { grid = c.args.grid.now; words = words }) action c.args.change.now c.args.board.now (g.R.Rows.entries c.args.rows.now) c.requires.boards read is in
+    let position = position_of before (record { grid = c.args.grid.now; words = words }) action (fields_of c.args.lights.now c.args.change.now) c.args.board.now (g.R.Rows.entries c.args.rows.now) c.requires.boards read is in
     let is_base = base_of before (record { grid = c.args.grid.now; words = words }) action settled c.begin.new.self c.args.board.now c.requires.boards opened in
     let begun = begun_of before (record { grid = c.args.grid.now; words = words }) action settled c.begin.new.self c.args.board.now c.requires.boards opened in
     let covers = c.bring_back.ensures.covers (board_of before.grid) before.words words (same_light before.grid c.args.grid.now) (word_stands settled) (letter_stands settled) is_base
@@ -97,13 +96,13 @@ pub returns-clause-cost : goal.returns-clause-cost
 returns-clause-cost g c before words action settled member read is filled moved region =
     let opened = c.begin.ensures.opened before words action settled read is filled moved in
     let entries : g.R.Rows.entries c.args.rows.now ≡ row words = λ t. λ len. read len t in
-    let read_within : (light : ℕ) → light < length c.args.board.now.lights → is_read c.args.board.now c.args.change.now.word (is_marked c.begin.new.self.queue.marks) light ≡ true → member (light_at c.args.board.now light) ≡ true =
-    λ light in_board is_in. elim (or_cases (is_marked c.begin.new.self.queue.marks light) (is_long c.args.change.now.word (length (light_at c.args.board.now light))) is_in) [
+    let read_within : (light : ℕ) → light < length c.args.board.now.lights → is_read c.args.board.now (word_of c.args.change.now) (is_marked c.begin.new.self.queue.marks) light ≡ true → member (light_at c.args.board.now light) ≡ true =
+    λ light in_board is_in. elim (or_cases (is_marked c.begin.new.self.queue.marks light) (is_long (word_of c.args.change.now) (length (light_at c.args.board.now light))) is_in) [
       | inl on ↦ ap (λ b. member (light_at b light)) c.requires.boards ∙ opened.queued_within member region light on
       | inr long ↦
-          let word = long_word c.args.change.now.word (length (light_at c.args.board.now light)) long in
+          let word = long_word (word_of c.args.change.now) (length (light_at c.args.board.now light)) long in
           ap (λ b. member (light_at b light)) c.requires.boards
-          ∙ long_within before (record { grid = c.args.grid.now; words = words }) action c.args.change.now is member region (length (light_at c.args.board.now light)) word.0 light word.1
+          ∙ long_within before (record { grid = c.args.grid.now; words = words }) action (fields_of c.args.lights.now c.args.change.now) is member region (length (light_at c.args.board.now light)) word.0 light word.1
           (subst (λ (b : Board). light < length b.lights) c.requires.boards in_board) (ap (λ b. length (light_at b light)) (sym c.requires.boards))
     ] in
     let reading = c.begin.ensures.cost (λ light. member (light_at c.args.board.now light)) read_within in
