@@ -119,6 +119,20 @@ module _ (words : ℕ → List ℕ) (blocks : List (List ℕ)) (word : List ℕ)
             let e : i ≡ start blocks block + (i - start blocks block) = omega arith in
             ap (λ k. get_or (concat blocks) k 0) e ∙ get_placed blocks block (i - start blocks block) (omega arith)
 
+-- a word belongs at an entry of a block if it is not after that one and after the one before it
+pub belongs_between : (words : ℕ → List ℕ) (blocks : List (List ℕ)) (word : List ℕ) → IsSorted words (concat blocks) → (block : ℕ) → block < length blocks → (at : ℕ) → 0 < at → at < length (block_at blocks block)
+    → is_before (words (get_or (block_at blocks block) (at - 1) 0)) word ≡ true → is_before (words (get_or (block_at blocks block) at 0)) word ≡ false → Belongs words (concat blocks) word (start blocks block + at)
+belongs_between words blocks word sorted block lt at some within before from =
+    let inside = inside_all blocks block at lt within in
+    let e : start blocks block + (at - 1) + 1 ≡ start blocks block + at = omega arith in
+    record {
+      within = omega (arith, inside);
+      before = λ i below. all_before words (concat blocks) word sorted (start blocks block + (at - 1)) (omega (arith, inside))
+          (ap (λ place. is_before (words place) word) (get_placed blocks block (at - 1) (omega arith)) ∙ before) i (omega (arith, e));
+      from = λ i above below. none_before words (concat blocks) word sorted (start blocks block + at)
+          (ap (λ place. is_before (words place) word) (get_placed blocks block at within) ∙ from) i above below;
+    }
+
 -- ---- one more entry
 
 pub placed_in : (blocks : List (List ℕ)) (block at place : ℕ) → block < length blocks → at ≤ length (block_at blocks block) → concat (set blocks block (insert (block_at blocks block) at place)) ≡ insert (concat blocks) (start blocks block + at) place

@@ -2,7 +2,7 @@ use Rattle.std.proofs.Common.{◌≡◌, ◌<◌, [], length, sym, ◌∙◌, su
 use Rattle.std.proofs.lemmas.List.{get_or_read}
 use Rattle.xw_words.specs.Index.{word_in, block_at, IsPart, Belongs}
 use Rattle.xw_words.proofs.IndexBlocks.{part_of, inside_block, belongs_there}
-use Rattle.xw_words.proofs.index.spot_for.Goals as goal
+use Rattle.xw_words.proofs.index.spot_by_halving.Goals as goal
 
 pub search-at-requires : goal.search-at-requires
 search-at-requires c =
