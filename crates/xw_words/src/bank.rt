@@ -1,9 +1,9 @@
 //! The dictionary: all known words, grouped by length.
 ghost use Rattle.std.specs.Prelude.{◌≡◌, ◌≢◌, ℕ, ◌+◌, ◌*◌, ◌<◌, ◌≤◌, Bool, true, false, [], map, replicate, length, Ok, Err, None, All, IsOk, IfErr, IfOk, IfSome, IfNone, OnOk, OnErr, IsOkUnless, position, vec_len};
 ghost use Rattle.xw_letters.specs.Letter.{folded, IsLetter};
-ghost use Rattle.xw_words.specs.Dictionary.{row as words_of, entry_at, place_of, add_answer, after_add, strike_answer, after_strike, IsNew, IsDictionary, matching_answer, reserve_answer, most_words};
+ghost use Rattle.xw_words.specs.Dictionary.{row as words_of, entry_at, place_of, add_answer, answer_on, add_to, after_add, strike_answer, after_strike, IsNew, IsDictionary, matching_answer, reserve_answer, most_words};
 ghost use Rattle.xw_words.specs.Bank.{has_room, IsKept, KeepsRoom, KeepsOtherRoom};
-ghost use Rattle.xw_words.specs.Word.{is_bad_letter};
+ghost use Rattle.xw_words.specs.Word.{is_bad_letter, judged};
 ghost use Rattle.xw_bits.specs.Bits.{has_bit};
 ghost use Rattle.xw_words.specs.Columns.{has_letter, has_one_of, is_active as word_is_active, IsColumn, AreColumns};
 
@@ -180,6 +180,18 @@ impl Bank {
         judge_word(bytes)?;
         let row = &mut self.rows[bytes.len()];
         row.add(self.alloc, bytes)
+    }
+
+    /// Like `add`, for a word that is spelled already.
+    pub(crate) fn add_word(&mut self, word: &[Letter]) -> Result<Added, WordFault>
+        requires { All IsLetter word.now }
+        ensures answer { result ≢ Err WordFault.Memory → result ≡ answer_on add_to self.old.words (judged None (length word.now) word.now) }
+        ensures ok { IfOk result (λ added. self.new.words ≡ after_add self.old.words word.now added) }
+        ensures err { OnErr result (self.new.words ≡ self.old.words) }
+    {
+        judge_length(word.len())?;
+        let row = &mut self.rows[word.len()];
+        row.add_word(self.alloc, word)
     }
 
     /// Strikes a word and returns its index. The word stays known. Returns `BadLetter` or `Length`

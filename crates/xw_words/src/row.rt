@@ -152,6 +152,24 @@ impl Row {
         self.index.find(&self.letters, word)
     }
 
+    /// Notes where a word is or belongs in the index, so that a search for it is short.
+    fn note(&mut self, word: &[Letter])
+        requires { length word.now ≡ self.old.word_len }
+        ensures { self.new ≡ self.old }
+    {
+        self.index.note(&self.letters, word);
+    }
+
+    /// Like `find`. It notes where the word belongs, so that adding it is quick.
+    fn seek(&mut self, word: &[Letter]) -> Option<usize>
+        requires { length word.now ≡ self.old.word_len }
+        ensures same { self.new ≡ self.old }
+        ensures place { result ≡ place_in self.old.entries word.now }
+    {
+        self.note(word);
+        self.find(word)
+    }
+
     /// A bit for each of the 64 words of a chunk: whether it is active. The first word is the
     /// lowest bit.
     pub fn active_chunk(&self, chunk: usize) -> u64
@@ -252,8 +270,22 @@ impl Row {
         let _ = &self.word_len;
         let mut letters = [Letter::first(); LONGEST];
         spell(&mut letters, bytes);
-        let word = &letters[..bytes.len()];
-        match self.find(word) {
+        self.add_word(alloc, &letters[..bytes.len()])
+    }
+
+    /// Adds a word: appends a new one, or makes a struck one active again.
+    pub fn add_word(&mut self, alloc: Global, word: &[Letter]) -> Result<Added, WordFault>
+        requires length { length word.now ≡ self.old.word_len }
+        requires long { 2 ≤ self.old.word_len }
+        ensures word_len { self.new.word_len ≡ self.old.word_len }
+        ensures answer { result ≢ Err WordFault.Memory → result ≡ add_to self.old.entries word.now }
+        ensures memory { result ≡ Err WordFault.Memory → IsNew (add_to self.old.entries word.now) }
+        ensures ok { IfOk result (λ added. self.new.entries ≡ with_added self.old.entries word.now added) }
+        ensures err { OnErr result (self.new.entries ≡ self.old.entries) }
+        ensures room_at_err { OnErr result (self.new.room ≡ self.old.room) }
+        ensures room_at_return { (place : ℕ) → result ≡ Ok (Added.Returned place) → self.new.room ≡ self.old.room }
+    {
+        match self.seek(word) {
             Some(place) => self.add_again(place),
             None => self.add_new(alloc, word),
         }

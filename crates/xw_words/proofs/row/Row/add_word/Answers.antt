@@ -1,5 +1,5 @@
 use Rattle.std.proofs.Common.{rules}
-use Rattle.xw_words.proofs.row.Row.add.Goals as goal
+use Rattle.xw_words.proofs.row.Row.add_word.Goals as goal
 
 pub add_new-requires-clause-unknown : goal.add_new-requires-clause-unknown
 add_new-requires-clause-unknown c = search rules
