@@ -1,7 +1,7 @@
 //! The columns of the words of one length. There is one row of bits for each position and letter;
 //! bit `i` says whether word `i` has that letter at that position.
-ghost use Rattle.std.specs.Prelude.{◌≡◌, ℕ, ◌+◌, ◌*◌, ◌/◌, ◌%◌, ◌<◌, ◌≤◌, ◌==◌, true, false, [], length, slice_index_or, slice_set, vec_len, OnOk, if◌then◌else◌};
-ghost use Rattle.xw_words.specs.Columns.{column_at, bit_in};
+ghost use Rattle.std.specs.Prelude.{◌≡◌, ℕ, ◌+◌, ◌*◌, ◌/◌, ◌%◌, ◌<◌, ◌≤◌, false, [], length, slice_index_or, vec_len, OnOk};
+ghost use Rattle.xw_words.specs.Columns.{column_at, bits_put, bit_pushed};
 ghost use Rattle.xw_words.specs.Dictionary.{most_words};
 
 use std::alloc::{AllocError, Global};
@@ -80,7 +80,7 @@ fn put_word(columns: &mut [BitRow], word: &[Letter], place: usize)
     requires many { length columns.old ≡ 26 * length word.now }
     requires short { length word.now ≤ 255 }
     requires within { (i : ℕ) → i < length columns.old → place < length (column_at columns.old i).bits }
-    ensures bits { (i : ℕ) → i < length columns.old → (column_at columns.new i).bits ≡ (if bit_in word.now i then slice_set (column_at columns.old i).bits place true else (column_at columns.old i).bits) }
+    ensures bits { (i : ℕ) → i < length columns.old → (column_at columns.new i).bits ≡ bits_put word.now place i (column_at columns.old i).bits }
     ensures more { (i : ℕ) → (column_at columns.old i).room ≤ (column_at columns.new i).room }
 {
     for position in 0..word.len() {
@@ -99,7 +99,7 @@ pub(crate) fn push_word(columns: &mut [BitRow], word: &[Letter], place: usize)
     requires clear { (i : ℕ) → i < length columns.old → slice_index_or (column_at columns.old i).bits place false ≡ false }
     requires room { (i : ℕ) → i < length columns.old → place < (column_at columns.old i).room }
     ensures long { (i : ℕ) → i < length columns.old → length (column_at columns.new i).bits ≡ 64 * ((place + 64) / 64) }
-    ensures bits { (i other : ℕ) → i < length columns.old → slice_index_or (column_at columns.new i).bits other false ≡ (if other == place then bit_in word.now i else slice_index_or (column_at columns.old i).bits other false) }
+    ensures bits { (i other : ℕ) → i < length columns.old → slice_index_or (column_at columns.new i).bits other false ≡ bit_pushed word.now place i (column_at columns.old i).bits other }
     ensures more { (i : ℕ) → (column_at columns.old i).room ≤ (column_at columns.new i).room }
 {
     if place % 64 == 0 {
