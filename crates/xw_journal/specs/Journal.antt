@@ -93,8 +93,16 @@ taken Nothing text = []
 taken Change text = text ++ flushed ∷ []
 taken Letters text = text ++ flushed ∷ []
 
+-- the entries that were kept before a search are those of an earlier grid
+abbrev pub WereKept : Effect → Grid → Grid → List (Option ℕ) → Type 0
+WereKept effect before after entries = effect ≡ Letters → HasEntriesBefore before after entries
+
+-- the text for a line with this effect, with its flush
+abbrev pub events_of_effect : Effect → List ℕ → Grid → Grid → List ℕ
+events_of_effect effect line before after = taken effect (text_of_effect effect line before after)
+
 abbrev pub events_of_parsed : Result (Option Command) SyntaxFault → List ℕ → Grid → Grid → List ℕ
-events_of_parsed (Ok (Some command)) line before after = taken (effect_of command) (text_of_effect (effect_of command) line before after)
+events_of_parsed (Ok (Some command)) line before after = events_of_effect (effect_of command) line before after
 events_of_parsed other line before after = []
 
 -- the text for a line with its flush

@@ -6,7 +6,7 @@ ghost use Rattle.xw_lines.specs.Cut.{held};
 ghost use Rattle.xw_lines.specs.Device.{flushed};
 ghost use Rattle.xw_lines.specs.Sends.{Sends};
 ghost use Rattle.xw_session.specs.Record.{command_lines, letter_commands};
-ghost use Rattle.xw_journal.specs.Journal.{effect_of_parsed, entered_commands, journal_events, taken, text_of_effect, HasEntriesBefore};
+ghost use Rattle.xw_journal.specs.Journal.{effect_of_parsed, entered_commands, events_of_effect, journal_events, HasEntriesBefore, WereKept};
 
 use crate::effect::Effect;
 use crate::entries::Entries;
@@ -66,7 +66,7 @@ fn keep<J: Sink>(
     before: &Entries,
     grid: &Grid,
 ) -> Result<(), WriteFailed>
-    ensures { (was : AnyGrid) → (effect ≡ Effect.Letters → HasEntriesBefore was grid.now before.now) → Sends J.transcript J.failures journal.old journal.new result (taken effect (text_of_effect effect line.now was grid.now)) }
+    ensures { (was : AnyGrid) → WereKept effect was grid.now before.now → Sends J.transcript J.failures journal.old journal.new result (events_of_effect effect line.now was grid.now) }
 {
     match effect {
         Effect::Nothing => return Ok(()),
