@@ -41,6 +41,10 @@ pub record IsRoom (state : State) (room : Room) : Type 0 where
 abbrev pub IsNeeded : Position → ℕ → List (Option ℕ) → ℕ → Type 0
 IsNeeded position light entries cell = (letter : ℕ) → entry_in entries cell ≡ Some letter → leaves_none position light (slice_set entries cell None) ≡ false
 
+-- the same in a state, for a cell of its grid
+abbrev pub IsNeededIn : State → ℕ → Cell → Type 0
+IsNeededIn state light cell = IsNeeded (position_of state) light (entries_of state) (index_of state.grid cell)
+
 -- the cell had an entry and was emptied, and the light still has no feasible word
 pub record IsSpared (before : State) (light cell : ℕ) (now : State) : Type 0 where
   pub letter : ℕ

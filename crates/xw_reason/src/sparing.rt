@@ -4,7 +4,7 @@ ghost use Rattle.xw_grid.specs.Grid.{is_open, index_of};
 ghost use Rattle.xw_fill.specs.Position.{position_of, DiffersInEntries};
 ghost use Rattle.xw_fill.specs.Search.{light_count, lacks_words};
 ghost use Rattle.xw_reason.specs.Reason.{entries_of, IsPart};
-ghost use Rattle.xw_reason.specs.Sparing.{IsNeeded, IsSpared};
+ghost use Rattle.xw_reason.specs.Sparing.{IsNeeded, IsNeededIn, IsSpared};
 
 use crate::entries::write_cell;
 use xw_feas::feasible::Feasible;
@@ -17,7 +17,7 @@ fn spare<E: Feasible>(engine: &mut E, light: usize, cell: Cell) -> bool
     requires light { light < light_count (position_of (E.state engine.old)) }
     requires open { is_open (E.state engine.old).grid cell ≡ true }
     ensures spared { result ≡ true → IsSpared (E.state engine.old) light (index_of (E.state engine.old).grid cell) (E.state engine.new) }
-    ensures needed { result ≡ false → IsNeeded (position_of (E.state engine.old)) light (entries_of (E.state engine.old)) (index_of (E.state engine.old).grid cell) }
+    ensures needed { result ≡ false → IsNeededIn (E.state engine.old) light cell }
     ensures same { result ≡ false → E.state engine.new ≡ E.state engine.old }
 {
     let letter = engine.grid().entry(cell);
@@ -42,7 +42,7 @@ fn spare_once<E: Feasible>(engine: &mut E, light: usize, list: &[(Cell, Option<L
     ensures dead { lacks_words (position_of (E.state engine.new)) light ≡ true }
     ensures fewer { result ≡ true → count_by is_some (entries_of (E.state engine.new)) < count_by is_some (entries_of (E.state engine.old)) }
     ensures same { result ≡ false → E.state engine.new ≡ E.state engine.old }
-    ensures needed { result ≡ false → All (λ written. IsNeeded (position_of (E.state engine.old)) light (entries_of (E.state engine.old)) (index_of (E.state engine.old).grid written.0)) list.now }
+    ensures needed { result ≡ false → All (λ written. IsNeededIn (E.state engine.old) light written.0) list.now }
 {
     let mut spared = false;
     for written in list {
