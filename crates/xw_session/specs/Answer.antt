@@ -62,6 +62,11 @@ pub record AnswersBy {S E : Type 0} (transcript : S → List ℕ) (failures : S 
   pub sends : Sends transcript failures old new result (text_of reply)
   pub step : IfOk result (λ s. s ≡ step_of reply)
 
+-- an edit of the grid or the dictionary was answered
+abbrev pub AnswersEdit : {S E : Type 0} → (S → List ℕ) → (S → ℕ) → State → Edit → Result Step E → State → S → S → Type 0
+AnswersEdit transcript failures state edit result left old new =
+    AnswersBy transcript failures state (moved state (after state.position (action_of edit))) (want_of_action state (action_of edit)) result left old new
+
 -- the command was answered
 abbrev pub AnswersTo : {S E : Type 0} → (S → List ℕ) → (S → ℕ) → State → Command → Result Step E → State → S → S → Type 0
 AnswersTo transcript failures state command result after old new =

@@ -2,11 +2,9 @@
 ghost use Rattle.std.specs.Prelude.{◌≡◌, IfOk, flat_map, if◌then◌else◌, []};
 ghost use Rattle.xw_feas.specs.Changed.{changes_left};
 ghost use Rattle.xw_feas.specs.Changes.{spelled_out};
-ghost use Rattle.xw_feas.specs.State.{after, action_of};
 ghost use Rattle.xw_lines.specs.Sends.{Sends};
 ghost use Rattle.xw_session.specs.Text.{change_line};
-ghost use Rattle.xw_session.specs.Reply.{moved, want_of_action};
-ghost use Rattle.xw_session.specs.Answer.{AnswersBy, AnswersTo, Asks, edit_reply, text_of, step_of};
+ghost use Rattle.xw_session.specs.Answer.{AnswersEdit, AnswersTo, Asks, edit_reply, text_of, step_of};
 ghost use Rattle.xw_session.specs.State.{State};
 
 use crate::lists;
@@ -80,7 +78,7 @@ impl<E: Feasible> Session<E> {
         edit: &Edit<'_>,
         sink: &mut W,
     ) -> Result<Step, WriteFailed>
-        ensures { AnswersBy W.transcript W.failures self.old (moved self.old (after self.old.position (action_of edit.now))) (want_of_action self.old (action_of edit.now)) result self.new sink.old sink.new }
+        ensures { AnswersEdit W.transcript W.failures self.old edit.now result self.new sink.old sink.new }
     {
         let is_watched = self.is_watched;
         end_edit(sink, self.engine.edit(edit), is_watched)
