@@ -121,6 +121,11 @@ pub record AreAnswered {S : Type 0} (Answers : S → List ℕ → Step → List 
   pub answered : Speaks Answers start (lines_of text) refused left told_old told_new
   pub status_is : run_ended before (Done (saturated refused)) ≡ Ok status
 
+-- the same with an input and an output, and what is read from the one and written to the other
+abbrev pub AreAnsweredOn : {S I O : Type 0} → (S → List ℕ → Step → List ℕ → S → Type 0) → (I → List ℕ) → (O → List ℕ) → ℕ → S → S → Status → I → I → O → O → Type 0
+AreAnsweredOn Answers read told before start left status read_old read_new told_old told_new =
+    AreAnswered Answers before start left status (read read_old) (read read_new) (told told_old) (told told_new)
+
 -- From its first state a session resumes the commands that are named and answers the input, and its puzzle is written
 -- if a file for it is named.
 pub record IsRun (files : SessionFiles) (opened : State) (status : Status) (read_old read_new told_old told_new : List ℕ) : Type 0 where
@@ -194,6 +199,10 @@ abbrev pub IsPerformed : Call → Status → List ℕ → List ℕ → List ℕ 
 IsPerformed (Edit files explain) status read_old read_new told_old told_new = IsEdited files status read_old read_new told_old told_new
 IsPerformed (Convert from_file to_file explain) status read_old read_new told_old told_new = (status ≡ Accepted) × IsConverted to_file.now
 IsPerformed (Check file explain) status read_old read_new told_old told_new = (status ≡ Accepted) × IsChecked told_old told_new
+
+-- the same with an input and an output, and what is read from the one and written to the other
+abbrev pub IsPerformedOn : {I O : Type 0} → (I → List ℕ) → (O → List ℕ) → Call → Status → I → I → O → O → Type 0
+IsPerformedOn read told call status read_old read_new told_old told_new = IsPerformed call status (read read_old) (read read_new) (told told_old) (told told_new)
 
 -- the failure may end the call
 abbrev pub MayEnd : Call → Failure → Type 0

@@ -11,7 +11,7 @@ ghost use Rattle.xw_cli.specs.declared.failure.Failure.TheVariants.{Memory};
 ghost use Rattle.xw_cli.specs.declared.failure.Status.TheVariants.{Accepted};
 ghost use Rattle.xw_cli.specs.Files.{AreBytesFor, IfNamed, IsCannotWrite, IsUnread, IsUnwritten};
 ghost use Rattle.xw_cli.specs.SessionFiles.{IsUnloaded, IsUnsaved};
-ghost use Rattle.xw_cli.specs.Performed.{format_name, described, IsChecked, IsUnchecked, IsConverted, IsUnconverted, HasWords, IsOpened, HasResumed, IsKept, AreAnswered, IsRun, IsJournaled, IsEdited, IsUnopened, IsUnresumed, IsUnanswered, IsUnclosed, IsCut, IsCutJournal, IsUnedited, IsPerformed, MayEnd, IsEnded};
+ghost use Rattle.xw_cli.specs.Performed.{format_name, described, IsChecked, IsUnchecked, IsConverted, IsUnconverted, HasWords, IsOpened, HasResumed, IsKept, AreAnsweredOn, IsRun, IsJournaled, IsEdited, IsUnopened, IsUnresumed, IsUnanswered, IsUnclosed, IsCut, IsCutJournal, IsUnedited, IsPerformedOn, MayEnd, IsEnded};
 
 use crate::arguments::{Call, SessionFiles};
 use crate::explaining::{show, tell};
@@ -39,7 +39,7 @@ pub fn perform<F: Searchable, R: Locks + AllocGlobal, I: Source, O: Sink, E: Sin
     errors: &mut E,
 ) -> Status
     // The call is done, or a failure ends it and is told.
-    ensures { IsPerformed call.entry result (I.transcript input.old) (I.transcript input.new) (O.transcript output.old) (O.transcript output.new) ⊎ IsEnded E.transcript E.failures call.entry result errors.new }
+    ensures { IsPerformedOn I.transcript O.transcript call.entry result input.old input.new output.old output.new ⊎ IsEnded E.transcript E.failures call.entry result errors.new }
 {
     match run::<F, R, I, O, E>(rt, call, input, output, errors) {
         Ok(status) => status,
@@ -55,7 +55,7 @@ fn run<F: Searchable, R: Locks + AllocGlobal, I: Source, O: Sink, E: Sink>(
     output: &mut O,
     errors: &mut E,
 ) -> Result<Status, Failure>
-    ensures ok { IfOk result (λ status. IsPerformed call.entry status (I.transcript input.old) (I.transcript input.new) (O.transcript output.old) (O.transcript output.new)) }
+    ensures ok { IfOk result (λ status. IsPerformedOn I.transcript O.transcript call.entry status input.old input.new output.old output.new) }
     ensures err { IfErr result (λ failure. MayEnd call.entry failure) }
 {
     match call {
@@ -129,7 +129,7 @@ fn converse_journaled<F: Searchable, J: Sink + Drop, I: Source, O: Sink>(
     input: &mut I,
     output: &mut O,
 ) -> Result<Status, Failure>
-    ensures ok { IfOk result (λ status. AreAnswered AnswersJournaled before session.old session.new status (I.transcript input.old) (I.transcript input.new) (O.transcript output.old) (O.transcript output.new)) }
+    ensures ok { IfOk result (λ status. AreAnsweredOn AnswersJournaled I.transcript O.transcript before session.old session.new status input.old input.new output.old output.new) }
     ensures err { IfErr result (λ failure. IsUnanswered failure ⊎ IsCannotWrite file.now failure) }
 {
     match session.run_lines(input, output) {
@@ -174,7 +174,7 @@ fn converse<F: Searchable, I: Source, O: Sink>(
     input: &mut I,
     output: &mut O,
 ) -> Result<Status, Failure>
-    ensures ok { IfOk result (λ status. AreAnswered Answers before session.old session.new status (I.transcript input.old) (I.transcript input.new) (O.transcript output.old) (O.transcript output.new)) }
+    ensures ok { IfOk result (λ status. AreAnsweredOn Answers I.transcript O.transcript before session.old session.new status input.old input.new output.old output.new) }
     ensures err { IfErr result (λ failure. IsUnanswered failure) }
 {
     run_status(session.run_lines(input, output), before)
