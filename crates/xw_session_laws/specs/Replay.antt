@@ -9,6 +9,7 @@ use Rattle.xw_grid.specs.declared.cell.Direction.{Direction}
 use Rattle.xw_grid.specs.declared.cell.Direction.TheVariants.{Across, Down}
 use Rattle.xw_grid.specs.declared.cell.Side.{Side}
 use Rattle.xw_grid.specs.Grid.{Grid, IsGrid, is_inside, is_edge, bars, index_of}
+use Rattle.xw_grid.specs.Edit.{blank}
 use Rattle.xw_grid.specs.Clue.{Texts, ClueMap, no_clues}
 use Rattle.xw_feas.specs.State.{State as Position}
 use Rattle.xw_feas.specs.WellFormed.{IsWellFormed}
@@ -76,6 +77,14 @@ ComeFirst begun entries = begun ≡ map unstruck (take (length begun) entries)
 -- no bar lies on the border of the grid
 abbrev pub BarsAreOnEdges : Grid → Type 0
 BarsAreOnEdges grid = (side : Side) (cell : Cell) → is_inside grid cell ≡ true → is_edge grid cell side ≡ false → slice_index_or (bars grid side) (index_of grid cell) false ≡ false
+
+-- a blank grid of the same size, with the bars on the right of cells
+abbrev pub barred_right : Grid → Grid
+barred_right grid = record (blank grid.width grid.height) { right = grid.right }
+
+-- the same with the bars below cells too
+abbrev pub barred : Grid → Grid
+barred grid = record (barred_right grid) { below = grid.below }
 
 -- the cells are in the grid and in strict reading order, starting at this index or later
 abbrev pub AreFrom : Grid → ℕ → List Cell → Type 0

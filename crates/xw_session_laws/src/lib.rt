@@ -26,8 +26,13 @@ ghost use Rattle.xw_session.specs.State.{State};
 ghost use Rattle.xw_session.specs.Reply.{has_nul};
 ghost use Rattle.xw_session.specs.Put.{place_of, has_place, with_text_at};
 ghost use Rattle.xw_session.specs.Record.{known_counts, text_commands, section_commands};
-ghost use Rattle.xw_session_laws.specs.Replay.{NoneIsStruck, SessionsBegin, SessionsOpen, SessionsStay, CommandsMakeSessionsAgain, LinesAreReadAgain, LinesMakeSessionsAgain, AnsweredLinesMakeSessionsAgain, RecordsAreRefusedForMemoryOnly, replayed, bared, with_grid, with_words, clues_of, ComeFirst, BarsAreOnEdges, AreFrom, AreTextsFrom};
-ghost use Rattle.xw_session_laws.specs.Journals.{JournalsMakeSessionsAgain, JournalsHaveWholeLines, AnsweredJournalsMakeSessionsAgain, JournalsAreRefusedForMemoryOnly, JournalsAreCutAtLines, RunsAreJournaled, BrokenRunsAreJournaled, StoppedRunsAreJournaled, JournaledRunsAreMadeAgain, BegunJournalsAreMadeAgain, LinesArePlain, RunsLeaveJournals};
+ghost use Rattle.xw_session_laws.specs.Replay.{NoneIsStruck, SessionsBegin, SessionsOpen, SessionsStay, CommandsMakeSessionsAgain, LinesAreReadAgain};
+ghost use Rattle.xw_session_laws.specs.Replay.{LinesMakeSessionsAgain, AnsweredLinesMakeSessionsAgain, RecordsAreRefusedForMemoryOnly, replayed, bared};
+ghost use Rattle.xw_session_laws.specs.Replay.{with_grid, with_words, clues_of, ComeFirst, BarsAreOnEdges, barred, barred_right, AreFrom, AreTextsFrom};
+ghost use Rattle.xw_session_laws.specs.Journals.{JournalsMakeSessionsAgain, JournalsHaveWholeLines, AnsweredJournalsMakeSessionsAgain};
+ghost use Rattle.xw_session_laws.specs.Journals.{JournalsAreRefusedForMemoryOnly, JournalsAreCutAtLines, RunsAreJournaled, BrokenRunsAreJournaled};
+ghost use Rattle.xw_session_laws.specs.Journals.{StoppedRunsAreJournaled, JournaledRunsAreMadeAgain, BegunJournalsAreMadeAgain, LinesArePlain};
+ghost use Rattle.xw_session_laws.specs.Journals.{RunsLeaveJournals};
 ghost use Rattle.xw_lines.specs.Cut.{ended_lines, last_piece, with_lfs, AllHaveNoLf, HasNoLf};
 
 use xw_lines::{Sink, Source};
@@ -117,10 +122,10 @@ pub fn clues_are_made_again()
 pub fn bars_are_made_again()
     ensures right { (state made : State) → IsGrid made.position.grid → BarsAreOnEdges made.position.grid
         → replayed (with_grid state (blank made.position.grid.width made.position.grid.height)) (section_commands made (sections.Cells (parts.Bars Right)))
-        ≡ Some (with_grid state (record (blank made.position.grid.width made.position.grid.height) { right = made.position.grid.right })) }
+        ≡ Some (with_grid state (barred_right made.position.grid)) }
     ensures below { (state made : State) → IsGrid made.position.grid → BarsAreOnEdges made.position.grid
-        → replayed (with_grid state (record (blank made.position.grid.width made.position.grid.height) { right = made.position.grid.right })) (section_commands made (sections.Cells (parts.Bars Below)))
-        ≡ Some (with_grid state (record (blank made.position.grid.width made.position.grid.height) { right = made.position.grid.right; below = made.position.grid.below })) }
+        → replayed (with_grid state (barred_right made.position.grid)) (section_commands made (sections.Cells (parts.Bars Below)))
+        ≡ Some (with_grid state (barred made.position.grid)) }
 {}
 
 /// The block commands of a record, executed on an empty grid without symmetry, restore exactly the blocks.
