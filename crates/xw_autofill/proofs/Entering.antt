@@ -19,8 +19,9 @@ use Rattle.xw_feas.specs.declared.edit.Refusal.{Refusal}
 use Rattle.xw_feas.specs.declared.changed.Changed.{Changed}
 use Rattle.xw_feas.proofs.BoardLemmas.{length-open_cells}
 use Rattle.xw_feas.proofs.ChangesLemmas.{open_place}
+use Rattle.xw_feas.proofs.EditsLemmas.{edit_done}
 use Rattle.xw_fill.specs.Position.{DiffersInEntries}
-use Rattle.xw_fill.proofs.StateLemmas.{edit_done, entry_board, differs_in_squares}
+use Rattle.xw_fill.proofs.StateLemmas.{entry_board, differs_in_squares}
 use Rattle.xw_autofill.specs.Progress.{entries_of}
 
 pub open_below : (flags : List Bool) (k : ℕ) → get_or flags k false ≡ true → k < length flags

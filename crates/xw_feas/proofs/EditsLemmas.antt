@@ -1,8 +1,8 @@
 -- One more edit at the end of a list.
-use Rattle.std.proofs.Common.{◌≡◌, ℕ, ◌+◌, ◌<◌, ◌≤◌, cond, List, [], ◌∷◌, ◌++◌, map, take, length, get_or, sym, ◌∙◌, ap, subst, arith, Some, inl, inr, ◌⊎◌}
+use Rattle.std.proofs.Common.{◌≡◌, ℕ, ◌+◌, ◌<◌, ◌≤◌, cond, List, [], ◌∷◌, ◌++◌, map, take, length, get_or, sym, ◌∙◌, ap, subst, arith, Some, None, inl, inr, ◌⊎◌}
 use Rattle.std.specs.Prelude.{Result, Ok, Err, is_err, IsOk, IfErr, IsErrAnd}
 use Rattle.std.proofs.lemmas.List.{take_more, take_all, map_push}
-use Rattle.xw_feas.specs.State.{State, Action, after, action_of, IsRefused, IsAfter, done, accepted, skipped, with_grid, by_fault, block_toggled}
+use Rattle.xw_feas.specs.State.{State, Action, after, want_of, action_of, IsRefused, IsAfter, done, accepted, skipped, with_grid, by_fault, block_toggled}
 use Rattle.xw_feas.specs.Shape.{IsGridRefused}
 use Rattle.xw_grid.specs.declared.cell.Cell.{Cell}
 use Rattle.xw_grid.specs.declared.fault.GridFault.{GridFault}
@@ -70,3 +70,11 @@ block_refused state cell fault refused = grid_refused state (toggle_block state.
 pub refusal_made : {X : Type 0} (result : Result X Refusal) (refusal : Refusal) (P : Refusal → Type 0) → IsErrAnd result (λ made. made ≡ refusal) → P refusal → IfErr result P
 refusal_made (Ok x) refusal P made holds = tt
 refusal_made (Err other) refusal P made holds = subst P (sym made) holds
+
+-- an edit that no rule refuses, and that does not allocate, leads where the rule says
+pub edit_done : (before now target : State) (answers_before answers_now : Answers) (action : Action) (result : Result Changed Refusal) → after before action ≡ Ok target → want_of before action ≡ None → IsEdited before answers_before action result now answers_now → now ≡ target
+edit_done before now target answers_before answers_now action (Ok changed) e none edited = let is = edited.state in cc
+edit_done before now target answers_before answers_now action (Err refusal) e none edited = by_rule edited.rule where
+  by_rule : (after before action ≡ Err refusal) ⊎ (IsOk (after before action) × (want_of before action ≡ Some refusal)) → now ≡ target
+  by_rule (inl h) = cc
+  by_rule (inr h) = let wanted = h.1 in cc

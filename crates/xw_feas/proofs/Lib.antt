@@ -16,3 +16,4 @@ pub mod AdditionLemmas
 pub mod CrossingLemmas
 pub mod PassesLemmas
 pub mod WriteLemmas
+pub mod PlacingLemmas

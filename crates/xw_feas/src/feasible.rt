@@ -1,18 +1,20 @@
 //! The interface of an engine, and running a list of edits.
-ghost use Rattle.std.specs.Prelude.{◌≡◌, ℕ, map, IfOk, IfErr, OnOk, OnErr};
+ghost use Rattle.std.specs.Prelude.{◌≡◌, ℕ, ◌<◌, length, map, Ok, IfOk, IfErr, OnOk, OnErr};
 ghost use Rattle.std.specs.Borrow.{sem};
 ghost use Rattle.std.specs.Io.BufRead.{Rests};
 ghost use Rattle.xw_letters.specs.LetterSet.{letters_in};
 ghost use Rattle.xw_grid.specs.Light.{lights_of};
 ghost use Rattle.xw_feas.specs.Board.{board_of};
 ghost use Rattle.xw_feas.specs.Feasible.{Answers, AreAnswers};
-ghost use Rattle.xw_feas.specs.State.{State, IsAfter, action_of};
+ghost use Rattle.xw_feas.specs.State.{State, IsAfter, action_of, after, known_placed, known_count};
 ghost use Rattle.xw_feas.specs.Engine.{IsEdited};
 ghost use Rattle.xw_feas.specs.WellFormed.{IsWellFormed};
-ghost use Rattle.xw_feas.specs.Queries.{count_answer, next_answer, AreLetters};
+ghost use Rattle.xw_feas.specs.Queries.{count_answer, next_answer, next_found, words_of, AreLetters};
 
 use crate::changed::Changed;
+use crate::dictionary::known_distinct;
 use crate::edit::{Edit, Found, Refusal};
+use crate::place::{nth_light, spell_bytes};
 use std::alloc::Global;
 use xw_grid::cell::{Cell, LightName};
 use xw_grid::fault::GridFault;
@@ -20,6 +22,7 @@ use xw_grid::grid::Grid;
 use xw_grid::lights::Lights;
 use xw_letters::letter_set::LetterSet;
 use xw_words::bank::Bank;
+use xw_words::word::LONGEST;
 
 /// An engine: it owns a grid and a dictionary, applies edits to them, and keeps the feasible words
 /// and letters up to date.
@@ -72,6 +75,43 @@ pub trait Feasible: Drop {
     /// The feasible letters of a cell. Returns `OutOfGrid`, then `OnBlock` if the cell is a block.
     fn letters(&self, cell: Cell) -> Result<LetterSet, Refusal>
         ensures { AreLetters (state self.now) (answers self.now) cell result };
+
+    /// The number of feasible words of a light, by its index.
+    fn word_count_at(&self, light: usize) -> usize
+        requires { light < length (lights_of (state self.now).grid) }
+        ensures { result ≡ length (words_of (answers self.now) light) }
+    {
+        match self.word_count(nth_light(self.lights(), light).name) {
+            Ok(count) => count,
+            Err(_) => unreachable!(),
+        }
+    }
+
+    /// The first feasible word of a light, by its index, whose own index is at least `from`.
+    fn next_word_at(&self, light: usize, from: usize) -> Option<Found>
+        requires { light < length (lights_of (state self.now).grid) }
+        ensures { result ≡ next_found (board_of (state self.now).grid) (state self.now).words (answers self.now) light from }
+    {
+        match self.next_word(nth_light(self.lights(), light).name, from) {
+            Ok(found) => found,
+            Err(_) => unreachable!(),
+        }
+    }
+
+    /// Places a known word in a light: both by index, the word among those of the light's length. It is never refused.
+    fn place_word_at(&mut self, light: usize, index: usize)
+        requires light { light < length (lights_of (state self.old).grid) }
+        requires index { index < known_count (state self.old) light }
+        ensures { after (state self.old) (known_placed (state self.old) light index) ≡ Ok (state self.new) }
+    {
+        self.grid().well_formed();
+        known_distinct(self.bank());
+        let light = nth_light(self.lights(), light);
+        let len = light.size as usize;
+        let mut bytes = [0; LONGEST];
+        spell_bytes(&mut bytes, self.bank().word(len, index));
+        let _ = self.edit(&Edit::Place(light.name, &bytes[..len]));
+    }
 
     /// The answers are exactly the feasible words and letters of the current grid and dictionary.
     ghost exact: { (engine : Self) → AreAnswers (board_of (state engine).grid) (state engine).words (answers engine) };

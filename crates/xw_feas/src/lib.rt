@@ -10,7 +10,7 @@ pub mod edit;
 pub mod feasible;
 pub mod grid_edit;
 pub mod laws;
-mod place;
+pub mod place;
 pub mod searchable;
 pub mod word_iter;
 pub mod write;

@@ -1,9 +1,8 @@
 //! An iterator over the feasible words of a light.
-ghost use Rattle.std.specs.Prelude.{◌≡◌, ◌<◌, Some, length, slice_get, slice_index_or};
-ghost use Rattle.xw_grid.specs.Light.{lights_of, place_named};
+ghost use Rattle.std.specs.Prelude.{◌≡◌, ◌<◌, length, slice_get};
 ghost use Rattle.xw_words.specs.Dictionary.{row as known_words, entry_at, most_words};
 ghost use Rattle.xw_feas.specs.Board.{board_of, spelled, light_at};
-ghost use Rattle.xw_feas.specs.Queries.{next_found, words_answer};
+ghost use Rattle.xw_feas.specs.Queries.{words_answer};
 ghost use Rattle.xw_feas.specs.Spelled.{spelling};
 
 use crate::board::{Board, Cells};
@@ -82,14 +81,13 @@ impl<'a> Spelled<'a> {
 #[derive(Drop)]
 pub struct WordIter<'a, E: Feasible> {
     engine: &'a E,
-    name: LightName,
     light: usize,
     from: usize,
 }
 
 impl<'a, E: Feasible> Model for WordIter<'a, E> {
-    ghost use Rattle.std.specs.Prelude.{◌≡◌, List, ℕ, Some};
-    ghost use Rattle.xw_grid.specs.Light.{lights_of, place_named};
+    ghost use Rattle.std.specs.Prelude.{List, ℕ, ◌<◌, length};
+    ghost use Rattle.xw_grid.specs.Light.{lights_of};
     ghost use Rattle.xw_feas.specs.Board.{board_of};
     ghost use Rattle.xw_feas.specs.Words.{words_from};
 
@@ -97,7 +95,7 @@ impl<'a, E: Feasible> Model for WordIter<'a, E> {
 
     ghost view = { λ words. words_from (board_of (E.state words.engine.now).grid) (E.state words.engine.now).words (E.answers words.engine.now) words.light words.from };
 
-    ghost invariant = { λ words. place_named (lights_of (E.state words.engine.now).grid) words.name ≡ Some words.light };
+    ghost invariant = { λ words. words.light < length (lights_of (E.state words.engine.now).grid) };
 }
 
 /// Iterates over the feasible words of a light. Returns `NoLight` if no light has this name.
@@ -108,21 +106,9 @@ pub fn words<E: Feasible>(engine: &E, name: LightName) -> Result<WordIter<'_, E>
         None => Err(Refusal::NoLight),
         Some(light) => Ok(WordIter {
             engine,
-            name,
             light,
             from: 0,
         }),
-    }
-}
-
-/// The first feasible word of an existing light whose index is at least `from`.
-fn found_in<E: Feasible>(engine: &E, name: LightName, light: usize, from: usize) -> Option<Found>
-    requires { place_named (lights_of (E.state engine.now).grid) name ≡ Some light }
-    ensures { result ≡ next_found (board_of (E.state engine.now).grid) (E.state engine.now).words (E.answers engine.now) light from }
-{
-    match engine.next_word(name, from) {
-        Ok(found) => found,
-        Err(_) => unreachable!(),
     }
 }
 
@@ -162,7 +148,7 @@ impl<'a, E: Feasible> Iterator for WordIter<'a, E> {
 
     fn next(&mut self) -> Option<Spelled<'a>> {
         let engine = self.engine;
-        match found_in(engine, self.name, self.light, self.from) {
+        match engine.next_word_at(self.light, self.from) {
             None => None,
             Some(Found::Entered) => {
                 self.from = 1;

@@ -12,7 +12,8 @@ use Rattle.xw_grid.specs.Edit.{set_entry, with_entry}
 use Rattle.xw_feas.specs.State.{State, list_written, with_grid, by_fault, then_write, write_list}
 use Rattle.xw_feas.proofs.ShapeLemmas.{open_takes}
 use Rattle.xw_feas.proofs.WriteLemmas.{write_list-push}
-use Rattle.xw_fill.proofs.StateLemmas.{IsGrid-entry, edit_done, clearing, light_cell_at, light_size, differs_open, differs_index, IsPartly, IsPartly-itself, IsPartly-then}
+use Rattle.xw_feas.proofs.EditsLemmas.{edit_done}
+use Rattle.xw_fill.proofs.StateLemmas.{IsGrid-entry, clearing, light_cell_at, light_size, differs_open, differs_index, IsPartly, IsPartly-itself, IsPartly-then}
 use Rattle.xw_feas.specs.Board.{Board, board_of, entry, spelled, light_at}
 use Rattle.xw_feas.specs.declared.edit.Refusal.{Refusal}
 use Rattle.xw_feas.specs.Feasible.{Answers}

@@ -1,14 +1,12 @@
 -- How letter edits change a state and its position.
-use Rattle.std.proofs.Common.{◌≡◌, ℕ, zero, suc, ◌-◌, ◌<◌, ◌≤◌, Bool, true, false, cond, not, List, [], ◌∷◌, map, length, get_or, set, drop, Option, Some, None, refl, sym, ◌∙◌, ap, subst, arith, inl, inr, length-set}
-use Rattle.std.specs.Prelude.{◌⊎◌, Result, Ok, Err, All, IsOk, slice_get, position, nat_le}
-use Rattle.std.proofs.lemmas.Bool.{false≢true, or_left, eq-eqb, leb-true}
+use Rattle.std.proofs.Common.{◌≡◌, ℕ, zero, suc, ◌-◌, ◌<◌, Bool, true, false, cond, List, [], ◌∷◌, map, length, get_or, set, drop, Option, Some, None, refl, sym, ◌∙◌, ap, subst, arith, length-set}
+use Rattle.std.specs.Prelude.{Ok, All, slice_get, position}
+use Rattle.std.proofs.lemmas.Bool.{false≢true}
 use Rattle.std.proofs.lemmas.List.{map-set, get_or-map, length-map}
 use Rattle.xw_words.specs.Dictionary.{Entry, row, entry_at, no_entry}
 use Rattle.xw_feas.specs.WellFormed.{IsWellFormed}
 use Rattle.xw_fill.specs.Words.{spellings_at}
-use Rattle.xw_letters.specs.Letter.{IsLetter, folded}
-use Rattle.xw_words.specs.Word.{is_bad_letter}
-use Rattle.xw_letters.proofs.LetterSetLemmas.{letter_is_capital}
+use Rattle.xw_letters.specs.Letter.{IsLetter}
 use Rattle.xw_grid.specs.declared.cell.Cell.{Cell}
 use Rattle.xw_grid.specs.declared.cell.Square.{Square}
 use Rattle.xw_grid.specs.declared.cell.Square.TheVariants.{Block, Open}
@@ -18,22 +16,12 @@ use Rattle.xw_grid.specs.Grid.{Grid, IsSquare, IsGrid, is_inside, is_open, is_op
 use Rattle.xw_grid.specs.Light.{lights_of, cells_of, step, no_light}
 use Rattle.xw_grid.specs.Edit.{with_entry}
 use Rattle.xw_grid.proofs.LightLemmas.{inside_from_open, cells_of_are_open, length-line, get_or-line}
-use Rattle.xw_feas.specs.declared.edit.Refusal.{Refusal}
-use Rattle.xw_feas.specs.declared.edit.Refusal.TheVariants as refusals
-use Rattle.xw_feas.specs.declared.changed.Changed.{Changed}
 use Rattle.xw_feas.specs.Board.{board_of, square_is_open, square_entry, places_of, light_at}
-use Rattle.xw_feas.specs.Feasible.{Answers, AreAnswers}
-use Rattle.xw_feas.specs.Queries.{words_of, on_light, count_answer, next_answer, next_found}
-use Rattle.xw_fill.specs.FeasibleWords.{feasible_words}
-use Rattle.xw_fill.proofs.FeasibleWordsLemmas.{answered_words}
 use Rattle.std.proofs.lemmas.Option.{slice_get-get_or, get_or_from_slice_get}
-use Rattle.xw_grid.specs.declared.cell.LightName.{LightName}
-use Rattle.xw_feas.specs.Engine.{IsEdited}
-use Rattle.xw_feas.specs.State.{State, Action, word_placed, after, want_of, placed_in, spelled_in, with_letters as grid_with_letters, with_grid}
+use Rattle.xw_feas.specs.State.{State, word_placed, after, with_letters as grid_with_letters, with_grid, light_of, known_count, known_placed}
 use Rattle.xw_feas.proofs.BoardLemmas.{length-lights, light_at-board}
-use Rattle.xw_feas.proofs.LightsLemmas.{found_by_name}
+use Rattle.xw_feas.proofs.PlacingLemmas.{word_accepted, known_letters, known_length}
 use Rattle.xw_grid.proofs.ChangeLemmas.{SameShape-entry}
-use Rattle.xw_fill.proofs.BelowLemmas.{position-none}
 use Rattle.xw_fill.specs.Position.{position_of, holding, placed, with_entries, entries_with, squares_with, square_with, filled_in, DiffersInEntries, name_at}
 
 -- ---- lights by index and by name
@@ -48,17 +36,6 @@ pub light_missing : (grid : Grid) (lights : List Light) (light : ℕ) → lights
 light_missing grid lights light is below at =
     let there = sym at ∙ ap (λ ls. slice_get ls light) is ∙ slice_get-get_or (lights_of grid) light no_light (in_grid_light grid light below) in
     cc
-
-pub count_named : (state : State) (answers : Answers) (light : ℕ) (name : LightName) → AreAnswers (board_of state.grid) state.words answers → name ≡ name_at state light → light < length (board_of state.grid).lights → count_answer state answers name ≡ Ok (length (feasible_words (position_of state) light))
-count_named state answers light name exact is below =
-    ap (λ n. count_answer state answers n) is
-    ∙ ap (on_light (λ place. length (words_of answers place))) (found_by_name state.grid light no_light (in_grid_light state.grid light below))
-    ∙ ap (λ words. Ok (length words)) (answered_words (position_of state) answers exact light)
-
-pub next_named : (state : State) (answers : Answers) (light from : ℕ) (name : LightName) → name ≡ name_at state light → light < length (board_of state.grid).lights → next_answer state answers name from ≡ Ok (next_found (board_of state.grid) state.words answers light from)
-next_named state answers light from name is below =
-    ap (λ n. next_answer state answers n from) is
-    ∙ ap (on_light (λ place. next_found (board_of state.grid) state.words answers place from)) (found_by_name state.grid light no_light (in_grid_light state.grid light below))
 
 pub ruleset light_steps = (length-lights)
 
@@ -161,15 +138,6 @@ differs_in_squares state grid squares opens =
     ap (λ g. record state { grid = g }) squares
     ∙ ap (λ s. record state { grid = record (state.grid) { squares = s } }) (sym (squares_with-opens state.grid.squares grid.squares opens))
 
--- ---- accepted edits
-
-pub edit_done : (before now target : State) (answers_before answers_now : Answers) (action : Action) (result : Result Changed Refusal) → after before action ≡ Ok target → want_of before action ≡ None → IsEdited before answers_before action result now answers_now → now ≡ target
-edit_done before now target answers_before answers_now action (Ok changed) e none edited = let is = edited.state in cc
-edit_done before now target answers_before answers_now action (Err refusal) e none edited = by_rule edited.rule where
-  by_rule : (after before action ≡ Err refusal) ⊎ (IsOk (after before action) × (want_of before action ≡ Some refusal)) → now ≡ target
-  by_rule (inl h) = cc
-  by_rule (inr h) = let wanted = h.1 in cc
-
 -- ---- placing a word
 
 -- the state came from the one before by changing entries
@@ -194,42 +162,15 @@ light_open grid light d in_grid k below =
     let within : k < found.size = omega (arith, length-line found.name.direction found.start found.size, below) in
     ap (is_open grid) (get_or-line found.name.direction found.start found.size k d within) ∙ cells_of_are_open grid light no_light in_grid k within
 
-good_letter : (code : ℕ) → IsLetter code → is_bad_letter code ≡ false
-good_letter code is = ap not (or_left _ _ (letter_is_capital code is))
-
-good_letters : (word : List ℕ) → All IsLetter word → position is_bad_letter word ≡ None
-good_letters word letters = position-none is_bad_letter word 0 (λ k below. good_letter (get_or word k 0) (letters k 0 below))
-
-folded_letter : (code : ℕ) → IsLetter code → folded code ≡ code
-folded_letter code is = ap (λ b. cond b (code - 32) code) (not_above (nat_le 97 code) refl) where
-  not_above : (b : Bool) → nat_le 97 code ≡ b → nat_le 97 code ≡ false
-  not_above false e = e
-  not_above true e = let above : 97 ≤ code = leb-true 97 code e in absurd (omega (arith, is.1))
-
-folded_letters : (word : List ℕ) → All IsLetter word → map folded word ≡ word
-folded_letters [] letters = refl
-folded_letters (letter ∷ word) letters = rw (folded_letter letter (letters 0 0 (omega arith)), folded_letters word (λ k d below. letters (suc k) d (omega arith))) refl
-
--- the grid after placing a word of letters in a light
-place_accepted : (state : State) (light : ℕ) (word : List ℕ) → light < length (lights_of state.grid) → All IsLetter word → length word ≡ (get_or (lights_of state.grid) light no_light).size
-    → after state (word_placed (name_at state light) word) ≡ Ok (record state { grid = grid_with_letters state.grid (cells_of (get_or (lights_of state.grid) light no_light)) word })
-place_accepted state light word in_grid letters long =
-    let grid = state.grid in
-    let found = get_or (lights_of grid) light no_light in
-    ap (with_grid state)
-    (ap (λ place. placed_in grid place word) (found_by_name grid light no_light in_grid)
-    ∙ ap (λ bad. spelled_in grid found bad word) (good_letters word letters)
-    ∙ ap (λ b. cond {A = Result Grid Refusal} b (Ok (grid_with_letters grid (cells_of found) (map folded word))) (Err refusals.PlaceLength)) (eq-eqb (length word) found.size long)
-    ∙ ap (λ w. Ok (grid_with_letters grid (cells_of found) w)) (folded_letters word letters))
-
-pub placing : (before now : State) (answers_before answers_now : Answers) (light : ℕ) (word : List ℕ) (result : Result Changed Refusal) → IsGrid before.grid → light < length (lights_of before.grid) → All IsLetter word → length word ≡ (get_or (lights_of before.grid) light no_light).size
-    → IsEdited before answers_before (word_placed (name_at before light) word) result now answers_now
+placing : (before now : State) (light : ℕ) (word : List ℕ) → IsGrid before.grid → light < length (lights_of before.grid) → All IsLetter word → length word ≡ (get_or (lights_of before.grid) light no_light).size
+    → after before (word_placed (name_at before light) word) ≡ Ok now
     → (position_of now ≡ placed (position_of before) light word) × DiffersInEntries before now
-placing before now answers_before answers_now light word result is in_grid letters long edited =
+placing before now light word is in_grid letters long made =
     let grid = before.grid in
     let found = get_or (lights_of grid) light no_light in
     let new = grid_with_letters grid (cells_of found) word in
-    let done = edit_done before now (record before { grid = new }) answers_before answers_now (word_placed (name_at before light) word) result (place_accepted before light word in_grid letters long) refl edited in
+    let there = sym made ∙ ap (with_grid before) (word_accepted grid light word in_grid letters long) in
+    let done : now ≡ record before { grid = new } = cc in
     let board = letters_board grid (cells_of found) word found.start letters is (light_open grid light found.start in_grid) in
     let cells : map (index_of grid) (cells_of found) ≡ light_at (board_of grid) light = sym (light_at-board grid light no_light in_grid) in (
       ap position_of done ∙ ap (λ b. record { board = b; words = before.words }) board ∙ ap (λ cs. holding (position_of before) (entries_with (board_of grid).entries cs word)) cells,
@@ -246,7 +187,7 @@ place_leads state light word is in_grid letters long =
     let board = letters_board grid (cells_of found) word found.start letters is (light_open grid light found.start in_grid) in
     let cells : map (index_of grid) (cells_of found) ≡ light_at (board_of grid) light = sym (light_at-board grid light no_light in_grid) in (
       record state { grid = new },
-      place_accepted state light word in_grid letters long,
+      ap (with_grid state) (word_accepted grid light word in_grid letters long),
       ap (λ b. record { board = b; words = state.words }) board ∙ ap (λ cs. holding (position_of state) (entries_with (board_of grid).entries cs word)) cells,
     )
 
@@ -257,24 +198,27 @@ light_size grid light found in_grid is =
     ∙ length-map (cells_of found) (index_of grid)
     ∙ length-line found.name.direction found.start found.size
 
+-- the index of a spelling is that of a known word
+pub known_within : (state : State) (light index : ℕ) → light < length (board_of state.grid).lights → index < length (spellings_at (position_of state) light) → index < known_count state light
+known_within state light index below within =
+    let size = light_size state.grid light (light_of state light) (in_grid_light state.grid light below) refl in
+    let many = length-map _ (λ (w : Entry). w.word) ∙ ap (λ n. length (row state.words n)) size in
+    omega (arith, within, many)
+
 -- placing a known word in a light
-pub placing_known : (before now : State) (answers_before answers_now : Answers) (light place : ℕ) (found : Light) (bytes : List ℕ) (result : Result Changed Refusal) → IsWellFormed before → light < length (board_of before.grid).lights → place < length (spellings_at (position_of before) light) → found ≡ get_or (lights_of before.grid) light no_light
-    → bytes ≡ (entry_at (row before.words found.size) place).word
-    → IsEdited before answers_before (word_placed found.name bytes) result now answers_now
-    → (position_of now ≡ placed (position_of before) light (get_or (spellings_at (position_of before) light) place [])) × DiffersInEntries before now
-placing_known before now answers_before answers_now light place found bytes result formed below within found_is bytes_are edited =
+pub placing_known : (before now : State) (light index : ℕ) → IsWellFormed before → light < length (board_of before.grid).lights → index < length (spellings_at (position_of before) light)
+    → after before (known_placed before light index) ≡ Ok now
+    → (position_of now ≡ placed (position_of before) light (get_or (spellings_at (position_of before) light) index [])) × DiffersInEntries before now
+placing_known before now light index formed below within made =
     let in_grid = in_grid_light before.grid light below in
-    let size = light_size before.grid light found in_grid found_is in
+    let found = light_of before light in
+    let size = light_size before.grid light found in_grid refl in
     let known = row before.words found.size in
-    let is = formed.dictionary.words found.size in
-    let many : length (spellings_at (position_of before) light) ≡ length known = length-map _ (λ (w : Entry). w.word) ∙ ap (λ n. length (row before.words n)) size in
-    let there : place < length known = rw (← many) within in
-    let word : bytes ≡ get_or (spellings_at (position_of before) light) place [] =
-    bytes_are ∙ sym (get_or-map (λ (w : Entry). w.word) known place no_entry [] there) ∙ ap (λ n. get_or (map (λ (w : Entry). w.word) (row before.words n)) place []) (sym size) in
-    let letters : All IsLetter bytes = subst (λ w. All IsLetter w) (sym bytes_are) (is.letters place no_entry there) in
-    let long : length bytes ≡ (get_or (lights_of before.grid) light no_light).size = ap length bytes_are ∙ is.long place no_entry there ∙ ap (λ l. l.size) found_is in
+    let there = known_within before light index below within in
+    let word : (entry_at known index).word ≡ get_or (spellings_at (position_of before) light) index [] =
+    sym (get_or-map (λ (w : Entry). w.word) known index no_entry [] there) ∙ ap (λ n. get_or (map (λ (w : Entry). w.word) (row before.words n)) index []) (sym size) in
     subst (λ w. (position_of now ≡ placed (position_of before) light w) × DiffersInEntries before now) word
-    (placing before now answers_before answers_now light bytes result formed.grid in_grid letters long (subst (λ l. IsEdited before answers_before (word_placed l.name bytes) result now answers_now) found_is edited))
+    (placing before now light (entry_at known index).word formed.grid in_grid (known_letters before light index formed.dictionary there) (known_length before light index formed.dictionary there) made)
 
 -- ---- clearing a cell
 

@@ -2,7 +2,6 @@
 ghost use Rattle.std.specs.Prelude.{◌≡◌, ◌<◌, length, bytes_eq, unwrap_or, slice_index_or, ℕ, true, false, MatchOption, is_some};
 ghost use Rattle.xw_grid.specs.Light.{lights_of, no_light};
 ghost use Rattle.xw_feas.specs.Board.{board_of, is_wholly_entered, spelled, entry};
-ghost use Rattle.xw_feas.specs.Queries.{next_found};
 ghost use Rattle.xw_fill.specs.Position.{position_of, name_at};
 ghost use Rattle.xw_fill.specs.FeasibleWords.{feasible_words};
 ghost use Rattle.xw_fill.specs.Below.{first_below};
@@ -56,10 +55,7 @@ pub fn word_count<E: Feasible>(engine: &E, light: usize) -> usize
     requires { light < light_count (position_of (E.state engine.now)) }
     ensures { result ≡ length (feasible_words (position_of (E.state engine.now)) light) }
 {
-    match engine.word_count(name_at(engine, light)) {
-        Ok(count) => count,
-        Err(_) => unreachable!(),
-    }
+    engine.word_count_at(light)
 }
 
 /// Returns whether two lists of cells hold the same letters.
@@ -198,24 +194,13 @@ pub fn scan_lights<E: Feasible>(engine: &E, since: &[Option<usize>]) -> Scan
     Scan::Open(best)
 }
 
-/// Returns the first feasible word of a light whose index in the dictionary is at least `from`.
-fn found_from<E: Feasible>(engine: &E, light: usize, from: usize) -> Option<Found>
-    requires { light < light_count (position_of (E.state engine.now)) }
-    ensures { result ≡ next_found (board_of (E.state engine.now).grid) (E.state engine.now).words (E.answers engine.now) light from }
-{
-    match engine.next_word(name_at(engine, light), from) {
-        Ok(found) => found,
-        Err(_) => unreachable!(),
-    }
-}
-
 /// Returns the index of the first feasible word at `from` or later. The light must not be wholly entered.
 pub fn next_place<E: Feasible>(engine: &E, light: usize, from: usize) -> Option<usize>
     requires light { light < light_count (position_of (E.state engine.now)) }
     requires not_entered { is_entered (position_of (E.state engine.now)) light ≡ false }
     ensures { MatchOption result (HasNoMore (position_of (E.state engine.now)) light from) (λ place. IsNextWord (position_of (E.state engine.now)) light from place) }
 {
-    match found_from(engine, light, from) {
+    match engine.next_word_at(light, from) {
         None => None,
         Some(found) => match found {
             Found::Listed(place) => Some(place),

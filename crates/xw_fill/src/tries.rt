@@ -57,14 +57,7 @@ pub fn place_word<E: Feasible>(engine: &mut E, light: usize, place: usize)
     ensures placed { position_of (E.state engine.new) ≡ placed (position_of (E.state engine.old)) light (slice_index_or (spellings_at (position_of (E.state engine.old)) light) place []) }
     ensures entries { DiffersInEntries (E.state engine.old) (E.state engine.new) }
 {
-    let named = light_at(engine, light);
-    let len = named.size as usize;
-    let mut bytes = [0; LONGEST];
-    let word = engine.bank().word(len, place);
-    for (index, letter) in word.iter().enumerate() {
-        bytes[index] = letter.byte();
-    }
-    let _ = engine.edit(&Edit::Place(named.name, &bytes[..len]));
+    engine.place_word_at(light, place);
 }
 
 /// Undoes a placement: clears the cells that were empty before it, in one edit.

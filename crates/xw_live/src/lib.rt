@@ -3,6 +3,7 @@
 
 pub mod live;
 mod noted;
+mod placing;
 pub mod searching;
 mod settling;
 #[cfg(test)]

@@ -18,8 +18,9 @@ use Rattle.xw_feas.specs.State.{State, list_written, write_list, then_write, wit
 use Rattle.xw_feas.specs.declared.edit.Refusal.{Refusal}
 use Rattle.xw_feas.specs.declared.changed.Changed.{Changed}
 use Rattle.xw_feas.proofs.ShapeLemmas.{open_takes}
+use Rattle.xw_feas.proofs.EditsLemmas.{edit_done}
 use Rattle.xw_fill.specs.Position.{position_of, holding, squares_with, filled_in, DiffersInEntries}
-use Rattle.xw_fill.proofs.StateLemmas.{IsGrid-entry, edit_done, entry_board, differs_in_squares, differs_open, DiffersInEntries-itself, DiffersInEntries-then}
+use Rattle.xw_fill.proofs.StateLemmas.{IsGrid-entry, entry_board, differs_in_squares, differs_open, DiffersInEntries-itself, DiffersInEntries-then}
 use Rattle.xw_fill.proofs.MarksLemmas.{IsTwin-entries}
 use Rattle.xw_reason.specs.Reason.{entry_in, entries_of}
 use Rattle.xw_reason.specs.Sparing.{CanBeWritten, by_index, written_in}

@@ -1,5 +1,5 @@
 -- The answers of an engine for each cell and each light.
-use Rattle.std.proofs.Common.{◌≡◌, ℕ, ◌<◌, Bool, true, false, not, List, length, get_or, ap, sym, ◌∙◌, refl}
+use Rattle.std.proofs.Common.{◌≡◌, ℕ, Bool, true, false, not, List, length, get_or, ap, sym, ◌∙◌, refl}
 use Rattle.std.specs.Prelude.{Option, Some, None, Ok, Err, slice_get, if◌then◌else◌}
 use Rattle.std.proofs.lemmas.Option.{get_or_from_slice_get}
 use Rattle.xw_letters.specs.LetterSet.{letters_in}
@@ -16,8 +16,7 @@ use Rattle.xw_feas.specs.declared.edit.Refusal.TheVariants as edits
 use Rattle.xw_feas.specs.State.{State as Position}
 use Rattle.xw_feas.specs.Feasible.{Answers}
 use Rattle.xw_feas.specs.Changes.{letters_of}
-use Rattle.xw_feas.specs.Queries.{cell_judged, count_answer, on_light, words_of}
-use Rattle.xw_feas.proofs.LightsLemmas.{found_by_name}
+use Rattle.xw_feas.specs.Queries.{cell_judged, words_of}
 use Rattle.xw_fill.specs.Position.{position_of}
 use Rattle.xw_fill.specs.FeasibleWords.{feasible_words}
 use Rattle.xw_fill.proofs.FeasibleWordsLemmas.{answered_words}
@@ -28,28 +27,13 @@ use Rattle.xw_session.proofs.Engine.{Knows}
 
 -- ---- lights
 
-count_is : (position : Position) (answers : Answers) (place : ℕ) → Knows position answers → place < length (lights_of position.grid)
-    → count_answer position answers (get_or (lights_of position.grid) place no_light).name ≡ Ok (length (feasible_words (position_of position) place))
-count_is position answers place exact within =
-    ap (on_light (λ light. length (words_of answers light))) (found_by_name position.grid place no_light within)
-    ∙ ap (λ words. Ok (length words)) (answered_words (position_of position) answers exact place)
-
 -- the line of a light with its count of words is the specified one
-pub counted_line : (position : Position) (answers : Answers) (place : ℕ) (light : Light) (count : ℕ) → Knows position answers → place < length (lights_of position.grid)
-    → slice_get (lights_of position.grid) place ≡ Some light → Ok count ≡ count_answer position answers light.name → numbered_line light.name count ≡ count_line position place
-counted_line position answers place light count exact within there is =
+pub counted_line : (position : Position) (answers : Answers) (place : ℕ) (light : Light) (count : ℕ) → Knows position answers
+    → slice_get (lights_of position.grid) place ≡ Some light → count ≡ length (words_of answers place) → numbered_line light.name count ≡ count_line position place
+counted_line position answers place light count exact there is =
     let found : get_or (lights_of position.grid) place no_light ≡ light = get_or_from_slice_get (lights_of position.grid) place light no_light there in
-    let counts : Ok count ≡ Ok (length (feasible_words (position_of position) place)) = is ∙ ap (λ (l : Light). count_answer position answers l.name) (sym found) ∙ count_is position answers place exact within in
-    let same : count ≡ length (feasible_words (position_of position) place) = cc in
+    let same : count ≡ length (feasible_words (position_of position) place) = is ∙ ap length (answered_words (position_of position) answers exact place) in
     ap (λ (l : Light). numbered_line l.name count) (sym found) ∙ ap (numbered_line (get_or (lights_of position.grid) place no_light).name) same
-
--- every light has a count
-pub never_uncounted : (position : Position) (answers : Answers) (place : ℕ) (light : Light) (refusal : EditRefusal) → Knows position answers → place < length (lights_of position.grid)
-    → slice_get (lights_of position.grid) place ≡ Some light → Err refusal ≡ count_answer position answers light.name → ⊥
-never_uncounted position answers place light refusal exact within there is =
-    let found : get_or (lights_of position.grid) place no_light ≡ light = get_or_from_slice_get (lights_of position.grid) place light no_light there in
-    let counts : Err refusal ≡ Ok (length (feasible_words (position_of position) place)) = is ∙ ap (λ (l : Light). count_answer position answers l.name) (sym found) ∙ count_is position answers place exact within in
-    cc
 
 -- ---- cells
 

@@ -55,10 +55,7 @@ fn write_count_at<E: Feasible, W: Sink>(
     let Some(light) = engine.lights().get(place) else {
         return Ok(());
     };
-    match engine.word_count(light.name) {
-        Ok(count) => text::write_numbered(sink, light.name, count as u64),
-        Err(_) => Ok(()),
-    }
+    text::write_numbered(sink, light.name, engine.word_count_at(place) as u64)
 }
 
 /// Writes each light with its number of feasible words.

@@ -1,17 +1,13 @@
-use Rattle.std.proofs.Common.{sym, ◌∙◌}
-use Rattle.xw_fill.proofs.StateLemmas.{count_named}
+use Rattle.std.proofs.Common.{length, ap, ◌∙◌}
+use Rattle.xw_fill.specs.Position.{position_of}
+use Rattle.xw_fill.proofs.FeasibleWordsLemmas.{answered_words}
+use Rattle.xw_fill.proofs.StateLemmas.{in_grid_light}
 use Rattle.xw_fill.proofs.scan.word_count.Goals as goal
 
-pub unreachable-requires : goal.unreachable-requires
-unreachable-requires g c =
-    let engine = c.args.engine.now in
-    let named = count_named (g.E.Feasible.state engine) (g.E.Feasible.answers engine) c.args.light c.name_at.result (g.met.E.Feasible.exact engine) c.name_at.ensures c.requires in
-    let is = sym c.in-Err.is ∙ c.word_count.ensures ∙ named in
-    cc
+pub word_count_at-requires : goal.word_count_at-requires
+word_count_at-requires g c = in_grid_light (g.E.Feasible.state c.args.engine.now).grid c.args.light c.requires
 
 pub returns : goal.returns
 returns g c =
     let engine = c.args.engine.now in
-    let named = count_named (g.E.Feasible.state engine) (g.E.Feasible.answers engine) c.args.light c.name_at.result (g.met.E.Feasible.exact engine) c.name_at.ensures c.requires in
-    let is = sym c.in-Ok.is ∙ c.word_count.ensures ∙ named in
-    cc
+    c.word_count_at.ensures ∙ ap length (answered_words (position_of (g.E.Feasible.state engine)) (g.E.Feasible.answers engine) (g.met.E.Feasible.exact engine) c.args.light)
