@@ -20,7 +20,7 @@ use Rattle.xw_feas.specs.Changes.{letters_of}
 use Rattle.xw_feas.specs.Feasible.{Answers, AreAnswers}
 use Rattle.xw_feas.specs.Queries.{AreLetters, cell_judged}
 use Rattle.xw_feas.specs.State.{State}
-use Rattle.xw_feas.proofs.ChangesLemmas.{open_place}
+use Rattle.xw_feas.proofs.ChangesLemmas.{open_index}
 use Rattle.xw_fill.specs.Position.{position_of}
 use Rattle.xw_fill.specs.FeasibleLetters.{is_feasible_letter}
 use Rattle.xw_fill.proofs.FeasibleLettersLemmas.{answers_letter-is}
@@ -36,24 +36,24 @@ no_block grid cell h = split (square_at grid cell) h where
   split (Some (Open letter)) e = refl
 
 -- an open cell has an answer
-open_judged : {X : Type 0} (grid : Grid) (cell : ℕ) (place : Cell) (good : X) → IsGrid grid → is_open_at (board_of grid) cell ≡ true → place ≡ cell_at grid cell → cell_judged grid place good ≡ Ok good
-open_judged {X} grid cell place good is opens place_is =
+open_judged : {X : Type 0} (grid : Grid) (cell : ℕ) (spot : Cell) (good : X) → IsGrid grid → is_open_at (board_of grid) cell ≡ true → spot ≡ cell_at grid cell → cell_judged grid spot good ≡ Ok good
+open_judged {X} grid cell spot good is opens spot_is =
     let within = open_within grid cell is opens in
-    let open_cell : is_open grid place ≡ true = ap (is_open grid) place_is ∙ open_place grid cell is within ∙ opens in
-    ap (λ b. cond {A = Result X Refusal} (not b) (Err (refusals.Grid grids.OutOfGrid)) (cond {A = Result X Refusal} (is_block grid place) (Err (refusals.Grid grids.OnBlock)) (Ok good))) (inside_from_open grid place open_cell)
-    ∙ ap (λ b. cond {A = Result X Refusal} b (Err (refusals.Grid grids.OnBlock)) (Ok good)) (no_block grid place open_cell)
+    let open_cell : is_open grid spot ≡ true = ap (is_open grid) spot_is ∙ open_index grid cell is within ∙ opens in
+    ap (λ b. cond {A = Result X Refusal} (not b) (Err (refusals.Grid grids.OutOfGrid)) (cond {A = Result X Refusal} (is_block grid spot) (Err (refusals.Grid grids.OnBlock)) (Ok good))) (inside_from_open grid spot open_cell)
+    ∙ ap (λ b. cond {A = Result X Refusal} b (Err (refusals.Grid grids.OnBlock)) (Ok good)) (no_block grid spot open_cell)
 
-pub letters_refused : (state : State) (answers : Answers) (cell : ℕ) (place : Cell) (refusal : Refusal) → IsGrid state.grid → is_open_at (board_of state.grid) cell ≡ true → place ≡ cell_at state.grid cell → AreLetters state answers place (Err refusal) → ⊥
-letters_refused state answers cell place refusal is opens place_is refused =
-    let both = sym (open_judged state.grid cell place (letters_of answers (index_of state.grid place)) is opens place_is) ∙ refused in
+pub letters_refused : (state : State) (answers : Answers) (cell : ℕ) (spot : Cell) (refusal : Refusal) → IsGrid state.grid → is_open_at (board_of state.grid) cell ≡ true → spot ≡ cell_at state.grid cell → AreLetters state answers spot (Err refusal) → ⊥
+letters_refused state answers cell spot refusal is opens spot_is refused =
+    let both = sym (open_judged state.grid cell spot (letters_of answers (index_of state.grid spot)) is opens spot_is) ∙ refused in
     cc
 
-pub letters_are : (state : State) (answers : Answers) (cell : ℕ) (place : Cell) (set : ℕ) → AreAnswers (board_of state.grid) state.words answers → IsGrid state.grid → is_open_at (board_of state.grid) cell ≡ true → place ≡ cell_at state.grid cell → AreLetters state answers place (Ok set)
+pub letters_are : (state : State) (answers : Answers) (cell : ℕ) (spot : Cell) (set : ℕ) → AreAnswers (board_of state.grid) state.words answers → IsGrid state.grid → is_open_at (board_of state.grid) cell ≡ true → spot ≡ cell_at state.grid cell → AreLetters state answers spot (Ok set)
     → (letter : ℕ) → has set letter ≡ is_feasible_letter (position_of state) cell letter
-letters_are state answers cell place set exact is opens place_is found letter =
-    let both = sym (open_judged state.grid cell place (letters_of answers (index_of state.grid place)) is opens place_is) ∙ found in
-    let same : letters_of answers (index_of state.grid place) ≡ letters_in set = cc in
-    let index : index_of state.grid place ≡ cell = ap (index_of state.grid) place_is ∙ index_of-cell_at state.grid cell in
+letters_are state answers cell spot set exact is opens spot_is found letter =
+    let both = sym (open_judged state.grid cell spot (letters_of answers (index_of state.grid spot)) is opens spot_is) ∙ found in
+    let same : letters_of answers (index_of state.grid spot) ≡ letters_in set = cc in
+    let index : index_of state.grid spot ≡ cell = ap (index_of state.grid) spot_is ∙ index_of-cell_at state.grid cell in
     sym (one_of_letters set letter)
     ∙ ap (list_any (λ other. letter == other)) (sym same ∙ ap (letters_of answers) index)
     ∙ answers_letter-is (position_of state) answers exact cell letter
@@ -61,8 +61,8 @@ letters_are state answers cell place set exact is opens place_is found letter =
 -- ---- letters by their index in the alphabet
 
 -- a property of the letters of a set, shown for each index in the alphabet
-pub letters_by_place : (P : ℕ → Type 0) (set : ℕ) → ((place : ℕ) → place < 26 → has set (65 + place) ≡ true → P (65 + place)) → (letter : ℕ) → has set letter ≡ true → P letter
-letters_by_place P set h letter has_it =
+pub letters_by_number : (P : ℕ → Type 0) (set : ℕ) → ((number : ℕ) → number < 26 → has set (65 + number) ≡ true → P (65 + number)) → (letter : ℕ) → has set letter ≡ true → P letter
+letters_by_number P set h letter has_it =
     let at = capital_is_letter letter (and_parts (is_capital letter) _ has_it).0 in
     let is : 65 + (letter - 65) ≡ letter = omega (arith, at.0) in
     subst P is (h (letter - 65) (omega (arith, at.0, at.1)) (ap (has set) is ∙ has_it))

@@ -18,7 +18,7 @@ use Rattle.xw_feas.specs.State.{State, Action, after, want_of, with_grid, by_fau
 use Rattle.xw_feas.specs.declared.edit.Refusal.{Refusal}
 use Rattle.xw_feas.specs.declared.changed.Changed.{Changed}
 use Rattle.xw_feas.proofs.BoardLemmas.{length-open_cells}
-use Rattle.xw_feas.proofs.ChangesLemmas.{open_place}
+use Rattle.xw_feas.proofs.ChangesLemmas.{open_index}
 use Rattle.xw_feas.proofs.EditsLemmas.{edit_done}
 use Rattle.xw_fill.specs.Position.{DiffersInEntries}
 use Rattle.xw_fill.proofs.StateLemmas.{entry_board, differs_in_squares}
@@ -41,21 +41,21 @@ open_not_block grid cell h = split (square_at grid cell) h where
   split (Some (Open letter)) e = refl
 
 -- an open cell takes a letter, or is emptied
-pub entered : (before now : State) (answers answers_now : Answers) (cell : ℕ) (place : Cell) (letter : Option ℕ) (action : Action) (result : Result Changed Refusal) → IsGrid before.grid → is_open_at (board_of before.grid) cell ≡ true → place ≡ cell_at before.grid cell
-    → after before action ≡ with_grid before (by_fault (set_entry before.grid place letter)) → want_of before action ≡ None
+pub entered : (before now : State) (answers answers_now : Answers) (cell : ℕ) (spot : Cell) (letter : Option ℕ) (action : Action) (result : Result Changed Refusal) → IsGrid before.grid → is_open_at (board_of before.grid) cell ≡ true → spot ≡ cell_at before.grid cell
+    → after before action ≡ with_grid before (by_fault (set_entry before.grid spot letter)) → want_of before action ≡ None
     → IsEdited before answers action result now answers_now
     → (entries_of now ≡ set (entries_of before) cell letter) × DiffersInEntries before now
-entered before now answers answers_now cell place letter action result is opens place_is action_is none edited =
+entered before now answers answers_now cell spot letter action result is opens spot_is action_is none edited =
     let grid = before.grid in
     let within = open_within grid cell is opens in
-    let open_cell : is_open grid place ≡ true = ap (is_open grid) place_is ∙ open_place grid cell is within ∙ opens in
-    let inside = inside_from_open grid place open_cell in
-    let index : index_of grid place ≡ cell = ap (index_of grid) place_is ∙ index_of-cell_at grid cell in
-    let accepted : set_entry grid place letter ≡ Ok (with_entry grid place letter) =
-    ap (λ b. cond {A = Result Grid GridFault} (not b) (Err OutOfGrid) (cond (is_block grid place) (Err OnBlock) (Ok (with_entry grid place letter)))) inside
-    ∙ ap (λ b. cond {A = Result Grid GridFault} b (Err OnBlock) (Ok (with_entry grid place letter))) (open_not_block grid place open_cell) in
-    let done = edit_done before now (record before { grid = with_entry grid place letter }) answers answers_now action result (action_is ∙ ap (λ r. with_grid before (by_fault r)) accepted) none edited in
-    let board = entry_board grid place letter is open_cell in (
+    let open_cell : is_open grid spot ≡ true = ap (is_open grid) spot_is ∙ open_index grid cell is within ∙ opens in
+    let inside = inside_from_open grid spot open_cell in
+    let index : index_of grid spot ≡ cell = ap (index_of grid) spot_is ∙ index_of-cell_at grid cell in
+    let accepted : set_entry grid spot letter ≡ Ok (with_entry grid spot letter) =
+    ap (λ b. cond {A = Result Grid GridFault} (not b) (Err OutOfGrid) (cond (is_block grid spot) (Err OnBlock) (Ok (with_entry grid spot letter)))) inside
+    ∙ ap (λ b. cond {A = Result Grid GridFault} b (Err OnBlock) (Ok (with_entry grid spot letter))) (open_not_block grid spot open_cell) in
+    let done = edit_done before now (record before { grid = with_entry grid spot letter }) answers answers_now action result (action_is ∙ ap (λ r. with_grid before (by_fault r)) accepted) none edited in
+    let board = entry_board grid spot letter is open_cell in (
       ap (λ (s : State). entries_of s) done ∙ ap (λ b. b.entries) board ∙ ap (λ k. set (entries_of before) k letter) index,
-      subst (DiffersInEntries before) (sym done) (differs_in_squares before (with_entry grid place letter) refl (ap (λ b. b.open_cells) board)),
+      subst (DiffersInEntries before) (sym done) (differs_in_squares before (with_entry grid spot letter) refl (ap (λ b. b.open_cells) board)),
     )

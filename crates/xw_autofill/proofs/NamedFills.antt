@@ -317,8 +317,8 @@ entered_letter named start now cell letter shaped entered target empty feasible 
           let base = open_base (with_entries start.board now) start.words light word.0 in_grid not_yet (Among-contained word.0 (base_words_at (with_entries start.board now) start.words light) (supported.words_are_base light word.0 word.1)) in
           let same : spelling (holding start (set now cell (Some letter))) light ≡ word.0 = spelled-is (with_entries start.board (set now cell (Some letter))) cells word.0 (agrees-length (with_entries start.board now) cells word.0 base.1) (λ k below. elim (cases_eq cell (get_or cells k 0)) [
             | inl at ↦
-                let place : k ≡ gap.0 = shaped.distinct light k gap.0 below gap.1 (sym at ∙ sym here) in
-                ap (entry_in (set now cell (Some letter))) (sym at) ∙ get_or-set_same now cell (Some letter) None within ∙ ap Some (sym word.2) ∙ ap (λ j. Some (get_or word.0 j 0)) (sym place)
+                let pos : k ≡ gap.0 = shaped.distinct light k gap.0 below gap.1 (sym at ∙ sym here) in
+                ap (entry_in (set now cell (Some letter))) (sym at) ∙ get_or-set_same now cell (Some letter) None within ∙ ap Some (sym word.2) ∙ ap (λ j. Some (get_or word.0 j 0)) (sym pos)
             | inr apart ↦
                 let there = entered-at (with_entries start.board (set now cell (Some letter))) cells whole k below in
                 let before : entry_in now (get_or cells k 0) ≡ Some there.0 = sym (get_or-set_other now cell (get_or cells k 0) (Some letter) None (λ e'. apart (sym e'))) ∙ there.1 in

@@ -6,7 +6,7 @@ use Rattle.std.proofs.lemmas.Bool.{cases_eq, eq-eqb, ne_eqb, false≢true, true�
 use Rattle.std.proofs.lemmas.List.{take_more, get_or-set_same, get_or-set_other}
 use Rattle.std.proofs.lemmas.List.Folds.{list_any-append}
 use Rattle.xw_grid.specs.declared.cell.LightName.{LightName}
-use Rattle.xw_grid.specs.Light.{lights_of, place_named}
+use Rattle.xw_grid.specs.Light.{lights_of, index_named}
 use Rattle.xw_feas.specs.declared.edit.Refusal.{Refusal}
 use Rattle.xw_feas.specs.Board.{board_of, light_at}
 use Rattle.xw_feas.specs.State.{State}
@@ -34,10 +34,10 @@ use Rattle.xw_autofill.proofs.Searching.{apart_from}
 -- ---- flags
 
 -- one more name sets one more flag
-pub flagged_more : (state : State) (names : List LightName) (index light : ℕ) (before now : List Bool) (d : LightName) → index < length names → light < length now → place_named (lights_of state.grid) (get_or names index d) ≡ Some light
+pub flagged_more : (state : State) (names : List LightName) (index light : ℕ) (before now : List Bool) (d : LightName) → index < length names → light < length now → index_named (lights_of state.grid) (get_or names index d) ≡ Some light
     → AreFlagged state (take index names) before now → AreFlagged state (take (index + 1) names) before (set now light true)
 flagged_more state names index light before now d below within found flagged other in_grid =
-    let named = λ (name : LightName). is_light other (place_named (lights_of state.grid) name) in
+    let named = λ (name : LightName). is_light other (index_named (lights_of state.grid) name) in
     let more : list_any named (take (index + 1) names) ≡ (list_any named (take index names) || named (get_or names index d)) =
     ap (list_any named) (take_more names index d below) ∙ list_any-append named (take index names) (get_or names index d ∷ []) ∙ ap (λ b. list_any named (take index names) || b) (or_false (named (get_or names index d))) in
     let here : named (get_or names index d) ≡ (light == other) = ap (is_light other) found in

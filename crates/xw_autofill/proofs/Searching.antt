@@ -8,7 +8,7 @@ use Rattle.xw_letters.specs.LetterSet.{has}
 use Rattle.xw_grid.specs.declared.cell.Square.{Square}
 use Rattle.xw_grid.specs.declared.cell.Square.TheVariants.{Block, Open}
 use Rattle.xw_grid.specs.Light.{lights_of}
-use Rattle.xw_feas.specs.Board.{board_of, light_at, is_open, square_is_open, places_of}
+use Rattle.xw_feas.specs.Board.{board_of, light_at, is_open, square_is_open, indices_of}
 use Rattle.xw_feas.specs.State.{State}
 use Rattle.xw_feas.specs.WellFormed.{IsLaidOut}
 use Rattle.xw_feas.proofs.BoardLemmas.{length-entries, length-open_cells}
@@ -38,8 +38,8 @@ pub position_at : (start now : State) → DiffersInEntries start now → positio
 unfolding board_of
 position_at start now differs =
     let twin = IsTwin-entries start now differs in
-    let lights : map (places_of now.grid) (lights_of now.grid) ≡ map (places_of start.grid) (lights_of start.grid) =
-    ap (λ (s : State). map (places_of s.grid) (lights_of now.grid)) differs ∙ ap (map (places_of start.grid)) twin.shape.lights in
+    let lights : map (indices_of now.grid) (lights_of now.grid) ≡ map (indices_of start.grid) (lights_of start.grid) =
+    ap (λ (s : State). map (indices_of s.grid) (lights_of now.grid)) differs ∙ ap (map (indices_of start.grid)) twin.shape.lights in
     let opens : map square_is_open now.grid.squares ≡ map square_is_open start.grid.squares =
     ap (λ (s : State). map square_is_open s.grid.squares) differs ∙ opens_with start.grid.squares (entries_of now) in
     λ i. record { board = record { lights = lights i; open_cells = opens i; entries = entries_of now }; words = twin.words i }

@@ -3,7 +3,7 @@ use Rattle.std.specs.Prelude.{◌≡◌, ◌⊎◌, ℕ, ◌<◌, ◌≢◌, Boo
 use Rattle.std.specs.List.{list_any}
 use Rattle.xw_grid.specs.declared.cell.LightName.{LightName}
 use Rattle.xw_grid.specs.declared.fault.GridFault.TheVariants.{Memory}
-use Rattle.xw_grid.specs.Light.{lights_of, place_named}
+use Rattle.xw_grid.specs.Light.{lights_of, index_named}
 use Rattle.xw_feas.specs.declared.edit.Refusal.{Refusal}
 use Rattle.xw_feas.specs.declared.edit.Refusal.TheVariants.{Grid, NoLight}
 use Rattle.xw_feas.specs.Board.{light_at}
@@ -69,15 +69,15 @@ is_light light (Some found) = found == light
 -- a light is named if its name is in the list; an empty list names all lights
 abbrev pub is_named : State → List LightName → ℕ → Bool
 is_named state [] light = true
-is_named state (name ∷ names) light = list_any (λ other. is_light light (place_named (lights_of state.grid) other)) (name ∷ names)
+is_named state (name ∷ names) light = list_any (λ other. is_light light (index_named (lights_of state.grid) other)) (name ∷ names)
 
 -- every name is that of a light
 abbrev pub AreLights : State → List LightName → Type 0
-AreLights state names = All (λ name. is_some (place_named (lights_of state.grid) name) ≡ true) names
+AreLights state names = All (λ name. is_some (index_named (lights_of state.grid) name) ≡ true) names
 
 -- the flags of the lights whose names are in a list, besides those set before
 abbrev pub AreFlagged : State → List LightName → List Bool → List Bool → Type 0
-AreFlagged state names before now = (light : ℕ) → light < length (lights_of state.grid) → flags now light ≡ (flags before light || list_any (λ name. is_light light (place_named (lights_of state.grid) name)) names)
+AreFlagged state names before now = (light : ℕ) → light < length (lights_of state.grid) → flags now light ≡ (flags before light || list_any (λ name. is_light light (index_named (lights_of state.grid) name)) names)
 
 -- there is a flag for each light: whether it is named
 abbrev pub AreFlags : State → List LightName → List Bool → Type 0

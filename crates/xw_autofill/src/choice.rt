@@ -142,8 +142,8 @@ pub fn next_letter<E: Searchable>(engine: &E, cell: usize, tried: LetterSet) -> 
     let is_choice = letters.len() > 1;
     let mut best = None;
     let mut most = 0;
-    for place in 0..26 {
-        let letter = Letter::at(place);
+    for number in 0..26 {
+        let letter = Letter::at(number);
         if letters.has(letter) && !tried.has(letter) {
             let promise = if is_choice {
                 promise_of(engine, cell, letter)

@@ -53,8 +53,8 @@ fn has_target<E: Feasible>(engine: &E, named: &[bool], light: usize) -> bool
     ensures { result ≡ has_target (flags named.now) (position_of (E.state engine.now)) light }
 {
     let cells = board(engine).light(light);
-    for place in 0..cells.len() {
-        if is_target(engine, named, cells.at(place)) {
+    for pos in 0..cells.len() {
+        if is_target(engine, named, cells.at(pos)) {
             return true;
         }
     }

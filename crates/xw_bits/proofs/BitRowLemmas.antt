@@ -26,8 +26,8 @@ pub chunk_within : (r : Inside) {v : RowOfBits} → row_of r ≡ v → IsBitRow 
 chunk_within r is inv chunk lt = omega (arith, view_len r is, inv.words_len)
 
 -- a bit of the row, or past its end, is a bit of its words
-pub place_is : (r : Inside) {v : RowOfBits} → row_of r ≡ v → IsBitRow r → (i : ℕ) → get_or v.bits i false ≡ words_have r.words.items i
-place_is r {v} is inv i =
+pub bit_is : (r : Inside) {v : RowOfBits} → row_of r ≡ v → IsBitRow r → (i : ℕ) → get_or v.bits i false ≡ words_have r.words.items i
+bit_is r {v} is inv i =
     elim (cases_lt i r.len) [
       | inl lt ↦ ap (λ bs. get_or bs i false) (sym (view_bits r is)) ∙ get_or-bits_of r.words.items r.len i false lt
       | inr le ↦ get_or_past v.bits i false (omega (arith, view_len r is)) ∙ sym (inv.nothing_past i le)
@@ -50,8 +50,8 @@ combined_bit g r s {v} {w} ws is is_other inv inv_other each none i =
     elim (cases_lt i r.len) [
       | inl lt ↦
           get_or-bits_of ws r.len i false lt ∙ each i
-          ∙ ap (λ b. g b (words_have s.words.items i)) (sym (place_is r is inv i))
-          ∙ ap (g (get_or v.bits i false)) (sym (place_is s is_other inv_other i))
+          ∙ ap (λ b. g b (words_have s.words.items i)) (sym (bit_is r is inv i))
+          ∙ ap (g (get_or v.bits i false)) (sym (bit_is s is_other inv_other i))
       | inr le ↦
           get_or_past (bits_of ws r.len) i false (omega (arith, le, length-bits_of ws r.len))
           ∙ sym (ap (λ b. g b (get_or w.bits i false)) (get_or_past v.bits i false (omega (arith, le, view_len r is))) ∙ none (get_or w.bits i false))
@@ -80,7 +80,7 @@ pushed r {v} ws bit is inv each =
           ∙ sym (ap (λ n. get_or (v.bits ++ bit ∷ []) n false) (same ∙ view_len r is) ∙ get_or_push v.bits bit false (length v.bits) refl)
       | inr differs ↦
           cond-false (eqb i r.len) bit (words_have r.words.items i) (ne_eqb i r.len differs)
-          ∙ sym (get_or_append_left v.bits (bit ∷ []) false i (omega (arith, view_len r is)) ∙ place_is r is inv i)
+          ∙ sym (get_or_append_left v.bits (bit ∷ []) false i (omega (arith, view_len r is)) ∙ bit_is r is inv i)
     ])
 
 -- a cached count stays right after a clear bit is appended
@@ -123,7 +123,7 @@ module _ (r : Inside) {v : RowOfBits} (is : row_of r ≡ v) (inv : IsBitRow r) (
   replaced_other i elsewhere =
       elim (cases_lt i r.len) [
         | inl lt ↦
-            get_or-bits_of (set r.words.items chunk low) r.len i false lt ∙ words_have-set_other r.words.items chunk low i elsewhere ∙ sym (place_is r is inv i)
+            get_or-bits_of (set r.words.items chunk low) r.len i false lt ∙ words_have-set_other r.words.items chunk low i elsewhere ∙ sym (bit_is r is inv i)
         | inr le ↦
             get_or_past (bits_of (set r.words.items chunk low) r.len) i false (omega (arith, length-bits_of (set r.words.items chunk low) r.len))
             ∙ sym (get_or_past v.bits i false (omega (arith, view_len r is)))

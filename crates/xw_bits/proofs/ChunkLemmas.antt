@@ -6,7 +6,7 @@ use Rattle.std.proofs.lemmas.Nat.Bits.{bit_at-trailing_zeros}
 use Rattle.xw_bits.specs.Bits.{RowOfBits, has_bit, words_have}
 use Rattle.xw_bits.specs.BitRow.{row_of, IsBitRow}
 use Rattle.xw_bits.specs.declared.bit_row.BitRow.TheInside.{Inside}
-use Rattle.xw_bits.proofs.BitRowLemmas.{place_is}
+use Rattle.xw_bits.proofs.BitRowLemmas.{bit_is}
 use Rattle.xw_bits.proofs.BitLemmas.{has_bit-and, has_bit-none}
 
 module _ (r : Inside) {v : RowOfBits} (is : row_of r ≡ v) (inv : IsBitRow r) where
@@ -16,20 +16,20 @@ module _ (r : Inside) {v : RowOfBits} (is : row_of r ≡ v) (inv : IsBitRow r) w
   chunk_bit chunk k lt =
       let at : (64 * chunk + k) / 64 ≡ chunk = omega arith in
       let bit : (64 * chunk + k) % 64 ≡ k = omega arith in
-      place_is r is inv (64 * chunk + k) ∙ ap (λ n. has_bit (get_or r.words.items n 0) ((64 * chunk + k) % 64)) at ∙ ap (has_bit (get_or r.words.items chunk 0)) bit
+      bit_is r is inv (64 * chunk + k) ∙ ap (λ n. has_bit (get_or r.words.items n 0) ((64 * chunk + k) % 64)) at ∙ ap (has_bit (get_or r.words.items chunk 0)) bit
 
 -- ---- a test of 64 indices at a time
 
 module _ (f : ℕ → Bool) (chunk word : ℕ) (bits : (k : ℕ) → k < 64 → has_bit word k ≡ f (64 * chunk + k)) where
-  at_place : (i : ℕ) → 64 * chunk ≤ i → i < 64 * chunk + 64 → f i ≡ has_bit word (i - 64 * chunk)
-  at_place i low high =
+  at_index : (i : ℕ) → 64 * chunk ≤ i → i < 64 * chunk + 64 → f i ≡ has_bit word (i - 64 * chunk)
+  at_index i low high =
       let is : i ≡ 64 * chunk + (i - 64 * chunk) = omega arith in
       ap f is ∙ sym (bits (i - 64 * chunk) (omega arith))
 
   -- no bit is set
   pub none_in_chunk : word ≡ 0 → (i : ℕ) → 64 * chunk ≤ i → i < 64 * chunk + 64 → f i ≡ false
   none_in_chunk zero_word i low high =
-      at_place i low high ∙ ap (λ w. has_bit w (i - 64 * chunk)) zero_word ∙ has_bit-none (i - 64 * chunk)
+      at_index i low high ∙ ap (λ w. has_bit w (i - 64 * chunk)) zero_word ∙ has_bit-none (i - 64 * chunk)
 
   -- the lowest set bit
   pub lowest_within : 0 < word → word < 2 ^ 64 → trailing_zeros w64 word < 64
@@ -45,7 +45,7 @@ module _ (f : ℕ → Bool) (chunk word : ℕ) (bits : (k : ℕ) → k < 64 → 
   unfolding has_bit
   none_below_lowest some fits i low high =
       let found = bit_at-trailing_zeros w64 word some fits in
-      at_place i low (omega (arith, found.0)) ∙ ap (λ x. eqb x 1) (found.2 (i - 64 * chunk) (omega arith))
+      at_index i low (omega (arith, found.0)) ∙ ap (λ x. eqb x 1) (found.2 (i - 64 * chunk) (omega arith))
 
 -- ---- two rows
 
@@ -61,6 +61,6 @@ module _ (r s : Inside) {v w : RowOfBits} (is : row_of r ≡ v) (is_other : row_
       ∙ ap (λ t. get_or v.bits (64 * chunk + k) false && t) (ap (λ n. has_bit n k) two_is ∙ sym (chunk_bit s is_other inv_other chunk k lt))
 
   -- an index in a chunk where the rows have no bit in common
-  pub apart_place : (i one two : ℕ) → one ≡ get_or r.words.items (i / 64) 0 → two ≡ get_or s.words.items (i / 64) 0 → bit_and one two ≡ 0 → (get_or v.bits i false && get_or w.bits i false) ≡ false
-  apart_place i one two one_is two_is none =
+  pub apart_bit : (i one two : ℕ) → one ≡ get_or r.words.items (i / 64) 0 → two ≡ get_or s.words.items (i / 64) 0 → bit_and one two ≡ 0 → (get_or v.bits i false && get_or w.bits i false) ≡ false
+  apart_bit i one two one_is two_is none =
       none_in_chunk both (i / 64) (bit_and one two) (λ k lt. common_bits (i / 64) one two k one_is two_is lt) none i (omega arith) (omega arith)

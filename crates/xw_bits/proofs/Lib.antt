@@ -2,7 +2,7 @@ pub mod BitLemmas
 pub mod Blocks
 pub mod Combined
 pub mod Counts
-pub mod PlaceLemmas
+pub mod SetBitLemmas
 pub mod BitRowLemmas
 pub mod ChunkLemmas
 pub mod Apart

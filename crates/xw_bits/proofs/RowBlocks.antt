@@ -11,8 +11,8 @@ use Rattle.xw_bits.specs.Bits.{has_bit, words_have, bits_of}
 use Rattle.xw_bits.proofs.BitLemmas.{length-bits_of, get_or-bits_of, has_bit-and, has_bit-none, has_bit-not}
 
 -- the bits of words that have no bit set past the row's end
-pub row_place : (words : List ℕ) (len i : ℕ) → ((k : ℕ) → len ≤ k → words_have words k ≡ false) → get_or (bits_of words len) i false ≡ words_have words i
-row_place words len i none = elim (cases_lt i len) [
+pub row_bit : (words : List ℕ) (len i : ℕ) → ((k : ℕ) → len ≤ k → words_have words k ≡ false) → get_or (bits_of words len) i false ≡ words_have words i
+row_bit words len i none = elim (cases_lt i len) [
   | inl lt ↦ get_or-bits_of words len i false lt
   | inr le ↦ get_or_past (bits_of words len) i false (omega (arith, length-bits_of words len)) ∙ sym (none i le)
 ]

@@ -1,3 +1,3 @@
 pub mod Bits
-pub mod Places
+pub mod SetBits
 pub mod BitRow

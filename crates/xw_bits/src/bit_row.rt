@@ -5,7 +5,7 @@
 ghost use Rattle.std.specs.Prelude.{◌≡◌, ℕ, ◌+◌, ◌-◌, ◌*◌, ◌/◌, ◌%◌, ◌^◌, ◌<◌, ◌≤◌, Bool, false, not, ◌&&◌, [], ◌∷◌, ◌++◌, length, min, slice_index, slice_index_or, slice_set, count_by, OnOk, OnErr, IfSome, IfNone, None, true, if◌then◌else◌, nat_eq};
 ghost use Rattle.std.specs.Simd.Lanes.{zip2};
 ghost use Rattle.xw_bits.specs.Bits.{RowOfBits, has_bit, chunk_bit};
-ghost use Rattle.xw_bits.specs.Places.{set_places};
+ghost use Rattle.xw_bits.specs.SetBits.{set_indices};
 
 use crate::kernels::{
     and_not_words, and_words, block_at, count_after, count_words, is_clear_block, keep_at,
@@ -154,8 +154,8 @@ impl BitRow {
 
     /// The first index, from chunk `from` on, of a bit that is set in both rows.
     pub fn next_common(&self, other: &BitRow, from: usize) -> Option<usize>
-        ensures found { IfSome result (λ place. (64 * from ≤ place) × ((slice_index_or self.now.bits place false && slice_index_or other.now.bits place false) ≡ true)) }
-        ensures first { IfSome result (λ place. (i : ℕ) → 64 * from ≤ i → i < place → (slice_index_or self.now.bits i false && slice_index_or other.now.bits i false) ≡ false) }
+        ensures found { IfSome result (λ index. (64 * from ≤ index) × ((slice_index_or self.now.bits index false && slice_index_or other.now.bits index false) ≡ true)) }
+        ensures first { IfSome result (λ index. (i : ℕ) → 64 * from ≤ i → i < index → (slice_index_or self.now.bits i false && slice_index_or other.now.bits i false) ≡ false) }
         ensures none { IfNone result ((i : ℕ) → 64 * from ≤ i → (slice_index_or self.now.bits i false && slice_index_or other.now.bits i false) ≡ false) }
     {
         match next_common(&self.words, &other.words, from) {
@@ -261,16 +261,16 @@ impl BitRow {
 
     /// The indices of the set bits, in ascending order.
     pub fn ones(&self) -> Ones<'_>
-        ensures { result ≡ set_places self.now.bits 0 }
+        ensures { result ≡ set_indices self.now.bits 0 }
     {
         Ones::new(self)
     }
 
     /// The first index from `from` on whose bit is set.
     pub fn next_one(&self, from: usize) -> Option<usize>
-        ensures set { IfSome result (λ place. (from ≤ place) × (slice_index_or self.now.bits place false ≡ true)) }
-        ensures small { IfSome result (λ place. place < 2 ^ 57) }
-        ensures first { IfSome result (λ place. (i : ℕ) → from ≤ i → i < place → slice_index_or self.now.bits i false ≡ false) }
+        ensures set { IfSome result (λ index. (from ≤ index) × (slice_index_or self.now.bits index false ≡ true)) }
+        ensures small { IfSome result (λ index. index < 2 ^ 57) }
+        ensures first { IfSome result (λ index. (i : ℕ) → from ≤ i → i < index → slice_index_or self.now.bits i false ≡ false) }
         ensures none { IfNone result ((i : ℕ) → from ≤ i → slice_index_or self.now.bits i false ≡ false) }
     {
         next_one(self, from)

@@ -15,10 +15,10 @@ use Rattle.xw_files.specs.declared.kind.Kind.TheVariants.{Puz, Text}
 use Rattle.xw_cli.specs.declared.arguments.SessionFiles.{SessionFiles}
 use Rattle.xw_cli.specs.declared.failure.Failure.{Failure}
 use Rattle.xw_cli.specs.declared.failure.Failure.TheVariants as failures
-use Rattle.xw_cli.specs.declared.place.Place.{Place}
+use Rattle.xw_cli.specs.declared.location.Location.{Location}
 use Rattle.xw_cli.specs.Explained.{GoesOut, rebus_line}
 use Rattle.xw_cli.specs.Names.{IsKindNamed}
-use Rattle.xw_cli.specs.Places.{read_place, write_place}
+use Rattle.xw_cli.specs.Locations.{read_location, write_location}
 
 -- ---- failures
 
@@ -37,31 +37,31 @@ abbrev pub IsInUse : List ℕ → Failure → Type 0
 IsInUse name (failures.InUse file) = file.bytes.items ≡ name
 IsInUse name other = ⊥
 
--- the file with this name has the fault with this name, at this place if one is told
-abbrev pub IsFileFault : List ℕ → List ℕ → Option Place → Failure → Type 0
+-- the file with this name has the fault with this name, at this location if one is told
+abbrev pub IsFileFault : List ℕ → List ℕ → Option Location → Failure → Type 0
 IsFileFault name fault None (failures.File file told) = (file.bytes.items ≡ name) × (told.now ≡ fault)
-IsFileFault name fault (Some place) (failures.Placed file told there) = (file.bytes.items ≡ name) × (told.now ≡ fault) × (there ≡ place)
-IsFileFault name fault place other = ⊥
+IsFileFault name fault (Some location) (failures.Located file told there) = (file.bytes.items ≡ name) × (told.now ≡ fault) × (there ≡ location)
+IsFileFault name fault location other = ⊥
 
 -- the line with this number of the file has the fault with this name
 abbrev pub IsLineFault : List ℕ → ℕ → List ℕ → Failure → Type 0
 IsLineFault name number fault (failures.Line file line told) = (file.bytes.items ≡ name) × (line ≡ number) × (told.now ≡ fault)
 IsLineFault name number fault other = ⊥
 
--- the place if `explain` is set, and otherwise none
-abbrev pub place_if : Bool → Option Place → Option Place
-place_if true place = place
-place_if false place = None
+-- the location if `explain` is set, and otherwise none
+abbrev pub location_if : Bool → Option Location → Option Location
+location_if true location = location
+location_if false location = None
 
 -- ---- reading a puzzle file
 
--- The bytes have a first fault in their format. The failure names it and the file, and its place if `explain` is set.
+-- The bytes have a first fault in their format. The failure names it and the file, and its location if `explain` is set.
 pub record IsMalformed (name : List ℕ) (explain : Bool) (bytes : List ℕ) (failure : Failure) : Type 0 where
   pub kind : Kind
   pub format : HasFormat bytes kind
   pub fault : ReadFault
   pub first : IsFirstFault kind bytes fault
-  pub told : IsFileFault name (read_fault_name fault) (place_if explain (read_place bytes fault)) failure
+  pub told : IsFileFault name (read_fault_name fault) (location_if explain (read_location bytes fault)) failure
 
 -- why the puzzle file with this name is not read
 abbrev pub IsUnread : List ℕ → Bool → Failure → Type 0
@@ -86,13 +86,13 @@ pub record AreBytesFor (name : List ℕ) (puzzle : PuzzleShown) (bytes : List �
   pub written : written_as kind puzzle ≡ Ok bytes
 
 -- The format that the name asks for cannot hold the puzzle. The failure names the first reason and the file, and the
--- place if `explain` is set.
+-- location if `explain` is set.
 pub record IsUnfit (name : List ℕ) (explain : Bool) (puzzle : PuzzleShown) (failure : Failure) : Type 0 where
   pub kind : Kind
   pub named : IsKindNamed name kind
   pub fault : WriteFault
   pub refused : written_as kind puzzle ≡ Err fault
-  pub told : IsFileFault name (write_fault_name fault) (place_if explain (write_place puzzle.grid fault)) failure
+  pub told : IsFileFault name (write_fault_name fault) (location_if explain (write_location puzzle.grid fault)) failure
 
 -- why the puzzle is not written to the file with this name
 abbrev pub IsUnwritten : List ℕ → Bool → PuzzleShown → Failure → Type 0

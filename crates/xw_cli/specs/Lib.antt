@@ -3,7 +3,7 @@ pub mod Calls
 pub mod Usage
 pub mod Status
 pub mod Names
-pub mod Places
+pub mod Locations
 pub mod Explained
 pub mod Files
 pub mod SessionFiles

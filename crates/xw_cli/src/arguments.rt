@@ -73,7 +73,7 @@ impl Clash {
     }
 }
 
-/// What the program has to do. `explain` asks for the place of a fault in the message.
+/// What the program has to do. `explain` asks for the location of a fault in the message.
 #[derive(Clone, Copy, Debug, PartialEq, Eq)]
 pub enum Call<'a> {
     /// Answers commands on standard input.

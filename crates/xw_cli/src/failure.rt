@@ -3,7 +3,7 @@ ghost use Rattle.std.specs.Prelude.{◌≡◌};
 ghost use Rattle.std.specs.Process.{exit_status};
 ghost use Rattle.xw_cli.specs.Status.{code_of, status_of, run_ended};
 
-use crate::place::Place;
+use crate::location::Location;
 use std::alloc::AllocError;
 use std::process::ExitCode;
 use thiserror::Error;
@@ -70,11 +70,11 @@ pub enum Failure {
         file: String,
         name: &'static str,
     },
-    #[error("xw: {file}: {name}\nxw: {place}")]
-    Placed {
+    #[error("xw: {file}: {name}\nxw: {location}")]
+    Located {
         file: String,
         name: &'static str,
-        place: Place,
+        location: Location,
     },
     #[error("xw: {file}: line {number}: {name}")]
     Line {
@@ -102,7 +102,7 @@ impl Failure {
     {
         match self {
             Failure::File { .. } => Status::Format,
-            Failure::Placed { .. } => Status::Format,
+            Failure::Located { .. } => Status::Format,
             Failure::Line { .. } => Status::Format,
             Failure::OneFile { .. } => Status::Usage,
             Failure::TwoTexts { .. } => Status::Usage,

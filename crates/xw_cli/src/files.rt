@@ -4,14 +4,14 @@ ghost use Rattle.xw_grid.specs.Puzzle.{puzzle_view};
 ghost use Rattle.xw_files.specs.Formats.{IsRead};
 ghost use Rattle.xw_files.specs.FaultNames.{read_fault_name, write_fault_name};
 ghost use Rattle.xw_cli.specs.declared.failure.Failure.TheVariants.{Memory};
-ghost use Rattle.xw_cli.specs.Files.{place_if, IsCannotRead, IsCannotWrite, IsFileFault, IsLineFault, IsMalformed, IsUnread, IsRebusTold, AreBytesFor, IsUnfit, IsUnwritten, IsOverList, IsOverJournal, AreTextsNotApart, IsJournalNotApart, IsNotApart};
-ghost use Rattle.xw_cli.specs.Places.{read_place, write_place};
+ghost use Rattle.xw_cli.specs.Files.{location_if, IsCannotRead, IsCannotWrite, IsFileFault, IsLineFault, IsMalformed, IsUnread, IsRebusTold, AreBytesFor, IsUnfit, IsUnwritten, IsOverList, IsOverJournal, AreTextsNotApart, IsJournalNotApart, IsNotApart};
+ghost use Rattle.xw_cli.specs.Locations.{read_location, write_location};
 
 use crate::arguments::SessionFiles;
 use crate::explaining::tell_rebus;
 use crate::failure::Failure;
+use crate::location::{self, Location};
 use crate::names::kind_by_name;
-use crate::place::{self, Place};
 use crate::replacing::replace;
 use std::alloc::Global;
 use std::os::unix::fs::MetadataExt;
@@ -38,8 +38,8 @@ pub fn read_file<R: Files + AllocGlobal>(rt: &R, file: &str) -> Result<Vec<u8>, 
     }
 }
 
-/// Reads a puzzle file, and returns its format and its puzzle. A fault of the file comes with its place if `explain` is
-/// set. Reports on `errors` if the file has rebus cells, which are not kept.
+/// Reads a puzzle file, and returns its format and its puzzle. A fault of the file comes with its location if
+/// `explain` is set. Reports on `errors` if the file has rebus cells, which are not kept.
 pub fn read_puzzle<R: Files + AllocGlobal, E: Sink>(
     rt: &R,
     file: &str,
@@ -81,18 +81,18 @@ fn puzzle_of<E: Sink>(
 /// Returns the failure for a fault of the bytes of a file.
 fn malformed(alloc: Global, file: &str, explain: bool, bytes: &[u8], fault: ReadFault) -> Failure
     ensures memory { fault ≡ ReadFault.Memory → result ≡ Memory }
-    ensures told { (result ≡ Memory) ⊎ IsFileFault file.now (read_fault_name fault) (place_if explain (read_place bytes.now fault)) result }
+    ensures told { (result ≡ Memory) ⊎ IsFileFault file.now (read_fault_name fault) (location_if explain (read_location bytes.now fault)) result }
 {
     if fault == ReadFault::Memory {
         return Failure::Memory;
     }
-    let place = if explain {
-        place::in_file(alloc, bytes, fault)
+    let location = if explain {
+        location::in_file(alloc, bytes, fault)
     } else {
         Ok(None)
     };
-    match place {
-        Ok(place) => file_fault(alloc, file, fault.name(), place),
+    match location {
+        Ok(location) => file_fault(alloc, file, fault.name(), location),
         Err(failure) => failure,
     }
 }
@@ -120,12 +120,21 @@ fn warn_of_rebus<E: Sink>(
     }
 }
 
-/// Returns the failure for a fault of a file, with the place if there is one.
-pub fn file_fault(alloc: Global, file: &str, name: &'static str, place: Option<Place>) -> Failure
-    ensures { (result ≡ Memory) ⊎ IsFileFault file.now name.now place result }
+/// Returns the failure for a fault of a file, with the location if there is one.
+pub fn file_fault(
+    alloc: Global,
+    file: &str,
+    name: &'static str,
+    location: Option<Location>,
+) -> Failure
+    ensures { (result ≡ Memory) ⊎ IsFileFault file.now name.now location result }
 {
-    match (String::from_str(alloc, file), place) {
-        (Ok(file), Some(place)) => Failure::Placed { file, name, place },
+    match (String::from_str(alloc, file), location) {
+        (Ok(file), Some(location)) => Failure::Located {
+            file,
+            name,
+            location,
+        },
         (Ok(file), None) => Failure::File { file, name },
         (Err(_), _) => Failure::Memory,
     }
@@ -142,7 +151,7 @@ pub fn line_fault(alloc: Global, file: &str, number: usize, name: &'static str) 
 }
 
 /// Writes a puzzle file in the format that its name asks for. The file is not opened until all bytes are built. A fault
-/// of the puzzle comes with its place if `explain` is set.
+/// of the puzzle comes with its location if `explain` is set.
 pub fn write_puzzle<R: Files + AllocGlobal>(
     rt: &R,
     file: &str,
@@ -170,18 +179,18 @@ fn bytes_for(alloc: Global, file: &str, puzzle: &Puzzle, explain: bool) -> Resul
 /// Returns the failure for a fault of a puzzle that is to be written to a file.
 fn unfit(alloc: Global, file: &str, explain: bool, grid: &Grid, fault: WriteFault) -> Failure
     ensures memory { fault ≡ WriteFault.Memory → result ≡ Memory }
-    ensures told { (result ≡ Memory) ⊎ IsFileFault file.now (write_fault_name fault) (place_if explain (write_place grid.now fault)) result }
+    ensures told { (result ≡ Memory) ⊎ IsFileFault file.now (write_fault_name fault) (location_if explain (write_location grid.now fault)) result }
 {
     if fault == WriteFault::Memory {
         return Failure::Memory;
     }
-    let place = if explain {
-        place::in_puzzle(alloc, grid, fault)
+    let location = if explain {
+        location::in_puzzle(alloc, grid, fault)
     } else {
         Ok(None)
     };
-    match place {
-        Ok(place) => file_fault(alloc, file, fault.name(), place),
+    match location {
+        Ok(location) => file_fault(alloc, file, fault.name(), location),
         Err(failure) => failure,
     }
 }

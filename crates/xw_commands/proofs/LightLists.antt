@@ -4,7 +4,7 @@ use Rattle.std.specs.Iterator.{YieldsFirst, MakesProgress, item_count}
 use Rattle.std.proofs.lemmas.Bool.{cases_Bool}
 use Rattle.xw_commands.specs.declared.command.LightArg.{LightArg}
 use Rattle.xw_commands.specs.declared.command.SyntaxFault.{SyntaxFault}
-use Rattle.xw_commands.specs.Line.{trimmed_start, first_word, first_place, is_ink, is_blank, is_number, number_in}
+use Rattle.xw_commands.specs.Line.{trimmed_start, first_word, first_index, is_ink, is_blank, is_number, number_in}
 use Rattle.xw_commands.specs.Names.{directions}
 use Rattle.xw_commands.specs.Reading.{Reading, ◌>>=◌, given, wanted, then_others, next_word, HasFault, word, number, direction, named, lookup, before_others, first_lights, lights, lights_first}
 use Rattle.xw_commands.proofs.Digits.{has_digits}
@@ -18,14 +18,14 @@ split n text = sym (length-append (take n text) (drop n text)) ∙ ap length (ta
 first_word_fits : (text : List ℕ) (found : List ℕ × List ℕ) → first_word text ≡ Some found → length found.0 + length found.1 ≤ length text
 first_word_fits text found e =
     let start = trimmed_start text in
-    let at = first_place is_blank start in
+    let at = first_index is_blank start in
     elim (cases_Bool (length start == 0)) [
       | inl none ↦ let bad : None ≡ Some found = rw none at e in cc
       | inr some ↦
           let is : Some (take at start, drop at start) ≡ Some found = rw some at e in
           let same : (take at start, drop at start) ≡ found = cc in
           let parts : length found.0 + length found.1 ≡ length start = ap (λ (p : List ℕ × List ℕ). length p.0 + length p.1) (sym same) ∙ split at start in
-          let trimmed = length-drop (first_place is_ink text) text in
+          let trimmed = length-drop (first_index is_ink text) text in
           omega (arith, parts, trimmed)
     ]
 

@@ -142,15 +142,15 @@ lights rest = Ok (lights_first rest)
 abbrev pub text_name : Reading (Option TextField)
 text_name = key_word text_fields
 
-abbrev pub clue_place : Reading Field
-clue_place = do
+abbrev pub clue_field : Reading Field
+clue_field = do
   start ← spot
   way ← direction
   given (fields.Clue start way)
 
 abbrev pub field_named : Option TextField → Reading Field
 field_named (Some name) = given (fields.Text name)
-field_named None = clue_place
+field_named None = clue_field
 
 abbrev pub field : Reading Field
 field = text_name >>= field_named

@@ -9,7 +9,7 @@ use Rattle.xw_words.specs.declared.bank.Added.{Added}
 use Rattle.xw_words.specs.declared.bank.Added.TheVariants.{New, Returned}
 use Rattle.xw_letters.specs.Letter.{folded}
 use Rattle.xw_words.specs.Word.{is_bad_letter, is_word_length, judged, word_of}
-use Rattle.xw_words.specs.Dictionary.{Entry, Dictionary, row, entry_at, place_in, place_of, most_words, added_at, add_to, answer_on, add_answer, IsNew}
+use Rattle.xw_words.specs.Dictionary.{Entry, Dictionary, row, entry_at, index_in, index_of_word, most_words, added_at, add_to, answer_on, add_answer, IsNew}
 use Rattle.xw_words.proofs.DictionaryLemmas.{judged-Ok}
 
 -- the bytes spell a word of a valid length that is not known, and the dictionary has room for it
@@ -17,23 +17,23 @@ pub record IsNewWord (words : Dictionary) (bytes : List ℕ) : Type 0 where
   pub letters : position is_bad_letter bytes ≡ None
   pub low : 2 ≤ length bytes
   pub high : length bytes ≤ 255
-  pub unknown : place_of words (map folded bytes) ≡ None
+  pub unknown : index_of_word words (map folded bytes) ≡ None
   pub few : length (row words (length bytes)) < most_words
   pub answer : add_answer words bytes ≡ Ok (New (length (row words (length bytes))))
 
 judged_same : (bad : Option ℕ) (len : ℕ) (x y : List ℕ) → judged bad len x ≡ Ok y → y ≡ x
-judged_same (Some place) len x y h = cc
+judged_same (Some index) len x y h = cc
 judged_same None len x y h = split (is_word_length len) h where
   split : (b : Bool) → cond {A = Result (List ℕ) WordFault} b (Ok x) (Err Length) ≡ Ok y → y ≡ x
   split true h = cc
   split false h = cc
 
-new_place : (entries : List Entry) (place : Option ℕ) → IsNew (added_at entries place) → (place ≡ None) × ((length entries < most_words) × (added_at entries place ≡ Ok (New (length entries))))
-new_place entries (Some place) new = absurd (split (entry_at entries place).active new) where
-  split : (b : Bool) → IsNew (cond b (Err Known) (Ok (Returned place))) → ⊥
+new_index : (entries : List Entry) (index : Option ℕ) → IsNew (added_at entries index) → (index ≡ None) × ((length entries < most_words) × (added_at entries index ≡ Ok (New (length entries))))
+new_index entries (Some index) new = absurd (split (entry_at entries index).active new) where
+  split : (b : Bool) → IsNew (cond b (Err Known) (Ok (Returned index))) → ⊥
   split true h = h
   split false h = h
-new_place entries None new = split (nat_le most_words (length entries)) refl new where
+new_index entries None new = split (nat_le most_words (length entries)) refl new where
   split : (b : Bool) → nat_le most_words (length entries) ≡ b → IsNew (cond b (Err Full) (Ok (New (length entries)))) → ◌≡◌ {A = Option ℕ} None None × ((length entries < most_words) × (cond {A = Result Added WordFault} (nat_le most_words (length entries)) (Err Full) (Ok (New (length entries))) ≡ Ok (New (length entries))))
   split true is h = absurd h
   split false is h = (refl, (grind (arith, nat_tests), rw is refl))
@@ -46,12 +46,12 @@ new_word words bytes new = split (word_of bytes) refl new where
       let fit = judged-Ok {X = List ℕ} (position is_bad_letter bytes) (length bytes) (map folded bytes) word is in
       let same : word ≡ map folded bytes = judged_same (position is_bad_letter bytes) (length bytes) (map folded bytes) word is in
       let long : length word ≡ length bytes = ap length same ∙ length-map bytes folded in
-      let found = new_place (row words (length word)) (place_in (row words (length word)) word) h in
+      let found = new_index (row words (length word)) (index_in (row words (length word)) word) h in
       record {
         letters = fit.0;
         low = fit.1;
         high = fit.2;
-        unknown = ap (place_of words) (sym same) ∙ found.0;
+        unknown = ap (index_of_word words) (sym same) ∙ found.0;
         few = subst (λ n. length (row words n) < most_words) long found.1.0;
         answer = ap (answer_on add_to words) is ∙ found.1.1 ∙ ap (λ n. Ok (New (length (row words n)))) long;
       }

@@ -19,7 +19,7 @@ use Rattle.xw_grid.specs.Grid.{Grid, IsGrid, is_inside, index_of, is_open_square
 use Rattle.xw_grid.specs.Light.{step, lights_of, no_light}
 use Rattle.xw_grid.proofs.GridLemmas.{IsInside-is_inside, index_of-lt}
 use Rattle.xw_grid.proofs.LightLemmas.{inside_from_open, cells_of_are_open, size_of_light}
-use Rattle.xw_feas.specs.Board.{Board, board_of, places_of, square_is_open, square_entry, entry, is_open, light_at, allows, agrees, is_wholly_entered}
+use Rattle.xw_feas.specs.Board.{Board, board_of, indices_of, square_is_open, square_entry, entry, is_open, light_at, allows, agrees, is_wholly_entered}
 use Rattle.xw_feas.specs.Fits.{Fits, stride_of}
 
 -- one more cell that agrees
@@ -62,11 +62,11 @@ map-map : {A B C : Type 0} (g : B → C) (f : A → B) (xs : List A) → map g (
 map-map g f [] = refl
 map-map g f (x ∷ xs) = ap (λ ys. g (f x) ∷ ys) (map-map g f xs)
 
-pub length-places : (first stride count : ℕ) → length (map (λ k. first + k * stride) (range_with_len 0 count)) ≡ count
-length-places first stride count = length-map-range_with_len (λ k. first + k * stride) 0 count
+pub length-indices : (first stride count : ℕ) → length (map (λ k. first + k * stride) (range_with_len 0 count)) ≡ count
+length-indices first stride count = length-map-range_with_len (λ k. first + k * stride) 0 count
 
-pub get_or-places : (first stride count k : ℕ) → k < count → get_or (map (λ k. first + k * stride) (range_with_len 0 count)) k 0 ≡ first + k * stride
-get_or-places first stride count k below = get_or-map-range_with_len (λ k. first + k * stride) 0 count k k 0 below (omega arith)
+pub get_or-indices : (first stride count k : ℕ) → k < count → get_or (map (λ k. first + k * stride) (range_with_len 0 count)) k 0 ≡ first + k * stride
+get_or-indices first stride count k below = get_or-map-range_with_len (λ k. first + k * stride) 0 count k k 0 below (omega arith)
 
 pub stride_small : (k stride : ℕ) → k ≤ 255 → stride ≤ 255 → k * stride ≤ 65025
 stride_small k stride small low = mul-le k stride 255 255 small low
@@ -82,13 +82,13 @@ index_of-step grid Down first k inside =
     let on : first.row + k - 1 ≡ first.row - 1 + k = omega (arith, at.row_low) in
     rw (on, add-mul (first.row - 1) k grid.width) (omega arith)
 
-pub places_are : (grid : Grid) (light : Light) → Fits grid light → map (λ k. index_of grid light.start + k * stride_of grid light.name.direction) (range_with_len 0 light.size) ≡ places_of grid light
-places_are grid light fits =
+pub indices_are : (grid : Grid) (light : Light) → Fits grid light → map (λ k. index_of grid light.start + k * stride_of grid light.name.direction) (range_with_len 0 light.size) ≡ indices_of grid light
+indices_are grid light fits =
     map_agree (λ k. index_of grid light.start + k * stride_of grid light.name.direction) (λ k. index_of grid (step light.name.direction light.start k))
     (λ k. sym (index_of-step grid light.name.direction light.start k fits.start)) (range_with_len 0 light.size)
     ∙ sym (map-map (index_of grid) (step light.name.direction light.start) (range_with_len 0 light.size))
 
-pub ruleset cells_steps = (length-places, get_or-places, stride_small, places_are)
+pub ruleset cells_steps = (length-indices, get_or-indices, stride_small, indices_are)
 
 pub length-open_cells : (grid : Grid) → length (board_of grid).open_cells ≡ length grid.squares
 unfolding board_of
@@ -96,23 +96,23 @@ length-open_cells grid = length-map grid.squares square_is_open
 
 pub length-lights : (grid : Grid) → length (board_of grid).lights ≡ length (lights_of grid)
 unfolding board_of
-length-lights grid = length-map (lights_of grid) (places_of grid)
+length-lights grid = length-map (lights_of grid) (indices_of grid)
 
 pub length-entries : (grid : Grid) → length (board_of grid).entries ≡ length grid.squares
 unfolding board_of
 length-entries grid = length-map grid.squares square_entry
 
 -- the light at an index of the list
-pub light_at-board : (grid : Grid) (place : ℕ) (d : Light) → place < length (lights_of grid) → light_at (board_of grid) place ≡ places_of grid (get_or (lights_of grid) place d)
+pub light_at-board : (grid : Grid) (index : ℕ) (d : Light) → index < length (lights_of grid) → light_at (board_of grid) index ≡ indices_of grid (get_or (lights_of grid) index d)
 unfolding board_of
-light_at-board grid place d below = get_or-map (places_of grid) (lights_of grid) place d [] below
+light_at-board grid index d below = get_or-map (indices_of grid) (lights_of grid) index d [] below
 
-pub light_at-found : (grid : Grid) (place : ℕ) (light : Light) → slice_get (lights_of grid) place ≡ Some light → place < length (lights_of grid) → light_at (board_of grid) place ≡ places_of grid light
-light_at-found grid place light found below =
-    light_at-board grid place light below ∙ ap (places_of grid) (get_or_from_slice_get (lights_of grid) place light light found)
+pub light_at-found : (grid : Grid) (index : ℕ) (light : Light) → slice_get (lights_of grid) index ≡ Some light → index < length (lights_of grid) → light_at (board_of grid) index ≡ indices_of grid light
+light_at-found grid index light found below =
+    light_at-board grid index light below ∙ ap (indices_of grid) (get_or_from_slice_get (lights_of grid) index light light found)
 
-last_inside : (grid : Grid) (place : ℕ) (d : Light) → place < length (lights_of grid) → (k : ℕ) → k < (get_or (lights_of grid) place d).size → is_inside grid (step (get_or (lights_of grid) place d).name.direction (get_or (lights_of grid) place d).start k) ≡ true
-last_inside grid place d within k below = inside_from_open grid _ (cells_of_are_open grid place d within k below)
+last_inside : (grid : Grid) (index : ℕ) (d : Light) → index < length (lights_of grid) → (k : ℕ) → k < (get_or (lights_of grid) index d).size → is_inside grid (step (get_or (lights_of grid) index d).name.direction (get_or (lights_of grid) index d).start k) ≡ true
+last_inside grid index d within k below = inside_from_open grid _ (cells_of_are_open grid index d within k below)
 
 small_step : (grid : Grid) (direction : Direction) (first : Cell) (k : ℕ) → IsGrid grid → is_inside grid first ≡ true → is_inside grid (step direction first k) ≡ true → k + 1 ≤ 255
 small_step grid Across first k is inside there =
@@ -129,57 +129,57 @@ first_step Across first = ap (λ col. record { row = first.row; col = col }) (om
 first_step Down first = ap (λ row. record { row = row; col = first.col }) (omega arith)
 
 -- the lights of a grid lie inside it
-pub light_fits : (grid : Grid) (place : ℕ) (d : Light) → IsGrid grid → place < length (lights_of grid) → Fits grid (get_or (lights_of grid) place d)
-light_fits grid place d is within =
-    let light = get_or (lights_of grid) place d in
-    let long = size_of_light grid place d within in
-    let start : is_inside grid light.start ≡ true = ap (is_inside grid) (sym (first_step light.name.direction light.start)) ∙ last_inside grid place d within 0 (omega arith) in
+pub light_fits : (grid : Grid) (index : ℕ) (d : Light) → IsGrid grid → index < length (lights_of grid) → Fits grid (get_or (lights_of grid) index d)
+light_fits grid index d is within =
+    let light = get_or (lights_of grid) index d in
+    let long = size_of_light grid index d within in
+    let start : is_inside grid light.start ≡ true = ap (is_inside grid) (sym (first_step light.name.direction light.start)) ∙ last_inside grid index d within 0 (omega arith) in
     record {
       start = start;
       size =
-          let small : light.size - 1 + 1 ≤ 255 = small_step grid light.name.direction light.start (light.size - 1) is start (last_inside grid place d within (light.size - 1) (omega arith)) in
+          let small : light.size - 1 + 1 ≤ 255 = small_step grid light.name.direction light.start (light.size - 1) is start (last_inside grid index d within (light.size - 1) (omega arith)) in
           omega arith;
     }
 
-pub light_fits-found : (grid : Grid) (place : ℕ) (light : Light) → IsGrid grid → slice_get (lights_of grid) place ≡ Some light → place < length (lights_of grid) → Fits grid light
-light_fits-found grid place light is found within =
-    subst (Fits grid) (get_or_from_slice_get (lights_of grid) place light light found) (light_fits grid place light is within)
+pub light_fits-found : (grid : Grid) (index : ℕ) (light : Light) → IsGrid grid → slice_get (lights_of grid) index ≡ Some light → index < length (lights_of grid) → Fits grid light
+light_fits-found grid index light is found within =
+    subst (Fits grid) (get_or_from_slice_get (lights_of grid) index light light found) (light_fits grid index light is within)
 
 -- the cells of a light are cells of the board
-pub light_in_board : (grid : Grid) (place : ℕ) → IsGrid grid → place < length (lights_of grid) → All (λ cell. cell < length (board_of grid).open_cells) (light_at (board_of grid) place)
-light_in_board grid place is within =
-    let light = get_or (lights_of grid) place no_light in
-    let fits = light_fits grid place no_light is within in
+pub light_in_board : (grid : Grid) (index : ℕ) → IsGrid grid → index < length (lights_of grid) → All (λ cell. cell < length (board_of grid).open_cells) (light_at (board_of grid) index)
+light_in_board grid index is within =
+    let light = get_or (lights_of grid) index no_light in
+    let fits = light_fits grid index no_light is within in
     let At : List ℕ → Type 0 = λ cells. All (λ cell. cell < length (board_of grid).open_cells) cells in
-    subst At (sym (light_at-board grid place no_light within)) (λ k d below.
-    let long : length (places_of grid light) ≡ light.size = length-map (map (step light.name.direction light.start) (range_with_len 0 light.size)) (index_of grid) ∙ length-map-range_with_len (step light.name.direction light.start) 0 light.size in
+    subst At (sym (light_at-board grid index no_light within)) (λ k d below.
+    let long : length (indices_of grid light) ≡ light.size = length-map (map (step light.name.direction light.start) (range_with_len 0 light.size)) (index_of grid) ∙ length-map-range_with_len (step light.name.direction light.start) 0 light.size in
     let under : k < light.size = omega arith in
-    let at : get_or (places_of grid light) k d ≡ index_of grid (step light.name.direction light.start k) =
+    let at : get_or (indices_of grid light) k d ≡ index_of grid (step light.name.direction light.start k) =
     get_or-map (index_of grid) (map (step light.name.direction light.start) (range_with_len 0 light.size)) k light.start d (omega (arith, length-map-range_with_len (step light.name.direction light.start) 0 light.size))
     ∙ ap (index_of grid) (get_or-map-range_with_len (step light.name.direction light.start) 0 light.size k k light.start under (omega arith)) in
-    let inside : index_of grid (step light.name.direction light.start k) < grid.width * grid.height = index_of-lt grid _ (last_inside grid place no_light within k under) in
+    let inside : index_of grid (step light.name.direction light.start k) < grid.width * grid.height = index_of-lt grid _ (last_inside grid index no_light within k under) in
     omega (arith, at, inside, length-open_cells grid, is.squares))
 
 pub slice_get_past : {X : Type 0} (xs : List X) (i : ℕ) → length xs ≤ i → slice_get xs i ≡ None
 slice_get_past xs i past = elim (slice_get_cases xs i).1 [ inl found ↦ absurd (omega (arith, found.1)) | inr none ↦ none.1 ]
 
 -- the state of a cell, by its square
-pub is_open-square : (grid : Grid) (place : ℕ) → is_open (board_of grid) place ≡ is_open_square (slice_get grid.squares place)
+pub is_open-square : (grid : Grid) (index : ℕ) → is_open (board_of grid) index ≡ is_open_square (slice_get grid.squares index)
 unfolding board_of
-is_open-square grid place = elim (cases_lt place (length grid.squares)) [
-  | inl below ↦ get_or-map square_is_open grid.squares place Block false below ∙ sym (ap is_open_square (slice_get-get_or grid.squares place Block below))
+is_open-square grid index = elim (cases_lt index (length grid.squares)) [
+  | inl below ↦ get_or-map square_is_open grid.squares index Block false below ∙ sym (ap is_open_square (slice_get-get_or grid.squares index Block below))
   | inr past ↦
-      get_or_past (map square_is_open grid.squares) place false (omega (arith, length-map grid.squares square_is_open))
-      ∙ sym (ap is_open_square (slice_get_past grid.squares place past))
+      get_or_past (map square_is_open grid.squares) index false (omega (arith, length-map grid.squares square_is_open))
+      ∙ sym (ap is_open_square (slice_get_past grid.squares index past))
 ]
 
-pub entry-square : (grid : Grid) (place : ℕ) → entry (board_of grid) place ≡ letter_in (slice_get grid.squares place)
+pub entry-square : (grid : Grid) (index : ℕ) → entry (board_of grid) index ≡ letter_in (slice_get grid.squares index)
 unfolding board_of
-entry-square grid place = elim (cases_lt place (length grid.squares)) [
-  | inl below ↦ get_or-map square_entry grid.squares place Block None below ∙ sym (ap letter_in (slice_get-get_or grid.squares place Block below))
+entry-square grid index = elim (cases_lt index (length grid.squares)) [
+  | inl below ↦ get_or-map square_entry grid.squares index Block None below ∙ sym (ap letter_in (slice_get-get_or grid.squares index Block below))
   | inr past ↦
-      get_or_past (map square_entry grid.squares) place None (omega (arith, length-map grid.squares square_entry))
-      ∙ sym (ap letter_in (slice_get_past grid.squares place past))
+      get_or_past (map square_entry grid.squares) index None (omega (arith, length-map grid.squares square_entry))
+      ∙ sym (ap letter_in (slice_get_past grid.squares index past))
 ]
 
 pub ruleset board_steps = (length-open_cells, length-entries, length-lights, light_at-found, light_fits-found, light_in_board, is_open-square, entry-square)

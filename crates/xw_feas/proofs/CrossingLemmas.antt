@@ -9,13 +9,13 @@ use Rattle.xw_grid.specs.declared.cell.Direction.{Direction}
 use Rattle.xw_grid.specs.declared.cell.Direction.TheVariants.{Across, Down}
 use Rattle.xw_grid.specs.declared.lights.Light.{Light}
 use Rattle.xw_grid.specs.Grid.{Grid, index_of, cell_at}
-use Rattle.xw_grid.specs.Light.{step, lights_of, no_light, same_direction, is_on_line, holds, passes, place_through}
+use Rattle.xw_grid.specs.Light.{step, lights_of, no_light, same_direction, is_on_line, holds, passes, index_through}
 use Rattle.xw_grid.proofs.GridLemmas.{cell_at-index_of, index_of-cell_at}
 use Rattle.xw_grid.proofs.OrderLemmas.{lights_are_apart}
-use Rattle.xw_grid.proofs.PlaceLemmas.{held_step, place_is as through_is}
+use Rattle.xw_grid.proofs.LightTableLemmas.{held_step, index_is as through_is}
 use Rattle.xw_feas.specs.Board.{Board, board_of, light_at, IsCrossing, other_than, first_found}
 use Rattle.xw_feas.proofs.BoardLemmas.{length-lights}
-use Rattle.xw_feas.proofs.FormedLemmas.{light_in, cell_of, length-light_at, within_lights, place_is, inside_at}
+use Rattle.xw_feas.proofs.FormedLemmas.{light_in, cell_of, length-light_at, within_lights, index_is, inside_at}
 
 on_line : (direction : Direction) (first : Cell) (n k : ℕ) → k < n → is_on_line direction first n (step direction first k) ≡ true
 on_line Across first n k below =
@@ -34,21 +34,21 @@ abbrev pub towards : Grid → ℕ → Direction
 towards grid light = (light_in grid light).name.direction
 
 -- a light through a cell is found by its direction
-pub through_at : (grid : Grid) (light place cell : ℕ) → place < length (light_at (board_of grid) light) → get_or (light_at (board_of grid) light) place 0 ≡ cell
-    → place_through (lights_of grid) (towards grid light) (cell_at grid cell) ≡ Some light
-through_at grid light place cell below meets =
-    let within = within_lights grid light place below in
+pub through_at : (grid : Grid) (light position cell : ℕ) → position < length (light_at (board_of grid) light) → get_or (light_at (board_of grid) light) position 0 ≡ cell
+    → index_through (lights_of grid) (towards grid light) (cell_at grid cell) ≡ Some light
+through_at grid light position cell below meets =
+    let within = within_lights grid light position below in
     let start = (light_in grid light).start in
     let size = (light_in grid light).size in
-    let is : cell_at grid cell ≡ step (towards grid light) start place =
-    ap (cell_at grid) (sym meets ∙ place_is grid light place below) ∙ cell_at-index_of grid (cell_of grid light place) (inside_at grid light place below) in
+    let is : cell_at grid cell ≡ step (towards grid light) start position =
+    ap (cell_at grid) (sym meets ∙ index_is grid light position below) ∙ cell_at-index_of grid (cell_of grid light position) (inside_at grid light position below) in
     let there : is_on_line (towards grid light) start size (cell_at grid cell) ≡ true =
-    ap (is_on_line (towards grid light) start size) is ∙ on_line (towards grid light) start size place (omega (arith, length-light_at grid light within)) in
+    ap (is_on_line (towards grid light) start size) is ∙ on_line (towards grid light) start size position (omega (arith, length-light_at grid light within)) in
     through_is (lights_of grid) (lights_are_apart grid) (towards grid light) (cell_at grid cell) light no_light within
     (and_from (same_direction (towards grid light) (towards grid light)) (is_on_line (towards grid light) start size (cell_at grid cell)) (same_direction_itself (towards grid light)) there)
 
 -- a light that is found passes through the cell
-pub found_at : (grid : Grid) (direction : Direction) (light other cell : ℕ) → place_through (lights_of grid) direction (cell_at grid cell) ≡ Some other → (other ≡ light → ⊥) → IsCrossing (board_of grid) light cell other
+pub found_at : (grid : Grid) (direction : Direction) (light other cell : ℕ) → index_through (lights_of grid) direction (cell_at grid cell) ≡ Some other → (other ≡ light → ⊥) → IsCrossing (board_of grid) light cell other
 found_at grid direction light other cell found apart =
     let at = position-Some (passes direction (cell_at grid cell)) (lights_of grid) other no_light found in
     let within : other < length (lights_of grid) = at.0 in
@@ -58,9 +58,9 @@ found_at grid direction light other cell found apart =
     record {
       in_board = omega (arith, length-lights grid, within);
       apart = apart;
-      place = stands.0;
+      position = stands.0;
       below = below;
-      meets = place_is grid other stands.0 below ∙ ap (index_of grid) (sym stands.2) ∙ index_of-cell_at grid cell;
+      meets = index_is grid other stands.0 below ∙ ap (index_of grid) (sym stands.2) ∙ index_of-cell_at grid cell;
     }
 
 other_is : (light other : ℕ) → (other ≡ light → ⊥) → other_than light (Some other) ≡ Some other
@@ -80,15 +80,15 @@ other_gives light other (Some one) h = go (eqb one light) refl h where
   go true is h = absurd (grind arith)
   go false is h = (h, λ same. both_ways (eqb one light) is (eq-eqb one light (some_same h ∙ same)))
 
-module _ (grid : Grid) (light place : ℕ) (below : place < length (light_at (board_of grid) light)) where
+module _ (grid : Grid) (light position : ℕ) (below : position < length (light_at (board_of grid) light)) where
   abbrev here : ℕ
-  here = get_or (light_at (board_of grid) light) place 0
+  here = get_or (light_at (board_of grid) light) position 0
 
   abbrev across : Option ℕ
-  across = place_through (lights_of grid) Across (cell_at grid here)
+  across = index_through (lights_of grid) Across (cell_at grid here)
 
   abbrev down : Option ℕ
-  down = place_through (lights_of grid) Down (cell_at grid here)
+  down = index_through (lights_of grid) Down (cell_at grid here)
 
   pub crossing_is : (other : ℕ) → first_found (other_than light across) (other_than light down) ≡ Some other → IsCrossing (board_of grid) light here other
   crossing_is other found = by_first (other_than light across) refl found where
@@ -96,7 +96,7 @@ module _ (grid : Grid) (light place : ℕ) (below : place < length (light_at (bo
     by_first (Some one) is h = let at = other_gives light other across (is ∙ h) in found_at grid Across light other here at.0 at.1
     by_first None is h = let at = other_gives light other down h in found_at grid Down light other here at.0 at.1
 
-  by_directions : (first second : Direction) (other : ℕ) → (other ≡ light → ⊥) → place_through (lights_of grid) first (cell_at grid here) ≡ Some light → place_through (lights_of grid) second (cell_at grid here) ≡ Some other
+  by_directions : (first second : Direction) (other : ℕ) → (other ≡ light → ⊥) → index_through (lights_of grid) first (cell_at grid here) ≡ Some light → index_through (lights_of grid) second (cell_at grid here) ≡ Some other
       → first_found (other_than light across) (other_than light down) ≡ Some other
   by_directions Across Across other apart own found = absurd (let e : Some light ≡ Some other = sym own ∙ found in apart (cc))
   by_directions Down Down other apart own found = absurd (let e : Some light ≡ Some other = sym own ∙ found in apart (cc))
@@ -105,28 +105,28 @@ module _ (grid : Grid) (light place : ℕ) (below : place < length (light_at (bo
 
   pub crossing_only : (other : ℕ) → IsCrossing (board_of grid) light here other → first_found (other_than light across) (other_than light down) ≡ Some other
   crossing_only other crossing =
-      by_directions (towards grid light) (towards grid other) other crossing.apart (through_at grid light place here below refl) (through_at grid other crossing.place here crossing.below crossing.meets)
+      by_directions (towards grid light) (towards grid other) other crossing.apart (through_at grid light position here below refl) (through_at grid other crossing.position here crossing.below crossing.meets)
 
 -- the same for the board and the lights of an engine
-module _ (grid : Grid) (board : Board) (view : board_of grid ≡ board) (lights : List Light) (same : lights ≡ lights_of grid) (light place : ℕ) (below : place < length (light_at board light))
-    (cell : Cell) (at : cell ≡ cell_at grid (get_or (light_at board light) place 0)) (across down : Option ℕ) (is_across : across ≡ place_through lights Across cell) (is_down : down ≡ place_through lights Down cell) where
+module _ (grid : Grid) (board : Board) (view : board_of grid ≡ board) (lights : List Light) (same : lights ≡ lights_of grid) (light position : ℕ) (below : position < length (light_at board light))
+    (cell : Cell) (at : cell ≡ cell_at grid (get_or (light_at board light) position 0)) (across down : Option ℕ) (is_across : across ≡ index_through lights Across cell) (is_down : down ≡ index_through lights Down cell) where
   abbrev There : Board → Type 0
-  There b = place < length (light_at b light) → cell ≡ cell_at grid (get_or (light_at b light) place 0) → (other : ℕ)
-      → ((first_found (other_than light across) (other_than light down) ≡ Some other) → IsCrossing b light (get_or (light_at b light) place 0) other)
-      × (IsCrossing b light (get_or (light_at b light) place 0) other → first_found (other_than light across) (other_than light down) ≡ Some other)
+  There b = position < length (light_at b light) → cell ≡ cell_at grid (get_or (light_at b light) position 0) → (other : ℕ)
+      → ((first_found (other_than light across) (other_than light down) ≡ Some other) → IsCrossing b light (get_or (light_at b light) position 0) other)
+      × (IsCrossing b light (get_or (light_at b light) position 0) other → first_found (other_than light across) (other_than light down) ≡ Some other)
 
   crossing_there : There board
   crossing_there =
       subst There view (λ below at other.
-      let first : across ≡ place_through (lights_of grid) Across (cell_at grid (get_or (light_at (board_of grid) light) place 0)) = is_across ∙ ap (λ l. place_through l Across cell) same ∙ ap (place_through (lights_of grid) Across) at in
-      let second : down ≡ place_through (lights_of grid) Down (cell_at grid (get_or (light_at (board_of grid) light) place 0)) = is_down ∙ ap (λ l. place_through l Down cell) same ∙ ap (place_through (lights_of grid) Down) at in
-      let both = ap (λ o. first_found (other_than light o) (other_than light down)) first ∙ ap (λ o. first_found (other_than light (place_through (lights_of grid) Across (cell_at grid (get_or (light_at (board_of grid) light) place 0)))) (other_than light o)) second in
-      ((λ found. crossing_is grid light place below other (sym both ∙ found)), (λ crossing. both ∙ crossing_only grid light place below other crossing)))
+      let first : across ≡ index_through (lights_of grid) Across (cell_at grid (get_or (light_at (board_of grid) light) position 0)) = is_across ∙ ap (λ l. index_through l Across cell) same ∙ ap (index_through (lights_of grid) Across) at in
+      let second : down ≡ index_through (lights_of grid) Down (cell_at grid (get_or (light_at (board_of grid) light) position 0)) = is_down ∙ ap (λ l. index_through l Down cell) same ∙ ap (index_through (lights_of grid) Down) at in
+      let both = ap (λ o. first_found (other_than light o) (other_than light down)) first ∙ ap (λ o. first_found (other_than light (index_through (lights_of grid) Across (cell_at grid (get_or (light_at (board_of grid) light) position 0)))) (other_than light o)) second in
+      ((λ found. crossing_is grid light position below other (sym both ∙ found)), (λ crossing. both ∙ crossing_only grid light position below other crossing)))
 
-  pub found_crossing : (other : ℕ) → first_found (other_than light across) (other_than light down) ≡ Some other → IsCrossing board light (get_or (light_at board light) place 0) other
+  pub found_crossing : (other : ℕ) → first_found (other_than light across) (other_than light down) ≡ Some other → IsCrossing board light (get_or (light_at board light) position 0) other
   found_crossing other = (crossing_there below at other).0
 
-  pub only_crossing : (other : ℕ) → IsCrossing board light (get_or (light_at board light) place 0) other → first_found (other_than light across) (other_than light down) ≡ Some other
+  pub only_crossing : (other : ℕ) → IsCrossing board light (get_or (light_at board light) position 0) other → first_found (other_than light across) (other_than light down) ≡ Some other
   only_crossing other = (crossing_there below at other).1
 
 -- if the first search finds a light, that is the result

@@ -23,52 +23,52 @@ use Rattle.xw_feas.proofs.BoardLemmas.{length-open_cells, length-lights, length-
 use Rattle.xw_feas.proofs.LightsLemmas.{names_apart}
 
 abbrev pub light_in : Grid → ℕ → Light
-light_in grid place = get_or (lights_of grid) place no_light
+light_in grid index = get_or (lights_of grid) index no_light
 
 abbrev pub cell_of : Grid → ℕ → ℕ → Cell
-cell_of grid place k = step (light_in grid place).name.direction (light_in grid place).start k
+cell_of grid index k = step (light_in grid index).name.direction (light_in grid index).start k
 
 -- there is no light past the last one
-light_past : (grid : Grid) (place : ℕ) → length (lights_of grid) ≤ place → light_at (board_of grid) place ≡ []
-light_past grid place past = get_or_past (board_of grid).lights place [] (omega (arith, length-lights grid))
+light_past : (grid : Grid) (index : ℕ) → length (lights_of grid) ≤ index → light_at (board_of grid) index ≡ []
+light_past grid index past = get_or_past (board_of grid).lights index [] (omega (arith, length-lights grid))
 
-pub length-light_at : (grid : Grid) (place : ℕ) → place < length (lights_of grid) → length (light_at (board_of grid) place) ≡ (light_in grid place).size
-length-light_at grid place within =
-    let light = light_in grid place in
-    ap length (light_at-board grid place no_light within)
+pub length-light_at : (grid : Grid) (index : ℕ) → index < length (lights_of grid) → length (light_at (board_of grid) index) ≡ (light_in grid index).size
+length-light_at grid index within =
+    let light = light_in grid index in
+    ap length (light_at-board grid index no_light within)
     ∙ length-map (map (step light.name.direction light.start) (range_with_len 0 light.size)) (index_of grid)
     ∙ length-map-range_with_len (step light.name.direction light.start) 0 light.size
 
-pub within_lights : (grid : Grid) (place k : ℕ) → k < length (light_at (board_of grid) place) → place < length (lights_of grid)
-within_lights grid place k below = elim (cases_lt place (length (lights_of grid))) [
+pub within_lights : (grid : Grid) (index k : ℕ) → k < length (light_at (board_of grid) index) → index < length (lights_of grid)
+within_lights grid index k below = elim (cases_lt index (length (lights_of grid))) [
   | inl within ↦ within
-  | inr past ↦ absurd (omega (arith, ap length (light_past grid place past)))
+  | inr past ↦ absurd (omega (arith, ap length (light_past grid index past)))
 ]
 
-pub place_is : (grid : Grid) (place k : ℕ) → k < length (light_at (board_of grid) place) → get_or (light_at (board_of grid) place) k 0 ≡ index_of grid (cell_of grid place k)
-place_is grid place k below =
-    let within = within_lights grid place k below in
-    let light = light_in grid place in
-    let under : k < light.size = omega (arith, length-light_at grid place within) in
-    ap (λ cells. get_or cells k 0) (light_at-board grid place no_light within)
+pub index_is : (grid : Grid) (index k : ℕ) → k < length (light_at (board_of grid) index) → get_or (light_at (board_of grid) index) k 0 ≡ index_of grid (cell_of grid index k)
+index_is grid index k below =
+    let within = within_lights grid index k below in
+    let light = light_in grid index in
+    let under : k < light.size = omega (arith, length-light_at grid index within) in
+    ap (λ cells. get_or cells k 0) (light_at-board grid index no_light within)
     ∙ get_or-map (index_of grid) (map (step light.name.direction light.start) (range_with_len 0 light.size)) k light.start 0 (omega (arith, length-map-range_with_len (step light.name.direction light.start) 0 light.size))
     ∙ ap (index_of grid) (get_or-map-range_with_len (step light.name.direction light.start) 0 light.size k k light.start under (omega arith))
 
-open_at : (grid : Grid) (place k : ℕ) → k < length (light_at (board_of grid) place) → is_open_cell grid (cell_of grid place k) ≡ true
-open_at grid place k below =
-    let within = within_lights grid place k below in
-    cells_of_are_open grid place no_light within k (omega (arith, length-light_at grid place within))
+open_at : (grid : Grid) (index k : ℕ) → k < length (light_at (board_of grid) index) → is_open_cell grid (cell_of grid index k) ≡ true
+open_at grid index k below =
+    let within = within_lights grid index k below in
+    cells_of_are_open grid index no_light within k (omega (arith, length-light_at grid index within))
 
-pub inside_at : (grid : Grid) (place k : ℕ) → k < length (light_at (board_of grid) place) → is_inside grid (cell_of grid place k) ≡ true
-inside_at grid place k below = inside_from_open grid (cell_of grid place k) (open_at grid place k below)
+pub inside_at : (grid : Grid) (index k : ℕ) → k < length (light_at (board_of grid) index) → is_inside grid (cell_of grid index k) ≡ true
+inside_at grid index k below = inside_from_open grid (cell_of grid index k) (open_at grid index k below)
 
-same_place : (grid : Grid) (a b : Cell) → is_inside grid a ≡ true → is_inside grid b ≡ true → index_of grid a ≡ index_of grid b → a ≡ b
-same_place grid a b inside inside' same = sym (cell_at-index_of grid a inside) ∙ ap (cell_at grid) same ∙ cell_at-index_of grid b inside'
+same_index : (grid : Grid) (a b : Cell) → is_inside grid a ≡ true → is_inside grid b ≡ true → index_of grid a ≡ index_of grid b → a ≡ b
+same_index grid a b inside inside' same = sym (cell_at-index_of grid a inside) ∙ ap (cell_at grid) same ∙ cell_at-index_of grid b inside'
 
 -- the same index in two lights is the same cell
 pub same_cell_in : (grid : Grid) (light other i j : ℕ) → i < length (light_at (board_of grid) light) → j < length (light_at (board_of grid) other) → get_or (light_at (board_of grid) light) i 0 ≡ get_or (light_at (board_of grid) other) j 0 → cell_of grid light i ≡ cell_of grid other j
 same_cell_in grid light other i j below below' same =
-    same_place grid (cell_of grid light i) (cell_of grid other j) (inside_at grid light i below) (inside_at grid other j below') (sym (place_is grid light i below) ∙ same ∙ place_is grid other j below')
+    same_index grid (cell_of grid light i) (cell_of grid other j) (inside_at grid light i below) (inside_at grid other j below') (sym (index_is grid light i below) ∙ same ∙ index_is grid other j below')
 
 pub steps_apart : (direction : Direction) (first : Cell) (j k : ℕ) → step direction first j ≡ step direction first k → j ≡ k
 steps_apart Across first j k same = let e : first.col + j ≡ first.col + k = ap (λ (cell : Cell). cell.col) same in omega arith
@@ -89,7 +89,7 @@ meet_once grid light other i j k l apart below_i below_k below_j below_l first s
 
 open_in_board : (grid : Grid) (light k : ℕ) → k < length (light_at (board_of grid) light) → is_open (board_of grid) (get_or (light_at (board_of grid) light) k 0) ≡ true
 open_in_board grid light k below =
-    ap (is_open (board_of grid)) (place_is grid light k below)
+    ap (is_open (board_of grid)) (index_is grid light k below)
     ∙ is_open-square grid (index_of grid (cell_of grid light k))
     ∙ sym (ap (λ inside. is_open_square (cond inside (slice_get grid.squares (index_of grid (cell_of grid light k))) None)) (inside_at grid light k below))
     ∙ open_at grid light k below

@@ -7,10 +7,10 @@ use Rattle.xw_grid.specs.declared.cell.Direction.{Direction}
 use Rattle.xw_grid.specs.declared.cell.Direction.TheVariants.{Across, Down}
 use Rattle.xw_grid.specs.declared.lights.Light.{Light}
 use Rattle.xw_grid.specs.Grid.{Grid}
-use Rattle.xw_grid.specs.Light.{lights_of, same_name, same_direction, place_named}
+use Rattle.xw_grid.specs.Light.{lights_of, same_name, same_direction, index_named}
 use Rattle.xw_grid.specs.LightLaws.{IsBefore}
 use Rattle.xw_grid.proofs.OrderLemmas.{lights_are_ordered}
-use Rattle.xw_grid.proofs.PlaceLemmas.{direction_is}
+use Rattle.xw_grid.proofs.LightTableLemmas.{direction_is}
 
 not_before_itself : (a b : LightName) → a ≡ b → IsBefore a b → ⊥
 not_before_itself a b same (inl less) = let e : a.number ≡ b.number = ap (λ (name : LightName). name.number) same in absurd (omega arith)
@@ -40,12 +40,12 @@ names_same a b h =
     λ i. record { number = number i; direction = direction i }
 
 -- a light is found by its name
-pub found_by_name : (grid : Grid) (place : ℕ) (d : Light) → place < length (lights_of grid) → place_named (lights_of grid) (get_or (lights_of grid) place d).name ≡ Some place
-found_by_name grid place d below =
-    let name = (get_or (lights_of grid) place d).name in
-    position_is_some (λ (light : Light). same_name light.name name) (lights_of grid) place d below
+pub found_by_name : (grid : Grid) (index : ℕ) (d : Light) → index < length (lights_of grid) → index_named (lights_of grid) (get_or (lights_of grid) index d).name ≡ Some index
+found_by_name grid index d below =
+    let name = (get_or (lights_of grid) index d).name in
+    position_is_some (λ (light : Light). same_name light.name name) (lights_of grid) index d below
     (λ k before. elim (cases_Bool (same_name (get_or (lights_of grid) k d).name name)) [
-      | inl same ↦ absurd (let e = names_apart grid k place d (omega arith) below (names_same (get_or (lights_of grid) k d).name name same) in omega arith)
+      | inl same ↦ absurd (let e = names_apart grid k index d (omega arith) below (names_same (get_or (lights_of grid) k d).name name same) in omega arith)
       | inr differ ↦ differ
     ])
     (same_name_itself name)

@@ -39,7 +39,7 @@ pub word_accepted : (grid : Grid) (light : ℕ) (word : List ℕ) → light < le
     → place_word grid (get_or (lights_of grid) light no_light).name word ≡ Ok (with_letters grid (cells_of (get_or (lights_of grid) light no_light)) word)
 word_accepted grid light word in_grid letters long =
     let found = get_or (lights_of grid) light no_light in
-    ap (λ place. placed_in grid place word) (found_by_name grid light no_light in_grid)
+    ap (λ index. placed_in grid index word) (found_by_name grid light no_light in_grid)
     ∙ ap (λ bad. spelled_in grid found bad word) (good_letters word letters)
     ∙ ap (λ b. cond {A = Result Grid Refusal} b (Ok (with_letters grid (cells_of found) (map folded word))) (Err refusals.PlaceLength)) (eq-eqb (length word) found.size long)
     ∙ ap (λ w. Ok (with_letters grid (cells_of found) w)) (folded_letters word letters)

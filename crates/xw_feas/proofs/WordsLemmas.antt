@@ -11,7 +11,7 @@ use Rattle.std.specs.Prelude.{Ok}
 use Rattle.xw_grid.specs.declared.cell.LightName.{LightName}
 use Rattle.xw_grid.specs.declared.lights.Light.{Light}
 use Rattle.xw_grid.specs.Grid.{Grid}
-use Rattle.xw_grid.specs.Light.{lights_of, place_named, same_name, no_light}
+use Rattle.xw_grid.specs.Light.{lights_of, index_named, same_name, no_light}
 use Rattle.xw_feas.specs.State.{State}
 use Rattle.xw_feas.specs.Board.{Board, board_of, light_at, is_wholly_entered, spelled, agrees}
 use Rattle.xw_feas.specs.Feasible.{Answers, AreAnswers, answers_word, base_words}
@@ -71,8 +71,8 @@ words_from_start board dictionary answers are light below = elim (cases_Bool (is
 ]
 
 -- what a query for the next word means for the remaining words
-pub words_from_listed : (board : Board) (dictionary : Dictionary) (answers : Answers) (light from place : ℕ) → next_found board dictionary answers light from ≡ Some (Listed place) → (place < length (known_words dictionary (length (light_at board light)))) × (words_from board dictionary answers light from ≡ (entry_at (known_words dictionary (length (light_at board light))) place).word ∷ words_from board dictionary answers light (place + 1))
-words_from_listed board dictionary answers light from place found = split (is_wholly_entered board (light_at board light)) refl found where
+pub words_from_listed : (board : Board) (dictionary : Dictionary) (answers : Answers) (light from index : ℕ) → next_found board dictionary answers light from ≡ Some (Listed index) → (index < length (known_words dictionary (length (light_at board light)))) × (words_from board dictionary answers light from ≡ (entry_at (known_words dictionary (length (light_at board light))) index).word ∷ words_from board dictionary answers light (index + 1))
+words_from_listed board dictionary answers light from index found = split (is_wholly_entered board (light_at board light)) refl found where
   known : List Entry
   known = known_words dictionary (length (light_at board light))
 
@@ -84,24 +84,24 @@ words_from_listed board dictionary answers light from place found = split (is_wh
       cond entered (cond (from == 0 && answers_word answers light (spelled board (light_at board light))) (Some Entered) None)
       (option_map (λ p. Listed (from + p)) (position (is_active_answer answers light) (drop from (known_words dictionary (length (light_at board light))))))
 
-  by_place : (r : Option ℕ) → position (is_active_answer answers light) (drop from (known_words dictionary (length (light_at board light)))) ≡ r → option_map (λ p. Listed (from + p)) r ≡ Some (Listed place) → is_wholly_entered board (light_at board light) ≡ false → (place < length (known_words dictionary (length (light_at board light)))) × (words_from board dictionary answers light from ≡ (entry_at (known_words dictionary (length (light_at board light))) place).word ∷ words_from board dictionary answers light (place + 1))
-  by_place None at h open_light = cc
-  by_place (Some k) at h open_light =
-      let here : from + k ≡ place = cc in
+  by_index : (r : Option ℕ) → position (is_active_answer answers light) (drop from (known_words dictionary (length (light_at board light)))) ≡ r → option_map (λ p. Listed (from + p)) r ≡ Some (Listed index) → is_wholly_entered board (light_at board light) ≡ false → (index < length (known_words dictionary (length (light_at board light)))) × (words_from board dictionary answers light from ≡ (entry_at (known_words dictionary (length (light_at board light))) index).word ∷ words_from board dictionary answers light (index + 1))
+  by_index None at h open_light = cc
+  by_index (Some k) at h open_light =
+      let here : from + k ≡ index = cc in
       let first = position-Some (is_active_answer answers light) (drop from (known_words dictionary (length (light_at board light)))) k no_entry at in
       let long = length-drop from (known_words dictionary (length (light_at board light))) in
       let list = filter_first (is_active_answer answers light) (drop from (known_words dictionary (length (light_at board light)))) k no_entry first.0 first.1 first.2 in
-      let item : get_or (drop from (known_words dictionary (length (light_at board light)))) k no_entry ≡ entry_at (known_words dictionary (length (light_at board light))) place = get_or-drop from (known_words dictionary (length (light_at board light))) k no_entry ∙ ap (entry_at (known_words dictionary (length (light_at board light)))) here in
-      let rest : drop (k + 1) (drop from (known_words dictionary (length (light_at board light)))) ≡ drop (place + 1) (known_words dictionary (length (light_at board light))) = drop-drop (k + 1) from (known_words dictionary (length (light_at board light))) ∙ ap (λ n. drop n (known_words dictionary (length (light_at board light)))) (let h : from + (k + 1) ≡ place + 1 = omega arith in h) in
-      (omega (arith, first.0, long), rw open_light (ap (map (λ (w : Entry). w.word)) (list ∙ ap (λ e. e ∷ filter (is_active_answer answers light) (drop (k + 1) (drop from (known_words dictionary (length (light_at board light)))))) item ∙ ap (λ es. entry_at (known_words dictionary (length (light_at board light))) place ∷ filter (is_active_answer answers light) es) rest)))
+      let item : get_or (drop from (known_words dictionary (length (light_at board light)))) k no_entry ≡ entry_at (known_words dictionary (length (light_at board light))) index = get_or-drop from (known_words dictionary (length (light_at board light))) k no_entry ∙ ap (entry_at (known_words dictionary (length (light_at board light)))) here in
+      let rest : drop (k + 1) (drop from (known_words dictionary (length (light_at board light)))) ≡ drop (index + 1) (known_words dictionary (length (light_at board light))) = drop-drop (k + 1) from (known_words dictionary (length (light_at board light))) ∙ ap (λ n. drop n (known_words dictionary (length (light_at board light)))) (let h : from + (k + 1) ≡ index + 1 = omega arith in h) in
+      (omega (arith, first.0, long), rw open_light (ap (map (λ (w : Entry). w.word)) (list ∙ ap (λ e. e ∷ filter (is_active_answer answers light) (drop (k + 1) (drop from (known_words dictionary (length (light_at board light)))))) item ∙ ap (λ es. entry_at (known_words dictionary (length (light_at board light))) index ∷ filter (is_active_answer answers light) es) rest)))
 
-  not_entered : (b : Bool) → cond b (Some Entered) None ≡ Some (Listed place) → ⊥
+  not_entered : (b : Bool) → cond b (Some Entered) None ≡ Some (Listed index) → ⊥
   not_entered true h = cc
   not_entered false h = cc
 
-  split : (entered : Bool) → is_wholly_entered board (light_at board light) ≡ entered → next_found board dictionary answers light from ≡ Some (Listed place) → (place < length (known_words dictionary (length (light_at board light)))) × (words_from board dictionary answers light from ≡ (entry_at (known_words dictionary (length (light_at board light))) place).word ∷ words_from board dictionary answers light (place + 1))
+  split : (entered : Bool) → is_wholly_entered board (light_at board light) ≡ entered → next_found board dictionary answers light from ≡ Some (Listed index) → (index < length (known_words dictionary (length (light_at board light)))) × (words_from board dictionary answers light from ≡ (entry_at (known_words dictionary (length (light_at board light))) index).word ∷ words_from board dictionary answers light (index + 1))
   split true is h = absurd (not_entered (from == 0 && answers_word answers light (spelled board (light_at board light))) (sym (ap found_with is) ∙ h))
-  split false is h = by_place (position (is_active_answer answers light) (drop from (known_words dictionary (length (light_at board light))))) refl (sym (ap found_with is) ∙ h) is
+  split false is h = by_index (position (is_active_answer answers light) (drop from (known_words dictionary (length (light_at board light))))) refl (sym (ap found_with is) ∙ h) is
 
 -- a filled light has the word that it spells as its only feasible word, or none
 pub words_of_entered : (board : Board) (dictionary : Dictionary) (answers : Answers) → AreAnswers board dictionary answers → (light : ℕ) → light < length board.lights → is_wholly_entered board (light_at board light) ≡ true → words_of answers light ≡ cond (answers_word answers light (spelled board (light_at board light))) (spelled board (light_at board light) ∷ []) []
@@ -121,23 +121,23 @@ words_from_none board dictionary answers are light from below found = split (is_
   entered_none true false h = refl
   entered_none false word h = refl
 
-  by_place : (r : Option ℕ) → position (is_active_answer answers light) (drop from (known_words dictionary (length (light_at board light)))) ≡ r → option_map (λ p. Listed (from + p)) r ≡ None → filter (is_active_answer answers light) (drop from (known_words dictionary (length (light_at board light)))) ≡ []
-  by_place None at h = filter_none (is_active_answer answers light) (drop from (known_words dictionary (length (light_at board light)))) no_entry (λ k under. position-None (is_active_answer answers light) (drop from (known_words dictionary (length (light_at board light)))) at k no_entry under)
-  by_place (Some k) at h = cc
+  by_index : (r : Option ℕ) → position (is_active_answer answers light) (drop from (known_words dictionary (length (light_at board light)))) ≡ r → option_map (λ p. Listed (from + p)) r ≡ None → filter (is_active_answer answers light) (drop from (known_words dictionary (length (light_at board light)))) ≡ []
+  by_index None at h = filter_none (is_active_answer answers light) (drop from (known_words dictionary (length (light_at board light)))) no_entry (λ k under. position-None (is_active_answer answers light) (drop from (known_words dictionary (length (light_at board light)))) at k no_entry under)
+  by_index (Some k) at h = cc
 
   split : (entered : Bool) → is_wholly_entered board (light_at board light) ≡ entered → words_from board dictionary answers light from ≡ []
   split true is =
       rw is (ap (λ ws. cond {A = List (List ℕ)} (from == 0) ws []) (words_of_entered board dictionary answers are light below is)
       ∙ entered_none (from == 0) (answers_word answers light (spelled board (light_at board light))) (sym (ap found_with is) ∙ found))
-  split false is = rw is (ap (map (λ (w : Entry). w.word)) (by_place (position (is_active_answer answers light) (drop from (known_words dictionary (length (light_at board light))))) refl (sym (ap found_with is) ∙ found)))
+  split false is = rw is (ap (map (λ (w : Entry). w.word)) (by_index (position (is_active_answer answers light) (drop from (known_words dictionary (length (light_at board light))))) refl (sym (ap found_with is) ∙ found)))
 
 -- the index of a light that is found by its name is on the board
-pub named_within : (grid : Grid) (name : LightName) (light : ℕ) → place_named (lights_of grid) name ≡ Some light → light < length (board_of grid).lights
+pub named_within : (grid : Grid) (name : LightName) (light : ℕ) → index_named (lights_of grid) name ≡ Some light → light < length (board_of grid).lights
 named_within grid name light found =
     let first = position-Some (λ (light : Light). same_name light.name name) (lights_of grid) light no_light found in
     omega (arith, first.0, length-lights grid)
 
-pub words_named : (state : State) (answers : Answers) → AreAnswers (board_of state.grid) state.words answers → (name : LightName) (light : ℕ) → place_named (lights_of state.grid) name ≡ Some light → Ok (words_from (board_of state.grid) state.words answers light 0) ≡ words_answer state answers name
+pub words_named : (state : State) (answers : Answers) → AreAnswers (board_of state.grid) state.words answers → (name : LightName) (light : ℕ) → index_named (lights_of state.grid) name ≡ Some light → Ok (words_from (board_of state.grid) state.words answers light 0) ≡ words_answer state answers name
 words_named state answers are name light found =
     ap Ok (words_from_start (board_of state.grid) state.words answers are light (named_within state.grid name light found))
     ∙ sym (ap (on_light (words_of answers)) found)
@@ -157,7 +157,7 @@ words_from_entered board dictionary answers are light from below found = split (
 
   listed : (r : Option ℕ) → option_map (λ p. Listed (from + p)) r ≡ Some Entered → ⊥
   listed None h = cc
-  listed (Some place) h = cc
+  listed (Some index) h = cc
 
   split : (entered : Bool) → is_wholly_entered board (light_at board light) ≡ entered → words_from board dictionary answers light from ≡ spelled board (light_at board light) ∷ words_from board dictionary answers light 1
   split true is =

@@ -45,12 +45,12 @@ pub taking_is_open : (grid : Grid) (cell : Cell) → IsGrid grid → fault_at gr
 taking_is_open grid cell is none = let found = taking grid cell none in open_from_no_block grid cell is found.0 found.1
 
 -- writing a square that is not a block keeps the blocks
-blocks_stay : (squares : List Square) (at place : ℕ) (letter : Option ℕ) → is_block_square (slice_get squares at) ≡ false → is_block_square (slice_get (set squares at (Open letter)) place) ≡ is_block_square (slice_get squares place)
-blocks_stay [] at place letter h = refl
+blocks_stay : (squares : List Square) (at index : ℕ) (letter : Option ℕ) → is_block_square (slice_get squares at) ≡ false → is_block_square (slice_get (set squares at (Open letter)) index) ≡ is_block_square (slice_get squares index)
+blocks_stay [] at index letter h = refl
 blocks_stay (square ∷ squares) zero zero letter h = sym h
-blocks_stay (square ∷ squares) zero (suc place) letter h = refl
+blocks_stay (square ∷ squares) zero (suc index) letter h = refl
 blocks_stay (square ∷ squares) (suc at) zero letter h = refl
-blocks_stay (square ∷ squares) (suc at) (suc place) letter h = blocks_stay squares at place letter h
+blocks_stay (square ∷ squares) (suc at) (suc index) letter h = blocks_stay squares at index letter h
 
 -- writing an entry does not change which cells can be written
 pub fault_kept : (grid : Grid) (cell : Cell) (letter : Option ℕ) → fault_at grid cell ≡ None → (other : Cell) → fault_at (with_entry grid cell letter) other ≡ fault_at grid other

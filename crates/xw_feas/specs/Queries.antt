@@ -6,7 +6,7 @@ use Rattle.xw_grid.specs.declared.cell.Cell.{Cell}
 use Rattle.xw_grid.specs.declared.cell.LightName.{LightName}
 use Rattle.xw_grid.specs.declared.fault.GridFault.TheVariants as grids
 use Rattle.xw_grid.specs.Grid.{Grid, is_inside, is_block, index_of}
-use Rattle.xw_grid.specs.Light.{lights_of, place_named}
+use Rattle.xw_grid.specs.Light.{lights_of, index_named}
 use Rattle.xw_feas.specs.Board.{Board, board_of, light_at, is_wholly_entered, spelled}
 use Rattle.xw_feas.specs.Feasible.{Answers, answers_word}
 use Rattle.xw_feas.specs.Changes.{letters_of}
@@ -34,7 +34,7 @@ abbrev pub next_found : Board → Dictionary → Answers → ℕ → ℕ → Opt
 next_found board dictionary answers light from =
     cond (is_wholly_entered board (light_at board light))
     (cond (from == 0 && answers_word answers light (spelled board (light_at board light))) (Some Entered) None)
-    (option_map (λ place. Listed (from + place)) (position (is_active_answer answers light) (drop from (known_words dictionary (length (light_at board light))))))
+    (option_map (λ index. Listed (from + index)) (position (is_active_answer answers light) (drop from (known_words dictionary (length (light_at board light))))))
 
 -- an answer about the light with a name; `NoLight` if there is none
 abbrev pub on_light : {X : Type 0} → (ℕ → X) → Option ℕ → Result X Refusal
@@ -43,16 +43,16 @@ on_light answer (Some light) = Ok (answer light)
 
 -- the number of feasible words of a light
 abbrev pub count_answer : State → Answers → LightName → Result ℕ Refusal
-count_answer state answers name = on_light (λ light. length (words_of answers light)) (place_named (lights_of state.grid) name)
+count_answer state answers name = on_light (λ light. length (words_of answers light)) (index_named (lights_of state.grid) name)
 
 -- the feasible words of a light
 abbrev pub words_answer : State → Answers → LightName → Result (List (List ℕ)) Refusal
-words_answer state answers name = on_light (words_of answers) (place_named (lights_of state.grid) name)
+words_answer state answers name = on_light (words_of answers) (index_named (lights_of state.grid) name)
 
 -- the first feasible word of a light whose index is at least `from`
 abbrev pub next_answer : State → Answers → LightName → ℕ → Result (Option Found) Refusal
 next_answer state answers name from =
-    on_light (λ light. next_found (board_of state.grid) state.words answers light from) (place_named (lights_of state.grid) name)
+    on_light (λ light. next_found (board_of state.grid) state.words answers light from) (index_named (lights_of state.grid) name)
 
 -- the refusal of a query about a cell outside the grid or a block; else the answer
 abbrev pub cell_judged : {X : Type 0} → Grid → Cell → X → Result X Refusal

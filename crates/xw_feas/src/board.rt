@@ -6,7 +6,7 @@ ghost use Rattle.xw_letters.specs.Letter.{IsLetter, is_capital};
 ghost use Rattle.xw_letters.specs.LetterSet.{has};
 ghost use Rattle.xw_grid.specs.Grid.{is_open_square as is_open_in, letter_in as letter_of};
 ghost use Rattle.xw_grid.specs.Light.{lights_of};
-ghost use Rattle.xw_feas.specs.Board.{board_of, places_of, light_at, is_open as is_open_place, entry as entry_at, IsCrossing, other_than as other_than_light, allows, is_wholly_entered};
+ghost use Rattle.xw_feas.specs.Board.{board_of, indices_of, light_at, is_open as is_open_index, entry as entry_at, IsCrossing, other_than as other_than_light, allows, is_wholly_entered};
 ghost use Rattle.xw_feas.specs.Fits.{Fits, stride_of};
 ghost use Rattle.xw_feas.specs.Passes.{Passes};
 
@@ -65,9 +65,9 @@ impl<'a> Model for Board<'a> {
     ghost use Rattle.std.specs.Prelude.{◌≡◌};
     ghost use Rattle.xw_grid.specs.Grid.{IsGrid};
     ghost use Rattle.xw_grid.specs.Light.{lights_of};
-    ghost use Rattle.xw_feas.specs.Board.{Board as BoardOfPlaces, board_of};
+    ghost use Rattle.xw_feas.specs.Board.{Board as BoardOfIndices, board_of};
 
-    ghost Value = { BoardOfPlaces };
+    ghost Value = { BoardOfIndices };
 
     ghost view = { λ board. board_of board.grid.now };
 
@@ -115,14 +115,14 @@ impl<'a> Board<'a> {
         }
     }
 
-    /// The other light through cell `place` of a light.
-    pub fn crossing(&self, light: usize, place: usize) -> Option<usize>
+    /// The other light through cell `position` of a light.
+    pub fn crossing(&self, light: usize, position: usize) -> Option<usize>
         requires light { light < length self.now.lights }
-        requires place { place < length (light_at self.now light) }
-        ensures other { IfSome result (IsCrossing self.now light (slice_index (light_at self.now light) place)) }
-        ensures only { (other : ℕ) → IsCrossing self.now light (slice_index (light_at self.now light) place) other → result ≡ Some other }
+        requires position { position < length (light_at self.now light) }
+        ensures other { IfSome result (IsCrossing self.now light (slice_index (light_at self.now light) position)) }
+        ensures only { (other : ℕ) → IsCrossing self.now light (slice_index (light_at self.now light) position) other → result ≡ Some other }
     {
-        let cell = self.grid.cell_at(self.light(light).at(place));
+        let cell = self.grid.cell_at(self.light(light).at(position));
         match other_than(light, self.lights.across_at(cell)) {
             Some(other) => Some(other),
             None => other_than(light, self.lights.down_at(cell)),
@@ -142,7 +142,7 @@ impl<'a> Board<'a> {
 
     /// Whether the cell is open.
     pub fn is_open(&self, cell: usize) -> bool
-        ensures { result ≡ is_open_place self.now cell }
+        ensures { result ≡ is_open_index self.now cell }
     {
         is_open_square(square_at(self.squares, cell))
     }
@@ -176,10 +176,10 @@ fn other_than(light: usize, found: Option<usize>) -> Option<usize>
     }
 }
 
-fn square_at(squares: &[Square], place: usize) -> Option<Square>
-    ensures { result ≡ slice_get squares.now place }
+fn square_at(squares: &[Square], index: usize) -> Option<Square>
+    ensures { result ≡ slice_get squares.now index }
 {
-    squares.get(place).copied()
+    squares.get(index).copied()
 }
 
 fn is_open_square(square: Option<Square>) -> bool
@@ -202,7 +202,7 @@ fn letter_in(square: Option<Square>) -> Option<Letter>
 #[tactic(auto, using(crate::proofs::BoardLemmas::cells_steps))]
 fn cells_of(grid: &Grid, light: Light) -> Cells
     requires { Fits grid.now light }
-    ensures { result ≡ places_of grid.now light }
+    ensures { result ≡ indices_of grid.now light }
 {
     match grid.index(light.start) {
         Some(first) => Cells {
@@ -230,8 +230,8 @@ fn stride(grid: &Grid, direction: Direction) -> usize
 pub fn has_all_entries(board: &Board<'_>, cells: &Cells) -> bool
     ensures { result ≡ is_wholly_entered board.now cells.now }
 {
-    for place in 0..cells.len() {
-        if board.entry(cells.at(place)).is_none() {
+    for position in 0..cells.len() {
+        if board.entry(cells.at(position)).is_none() {
             return false;
         }
     }

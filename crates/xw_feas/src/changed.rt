@@ -14,7 +14,7 @@ pub struct Changed<'a> {
     grid: &'a Grid,
     before: &'a [LetterSet],
     after: &'a [LetterSet],
-    place: usize,
+    index: usize,
 }
 
 impl<'a> Changed<'a> {
@@ -27,7 +27,7 @@ impl<'a> Changed<'a> {
             grid,
             before,
             after,
-            place: 0,
+            index: 0,
         }
     }
 }
@@ -42,15 +42,15 @@ impl<'a> Iterator for Changed<'a> {
     ghost remaining = { item_count changes_left };
 
     fn next(&mut self) -> Option<(Cell, LetterSet)> {
-        while self.place < self.grid.size() {
-            let place = self.place;
-            self.place += 1;
-            let after = set_at(self.after, place);
+        while self.index < self.grid.size() {
+            let index = self.index;
+            self.index += 1;
+            let after = set_at(self.after, index);
             // Most sets are the same, and finding the cell costs a division.
-            if set_at(self.before, place).is_same(after) {
+            if set_at(self.before, index).is_same(after) {
                 continue;
             }
-            let cell = self.grid.cell_at(place);
+            let cell = self.grid.cell_at(index);
             if self.grid.is_open(cell) {
                 return Some((cell, after));
             }
@@ -60,8 +60,8 @@ impl<'a> Iterator for Changed<'a> {
 }
 
 /// The set at an index; empty if there is none.
-fn set_at(sets: &[LetterSet], place: usize) -> LetterSet
-    ensures { result ≡ slice_index_or sets.now place 0 }
+fn set_at(sets: &[LetterSet], index: usize) -> LetterSet
+    ensures { result ≡ slice_index_or sets.now index 0 }
 {
-    sets.get(place).copied().unwrap_or(LetterSet::new())
+    sets.get(index).copied().unwrap_or(LetterSet::new())
 }

@@ -21,7 +21,7 @@ pub fn known_distinct(bank: &Bank)
 
 /// Strikes a word and returns its index.
 pub fn strike_in(bank: &mut Bank, word: &[u8]) -> Result<usize, WordFault>
-    ensures place { IfOk result (λ place. strike_answer bank.old.words word.now ≡ Ok place) }
+    ensures index { IfOk result (λ index. strike_answer bank.old.words word.now ≡ Ok index) }
     ensures ok { OnOk result (strike_word bank.old.words word.now ≡ Ok bank.new.words) }
     ensures refused { IfErr result (λ fault. strike_word bank.old.words word.now ≡ Err fault) }
     ensures counts { SameCounts bank.old.words bank.new.words }

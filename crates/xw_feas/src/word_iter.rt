@@ -123,17 +123,17 @@ fn entries_in<E: Feasible>(engine: &E, light: usize) -> Entries<'_>
 }
 
 /// The known word at an index, of the length of a light.
-fn word_in<E: Feasible>(engine: &E, light: usize, place: usize) -> &[Letter]
+fn word_in<E: Feasible>(engine: &E, light: usize, index: usize) -> &[Letter]
     requires light { light < length (board_of (E.state engine.now).grid).lights }
-    requires place { place < length (known_words (E.state engine.now).words (length (light_at (board_of (E.state engine.now).grid) light))) }
-    ensures word { result.now ≡ (entry_at (known_words (E.state engine.now).words (length (light_at (board_of (E.state engine.now).grid) light))) place).word }
-    ensures small { place < most_words }
+    requires index { index < length (known_words (E.state engine.now).words (length (light_at (board_of (E.state engine.now).grid) light))) }
+    ensures word { result.now ≡ (entry_at (known_words (E.state engine.now).words (length (light_at (board_of (E.state engine.now).grid) light))) index).word }
+    ensures small { index < most_words }
 {
     let board = Board::new(engine.grid(), engine.lights());
     let len = board.light(light).len();
     let bank = engine.bank();
     let _ = bank.known(len);
-    bank.word(len, place)
+    bank.word(len, index)
 }
 
 impl<'a, E: Feasible> Iterator for WordIter<'a, E> {
@@ -154,9 +154,9 @@ impl<'a, E: Feasible> Iterator for WordIter<'a, E> {
                 self.from = 1;
                 Some(Spelled::Entered(entries_in(engine, self.light)))
             }
-            Some(Found::Listed(place)) => {
-                let word = word_in(engine, self.light, place);
-                self.from = place + 1;
+            Some(Found::Listed(index)) => {
+                let word = word_in(engine, self.light, index);
+                self.from = index + 1;
                 Some(Spelled::Listed(word))
             }
         }

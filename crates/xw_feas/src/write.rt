@@ -30,8 +30,8 @@ fn judge_list(grid: &Grid, list: &[(Cell, Option<Letter>)]) -> Result<(), GridFa
     ensures ok { OnOk result (All (λ (written : CellOfGrid × Option ℕ). fault_at grid.now written.0 ≡ None) list.now) }
     ensures refused { IfErr result (λ fault. write_list list.now grid.now ≡ Err fault) }
 {
-    for place in 0..list.len() {
-        judge(grid, list[place].0)?;
+    for index in 0..list.len() {
+        judge(grid, list[index].0)?;
     }
     Ok(())
 }

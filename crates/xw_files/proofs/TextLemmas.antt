@@ -6,7 +6,7 @@ pub mod Shapes
 pub mod Squares
 pub mod Plains
 pub mod Clues
-pub mod Places
+pub mod ClueIndex
 pub mod Writes
 pub mod Again
 pub mod Lookups

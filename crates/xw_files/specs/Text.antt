@@ -5,5 +5,5 @@ pub mod Starts
 pub mod Shape
 pub mod Written
 pub mod Relation
-pub mod Place
+pub mod Location
 pub mod Faults

@@ -79,7 +79,7 @@ pub enum ReadFault {
 }
 
 impl ReadFault {
-    /// Returns the name of the fault. The name does not include the place.
+    /// Returns the name of the fault. The name does not include the location.
     pub fn name(self) -> &'static str
         ensures { result.now ≡ read_fault_name self }
     {
@@ -167,7 +167,7 @@ pub enum WriteFault {
 }
 
 impl WriteFault {
-    /// Returns the name of the fault. The name does not include the place.
+    /// Returns the name of the fault. The name does not include the location.
     pub fn name(self) -> &'static str
         ensures { result.now ≡ write_fault_name self }
     {

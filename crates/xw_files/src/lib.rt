@@ -13,6 +13,6 @@ pub use formats::{read_as, write_as};
 pub use kind::{Kind, kind_of};
 pub use puz::{grid_of_puz, has_rebus, read_puz, write_puz};
 pub use text::{
-    TextPlace, read_text, text_has_one_first_fault, text_has_one_part, text_place, write_text,
+    TextLocation, read_text, text_has_one_first_fault, text_has_one_part, text_location, write_text,
 };
 pub use xw_grid::puzzle::{Puzzle, Texts};

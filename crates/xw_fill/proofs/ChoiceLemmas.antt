@@ -27,17 +27,17 @@ letters_after state light word formed below letters long =
     ap fewest_in leads.1 ∙ ap fewest_words leads.2
 
 -- the state after a known word is placed
-pub known_after : (state : State) (light place : ℕ) → IsWellFormed state → light < length (board_of state.grid).lights → place < length (spellings_at (position_of state) light)
-    → fewest_after state light (get_or (spellings_at (position_of state) light) place []) ≡ fewest_words (placed (position_of state) light (get_or (spellings_at (position_of state) light) place []))
-known_after state light place formed below within =
+pub known_after : (state : State) (light index : ℕ) → IsWellFormed state → light < length (board_of state.grid).lights → index < length (spellings_at (position_of state) light)
+    → fewest_after state light (get_or (spellings_at (position_of state) light) index []) ≡ fewest_words (placed (position_of state) light (get_or (spellings_at (position_of state) light) index []))
+known_after state light index formed below within =
     let size = length (light_at (board_of state.grid) light) in
     let known = row state.words size in
     let is = formed.dictionary.words size in
-    let there : place < length known = omega (arith, within, length-map known (λ (w : Entry). w.word)) in
-    let word : get_or (spellings_at (position_of state) light) place [] ≡ (get_or known place no_entry).word = get_or-map (λ (w : Entry). w.word) known place no_entry [] there in
-    letters_after state light (get_or (spellings_at (position_of state) light) place []) formed below
-    (subst (λ w. All IsLetter w) (sym word) (is.letters place no_entry there))
-    (ap length word ∙ is.long place no_entry there)
+    let there : index < length known = omega (arith, within, length-map known (λ (w : Entry). w.word)) in
+    let word : get_or (spellings_at (position_of state) light) index [] ≡ (get_or known index no_entry).word = get_or-map (λ (w : Entry). w.word) known index no_entry [] there in
+    letters_after state light (get_or (spellings_at (position_of state) light) index []) formed below
+    (subst (λ w. All IsLetter w) (sym word) (is.letters index no_entry there))
+    (ap length word ∙ is.long index no_entry there)
 
 -- placing the word that a light spells changes nothing
 placed_itself : (position : Position) (light : ℕ) → IsShaped position.board → is_entered position light ≡ true → placed position light (spelling position light) ≡ position

@@ -35,7 +35,7 @@ family_is_supported board dictionary pairs all = record {
   letters_agree = λ cell letter h. (and_parts (may_stand board cell letter) (has_words_for board pairs cell letter) h).0;
   letters_have_words = λ cell letter h light k in_grid below at.
       let each = (and_parts (may_stand board cell letter) (has_words_for board pairs cell letter) h).1 in
-      let here = all_below-at (λ place. not (slice_index (light_at board light) place == cell) || list_any (has_letter_at light place letter) pairs) (length (light_at board light)) k below (all_below-at (λ other. all_below (λ place. not (slice_index (light_at board other) place == cell) || list_any (has_letter_at other place letter) pairs) (length (light_at board other))) (length board.lights) light in_grid each) in
+      let here = all_below-at (λ pos. not (slice_index (light_at board light) pos == cell) || list_any (has_letter_at light pos letter) pairs) (length (light_at board light)) k below (all_below-at (λ other. all_below (λ pos. not (slice_index (light_at board other) pos == cell) || list_any (has_letter_at other pos letter) pairs) (length (light_at board other))) (length board.lights) light in_grid each) in
       word_with light k letter (elim (or_cases (not (slice_index (light_at board light) k == cell)) (list_any (has_letter_at light k letter) pairs) here) [
         | inl other ↦ absurd (false≢true (sym (ap not (eq-eqb (slice_index (light_at board light) k) cell at)) ∙ other))
         | inr some ↦ some
@@ -51,7 +51,7 @@ family_is_supported board dictionary pairs all = record {
       let parts = and_parts (list_any (bytes_eq word) (base_words_at board dictionary light)) (all_below (λ k. leaves_letter board pairs (slice_index (light_at board light) k) (slice_index word k)) (length (light_at board light))) kept in
       let base = list_any-gives (bytes_eq word) (base_words_at board dictionary light) parts.0 in (
         subst (λ w. Contains (base_words_at board dictionary light) w) (sym (same_words word base.0 base.2)) (Contains-among base.0 (base_words_at board dictionary light) base.1),
-        λ k below. all_below-at (λ place. leaves_letter board pairs (slice_index (light_at board light) place) (slice_index word place)) (length (light_at board light)) k below parts.1,
+        λ k below. all_below-at (λ pos. leaves_letter board pairs (slice_index (light_at board light) pos) (slice_index word pos)) (length (light_at board light)) k below parts.1,
       )
 
   word_with : (light k letter : ℕ) → list_any (has_letter_at light k letter) pairs ≡ true → (word : List ℕ) × (list_any (is_pair light word) pairs ≡ true) × (slice_index word k ≡ letter)
@@ -89,8 +89,8 @@ pair_of_family board dictionary family supported light word h =
 pub letter_of_family : (board : Board) (dictionary : Dictionary) (family : Family) → IsSupported board dictionary family → (cell letter : ℕ) → family.letters cell letter ≡ true → leaves_letter board (pairs_of board dictionary family) cell letter ≡ true
 letter_of_family board dictionary family supported cell letter h =
     and_from _ _ (supported.letters_agree cell letter h)
-    (all_below-from (λ light. all_below (λ place. not (slice_index (light_at board light) place == cell) || list_any (has_letter_at light place letter) (pairs_of board dictionary family)) (length (light_at board light))) (length board.lights) (λ light in_grid.
-    all_below-from (λ place. not (slice_index (light_at board light) place == cell) || list_any (has_letter_at light place letter) (pairs_of board dictionary family)) (length (light_at board light)) (λ k below.
+    (all_below-from (λ light. all_below (λ pos. not (slice_index (light_at board light) pos == cell) || list_any (has_letter_at light pos letter) (pairs_of board dictionary family)) (length (light_at board light))) (length board.lights) (λ light in_grid.
+    all_below-from (λ pos. not (slice_index (light_at board light) pos == cell) || list_any (has_letter_at light pos letter) (pairs_of board dictionary family)) (length (light_at board light)) (λ k below.
     elim (cases_eq (slice_index (light_at board light) k) cell) [
       | inl at ↦
           let found = supported.letters_have_words cell letter h light k in_grid below at in

@@ -210,8 +210,8 @@ crossing_spells position light other word laid family supported has long in_grid
           elim (cell_in cells (get_or across k 0)) [
             | inl here ↦
                 let one : here.0 ≡ meets.0 = laid.cross_once light other here.0 k meets.0 gap.0 apart here.1 meets.1 below gap.1 here.2 meets.2 in
-                let place : k ≡ gap.0 = laid.distinct other k gap.0 below gap.1 (sym here.2 ∙ ap (λ j. get_or cells j 0) one ∙ meets.2) in
-                ap (entry (placed position light word).board) (sym here.2) ∙ placed-at position light word laid long here.0 here.1 ∙ ap (λ j. Some (get_or word j 0)) one ∙ ap Some (sym crossing.2) ∙ ap (λ j. Some (get_or crossing.0 j 0)) (sym place)
+                let pos : k ≡ gap.0 = laid.distinct other k gap.0 below gap.1 (sym here.2 ∙ ap (λ j. get_or cells j 0) one ∙ meets.2) in
+                ap (entry (placed position light word).board) (sym here.2) ∙ placed-at position light word laid long here.0 here.1 ∙ ap (λ j. Some (get_or word j 0)) one ∙ ap Some (sym crossing.2) ∙ ap (λ j. Some (get_or crossing.0 j 0)) (sym pos)
             | inr elsewhere ↦
                 let now = entered-at (placed position light word).board across entered k below in
                 let before = entries_with-other position.board.entries cells word (get_or across k 0) elsewhere in

@@ -13,8 +13,8 @@ use Rattle.xw_fill.proofs.PlacingLemmas.{length-spelled}
 
 -- the index is past the light that the walk has reached
 abbrev pub IsPast : Option ℕ → ℕ → Type 0
-IsPast None place = Unit {0}
-IsPast (Some next) place = next < place
+IsPast None index = Unit {0}
+IsPast (Some next) index = next < index
 
 -- a walk back over the earlier lights of this light's length; no light passed so far spells the same
 pub record IsWalking (position : Position) (light : ℕ) (next : Option ℕ) : Type 0 where
@@ -50,12 +50,12 @@ walk-step position light other next further earlier walking here differs linked 
     let size : size_of position other ≡ size_of position light = eqb-true (size_of position other) (size_of position light) parts.1 in
     let link : last_of_size position (size_of position light) other ≡ further = ap (λ n. last_of_size position n other) (sym size) ∙ sym (linked other at.0 parts.0) ∙ sym is in
     record {
-      at = λ place e. let found = last_below-some (is_entered_of_size position (size_of position light)) other place (link ∙ e) in (omega (arith, found.0, at.0), found.1);
-      passed = λ place below past. elim (cases_order place other) [
+      at = λ index e. let found = last_below-some (is_entered_of_size position (size_of position light)) other index (link ∙ e) in (omega (arith, found.0, at.0), found.1);
+      passed = λ index below past. elim (cases_order index other) [
         | inl same ↦ ap (spell_same position light) same ∙ differs
         | inr order ↦ elim order [
-          | inl before ↦ past_last position light other further link place before past
-          | inr after ↦ walking.passed place below (subst (λ link. IsPast link place) (sym here) after)
+          | inl before ↦ past_last position light other further link index before past
+          | inr after ↦ walking.passed index below (subst (λ link. IsPast link index) (sym here) after)
         ]
       ];
     }

@@ -5,7 +5,7 @@ use Rattle.std.proofs.lemmas.Bool.{and_parts, and_from, cases_Bool, false≢true
 use Rattle.std.proofs.lemmas.List.{get_or-map, length-map, map-append, get_or_default, take_more, take_more_set}
 use Rattle.std.proofs.lemmas.List.Quantifiers.{position-Some}
 use Rattle.std.proofs.lemmas.Slice.Eq.{bytes_eq-Decides}
-use Rattle.xw_words.specs.Dictionary.{Entry, no_entry, Dictionary, row as known_words, place_of}
+use Rattle.xw_words.specs.Dictionary.{Entry, no_entry, Dictionary, row as known_words, index_of_word}
 use Rattle.xw_feas.specs.Known.{spellings}
 use Rattle.xw_feas.specs.Board.{Board, entry, spelled}
 use Rattle.xw_fill.proofs.Shaped.{HasDistinctWords}
@@ -13,7 +13,7 @@ use Rattle.xw_fill.specs.Position.{Position}
 use Rattle.xw_fill.specs.Below.{those_below}
 use Rattle.xw_fill.specs.Listing.{is_listed}
 use Rattle.xw_fill.proofs.BelowLemmas.{Contains-among, Among-contained, list_any-from, list_any-gives}
-use Rattle.xw_fill.proofs.WordsLemmas.{no_place}
+use Rattle.xw_fill.proofs.WordsLemmas.{no_index}
 
 -- the index of an active word with this spelling
 listed_at : (state : Position) (word : List ℕ) → is_listed state word ≡ true → (k : ℕ) × (k < length (known_words state.words (length word))) × ((get_or (known_words state.words (length word)) k no_entry).active ≡ true) × ((get_or (known_words state.words (length word)) k no_entry).word ≡ word)
@@ -28,25 +28,25 @@ listed_at state word h =
 spelling_at : (dictionary : Dictionary) (len k : ℕ) → k < length (known_words dictionary len) → get_or (spellings dictionary len) k [] ≡ (get_or (known_words dictionary len) k no_entry).word
 spelling_at dictionary len k below = get_or-map (λ (w : Entry). w.word) (known_words dictionary len) k no_entry [] below
 
-pub listed-none : (state : Position) (word : List ℕ) → place_of state.words word ≡ None → is_listed state word ≡ false
+pub listed-none : (state : Position) (word : List ℕ) → index_of_word state.words word ≡ None → is_listed state word ≡ false
 listed-none state word h = false_from_ne_true _ (λ listed.
     let at = listed_at state word listed in
-    false≢true (sym (no_place (λ (w : Entry). bytes_eq w.word word) (known_words state.words (length word)) no_entry 0 h at.0 (omega arith) at.1) ∙ (bytes_eq-Decides _ word).1 at.3))
+    false≢true (sym (no_index (λ (w : Entry). bytes_eq w.word word) (known_words state.words (length word)) no_entry 0 h at.0 (omega arith) at.1) ∙ (bytes_eq-Decides _ word).1 at.3))
 
-pub listed-some : (state : Position) (word : List ℕ) (place : ℕ) → HasDistinctWords state.words → place_of state.words word ≡ Some place → is_listed state word ≡ (get_or (known_words state.words (length word)) place no_entry).active
-listed-some state word place dictionary h =
+pub listed-some : (state : Position) (word : List ℕ) (index : ℕ) → HasDistinctWords state.words → index_of_word state.words word ≡ Some index → is_listed state word ≡ (get_or (known_words state.words (length word)) index no_entry).active
+listed-some state word index dictionary h =
     let known = known_words state.words (length word) in
-    let found = position-Some (λ (w : Entry). bytes_eq w.word word) known place no_entry h in
+    let found = position-Some (λ (w : Entry). bytes_eq w.word word) known index no_entry h in
     let long = length-map known (λ (w : Entry). w.word) in
-    let same : (get_or known place no_entry).word ≡ word = (bytes_eq-Decides _ word).0 found.1 in
-    elim (cases_Bool (get_or known place no_entry).active) [
+    let same : (get_or known index no_entry).word ≡ word = (bytes_eq-Decides _ word).0 found.1 in
+    elim (cases_Bool (get_or known index no_entry).active) [
       | inl standing ↦
-          list_any-from (λ (w : Entry). w.active && bytes_eq w.word word) known (get_or known place no_entry) (Among-contained _ known (place, found.0, get_or_default known place _ no_entry found.0)) (and_from _ _ standing found.1)
+          list_any-from (λ (w : Entry). w.active && bytes_eq w.word word) known (get_or known index no_entry) (Among-contained _ known (index, found.0, get_or_default known index _ no_entry found.0)) (and_from _ _ standing found.1)
           ∙ sym standing
       | inr struck ↦
           false_from_ne_true _ (λ listed.
           let at = listed_at state word listed in
-          let here : at.0 ≡ place = dictionary.distinct (length word) at.0 place (omega (arith, long, at.1)) (omega (arith, long, found.0)) (spelling_at state.words (length word) at.0 at.1 ∙ at.3 ∙ sym same ∙ sym (spelling_at state.words (length word) place found.0)) in
+          let here : at.0 ≡ index = dictionary.distinct (length word) at.0 index (omega (arith, long, at.1)) (omega (arith, long, found.0)) (spelling_at state.words (length word) at.0 at.1 ∙ at.3 ∙ sym same ∙ sym (spelling_at state.words (length word) index found.0)) in
           false≢true (sym struck ∙ ap (λ j. (get_or known j no_entry).active) (sym here) ∙ at.2))
           ∙ sym struck
     ]

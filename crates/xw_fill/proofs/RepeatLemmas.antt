@@ -25,7 +25,7 @@ not_repeat position light gap = any_below-first (spell_same position light) ligh
 
 pub not_again : (position : Position) (light : ℕ) → is_entered position light ≡ false → is_spelled_again position light ≡ false
 not_again position light gap = false_from_ne_true _ (λ h.
-    let found = any_below-gives (λ place. not (place == light) && spell_same position light place) (light_count position) h in
+    let found = any_below-gives (λ index. not (index == light) && spell_same position light index) (light_count position) h in
     let parts = and_parts (not (found.0 == light)) (spell_same position light found.0) found.2 in
     false≢true (sym (not_same position light found.0 gap) ∙ parts.1))
 
@@ -48,11 +48,11 @@ repeat_from position light other apart in_grid other_in h = elim (cases_order li
 -- the light spells the same as another light
 pub again-from : (position : Position) (light other : ℕ) → other ≢ light → other < light_count position → spell_same position light other ≡ true → is_spelled_again position light ≡ true
 again-from position light other apart in_grid h =
-    any_below-from (λ place. not (place == light) && spell_same position light place) (light_count position) other in_grid (and_from _ _ (ap not (ne_eqb other light apart)) h)
+    any_below-from (λ index. not (index == light) && spell_same position light index) (light_count position) other in_grid (and_from _ _ (ap not (ne_eqb other light apart)) h)
 
 pub repeat_again : (position : Position) (light : ℕ) → light < light_count position → is_spelled_again position light ≡ true → any_below (is_repeat position) (light_count position) ≡ true
 repeat_again position light in_grid h =
-    let found = any_below-gives (λ place. not (place == light) && spell_same position light place) (light_count position) h in
+    let found = any_below-gives (λ index. not (index == light) && spell_same position light index) (light_count position) h in
     let parts = and_parts (not (found.0 == light)) (spell_same position light found.0) found.2 in
     repeat_from position light found.0 (λ same. false≢true (sym (ap not (eq-eqb found.0 light (sym same))) ∙ parts.0)) in_grid found.1 parts.1
 

@@ -140,42 +140,42 @@ without_letters-end entries (cell ∷ cells) zero blanks all = absurd (omega ari
 without_letters-end entries (cell ∷ cells) (suc k) blanks all = without_letters-end entries cells k blanks (omega arith)
 
 -- the list of cells to clear, after the first cells of the light
-pub record IsTakingBack (before : State) (light : ℕ) (blanks : List Bool) (list : List (Cell × Option ℕ)) (place : ℕ) : Type 0 where
+pub record IsTakingBack (before : State) (light : ℕ) (blanks : List Bool) (list : List (Cell × Option ℕ)) (pos : ℕ) : Type 0 where
   pub grid : Grid
   pub written : write_list list before.grid ≡ Ok grid
   pub is : IsGrid grid
-  pub entries : without_letters (board_of grid).entries (drop place (light_at (board_of before.grid) light)) (drop place blanks) ≡ without_letters (board_of before.grid).entries (light_at (board_of before.grid) light) blanks
+  pub entries : without_letters (board_of grid).entries (drop pos (light_at (board_of before.grid) light)) (drop pos blanks) ≡ without_letters (board_of before.grid).entries (light_at (board_of before.grid) light) blanks
   pub partly : IsPartly before (record before { grid = grid })
 
 pub take_back-init : (before : State) (light : ℕ) (blanks : List Bool) → IsGrid before.grid → IsTakingBack before light blanks [] 0
 take_back-init before light blanks is = record { grid = before.grid; written = refl; is = is; entries = refl; partly = IsPartly-itself before }
 
 -- one more cell of the light is added to the list
-pub take_back-step : (before : State) (light place : ℕ) (found : Light) (blanks : List Bool) (list : List (Cell × Option ℕ)) (cell : Cell) → IsTakingBack before light blanks list place
-    → light < length (lights_of before.grid) → found ≡ get_or (lights_of before.grid) light no_light → place < found.size → cell ≡ step found.name.direction found.start place
-    → get_or blanks place false ≡ true → IsTakingBack before light blanks (list ++ (cell, None) ∷ []) (place + 1)
-take_back-step before light place found blanks list cell so_far in_grid found_is within cell_is blank =
+pub take_back-step : (before : State) (light pos : ℕ) (found : Light) (blanks : List Bool) (list : List (Cell × Option ℕ)) (cell : Cell) → IsTakingBack before light blanks list pos
+    → light < length (lights_of before.grid) → found ≡ get_or (lights_of before.grid) light no_light → pos < found.size → cell ≡ step found.name.direction found.start pos
+    → get_or blanks pos false ≡ true → IsTakingBack before light blanks (list ++ (cell, None) ∷ []) (pos + 1)
+take_back-step before light pos found blanks list cell so_far in_grid found_is within cell_is blank =
     let now : State = record before { grid = so_far.grid } in
     let cells = light_at (board_of before.grid) light in
-    let at = light_cell_at before.grid light place found cell in_grid found_is within cell_is in
-    let below : place < length cells = omega (arith, light_size before.grid light found in_grid found_is, within) in
+    let at = light_cell_at before.grid light pos found cell in_grid found_is within cell_is in
+    let below : pos < length cells = omega (arith, light_size before.grid light found in_grid found_is, within) in
     let opened : is_open so_far.grid cell ≡ true = differs_open before now cell so_far.partly.1 ∙ at.0 in
     let done = clearing now cell so_far.is opened in
-    let entries : (board_of (with_entry so_far.grid cell None)).entries ≡ set (board_of so_far.grid).entries (get_or cells place 0) None =
+    let entries : (board_of (with_entry so_far.grid cell None)).entries ≡ set (board_of so_far.grid).entries (get_or cells pos 0) None =
     ap (λ p. p.board.entries) done.0 ∙ ap (λ c. set (board_of so_far.grid).entries c None) (differs_index before now cell so_far.partly.1 ∙ at.1) in
     record {
       grid = with_entry so_far.grid cell None;
       written = write_list-push list before.grid (cell, None) ∙ ap (then_write (λ g. set_entry g cell None)) so_far.written ∙ open_takes so_far.grid cell None opened;
       is = IsGrid-entry so_far.grid cell None tt so_far.is;
       entries =
-          ap (λ es. without_letters es (drop (place + 1) cells) (drop (place + 1) blanks)) (entries ∙ sym (ap (λ b. cond b (set (board_of so_far.grid).entries (get_or cells place 0) None) (board_of so_far.grid).entries) blank))
-          ∙ sym (without_letters-more (board_of so_far.grid).entries cells blanks place below)
+          ap (λ es. without_letters es (drop (pos + 1) cells) (drop (pos + 1) blanks)) (entries ∙ sym (ap (λ b. cond b (set (board_of so_far.grid).entries (get_or cells pos 0) None) (board_of so_far.grid).entries) blank))
+          ∙ sym (without_letters-more (board_of so_far.grid).entries cells blanks pos below)
           ∙ so_far.entries;
       partly = IsPartly-then before now (record before { grid = with_entry so_far.grid cell None }) so_far.partly done;
     }
 
-pub take_back-pass : (before : State) (light place : ℕ) (blanks : List Bool) (list : List (Cell × Option ℕ)) → IsTakingBack before light blanks list place → place < length (light_at (board_of before.grid) light) → get_or blanks place false ≡ false → IsTakingBack before light blanks list (place + 1)
-take_back-pass before light place blanks list so_far below not_blank =
+pub take_back-pass : (before : State) (light pos : ℕ) (blanks : List Bool) (list : List (Cell × Option ℕ)) → IsTakingBack before light blanks list pos → pos < length (light_at (board_of before.grid) light) → get_or blanks pos false ≡ false → IsTakingBack before light blanks list (pos + 1)
+take_back-pass before light pos blanks list so_far below not_blank =
     let cells = light_at (board_of before.grid) light in
     let entries = (board_of so_far.grid).entries in
     record {
@@ -183,19 +183,19 @@ take_back-pass before light place blanks list so_far below not_blank =
       written = so_far.written;
       is = so_far.is;
       entries =
-          ap (λ b. without_letters (cond b (set entries (get_or cells place 0) None) entries) (drop (place + 1) cells) (drop (place + 1) blanks)) (sym not_blank)
-          ∙ sym (without_letters-more entries cells blanks place below)
+          ap (λ b. without_letters (cond b (set entries (get_or cells pos 0) None) entries) (drop (pos + 1) cells) (drop (pos + 1) blanks)) (sym not_blank)
+          ∙ sym (without_letters-more entries cells blanks pos below)
           ∙ so_far.entries;
       partly = so_far.partly;
     }
 
 -- writing the list undoes the placement
-pub take_back-end : (before now : State) (answers_before answers_now : Answers) (tried : Try) (list : List (Cell × Option ℕ)) (place : ℕ) (result : Result Changed Refusal) → IsTakingBack before tried.light tried.blanks list place
-    → length (light_at (board_of before.grid) tried.light) ≤ place → IsEdited before answers_before (list_written list) result now answers_now
+pub take_back-end : (before now : State) (answers_before answers_now : Answers) (tried : Try) (list : List (Cell × Option ℕ)) (pos : ℕ) (result : Result Changed Refusal) → IsTakingBack before tried.light tried.blanks list pos
+    → length (light_at (board_of before.grid) tried.light) ≤ pos → IsEdited before answers_before (list_written list) result now answers_now
     → (position_of now ≡ taken_back (position_of before) tried) × DiffersInEntries before now
-take_back-end before now answers_before answers_now tried list place result so_far all edited =
+take_back-end before now answers_before answers_now tried list pos result so_far all edited =
     let done = edit_done before now (record before { grid = so_far.grid }) answers_before answers_now (list_written list) result (ap (λ r. with_grid before (by_fault r)) so_far.written) refl edited in (
-      ap position_of done ∙ so_far.partly.0 ∙ ap (holding (position_of before)) (sym (without_letters-end _ _ place _ all) ∙ so_far.entries),
+      ap position_of done ∙ so_far.partly.0 ∙ ap (holding (position_of before)) (sym (without_letters-end _ _ pos _ all) ∙ so_far.entries),
       subst (DiffersInEntries before) (sym done) so_far.partly.1,
     )
 

@@ -67,7 +67,7 @@ searching-start start = record {
 }
 
 -- undoing a try
-pub searching-back : (start current : Position) (tries : List Try) (tried : Try) (used : ℕ) → IsSound start → IsSearching start (tries ++ tried ∷ []) used current Spent → IsSearching start tries used (taken_back current tried) (Words tried.light (tried.place + 1))
+pub searching-back : (start current : Position) (tries : List Try) (tried : Try) (used : ℕ) → IsSound start → IsSearching start (tries ++ tried ∷ []) used current Spent → IsSearching start tries used (taken_back current tried) (Words tried.light (tried.index + 1))
 searching-back start current tries tried used sound s =
     let last = trail-last tries (unentered_count start) start s.cost s.left current tried s.trail in
     let before_sound = trail-sound tries (unentered_count start) start last.paid (suc s.left) last.before sound last.trail in
@@ -77,7 +77,7 @@ searching-back start current tries tried used sound s =
     rw back (record {
       cost = last.paid;
       left = suc s.left;
-      spent = spent_on s.left last.before tried.light (tried.place + 1);
+      spent = spent_on s.left last.before tried.light (tried.index + 1);
       trail = last.trail;
       at = (failed.0, refl);
       used_is = omega (arith, s.used_is, last.cost_is, failed.1, s.at.1);
@@ -107,24 +107,24 @@ searching-alive start current tries used light from s = split s.left s.at where
   split (suc left) at = at.0.alive
 
 -- the next word makes a valid try
-next_try : (left : ℕ) (current : Position) (light from place : ℕ) (tried : Try) → IsUnderWay left current light from → IsNextWord current light from place → tried.light ≡ light → tried.place ≡ place → AreBlanks current.board (light_at current.board light) tried.blanks → IsTried left current tried × (spent_on left current tried.light tried.place ≡ spent_on left current light from)
-next_try left current light from place tried way next is at blanks = (
+next_try : (left : ℕ) (current : Position) (light from index : ℕ) (tried : Try) → IsUnderWay left current light from → IsNextWord current light from index → tried.light ≡ light → tried.index ≡ index → AreBlanks current.board (light_at current.board light) tried.blanks → IsTried left current tried × (spent_on left current tried.light tried.index ≡ spent_on left current light from)
+next_try left current light from index tried way next is at blanks = (
   record {
-    way = record { alive = way.alive; chosen_is = way.chosen_is ∙ ap Some (sym is); failed = ap (λ l. list_any (found_after left current l) (words_before current l tried.place)) is ∙ ap (λ p. list_any (found_after left current light) (words_before current light p)) at ∙ ap (list_any (found_after left current light)) (next_before current light from place next) ∙ way.failed };
+    way = record { alive = way.alive; chosen_is = way.chosen_is ∙ ap Some (sym is); failed = ap (λ l. list_any (found_after left current l) (words_before current l tried.index)) is ∙ ap (λ p. list_any (found_after left current light) (words_before current light p)) at ∙ ap (list_any (found_after left current light)) (next_before current light from index next) ∙ way.failed };
     within = rw (is, at) next.within;
-    feasible = ap (λ l. is_feasible_word current l (get_or (spellings_at current l) tried.place [])) is ∙ ap (λ p. is_feasible_word current light (get_or (spellings_at current light) p [])) at ∙ next.feasible;
+    feasible = ap (λ l. is_feasible_word current l (get_or (spellings_at current l) tried.index [])) is ∙ ap (λ p. is_feasible_word current light (get_or (spellings_at current light) p [])) at ∙ next.feasible;
     blanks = rw is blanks;
   },
-  ap (λ l. spent_on left current l tried.place) is ∙ ap (λ p. spent_on left current light p) at ∙ ap (due_of (found_after left current light) (due_after left current light)) (next_before current light from place next),
+  ap (λ l. spent_on left current l tried.index) is ∙ ap (λ p. spent_on left current light p) at ∙ ap (due_of (found_after left current light) (due_after left current light)) (next_before current light from index next),
 )
 
-pub searching-place : (start current : Position) (tries : List Try) (used light from place : ℕ) (tried : Try) → IsSound start → IsSearching start tries used current (Words light from) → IsNextWord current light from place → tried.light ≡ light → tried.place ≡ place → AreBlanks current.board (light_at current.board light) tried.blanks
+pub searching-placed : (start current : Position) (tries : List Try) (used light from index : ℕ) (tried : Try) → IsSound start → IsSearching start tries used current (Words light from) → IsNextWord current light from index → tried.light ≡ light → tried.index ≡ index → AreBlanks current.board (light_at current.board light) tried.blanks
     → IsSearching start (tries ++ tried ∷ []) (used + 1) (after_try current tried) (outlook (after_try current tried))
-searching-place start current tries used light from place tried sound s next is at blanks = split s.left s.trail s.at where
+searching-placed start current tries used light from index tried sound s next is at blanks = split s.left s.trail s.at where
   split : (left : ℕ) → Trail (unentered_count start) start tries s.cost left current → IsAt left current s.spent (Words light from) → IsSearching start (tries ++ tried ∷ []) (used + 1) (after_try current tried) (outlook (after_try current tried))
   split zero trail here = absurd here
   split (suc left) trail here =
-      let made = next_try left current light from place tried here.0 next is at blanks in
+      let made = next_try left current light from index tried here.0 next is at blanks in
       let more = trail-more tries (unentered_count start) start s.cost left current tried trail made.0 in
       record {
         cost = s.cost + cost_of left current tried;
@@ -146,12 +146,12 @@ searching-room start current tries used light from s = split s.left s.trail s.at
       omega arith
 
 -- if the limit is reached and a word is left, more placements are due than the limit allows
-pub searching-limit : (start current : Position) (tries : List Try) (used light from place : ℕ) (tried : Try) → IsSound start → IsSearching start tries used current (Words light from) → IsNextWord current light from place → tried.light ≡ light → tried.place ≡ place → AreBlanks current.board (light_at current.board light) tried.blanks → used < due start
-searching-limit start current tries used light from place tried sound s next is at blanks = split s.left s.trail s.at where
+pub searching-limit : (start current : Position) (tries : List Try) (used light from index : ℕ) (tried : Try) → IsSound start → IsSearching start tries used current (Words light from) → IsNextWord current light from index → tried.light ≡ light → tried.index ≡ index → AreBlanks current.board (light_at current.board light) tried.blanks → used < due start
+searching-limit start current tries used light from index tried sound s next is at blanks = split s.left s.trail s.at where
   split : (left : ℕ) → Trail (unentered_count start) start tries s.cost left current → IsAt left current s.spent (Words light from) → used < due start
   split zero trail here = absurd here
   split (suc left) trail here =
-      let made = next_try left current light from place tried here.0 next is at blanks in
+      let made = next_try left current light from index tried here.0 next is at blanks in
       let more = trail-more tries (unentered_count start) start s.cost left current tried trail made.0 in
       let all = trail-due (tries ++ tried ∷ []) (unentered_count start) start (s.cost + cost_of left current tried) left (after_try current tried) sound more in
       omega (arith, s.used_is, here.1, made.1)
@@ -225,8 +225,8 @@ searching-empty start current tries rest popped used next s is items none long =
     subst (λ n. IsSearching start [] used current n) is (subst (λ ts. IsSearching start ts used current next) (nil_from_length tries long) s)
 
 -- the index of the last try is in the dictionary
-pub last-place : (start current : Position) (tries : List Try) (tried : Try) (used : ℕ) → IsSound start → IsSearching start (tries ++ tried ∷ []) used current Spent → tried.place < 1048576
-last-place start current tries tried used sound s =
+pub last-index : (start current : Position) (tries : List Try) (tried : Try) (used : ℕ) → IsSound start → IsSearching start (tries ++ tried ∷ []) used current Spent → tried.index < 1048576
+last-index start current tries tried used sound s =
     let last = trail-last tries (unentered_count start) start s.cost s.left current tried s.trail in
     let before_sound = trail-sound tries (unentered_count start) start last.paid (suc s.left) last.before sound last.trail in
     let few = before_sound.dictionary.few (length (light_at last.before.board tried.light)) in
@@ -239,8 +239,8 @@ last-light start current tries tried used s =
 
 -- the try of this word in this light
 abbrev pub try_at : Position → ℕ → ℕ → Try
-try_at position light place = record { light = light; place = place; blanks = map (λ cell. is_none (entry position.board cell)) (light_at position.board light) }
+try_at position light index = record { light = light; index = index; blanks = map (λ cell. is_none (entry position.board cell)) (light_at position.board light) }
 
-pub due-more : (start current : Position) (tries : List Try) (used light from place : ℕ) → IsSound start → IsSearching start tries used current (Words light from) → IsNextWord current light from place → used < due start
-due-more start current tries used light from place sound s next =
-    searching-limit start current tries used light from place (try_at current light place) sound s next refl refl (λ k below. get_or-map (λ cell. is_none (entry current.board cell)) (light_at current.board light) k 0 false below)
+pub due-more : (start current : Position) (tries : List Try) (used light from index : ℕ) → IsSound start → IsSearching start tries used current (Words light from) → IsNextWord current light from index → used < due start
+due-more start current tries used light from index sound s next =
+    searching-limit start current tries used light from index (try_at current light index) sound s next refl refl (λ k below. get_or-map (λ cell. is_none (entry current.board cell)) (light_at current.board light) k 0 false below)

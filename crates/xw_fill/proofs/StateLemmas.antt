@@ -16,7 +16,7 @@ use Rattle.xw_grid.specs.Grid.{Grid, IsSquare, IsGrid, is_inside, is_open, is_op
 use Rattle.xw_grid.specs.Light.{lights_of, cells_of, step, no_light}
 use Rattle.xw_grid.specs.Edit.{with_entry}
 use Rattle.xw_grid.proofs.LightLemmas.{inside_from_open, cells_of_are_open, length-line, get_or-line}
-use Rattle.xw_feas.specs.Board.{board_of, square_is_open, square_entry, places_of, light_at}
+use Rattle.xw_feas.specs.Board.{board_of, square_is_open, square_entry, indices_of, light_at}
 use Rattle.std.proofs.lemmas.Option.{slice_get-get_or, get_or_from_slice_get}
 use Rattle.xw_feas.specs.State.{State, word_placed, after, with_letters as grid_with_letters, with_grid, light_of, known_count, known_placed}
 use Rattle.xw_feas.proofs.BoardLemmas.{length-lights, light_at-board}
@@ -112,7 +112,7 @@ entry_board grid cell letter is open_cell =
     let was : is_open_square (slice_get grid.squares (index_of grid cell)) ≡ true = ap (λ b. is_open_square (cond b (slice_get grid.squares (index_of grid cell)) None)) (sym inside) ∙ open_cell in
     let opens = opens_set grid.squares (index_of grid cell) letter was in
     let entries : map square_entry (set grid.squares (index_of grid cell) (Open letter)) ≡ set (map square_entry grid.squares) (index_of grid cell) letter = map-set square_entry grid.squares (index_of grid cell) (Open letter) in
-    λ i. record { lights = map (places_of grid) (shape.lights i); open_cells = opens i; entries = entries i }
+    λ i. record { lights = map (indices_of grid) (shape.lights i); open_cells = opens i; entries = entries i }
 
 -- entering the letters of a word in open cells
 letters_board : (grid : Grid) (cells : List Cell) (word : List ℕ) (d : Cell) → All IsLetter word → IsGrid grid → ((k : ℕ) → k < length cells → is_open grid (get_or cells k d) ≡ true)
@@ -194,7 +194,7 @@ place_leads state light word is in_grid letters long =
 -- the length of a light
 pub light_size : (grid : Grid) (light : ℕ) (found : Light) → light < length (lights_of grid) → found ≡ get_or (lights_of grid) light no_light → length (light_at (board_of grid) light) ≡ found.size
 light_size grid light found in_grid is =
-    ap length (light_at-board grid light no_light in_grid ∙ ap (places_of grid) (sym is))
+    ap length (light_at-board grid light no_light in_grid ∙ ap (indices_of grid) (sym is))
     ∙ length-map (cells_of found) (index_of grid)
     ∙ length-line found.name.direction found.start found.size
 
@@ -231,14 +231,14 @@ clearing state cell is open_cell =
     )
 
 -- the cell at an index of a light
-pub light_cell_at : (grid : Grid) (light place : ℕ) (found : Light) (cell : Cell) → light < length (lights_of grid) → found ≡ get_or (lights_of grid) light no_light → place < found.size → cell ≡ step found.name.direction found.start place
-    → (is_open grid cell ≡ true) × (index_of grid cell ≡ get_or (light_at (board_of grid) light) place 0)
-light_cell_at grid light place found cell in_grid found_is within cell_is =
-    let long : place < length (cells_of found) = omega (arith, length-line found.name.direction found.start found.size, within) in (
-      ap (is_open grid) (cell_is ∙ ap (λ l. step l.name.direction l.start place) found_is) ∙ cells_of_are_open grid light no_light in_grid place (subst (λ l. place < l.size) found_is within),
-      sym (ap (λ cs. get_or cs place 0) (light_at-board grid light no_light in_grid ∙ ap (places_of grid) (sym found_is))
-          ∙ get_or-map (index_of grid) (cells_of found) place found.start 0 long
-          ∙ ap (index_of grid) (get_or-line found.name.direction found.start found.size place found.start within ∙ sym cell_is)),
+pub light_cell_at : (grid : Grid) (light pos : ℕ) (found : Light) (cell : Cell) → light < length (lights_of grid) → found ≡ get_or (lights_of grid) light no_light → pos < found.size → cell ≡ step found.name.direction found.start pos
+    → (is_open grid cell ≡ true) × (index_of grid cell ≡ get_or (light_at (board_of grid) light) pos 0)
+light_cell_at grid light pos found cell in_grid found_is within cell_is =
+    let long : pos < length (cells_of found) = omega (arith, length-line found.name.direction found.start found.size, within) in (
+      ap (is_open grid) (cell_is ∙ ap (λ l. step l.name.direction l.start pos) found_is) ∙ cells_of_are_open grid light no_light in_grid pos (subst (λ l. pos < l.size) found_is within),
+      sym (ap (λ cs. get_or cs pos 0) (light_at-board grid light no_light in_grid ∙ ap (indices_of grid) (sym found_is))
+          ∙ get_or-map (index_of grid) (cells_of found) pos found.start 0 long
+          ∙ ap (index_of grid) (get_or-line found.name.direction found.start found.size pos found.start within ∙ sym cell_is)),
     )
 
 -- changing entries keeps the open cells

@@ -90,11 +90,11 @@ way-spent fuel position light from sound way all =
 -- ---- one try
 
 abbrev pub word_of : Position → Try → List ℕ
-word_of position tried = get_or (spellings_at position tried.light) tried.place []
+word_of position tried = get_or (spellings_at position tried.light) tried.index []
 
 pub record IsTried (fuel : ℕ) (position : Position) (tried : Try) : Type 0 where
-  pub way : IsUnderWay fuel position tried.light tried.place
-  pub within : tried.place < length (spellings_at position tried.light)
+  pub way : IsUnderWay fuel position tried.light tried.index
+  pub within : tried.index < length (spellings_at position tried.light)
   pub feasible : is_feasible_word position tried.light (word_of position tried) ≡ true
   pub blanks : AreBlanks position.board (light_at position.board tried.light) tried.blanks
 
@@ -102,12 +102,12 @@ abbrev pub after_try : Position → Try → Position
 after_try position tried = placed position tried.light (word_of position tried)
 
 abbrev pub cost_of : ℕ → Position → Try → ℕ
-cost_of fuel position tried = spent_on fuel position tried.light tried.place + 1
+cost_of fuel position tried = spent_on fuel position tried.light tried.index + 1
 
-tried_parted : (fuel : ℕ) (position : Position) (tried : Try) → IsSound position → IsTried fuel position tried → feasible_words position tried.light ≡ words_before position tried.light tried.place ++ (word_of position tried ∷ words_left position tried.light (tried.place + 1))
+tried_parted : (fuel : ℕ) (position : Position) (tried : Try) → IsSound position → IsTried fuel position tried → feasible_words position tried.light ≡ words_before position tried.light tried.index ++ (word_of position tried ∷ words_left position tried.light (tried.index + 1))
 tried_parted fuel position tried sound t =
     let is = chosen-Some position tried.light t.way.chosen_is in
-    words_parted position tried.light tried.place sound.dictionary is.0 is.1 t.within t.feasible
+    words_parted position tried.light tried.index sound.dictionary is.0 is.1 t.within t.feasible
 
 tried_agrees : (fuel : ℕ) (position : Position) (tried : Try) → IsTried fuel position tried → agrees position.board (light_at position.board tried.light) (word_of position tried) ≡ true
 tried_agrees fuel position tried t =
@@ -122,8 +122,8 @@ tried-found fuel position tried sound t h =
     let found = found_after fuel position tried.light in
     let due = due_after fuel position tried.light in
     let end = end_after fuel position tried.light in
-    let before = words_before position tried.light tried.place in
-    let rest = words_left position tried.light (tried.place + 1) in
+    let before = words_before position tried.light tried.index in
+    let rest = words_left position tried.light (tried.index + 1) in
     let parted = tried_parted fuel position tried sound t in
     let here : due_of found due (word_of position tried ∷ rest) ≡ 1 + due (word_of position tried) + 0 = ap (λ b. 1 + due (word_of position tried) + cond b 0 (due_of found due rest)) h in
     let split = due_of-append found due before (word_of position tried ∷ rest) t.way.failed in
@@ -138,8 +138,8 @@ tried-due : (fuel : ℕ) (position : Position) (tried : Try) → IsSound positio
 tried-due fuel position tried sound t =
     let found = found_after fuel position tried.light in
     let due = due_after fuel position tried.light in
-    let before = words_before position tried.light tried.place in
-    let rest = words_left position tried.light (tried.place + 1) in
+    let before = words_before position tried.light tried.index in
+    let rest = words_left position tried.light (tried.index + 1) in
     let split = due_of-append found due before (word_of position tried ∷ rest) t.way.failed in
     let all : due_in (suc fuel) position ≡ due_of found due (before ++ (word_of position tried ∷ rest)) = due_chosen fuel position tried.light t.way.alive t.way.chosen_is ∙ ap (due_of found due) (tried_parted fuel position tried sound t) in
     let here : due_of found due (word_of position tried ∷ rest) ≡ 1 + due (word_of position tried) + cond (found (word_of position tried)) 0 (due_of found due rest) = refl in
@@ -147,14 +147,14 @@ tried-due fuel position tried sound t =
 
 -- after a failed try, the words from the next index on are left
 pub tried-failed : (fuel : ℕ) (position : Position) (tried : Try) → IsTried fuel position tried → found_in fuel (after_try position tried) ≡ false
-    → IsUnderWay fuel position tried.light (tried.place + 1) × (spent_on fuel position tried.light (tried.place + 1) ≡ cost_of fuel position tried + due_in fuel (after_try position tried))
+    → IsUnderWay fuel position tried.light (tried.index + 1) × (spent_on fuel position tried.light (tried.index + 1) ≡ cost_of fuel position tried + due_in fuel (after_try position tried))
 tried-failed fuel position tried t h =
     let found = found_after fuel position tried.light in
     let due = due_after fuel position tried.light in
-    let before = words_before position tried.light tried.place in
-    let more = words_before-more position tried.light tried.place t.within t.feasible in
+    let before = words_before position tried.light tried.index in
+    let more = words_before-more position tried.light tried.index t.within t.feasible in
     let split = due_of-append found due before (word_of position tried ∷ []) t.way.failed in
-    let all : spent_on fuel position tried.light (tried.place + 1) ≡ due_of found due (before ++ word_of position tried ∷ []) = ap (due_of found due) more in
+    let all : spent_on fuel position tried.light (tried.index + 1) ≡ due_of found due (before ++ word_of position tried ∷ []) = ap (due_of found due) more in
     let here : due_of found due (word_of position tried ∷ []) ≡ 1 + due (word_of position tried) + 0 = ap (λ b. 1 + due (word_of position tried) + cond b 0 0) h in (
       record {
         alive = t.way.alive;

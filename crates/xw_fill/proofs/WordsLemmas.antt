@@ -94,10 +94,10 @@ filter-gap p xs d from (suc k) within h =
 
 -- the first element at `from` or later that passes
 abbrev pub IsFirstFrom : {X : Type 0} → (X → Bool) → List X → X → ℕ → ℕ → Type 0
-IsFirstFrom p xs d from place = (from ≤ place) × (place < length xs) × (p (get_or xs place d) ≡ true) × ((k : ℕ) → from ≤ k → k < place → p (get_or xs k d) ≡ false)
+IsFirstFrom p xs d from index = (from ≤ index) × (index < length xs) × (p (get_or xs index d) ≡ true) × ((k : ℕ) → from ≤ k → k < index → p (get_or xs k d) ≡ false)
 
-pub next_place : {X : Type 0} (p : X → Bool) (xs : List X) (d : X) (from k : ℕ) → position p (drop from xs) ≡ Some k → IsFirstFrom p xs d from (from + k)
-next_place p xs d from k h =
+pub next_index : {X : Type 0} (p : X → Bool) (xs : List X) (d : X) (from k : ℕ) → position p (drop from xs) ≡ Some k → IsFirstFrom p xs d from (from + k)
+next_index p xs d from k h =
     let found = position-Some p (drop from xs) k d h in
     let long : length (drop from xs) ≡ length xs - from = length-drop from xs in (
       omega arith,
@@ -106,8 +106,8 @@ next_place p xs d from k h =
       λ j above below. let back : from + (j - from) ≡ j = omega arith in ap (λ i. p (get_or xs i d)) (sym back) ∙ ap p (sym (get_or-drop from xs (j - from) d)) ∙ found.2 (j - from) (omega arith),
     )
 
-pub no_place : {X : Type 0} (p : X → Bool) (xs : List X) (d : X) (from : ℕ) → position p (drop from xs) ≡ None → (k : ℕ) → from ≤ k → k < length xs → p (get_or xs k d) ≡ false
-no_place p xs d from h k above below =
+pub no_index : {X : Type 0} (p : X → Bool) (xs : List X) (d : X) (from : ℕ) → position p (drop from xs) ≡ None → (k : ℕ) → from ≤ k → k < length xs → p (get_or xs k d) ≡ false
+no_index p xs d from h k above below =
     let back : from + (k - from) ≡ k = omega arith in
     let long : length (drop from xs) ≡ length xs - from = length-drop from xs in
     let over = split (nat_lt (position_or_len p (drop from xs)) (length (drop from xs))) refl h in
@@ -117,11 +117,11 @@ no_place p xs d from h k above below =
       split false e g = ltb-false (position_or_len p (drop from xs)) (length (drop from xs)) e
 
 -- no other word up to the next one is feasible
-pub next_before : (state : Position) (light from place : ℕ) → IsNextWord state light from place → words_before state light place ≡ words_before state light from
-next_before state light from place next =
-    let up : from + (place - from) ≡ place = omega (arith, next.above) in
+pub next_before : (state : Position) (light from index : ℕ) → IsNextWord state light from index → words_before state light index ≡ words_before state light from
+next_before state light from index next =
+    let up : from + (index - from) ≡ index = omega (arith, next.above) in
     ap (words_before state light) (sym up)
-    ∙ filter-gap (is_feasible_word state light) (spellings_at state light) [] from (place - from) (omega (arith, next.above, next.within)) (λ j below. next.first (from + j) (omega arith) (omega (arith, next.above)))
+    ∙ filter-gap (is_feasible_word state light) (spellings_at state light) [] from (index - from) (omega (arith, next.above, next.within)) (λ j below. next.first (from + j) (omega arith) (omega (arith, next.above)))
 
 pub no_more_before : (state : Position) (light from : ℕ) → HasNoMore state light from → words_before state light from ≡ filter (is_feasible_word state light) (spellings_at state light)
 no_more_before state light from none =
@@ -133,9 +133,9 @@ no_more_before state light from none =
 
 -- ---- the next word that an engine answers
 
-listed_at : (o : Option ℕ) (from place : ℕ) → option_map (λ k. Listed (from + k)) o ≡ Some (Listed place) → (k : ℕ) × (o ≡ Some k) × (from + k ≡ place)
-listed_at None from place h = cc
-listed_at (Some k) from place h = (k, refl, let same : Listed (from + k) ≡ Listed place = cc in cc)
+listed_at : (o : Option ℕ) (from index : ℕ) → option_map (λ k. Listed (from + k)) o ≡ Some (Listed index) → (k : ℕ) × (o ≡ Some k) × (from + k ≡ index)
+listed_at None from index h = cc
+listed_at (Some k) from index h = (k, refl, let same : Listed (from + k) ≡ Listed index = cc in cc)
 
 none_listed : (o : Option ℕ) (from : ℕ) → option_map (λ k. Listed (from + k)) o ≡ None → o ≡ None
 none_listed None from h = refl
@@ -160,20 +160,20 @@ active_answer state answers light k exact dictionary in_grid not_entered below =
       | inr fails ↦ and_right word.active _ (same ∙ fails) ∙ sym (ap (is_feasible_word state light) spelled_at ∙ fails)
     ]
 
-next_found_open : (state : Position) (answers : Answers) (light from : ℕ) → is_entered state light ≡ false → next_found state.board state.words answers light from ≡ option_map (λ place. Listed (from + place)) (position (is_active_answer answers light) (drop from (known_words state.words (length (light_at state.board light)))))
+next_found_open : (state : Position) (answers : Answers) (light from : ℕ) → is_entered state light ≡ false → next_found state.board state.words answers light from ≡ option_map (λ index. Listed (from + index)) (position (is_active_answer answers light) (drop from (known_words state.words (length (light_at state.board light)))))
 next_found_open state answers light from not_entered = rw not_entered refl
 
-pub next_listed : (state : Position) (answers : Answers) (light from place : ℕ) → AreAnswers state.board state.words answers → HasDistinctWords state.words → light < light_count state → is_entered state light ≡ false → next_found state.board state.words answers light from ≡ Some (Listed place) → IsNextWord state light from place
-next_listed state answers light from place exact dictionary in_grid not_entered h =
+pub next_listed : (state : Position) (answers : Answers) (light from index : ℕ) → AreAnswers state.board state.words answers → HasDistinctWords state.words → light < light_count state → is_entered state light ≡ false → next_found state.board state.words answers light from ≡ Some (Listed index) → IsNextWord state light from index
+next_listed state answers light from index exact dictionary in_grid not_entered h =
     let known = known_words state.words (length (light_at state.board light)) in
     let test = is_active_answer answers light in
-    let found = listed_at (position test (drop from known)) from place (sym (next_found_open state answers light from not_entered) ∙ h) in
-    let first = subst (IsFirstFrom test known no_entry from) found.2 (next_place test known no_entry from found.0 found.1) in
+    let found = listed_at (position test (drop from known)) from index (sym (next_found_open state answers light from not_entered) ∙ h) in
+    let first = subst (IsFirstFrom test known no_entry from) found.2 (next_index test known no_entry from found.0 found.1) in
     let long = length-map known (λ (w : Entry). w.word) in
     record {
       above = first.0;
       within = omega (arith, long, first.1);
-      feasible = sym (active_answer state answers light place exact dictionary in_grid not_entered first.1) ∙ first.2;
+      feasible = sym (active_answer state answers light index exact dictionary in_grid not_entered first.1) ∙ first.2;
       first = λ k above below. let under : k < length known = omega (arith, first.1) in sym (active_answer state answers light k exact dictionary in_grid not_entered under) ∙ first.3 k above below;
     }
 
@@ -183,24 +183,24 @@ next_none state answers light from exact dictionary in_grid not_entered h = λ k
     let test = is_active_answer answers light in
     let long = length-map known (λ (w : Entry). w.word) in
     let under : k < length known = omega (arith, long, below) in
-    sym (active_answer state answers light k exact dictionary in_grid not_entered under) ∙ no_place test known no_entry from (none_listed (position test (drop from known)) from (sym (next_found_open state answers light from not_entered) ∙ h)) k above under
+    sym (active_answer state answers light k exact dictionary in_grid not_entered under) ∙ no_index test known no_entry from (none_listed (position test (drop from known)) from (sym (next_found_open state answers light from not_entered) ∙ h)) k above under
 
 pub next_not_entered : (state : Position) (answers : Answers) (light from : ℕ) → is_entered state light ≡ false → next_found state.board state.words answers light from ≡ Some Entered → ⊥
 next_not_entered state answers light from not_entered h =
     none_entered (position (is_active_answer answers light) (drop from (known_words state.words (length (light_at state.board light))))) from (sym (next_found_open state answers light from not_entered) ∙ h)
 
 -- one more feasible word before the next index
-pub words_before-more : (state : Position) (light place : ℕ) → place < length (spellings_at state light) → is_feasible_word state light (get_or (spellings_at state light) place []) ≡ true → words_before state light (place + 1) ≡ words_before state light place ++ get_or (spellings_at state light) place [] ∷ []
-words_before-more state light place below passes = filter-pass (is_feasible_word state light) (spellings_at state light) place [] below passes
+pub words_before-more : (state : Position) (light index : ℕ) → index < length (spellings_at state light) → is_feasible_word state light (get_or (spellings_at state light) index []) ≡ true → words_before state light (index + 1) ≡ words_before state light index ++ get_or (spellings_at state light) index [] ∷ []
+words_before-more state light index below passes = filter-pass (is_feasible_word state light) (spellings_at state light) index [] below passes
 
 -- the feasible words split at an index
-pub words_parted : (state : Position) (light place : ℕ) → HasDistinctWords state.words → light < light_count state → is_entered state light ≡ false → place < length (spellings_at state light) → is_feasible_word state light (get_or (spellings_at state light) place []) ≡ true
-    → feasible_words state light ≡ words_before state light place ++ (get_or (spellings_at state light) place [] ∷ words_left state light (place + 1))
-words_parted state light place dictionary in_grid not_entered below passes =
+pub words_parted : (state : Position) (light index : ℕ) → HasDistinctWords state.words → light < light_count state → is_entered state light ≡ false → index < length (spellings_at state light) → is_feasible_word state light (get_or (spellings_at state light) index []) ≡ true
+    → feasible_words state light ≡ words_before state light index ++ (get_or (spellings_at state light) index [] ∷ words_left state light (index + 1))
+words_parted state light index dictionary in_grid not_entered below passes =
     let test = is_feasible_word state light in
     let sp = spellings_at state light in
     feasible_known_words state light dictionary in_grid not_entered
-    ∙ ap (filter test) (sym (take-append-drop (place + 1) sp))
-    ∙ filter-append test (take (place + 1) sp) (drop (place + 1) sp)
-    ∙ ap (λ ws. ws ++ words_left state light (place + 1)) (words_before-more state light place below passes)
-    ∙ append_assoc (words_before state light place) (get_or sp place [] ∷ []) (words_left state light (place + 1))
+    ∙ ap (filter test) (sym (take-append-drop (index + 1) sp))
+    ∙ filter-append test (take (index + 1) sp) (drop (index + 1) sp)
+    ∙ ap (λ ws. ws ++ words_left state light (index + 1)) (words_before-more state light index below passes)
+    ∙ append_assoc (words_before state light index) (get_or sp index [] ∷ []) (words_left state light (index + 1))

@@ -19,16 +19,16 @@ abbrev pub can_be_tried : Position → ℕ → List ℕ → Bool
 can_be_tried state light word = is_feasible_word state light word && is_none (first_blocked (placed state light word))
 
 -- the index of the first such word
-abbrev pub place_to_try : Position → ℕ → Option ℕ
-place_to_try state light = position (can_be_tried state light) (spellings_at state light)
+abbrev pub index_to_try : Position → ℕ → Option ℕ
+index_to_try state light = position (can_be_tried state light) (spellings_at state light)
 
 abbrev pub suggestion_with : LightName → Option ℕ → Suggestion
 suggestion_with name None = NoWord name
-suggestion_with name (Some place) = Try name place
+suggestion_with name (Some index) = Try name index
 
 abbrev pub suggestion_at : State → Option ℕ → Suggestion
 suggestion_at state None = Done
-suggestion_at state (Some light) = suggestion_with (name_at state light) (place_to_try (position_of state) light)
+suggestion_at state (Some light) = suggestion_with (name_at state light) (index_to_try (position_of state) light)
 
 abbrev pub suggestion_unless : State → Option ℕ → Suggestion
 suggestion_unless state None = suggestion_at state (chosen (position_of state))
@@ -40,8 +40,8 @@ abbrev pub suggestion : State → Suggestion
 suggestion state = suggestion_unless state (first_blocked (position_of state))
 
 -- a feasible word, given by its index, of a light that is not wholly entered
-pub record IsTriedAt (state : Position) (light place : ℕ) : Type 0 where
+pub record IsTriedAt (state : Position) (light index : ℕ) : Type 0 where
   pub light_in : light < light_count state
   pub not_entered : is_entered state light ≡ false
-  pub place_in : place < length (spellings_at state light)
-  pub feasible : is_feasible_word state light (slice_index_or (spellings_at state light) place []) ≡ true
+  pub index_in : index < length (spellings_at state light)
+  pub feasible : is_feasible_word state light (slice_index_or (spellings_at state light) index []) ≡ true

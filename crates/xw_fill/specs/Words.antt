@@ -16,11 +16,11 @@ abbrev pub words_left : Position → ℕ → ℕ → List (List ℕ)
 words_left position light n = filter (is_feasible_word position light) (drop n (spellings_at position light))
 
 -- the word at this index is feasible, and it is the first feasible word at `from` or later
-pub record IsNextWord (position : Position) (light from place : ℕ) : Type 0 where
-  pub above : from ≤ place
-  pub within : place < length (spellings_at position light)
-  pub feasible : is_feasible_word position light (slice_index_or (spellings_at position light) place []) ≡ true
-  pub first : (k : ℕ) → from ≤ k → k < place → is_feasible_word position light (slice_index_or (spellings_at position light) k []) ≡ false
+pub record IsNextWord (position : Position) (light from index : ℕ) : Type 0 where
+  pub above : from ≤ index
+  pub within : index < length (spellings_at position light)
+  pub feasible : is_feasible_word position light (slice_index_or (spellings_at position light) index []) ≡ true
+  pub first : (k : ℕ) → from ≤ k → k < index → is_feasible_word position light (slice_index_or (spellings_at position light) k []) ≡ false
 
 -- no word at `from` or later is feasible
 abbrev pub HasNoMore : Position → ℕ → ℕ → Type 0

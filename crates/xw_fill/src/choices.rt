@@ -21,13 +21,13 @@ pub fn fewest_words<E: Feasible>(engine: &E) -> Option<usize>
 
 /// Returns the same number for the state after a feasible word is placed. Allocates no memory, and leaves the engine's
 /// state as it was.
-pub fn fewest_after<E: Feasible>(engine: &mut E, light: usize, place: usize) -> Option<usize>
-    requires tried { IsTriedAt (position_of (E.state engine.old)) light place }
-    ensures fewest { result ≡ fewest_words_after (E.state engine.old) light (slice_index_or (spellings_at (position_of (E.state engine.old)) light) place []) }
+pub fn fewest_after<E: Feasible>(engine: &mut E, light: usize, index: usize) -> Option<usize>
+    requires tried { IsTriedAt (position_of (E.state engine.old)) light index }
+    ensures fewest { result ≡ fewest_words_after (E.state engine.old) light (slice_index_or (spellings_at (position_of (E.state engine.old)) light) index []) }
     ensures unchanged { E.state engine.new ≡ E.state engine.old }
 {
-    let tried = make_try(engine, light, place);
-    place_word(engine, light, place);
+    let tried = make_try(engine, light, index);
+    place_word(engine, light, index);
     let fewest = fewest_words(engine);
     take_back(engine, &tried);
     fewest

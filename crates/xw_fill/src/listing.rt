@@ -48,8 +48,8 @@ fn spell(board: &Board<'_>, cells: &Cells) -> [Letter; LONGEST]
     ensures { take (length cells.now) result ≡ spelled board.now cells.now }
 {
     let mut letters = [Letter::first(); LONGEST];
-    for place in 0..cells.len() {
-        letters[place] = board.letter(cells.at(place));
+    for pos in 0..cells.len() {
+        letters[pos] = board.letter(cells.at(pos));
     }
     letters
 }
@@ -65,7 +65,7 @@ fn is_listed<E: Feasible>(engine: &E, light: usize) -> bool
     let bank = engine.bank();
     match bank.find(&letters[..cells.len()]) {
         None => false,
-        Some(place) => bank.is_active(cells.len(), place),
+        Some(index) => bank.is_active(cells.len(), index),
     }
 }
 

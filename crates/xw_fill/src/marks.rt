@@ -8,8 +8,8 @@ use xw_feas::edit::Refusal;
 use xw_feas::searchable::Searchable;
 use xw_grid::fault::GridFault;
 
-/// The latest marks of an engine: saved states, with room for a fixed number. A mark that finds no room left takes the
-/// place of the oldest one. The first `held` snapshots are the marks, the oldest first; the others are free.
+/// The latest marks of an engine: saved states, with room for a fixed number. A mark that finds no room left replaces the
+/// oldest one. The first `held` snapshots are the marks, the oldest first; the others are free.
 #[derive(Drop)]
 pub struct Marks<E: Searchable> {
     snapshots: Vec<E::Snapshot>,

@@ -65,8 +65,8 @@ fn have_same_letters(board: &Board<'_>, cells: &Cells, others: &Cells) -> bool
     if cells.len() != others.len() {
         return false;
     }
-    for place in 0..cells.len() {
-        if board.letter(cells.at(place)) != board.letter(others.at(place)) {
+    for pos in 0..cells.len() {
+        if board.letter(cells.at(pos)) != board.letter(others.at(pos)) {
             return false;
         }
     }
@@ -195,15 +195,15 @@ pub fn scan_lights<E: Feasible>(engine: &E, since: &[Option<usize>]) -> Scan
 }
 
 /// Returns the index of the first feasible word at `from` or later. The light must not be wholly entered.
-pub fn next_place<E: Feasible>(engine: &E, light: usize, from: usize) -> Option<usize>
+pub fn next_word_index<E: Feasible>(engine: &E, light: usize, from: usize) -> Option<usize>
     requires light { light < light_count (position_of (E.state engine.now)) }
     requires not_entered { is_entered (position_of (E.state engine.now)) light ≡ false }
-    ensures { MatchOption result (HasNoMore (position_of (E.state engine.now)) light from) (λ place. IsNextWord (position_of (E.state engine.now)) light from place) }
+    ensures { MatchOption result (HasNoMore (position_of (E.state engine.now)) light from) (λ index. IsNextWord (position_of (E.state engine.now)) light from index) }
 {
     match engine.next_word_at(light, from) {
         None => None,
         Some(found) => match found {
-            Found::Listed(place) => Some(place),
+            Found::Listed(index) => Some(index),
             Found::Entered => None,
         },
     }

@@ -12,7 +12,7 @@ ghost use Rattle.xw_fill.specs.Filling.{IsFilling, HasFill, UnlessFilled, unless
 use crate::marks::Marks;
 use crate::noted::{has_new_repeat, note_entered};
 use crate::repeats::has_repeat;
-use crate::scan::{Scan, light_count, next_place, scan_lights, unentered_count};
+use crate::scan::{Scan, light_count, next_word_index, scan_lights, unentered_count};
 use crate::tries::{Try, make_try, place_word, take_all_back, take_back};
 use std::alloc::Global;
 use xw_feas::edit::Refusal;
@@ -90,20 +90,20 @@ fn try_word<E: Feasible>(
     since: &mut [Option<usize>],
     placement: usize,
     light: usize,
-    place: usize,
+    index: usize,
 ) -> Next
-    requires tried { IsTriedAt (position_of (E.state engine.old)) light place }
+    requires tried { IsTriedAt (position_of (E.state engine.old)) light index }
     requires alive { is_dead (position_of (E.state engine.old)) ≡ false }
     requires long { length since.old ≡ light_count (position_of (E.state engine.old)) }
     requires entered { AreEntered (position_of (E.state engine.old)) (noted since.old placement) }
     ensures long { length since.new ≡ length since.old }
     ensures stay { StayNoted placement since.old since.new }
     ensures entered { AreEntered (position_of (E.state engine.new)) (noted since.new (suc placement)) }
-    ensures placed { position_of (E.state engine.new) ≡ placed (position_of (E.state engine.old)) light (slice_index_or (spellings_at (position_of (E.state engine.old)) light) place []) }
+    ensures placed { position_of (E.state engine.new) ≡ placed (position_of (E.state engine.old)) light (slice_index_or (spellings_at (position_of (E.state engine.old)) light) index []) }
     ensures entries { DiffersInEntries (E.state engine.old) (E.state engine.new) }
     ensures next { result ≡ outlook (position_of (E.state engine.new)) }
 {
-    place_word(engine, light, place);
+    place_word(engine, light, index);
     note_entered(engine, since, placement);
     match scan_lights(engine, since) {
         Scan::Blocked => Next::Spent,
@@ -163,20 +163,20 @@ pub fn fill<E: Searchable>(alloc: Global, engine: &mut E, limit: u64) -> Result<
                 None => return Ok(Filling::NoFill),
                 Some(tried) => {
                     go_back(engine, &mut marks, &tried);
-                    next = Next::Words(tried.light, tried.place + 1);
+                    next = Next::Words(tried.light, tried.index + 1);
                 }
             },
-            Next::Words(light, from) => match next_place(engine, light, from) {
+            Next::Words(light, from) => match next_word_index(engine, light, from) {
                 None => next = Next::Spent,
-                Some(place) => {
+                Some(index) => {
                     if used == limit {
                         take_all_back(engine, &mut tries);
                         return Ok(Filling::Limit);
                     }
                     used += 1;
                     marks.mark(engine);
-                    let _ = tries.push(make_try(engine, light, place));
-                    next = try_word(engine, since.as_mut_slice(), tries.len(), light, place);
+                    let _ = tries.push(make_try(engine, light, index));
+                    next = try_word(engine, since.as_mut_slice(), tries.len(), light, index);
                 }
             },
         }

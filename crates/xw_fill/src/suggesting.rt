@@ -2,10 +2,10 @@
 ghost use Rattle.std.specs.Prelude.{◌≡◌, ◌<◌, false, is_none, slice_index_or, []};
 ghost use Rattle.xw_fill.specs.Position.{position_of, placed, DiffersInEntries};
 ghost use Rattle.xw_fill.specs.Search.{light_count, is_entered};
-ghost use Rattle.xw_fill.specs.Suggesting.{suggestion, place_to_try, first_blocked, IsTriedAt};
+ghost use Rattle.xw_fill.specs.Suggesting.{suggestion, index_to_try, first_blocked, IsTriedAt};
 ghost use Rattle.xw_fill.specs.Words.{spellings_at};
 
-use crate::scan::{chosen, first_without_words, name_at, next_place};
+use crate::scan::{chosen, first_without_words, name_at, next_word_index};
 use crate::tries::{make_try, place_word, take_back};
 use xw_feas::feasible::Feasible;
 use xw_grid::cell::LightName;
@@ -24,31 +24,31 @@ pub enum Suggestion {
 }
 
 /// Returns whether every light still has a feasible word after a word is placed in a light. Leaves the state as it was.
-fn can_be_placed<E: Feasible>(engine: &mut E, light: usize, place: usize) -> bool
-    requires tried { IsTriedAt (position_of (E.state engine.old)) light place }
-    ensures found { result ≡ is_none (first_blocked (placed (position_of (E.state engine.old)) light (slice_index_or (spellings_at (position_of (E.state engine.old)) light) place []))) }
+fn can_be_placed<E: Feasible>(engine: &mut E, light: usize, index: usize) -> bool
+    requires tried { IsTriedAt (position_of (E.state engine.old)) light index }
+    ensures found { result ≡ is_none (first_blocked (placed (position_of (E.state engine.old)) light (slice_index_or (spellings_at (position_of (E.state engine.old)) light) index []))) }
     ensures unchanged { E.state engine.new ≡ E.state engine.old }
 {
-    let tried = make_try(engine, light, place);
-    place_word(engine, light, place);
+    let tried = make_try(engine, light, index);
+    place_word(engine, light, index);
     let blocked = first_without_words(engine).is_some();
     take_back(engine, &tried);
     !blocked
 }
 
 /// Returns the index of the light's first feasible word after whose placement every light has a feasible word.
-fn find_place<E: Feasible>(engine: &mut E, light: usize) -> Option<usize>
+fn find_index<E: Feasible>(engine: &mut E, light: usize) -> Option<usize>
     requires light { light < light_count (position_of (E.state engine.old)) }
     requires not_entered { is_entered (position_of (E.state engine.old)) light ≡ false }
-    ensures found { result ≡ place_to_try (position_of (E.state engine.old)) light }
+    ensures found { result ≡ index_to_try (position_of (E.state engine.old)) light }
     ensures unchanged { E.state engine.new ≡ E.state engine.old }
 {
     let mut from = 0;
-    while let Some(place) = next_place(engine, light, from) {
-        if can_be_placed(engine, light, place) {
-            return Some(place);
+    while let Some(index) = next_word_index(engine, light, from) {
+        if can_be_placed(engine, light, index) {
+            return Some(index);
         }
-        from = place + 1;
+        from = index + 1;
     }
     None
 }
@@ -66,7 +66,7 @@ pub fn suggest<E: Feasible>(engine: &mut E) -> Suggestion
         None => Suggestion::Done,
         Some(light) => {
             let name = name_at(engine, light);
-            match find_place(engine, light) {
+            match find_index(engine, light) {
                 None => Suggestion::NoWord(name),
                 Some(word) => Suggestion::Try { light: name, word },
             }

@@ -18,7 +18,7 @@ use xw_words::word::LONGEST;
 #[derive(Clone, Copy)]
 pub struct Try {
     pub light: usize,
-    pub place: usize,
+    pub index: usize,
     pub blanks: [bool; LONGEST],
 }
 
@@ -28,36 +28,36 @@ fn blanks_of(board: &Board<'_>, cells: &Cells) -> [bool; LONGEST]
     ensures { AreBlanks board.now cells.now result }
 {
     let mut blanks = [false; LONGEST];
-    for place in 0..cells.len() {
-        blanks[place] = board.entry(cells.at(place)).is_none();
+    for pos in 0..cells.len() {
+        blanks[pos] = board.entry(cells.at(pos)).is_none();
     }
     blanks
 }
 
 /// Returns the record of a placement. Call it before the word is placed.
-pub fn make_try<E: Feasible>(engine: &E, light: usize, place: usize) -> Try
+pub fn make_try<E: Feasible>(engine: &E, light: usize, index: usize) -> Try
     requires { light < light_count (position_of (E.state engine.now)) }
     ensures light { result.light ≡ light }
-    ensures place { result.place ≡ place }
+    ensures index { result.index ≡ index }
     ensures blanks { AreBlanks (board_of (E.state engine.now).grid) (light_at (board_of (E.state engine.now).grid) light) result.blanks }
 {
     let board = board(engine);
     let blanks = blanks_of(&board, &board.light(light));
     Try {
         light,
-        place,
+        index,
         blanks,
     }
 }
 
 /// Places the known word with this index in a light.
-pub fn place_word<E: Feasible>(engine: &mut E, light: usize, place: usize)
+pub fn place_word<E: Feasible>(engine: &mut E, light: usize, index: usize)
     requires light { light < light_count (position_of (E.state engine.old)) }
-    requires place { place < length (spellings_at (position_of (E.state engine.old)) light) }
-    ensures placed { position_of (E.state engine.new) ≡ placed (position_of (E.state engine.old)) light (slice_index_or (spellings_at (position_of (E.state engine.old)) light) place []) }
+    requires index { index < length (spellings_at (position_of (E.state engine.old)) light) }
+    ensures placed { position_of (E.state engine.new) ≡ placed (position_of (E.state engine.old)) light (slice_index_or (spellings_at (position_of (E.state engine.old)) light) index []) }
     ensures entries { DiffersInEntries (E.state engine.old) (E.state engine.new) }
 {
-    engine.place_word_at(light, place);
+    engine.place_word_at(light, index);
 }
 
 /// Undoes a placement: clears the cells that were empty before it, in one edit.
@@ -70,9 +70,9 @@ pub fn take_back<E: Feasible>(engine: &mut E, tried: &Try)
     let nowhere = Cell { row: 0, col: 0 };
     let mut list = [(nowhere, None); LONGEST];
     let mut count = 0;
-    for place in 0..light.size {
-        if tried.blanks[place as usize] {
-            list[count] = (light.cell(place), None);
+    for pos in 0..light.size {
+        if tried.blanks[pos as usize] {
+            list[count] = (light.cell(pos), None);
             count += 1;
         }
     }

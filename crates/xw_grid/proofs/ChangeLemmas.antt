@@ -57,18 +57,18 @@ same_opens grid opens same = ap (λ test. lights_with test grid) (λ i cell. sam
 -- ---- writing an entry
 
 -- writing an open square over another keeps which squares are open
-open_after : (squares : List Square) (at place : ℕ) (letter : Option ℕ) → at < length squares → is_open_square (slice_get squares at) ≡ true → is_open_square (slice_get (set squares at (Open letter)) place) ≡ is_open_square (slice_get squares place)
-open_after squares at place letter below was = elim (cases_lt place (length squares)) [
+open_after : (squares : List Square) (at index : ℕ) (letter : Option ℕ) → at < length squares → is_open_square (slice_get squares at) ≡ true → is_open_square (slice_get (set squares at (Open letter)) index) ≡ is_open_square (slice_get squares index)
+open_after squares at index letter below was = elim (cases_lt index (length squares)) [
   | inl inside ↦
       let long = length-set squares at (Open letter) in
-      ap is_open_square (slice_get-get_or (set squares at (Open letter)) place Block (omega arith))
-      ∙ elim (cases_eq place at) [
+      ap is_open_square (slice_get-get_or (set squares at (Open letter)) index Block (omega arith))
+      ∙ elim (cases_eq index at) [
         | inl e ↦ ap (λ p. is_open_square (Some (get_or (set squares at (Open letter)) p Block))) e ∙ ap (λ s. is_open_square (Some s)) (get_or-set_same squares at (Open letter) Block below) ∙ sym was ∙ ap (λ p. is_open_square (slice_get squares p)) (sym e)
-        | inr apart ↦ ap (λ s. is_open_square (Some s)) (get_or-set_other squares at place (Open letter) Block apart) ∙ sym (ap is_open_square (slice_get-get_or squares place Block inside))
+        | inr apart ↦ ap (λ s. is_open_square (Some s)) (get_or-set_other squares at index (Open letter) Block apart) ∙ sym (ap is_open_square (slice_get-get_or squares index Block inside))
       ]
   | inr past ↦
       let long = length-set squares at (Open letter) in
-      ap is_open_square (slice_get_past (set squares at (Open letter)) place (omega arith)) ∙ sym (ap is_open_square (slice_get_past squares place past))
+      ap is_open_square (slice_get_past (set squares at (Open letter)) index (omega arith)) ∙ sym (ap is_open_square (slice_get_past squares index past))
 ]
 
 entry_opens : (grid : Grid) (cell : Cell) (letter : Option ℕ) → IsGrid grid → is_open grid cell ≡ true → (other : Cell) → is_open (with_entry grid cell letter) other ≡ is_open grid other

@@ -16,8 +16,8 @@ use Rattle.xw_grid.specs.Orbit.{moved_by, moved, images_of, is_between, IsEdgeBe
 use Rattle.xw_grid.proofs.OrbitCellLemmas.{moved_inside}
 use Rattle.xw_grid.proofs.GridLemmas.{and-true, IsInside-is_inside, same_cell_itself, cells_same, same_cell-cell_at, get_set, get_or-map-cells, length-cells, index_of-cell_at, any_of_four}
 
-same_place : (row : ℕ) (c d : ℕ) → c ≡ d → ◌≡◌ {A = Cell} (record { row = row; col = c }) (record { row = row; col = d })
-same_place row c d e = ap (λ col. record { row = row; col = col }) e
+same_col : (row : ℕ) (c d : ℕ) → c ≡ d → ◌≡◌ {A = Cell} (record { row = row; col = c }) (record { row = row; col = d })
+same_col row c d e = ap (λ col. record { row = row; col = col }) e
 
 same_line : (col : ℕ) (r s : ℕ) → r ≡ s → ◌≡◌ {A = Cell} (record { row = r; col = col }) (record { row = s; col = col })
 same_line col r s e = ap (λ row. record { row = row; col = col }) e
@@ -25,13 +25,13 @@ same_line col r s e = ap (λ row. record { row = row; col = col }) e
 -- a symmetry moves neighbours to neighbours
 moved_beyond : (kind : Symmetry) (width height : ℕ) (cell : Cell) (side : Side) → (beyond side cell).row ≤ height → (beyond side cell).col ≤ width → (kind ≡ kinds.Quarter → width ≡ height) → AreNeighbours (moved_by kind width height cell) (moved_by kind width height (beyond side cell))
 moved_beyond kinds.None width height cell side low left turned = (record { cell = cell; side = side }, inl (refl, refl))
-moved_beyond kinds.Half width height cell Right low left turned = (record { cell = moved_by kinds.Half width height (beyond Right cell); side = Right }, inr (refl, same_place _ _ _ (omega arith)))
+moved_beyond kinds.Half width height cell Right low left turned = (record { cell = moved_by kinds.Half width height (beyond Right cell); side = Right }, inr (refl, same_col _ _ _ (omega arith)))
 moved_beyond kinds.Half width height cell Below low left turned = (record { cell = moved_by kinds.Half width height (beyond Below cell); side = Below }, inr (refl, same_line _ _ _ (omega arith)))
 moved_beyond kinds.Quarter width height cell Right low left turned = (record { cell = moved_by kinds.Quarter width height cell; side = Below }, inl (refl, refl))
 moved_beyond kinds.Quarter width height cell Below low left turned =
     let square : width ≡ height = turned refl in
-    (record { cell = moved_by kinds.Quarter width height (beyond Below cell); side = Right }, inr (refl, same_place _ _ _ (omega arith)))
-moved_beyond kinds.LeftRight width height cell Right low left turned = (record { cell = moved_by kinds.LeftRight width height (beyond Right cell); side = Right }, inr (refl, same_place _ _ _ (omega arith)))
+    (record { cell = moved_by kinds.Quarter width height (beyond Below cell); side = Right }, inr (refl, same_col _ _ _ (omega arith)))
+moved_beyond kinds.LeftRight width height cell Right low left turned = (record { cell = moved_by kinds.LeftRight width height (beyond Right cell); side = Right }, inr (refl, same_col _ _ _ (omega arith)))
 moved_beyond kinds.LeftRight width height cell Below low left turned = (record { cell = moved_by kinds.LeftRight width height cell; side = Below }, inl (refl, refl))
 moved_beyond kinds.UpDown width height cell Right low left turned = (record { cell = moved_by kinds.UpDown width height cell; side = Right }, inl (refl, refl))
 moved_beyond kinds.UpDown width height cell Below low left turned = (record { cell = moved_by kinds.UpDown width height (beyond Below cell); side = Below }, inr (refl, same_line _ _ _ (omega arith)))

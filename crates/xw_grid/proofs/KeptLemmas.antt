@@ -50,9 +50,9 @@ taken (e ∷ es) cell other =
     ]
 
 -- inserting a text
-placed : (texts : Texts) (cell other : Cell) (text : List ℕ) → text_at (insert_entry cell_cmp texts cell text) other ≡ cond (same_cell cell other) text (text_at texts other)
-placed [] cell other text = rw (same_swapped cell other) (elim (same_cell cell other) as (λ b. unwrap_or (cond b (Some text) None) [] ≡ cond b text []) [ true ↦ refl | false ↦ refl ])
-placed (e ∷ es) cell other text =
+inserted : (texts : Texts) (cell other : Cell) (text : List ℕ) → text_at (insert_entry cell_cmp texts cell text) other ≡ cond (same_cell cell other) text (text_at texts other)
+inserted [] cell other text = rw (same_swapped cell other) (elim (same_cell cell other) as (λ b. unwrap_or (cond b (Some text) None) [] ≡ cond b text []) [ true ↦ refl | false ↦ refl ])
+inserted (e ∷ es) cell other text =
     elim (cell_cmp cell e.0) as (λ o. cell_cmp cell e.0 ≡ o → text_at (match_ordering o ((cell, text) ∷ e ∷ es) ((e.0, text) ∷ es) (e ∷ insert_entry cell_cmp es cell text)) other ≡ cond (same_cell cell other) text (text_at (e ∷ es) other)) [
       | Less ↦ λ _. rw (same_swapped cell other) (elim (same_cell cell other) as (λ b. unwrap_or (cond b (Some text) (lookup (same_cell other) (e ∷ es))) [] ≡ cond b text (text_at (e ∷ es) other)) [ true ↦ refl | false ↦ refl ])
       | Equal ↦ λ o.
@@ -64,13 +64,13 @@ placed (e ∷ es) cell other text =
           let away : same_cell cell e.0 ≡ false = sym (same_at cell e.0) ∙ ap is_eq o in
           elim (cases_Bool (same_cell other e.0)) [
             | inl here ↦ rw here (sym (ap (λ b. cond b text e.1) (apart_from cell other e.0 away here)))
-            | inr not_here ↦ rw not_here (placed es cell other text)
+            | inr not_here ↦ rw not_here (inserted es cell other text)
           ]
     ] refl
 
 text_kept : (texts : Texts) (cell other : Cell) (text : List ℕ) → text_at (with_text texts cell text) other ≡ cond (same_cell cell other) text (text_at texts other)
 text_kept texts cell other [] = taken texts cell other
-text_kept texts cell other (byte ∷ bytes) = placed texts cell other (byte ∷ bytes)
+text_kept texts cell other (byte ∷ bytes) = inserted texts cell other (byte ∷ bytes)
 
 pub clues_are_kept : CluesAreKept
 clues_are_kept clues cell other Across Across text = text_kept clues.across cell other text
@@ -95,9 +95,9 @@ taken_key (c ∷ cs) cell other =
       ])
     ]
 
-placed_key : (circles : List Cell) (cell other : Cell) → list_any (same_cell other) (insert_key cell_cmp circles cell) ≡ cond (same_cell cell other) true (list_any (same_cell other) circles)
-placed_key [] cell other = rw (same_swapped cell other) (elim (same_cell cell other) as (λ b. (b || false) ≡ cond b true false) [ true ↦ refl | false ↦ refl ])
-placed_key (c ∷ cs) cell other =
+inserted_key : (circles : List Cell) (cell other : Cell) → list_any (same_cell other) (insert_key cell_cmp circles cell) ≡ cond (same_cell cell other) true (list_any (same_cell other) circles)
+inserted_key [] cell other = rw (same_swapped cell other) (elim (same_cell cell other) as (λ b. (b || false) ≡ cond b true false) [ true ↦ refl | false ↦ refl ])
+inserted_key (c ∷ cs) cell other =
     elim (cell_cmp cell c) as (λ o. cell_cmp cell c ≡ o → list_any (same_cell other) (match_ordering o (cell ∷ c ∷ cs) (c ∷ cs) (c ∷ insert_key cell_cmp cs cell)) ≡ cond (same_cell cell other) true (list_any (same_cell other) (c ∷ cs))) [
       | Less ↦ λ _. rw (same_swapped cell other) (elim (same_cell cell other) as (λ b. (b || list_any (same_cell other) (c ∷ cs)) ≡ cond b true (list_any (same_cell other) (c ∷ cs))) [ true ↦ refl | false ↦ refl ])
       | Equal ↦ λ o.
@@ -108,10 +108,10 @@ placed_key (c ∷ cs) cell other =
           let away : same_cell cell c ≡ false = sym (same_at cell c) ∙ ap is_eq o in
           elim (cases_Bool (same_cell other c)) [
             | inl here ↦ rw here (sym (ap (λ b. cond b true true) (apart_from cell other c away here)))
-            | inr not_here ↦ rw not_here (placed_key cs cell other)
+            | inr not_here ↦ rw not_here (inserted_key cs cell other)
           ]
     ] refl
 
 pub circles_are_kept : CirclesAreKept
-circles_are_kept circles cell other true = placed_key circles cell other
+circles_are_kept circles cell other true = inserted_key circles cell other
 circles_are_kept circles cell other false = taken_key circles cell other

@@ -7,7 +7,7 @@ pub mod Examples
 pub mod LightLemmas
 pub mod ClueLemmas
 pub mod OrderLemmas
-pub mod PlaceLemmas
+pub mod LightTableLemmas
 pub mod LookupLemmas
 pub mod CountLemmas
 pub mod KeptLemmas

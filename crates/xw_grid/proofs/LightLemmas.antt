@@ -225,20 +225,20 @@ light_is_open grid direction light is (suc k) d within =
     ap (λ n. is_open grid (get_or light n d)) (sym plus) ∙ ap (is_open grid) (is.follow k d (omega arith)) ∙ here
 
 -- each cell of a listed light is open
-pub cells_of_are_open : (grid : Grid) (place : ℕ) (d : Light) → place < length (lights_of grid) → (k : ℕ) → k < (get_or (lights_of grid) place d).size → is_open grid (step (get_or (lights_of grid) place d).name.direction (get_or (lights_of grid) place d).start k) ≡ true
-cells_of_are_open grid place d within k below =
-    let light = get_or (lights_of grid) place d in
+pub cells_of_are_open : (grid : Grid) (index : ℕ) (d : Light) → index < length (lights_of grid) → (k : ℕ) → k < (get_or (lights_of grid) index d).size → is_open grid (step (get_or (lights_of grid) index d).name.direction (get_or (lights_of grid) index d).start k) ≡ true
+cells_of_are_open grid index d within k below =
+    let light = get_or (lights_of grid) index d in
     let cells = line light.name.direction light.start light.size in
-    let is = (lights_are_lights grid place d within).0 in
+    let is = (lights_are_lights grid index d within).0 in
     let long : length cells ≡ light.size = length-line light.name.direction light.start light.size in
     ap (is_open grid) (sym (get_or-line light.name.direction light.start light.size k light.start below))
     ∙ light_is_open grid light.name.direction cells is k light.start (omega arith)
 
 -- a listed light has at least two cells
-pub size_of_light : (grid : Grid) (place : ℕ) (d : Light) → place < length (lights_of grid) → 2 ≤ (get_or (lights_of grid) place d).size
-size_of_light grid place d within =
-    let light = get_or (lights_of grid) place d in
-    let is = (lights_are_lights grid place d within).0 in
+pub size_of_light : (grid : Grid) (index : ℕ) (d : Light) → index < length (lights_of grid) → 2 ≤ (get_or (lights_of grid) index d).size
+size_of_light grid index d within =
+    let light = get_or (lights_of grid) index d in
+    let is = (lights_are_lights grid index d within).0 in
     omega (arith, is.several, length-line light.name.direction light.start light.size)
 
 -- a light begins where `begins` says so

@@ -14,13 +14,13 @@ use Rattle.xw_grid.specs.declared.cell.Direction.TheVariants.{Across, Down}
 use Rattle.xw_grid.specs.declared.cell.LightName.{LightName}
 use Rattle.xw_grid.specs.declared.lights.Light.{Light}
 use Rattle.xw_grid.specs.Grid.{Grid, same_cell}
-use Rattle.xw_grid.specs.Light.{step, line, cells_of, lights_of, no_light, number_at, same_direction, same_name, name_before, is_on_line, holds, passes, place_named, place_through, have_same_cells, place_with_cells, number_in}
+use Rattle.xw_grid.specs.Light.{step, line, cells_of, lights_of, no_light, number_at, same_direction, same_name, name_before, is_on_line, holds, passes, index_named, index_through, have_same_cells, index_with_cells, number_in}
 use Rattle.xw_grid.specs.LightLaws.{AreApart, AreOrdered, IsBefore}
-use Rattle.xw_grid.specs.Places.{number_of_start, is_such}
+use Rattle.xw_grid.specs.LightTable.{number_of_start, is_such}
 use Rattle.xw_grid.proofs.GridLemmas.{and-true, cells_same, same_cell_itself}
 use Rattle.xw_grid.proofs.LightLemmas.{size_of_light, length-line, get_or-line, step-zero}
 use Rattle.xw_grid.proofs.OrderLemmas.{part, part_small, lights_are_made, lights_are_apart, lights_are_ordered, made_number}
-use Rattle.xw_grid.proofs.PlaceLemmas.{place_is, direction_is}
+use Rattle.xw_grid.proofs.LightTableLemmas.{index_is, direction_is}
 
 -- the facts that searches depend on
 pub record AreGood (lights : List Light) : Type 0 where
@@ -88,36 +88,36 @@ named_parted lights name good i j d le within h =
       | inr not_lt ↦ ap (λ k. name_before (get_or lights k d).name name) (let e : i ≡ j = omega arith in e) ∙ h
     ]
 
-such_at : (test : Light → Bool) (lights : List Light) (place : ℕ) → is_such test (slice_get lights place) ≡ true → (place < length lights) × (test (get_or lights place no_light) ≡ true)
-such_at test [] place h = absurd (false≢true h)
+such_at : (test : Light → Bool) (lights : List Light) (index : ℕ) → is_such test (slice_get lights index) ≡ true → (index < length lights) × (test (get_or lights index no_light) ≡ true)
+such_at test [] index h = absurd (false≢true h)
 such_at test (x ∷ xs) zero h = (omega arith, h)
-such_at test (x ∷ xs) (suc place) h = let rest = such_at test xs place h in (omega (arith, rest.0), rest.1)
+such_at test (x ∷ xs) (suc index) h = let rest = such_at test xs index h in (omega (arith, rest.0), rest.1)
 
-such_is : (test : Light → Bool) (lights : List Light) (place : ℕ) → place < length lights → test (get_or lights place no_light) ≡ true → is_such test (slice_get lights place) ≡ true
-such_is test lights place within h = ap (is_such test) (slice_get-get_or lights place no_light within) ∙ h
+such_is : (test : Light → Bool) (lights : List Light) (index : ℕ) → index < length lights → test (get_or lights index no_light) ≡ true → is_such test (slice_get lights index) ≡ true
+such_is test lights index within h = ap (is_such test) (slice_get-get_or lights index no_light within) ∙ h
 
-module _ (lights : List Light) (name : LightName) (place : ℕ) (good : AreGood lights) (parted : IsPartitionPoint (λ light. name_before light.name name ≡ true) (λ light. name_before light.name name ≡ false) lights place) where
-  low_rank : (k : ℕ) → k < place → rank (get_or lights k no_light).name < rank name
+module _ (lights : List Light) (name : LightName) (index : ℕ) (good : AreGood lights) (parted : IsPartitionPoint (λ light. name_before light.name name ≡ true) (λ light. name_before light.name name ≡ false) lights index) where
+  low_rank : (k : ℕ) → k < index → rank (get_or lights k no_light).name < rank name
   low_rank k lt = ltb-true (rank (get_or lights k no_light).name) (rank name) (sym (name_before-rank (get_or lights k no_light).name name) ∙ parted.0 k no_light (omega arith) lt)
 
-  pub named_there : is_such (λ light. same_name light.name name) (slice_get lights place) ≡ true → Some place ≡ place_named lights name
+  pub named_there : is_such (λ light. same_name light.name name) (slice_get lights index) ≡ true → Some index ≡ index_named lights name
   named_there h =
-      let at = such_at (λ light. same_name light.name name) lights place h in
-      sym (position_is_some (λ light. same_name light.name name) lights place no_light at.0 (λ k lt.
+      let at = such_at (λ light. same_name light.name name) lights index h in
+      sym (position_is_some (λ light. same_name light.name name) lights index no_light at.0 (λ k lt.
       false_from_ne_true (same_name (get_or lights k no_light).name name) (λ e. absurd (omega (arith, low_rank k lt, same_rank (get_or lights k no_light).name name e)))) at.1)
 
-  pub named_nowhere : is_such (λ light. same_name light.name name) (slice_get lights place) ≡ false → None ≡ place_named lights name
+  pub named_nowhere : is_such (λ light. same_name light.name name) (slice_get lights index) ≡ false → None ≡ index_named lights name
   named_nowhere h =
       sym (position_is_none (λ light. same_name light.name name) lights no_light (λ k within.
-      false_from_ne_true (same_name (get_or lights k no_light).name name) (λ e. elim (cases_lt k place) [
+      false_from_ne_true (same_name (get_or lights k no_light).name name) (λ e. elim (cases_lt k index) [
         | inl lt ↦ absurd (omega (arith, low_rank k lt, same_rank (get_or lights k no_light).name name e))
-        | inr le ↦ elim (cases_eq place k) [
-          | inl same ↦ absurd (both_ways (is_such (λ light. same_name light.name name) (slice_get lights place)) h (ap (λ p. is_such (λ light. same_name light.name name) (slice_get lights p)) same ∙ such_is (λ light. same_name light.name name) lights k within e))
+        | inr le ↦ elim (cases_eq index k) [
+          | inl same ↦ absurd (both_ways (is_such (λ light. same_name light.name name) (slice_get lights index)) h (ap (λ p. is_such (λ light. same_name light.name name) (slice_get lights p)) same ∙ such_is (λ light. same_name light.name name) lights k within e))
           | inr apart ↦
-              let lt : place < k = omega (arith, apart) in
-              let below = before_rank _ _ (good.ordered place k no_light lt within) in
-              let here : name_before (get_or lights place no_light).name name ≡ true = name_before-rank (get_or lights place no_light).name name ∙ lt-ltb (rank (get_or lights place no_light).name) (rank name) (omega (arith, below, same_rank (get_or lights k no_light).name name e)) in
-              absurd (both_ways (name_before (get_or lights place no_light).name name) (parted.1 place no_light (omega arith) (omega arith)) here)
+              let lt : index < k = omega (arith, apart) in
+              let below = before_rank _ _ (good.ordered index k no_light lt within) in
+              let here : name_before (get_or lights index no_light).name name ≡ true = name_before-rank (get_or lights index no_light).name name ∙ lt-ltb (rank (get_or lights index no_light).name) (rank name) (omega (arith, below, same_rank (get_or lights k no_light).name name e)) in
+              absurd (both_ways (name_before (get_or lights index no_light).name name) (parted.1 index no_light (omega arith) (omega arith)) here)
         ]
       ])))
 
@@ -140,7 +140,7 @@ number_there lights i cell within = rw (slice_get-get_or lights i no_light withi
 abbrev Begins : List Light → Cell → ℕ → Type 0
 Begins lights cell number = (i : ℕ) × (i < length lights) × ((get_or lights i no_light).start ≡ cell) × ((get_or lights i no_light).name.number ≡ number)
 
-found_start : (lights : List Light) (direction : Direction) (cell : Cell) (place : Option ℕ) (number : ℕ) → place ≡ place_through lights direction cell → number_of_start lights place cell ≡ Some number → Begins lights cell number
+found_start : (lights : List Light) (direction : Direction) (cell : Cell) (index : Option ℕ) (number : ℕ) → index ≡ index_through lights direction cell → number_of_start lights index cell ≡ Some number → Begins lights cell number
 found_start lights direction cell None number is h = cc
 found_start lights direction cell (Some i) number is h =
     let within = (position-Some (passes direction cell) lights i no_light (sym is)).0 in
@@ -149,15 +149,15 @@ found_start lights direction cell (Some i) number is h =
       | false ↦ λ _ e. cc
     ] refl (sym (number_there lights i cell within) ∙ h)
 
-not_start : (lights : List Light) → AreGood lights → (direction : Direction) (cell : Cell) (place : Option ℕ) → place ≡ place_through lights direction cell → number_of_start lights place cell ≡ None →
+not_start : (lights : List Light) → AreGood lights → (direction : Direction) (cell : Cell) (index : Option ℕ) → index ≡ index_through lights direction cell → number_of_start lights index cell ≡ None →
     (i : ℕ) → i < length lights → (get_or lights i no_light).name.direction ≡ direction → same_cell (get_or lights i no_light).start cell ≡ false
-not_start lights good direction cell place is none i within towards =
+not_start lights good direction cell index is none i within towards =
     let light = get_or lights i no_light in
     false_from_ne_true (same_cell light.start cell) (λ h.
     let at : light.start ≡ cell = cells_same light.start cell h in
     let through : passes direction cell light ≡ true = subst (λ d. passes d cell light ≡ true) towards (subst (λ c. passes light.name.direction c light ≡ true) at (passes_start light (omega (arith, good.several i no_light within)))) in
-    let found : place ≡ Some i = is ∙ place_is lights good.apart direction cell i no_light within through in
-    let number : number_of_start lights place cell ≡ Some light.name.number = ap (λ p. number_of_start lights p cell) found ∙ number_there lights i cell within ∙ ap (λ b. cond b (Some light.name.number) None) h in
+    let found : index ≡ Some i = is ∙ index_is lights good.apart direction cell i no_light within through in
+    let number : number_of_start lights index cell ≡ Some light.name.number = ap (λ p. number_of_start lights p cell) found ∙ number_there lights i cell within ∙ ap (λ b. cond b (Some light.name.number) None) h in
     cc)
 
 find_all : (p : Light → Bool) (xs : List Light) (number : ℕ) → ((i : ℕ) → i < length xs → p (get_or xs i no_light) ≡ true → (get_or xs i no_light).name.number ≡ number) → (i : ℕ) → i < length xs → p (get_or xs i no_light) ≡ true → option_map (λ light. light.name.number) (find p xs) ≡ Some number
@@ -179,10 +179,10 @@ begun_number lights good cell number (i, within, at, is) =
     (λ k below h. good.numbered k i no_light below within (cells_same (get_or lights k no_light).start cell h ∙ sym at) ∙ is)
     i within (ap (λ c. same_cell c cell) at ∙ same_cell_itself cell)
 
-pub number_across : (lights : List Light) → AreGood lights → (cell : Cell) (place : Option ℕ) (number : ℕ) → place ≡ place_through lights Across cell → number_of_start lights place cell ≡ Some number → Some number ≡ number_in lights cell
-number_across lights good cell place number is h = sym (begun_number lights good cell number (found_start lights Across cell place number is h))
+pub number_across : (lights : List Light) → AreGood lights → (cell : Cell) (index : Option ℕ) (number : ℕ) → index ≡ index_through lights Across cell → number_of_start lights index cell ≡ Some number → Some number ≡ number_in lights cell
+number_across lights good cell index number is h = sym (begun_number lights good cell number (found_start lights Across cell index number is h))
 
-pub number_down : (lights : List Light) → AreGood lights → (cell : Cell) (across down number : Option ℕ) → across ≡ place_through lights Across cell → number_of_start lights across cell ≡ None → down ≡ place_through lights Down cell → number ≡ number_of_start lights down cell → number ≡ number_in lights cell
+pub number_down : (lights : List Light) → AreGood lights → (cell : Cell) (across down number : Option ℕ) → across ≡ index_through lights Across cell → number_of_start lights across cell ≡ None → down ≡ index_through lights Down cell → number ≡ number_of_start lights down cell → number ≡ number_in lights cell
 number_down lights good cell across down (Some number) is_across none is_down h = sym (begun_number lights good cell number (found_start lights Down cell down number is_down (sym h)))
 number_down lights good cell across down None is_across none is_down h =
     sym (find_none (λ light. same_cell light.start cell) lights (λ i within. by_direction i within (get_or lights i no_light).name.direction refl)) where
@@ -229,36 +229,36 @@ module _ (lights : List Light) (good : AreGood lights) (light : Light) (several 
   abbrev is_like : Light → Bool
   is_like other = same_cell other.start light.start && eqb other.size light.size
 
-  like_through : (k : ℕ) → k < length lights → have_same_cells light (get_or lights k no_light) ≡ true → (place_through lights light.name.direction light.start ≡ Some k) × (is_like (get_or lights k no_light) ≡ true)
+  like_through : (k : ℕ) → k < length lights → have_same_cells light (get_or lights k no_light) ≡ true → (index_through lights light.name.direction light.start ≡ Some k) × (is_like (get_or lights k no_light) ≡ true)
   like_through k within h =
       let other = get_or lights k no_light in
       let same = alike light other several h in
       let through : passes light.name.direction light.start other ≡ true = subst (λ d. passes d light.start other ≡ true) (sym same.0) (subst (λ c. passes other.name.direction c other ≡ true) (sym same.1) (passes_start other (omega (arith, same.2)))) in
-      (place_is lights good.apart light.name.direction light.start k no_light within through, rw (sym same.1, same_cell_itself light.start, eq-eqb other.size light.size (sym same.2)) refl)
+      (index_is lights good.apart light.name.direction light.start k no_light within through, rw (sym same.1, same_cell_itself light.start, eq-eqb other.size light.size (sym same.2)) refl)
 
-  pub like_nowhere : place_through lights light.name.direction light.start ≡ None → None ≡ place_with_cells lights light
+  pub like_nowhere : index_through lights light.name.direction light.start ≡ None → None ≡ index_with_cells lights light
   like_nowhere none =
       sym (position_is_none (have_same_cells light) lights no_light (λ k within.
       false_from_ne_true (have_same_cells light (get_or lights k no_light)) (λ h. let there = (like_through k within h).0 in cc)))
 
-  pub like_other : (place : ℕ) → place_through lights light.name.direction light.start ≡ Some place → is_such is_like (slice_get lights place) ≡ false → None ≡ place_with_cells lights light
-  like_other place is other =
+  pub like_other : (index : ℕ) → index_through lights light.name.direction light.start ≡ Some index → is_such is_like (slice_get lights index) ≡ false → None ≡ index_with_cells lights light
+  like_other index is other =
       sym (position_is_none (have_same_cells light) lights no_light (λ k within.
       false_from_ne_true (have_same_cells light (get_or lights k no_light)) (λ h.
       let there = like_through k within h in
-      let same : k ≡ place = (let e : ◌≡◌ {A = Option ℕ} (Some k) (Some place) = sym there.0 ∙ is in cc) in
-      absurd (both_ways (is_such is_like (slice_get lights place)) other (ap (λ p. is_such is_like (slice_get lights p)) (sym same) ∙ such_is is_like lights k within there.1)))))
+      let same : k ≡ index = (let e : ◌≡◌ {A = Option ℕ} (Some k) (Some index) = sym there.0 ∙ is in cc) in
+      absurd (both_ways (is_such is_like (slice_get lights index)) other (ap (λ p. is_such is_like (slice_get lights p)) (sym same) ∙ such_is is_like lights k within there.1)))))
 
-  pub like_there : (place : ℕ) → place_through lights light.name.direction light.start ≡ Some place → is_such is_like (slice_get lights place) ≡ true → Some place ≡ place_with_cells lights light
-  like_there place is h =
-      let at = such_at is_like lights place h in
-      let found = get_or lights place no_light in
-      let through = position-Some (passes light.name.direction light.start) lights place no_light is in
+  pub like_there : (index : ℕ) → index_through lights light.name.direction light.start ≡ Some index → is_such is_like (slice_get lights index) ≡ true → Some index ≡ index_with_cells lights light
+  like_there index is h =
+      let at = such_at is_like lights index h in
+      let found = get_or lights index no_light in
+      let through = position-Some (passes light.name.direction light.start) lights index no_light is in
       let towards = direction_is found.name.direction light.name.direction (and-true (same_direction found.name.direction light.name.direction) (holds found light.start) through.1).0 in
       let both = and-true (same_cell found.start light.start) (eqb found.size light.size) at.1 in
-      sym (position_is_some (have_same_cells light) lights place no_light at.0 (λ k lt.
+      sym (position_is_some (have_same_cells light) lights index no_light at.0 (λ k lt.
       false_from_ne_true (have_same_cells light (get_or lights k no_light)) (λ e.
       let there = (like_through k (omega (arith, at.0)) e).0 in
-      let same : k ≡ place = (let e : ◌≡◌ {A = Option ℕ} (Some k) (Some place) = sym there ∙ is in cc) in
+      let same : k ≡ index = (let e : ◌≡◌ {A = Option ℕ} (Some k) (Some index) = sym there ∙ is in cc) in
       absurd (omega arith)))
       (have_same light found (sym towards) (sym (cells_same found.start light.start both.0)) (sym (eqb-true found.size light.size both.1))))

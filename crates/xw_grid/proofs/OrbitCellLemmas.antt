@@ -15,32 +15,32 @@ use Rattle.xw_grid.proofs.GridLemmas.{IsInside, IsInside-is_inside, same_cell-ce
 
 -- ---- the least index
 
-nearer_least : (from : ℕ) (passes : ℕ → Bool) (place : ℕ) (found : Option ℕ) → IsLeastFrom from passes found → IsLeastFrom from (λ k. eqb k place || passes k) (nearer from place found)
-nearer_least from passes place (Some other) h =
-    elim (cases_lt place from) [
-      | inl before ↦ rw (lt-ltb place from before) (h.0, or_right (eqb other place) (passes other) h.1, λ k low high. rw (ne_eqb k place (λ e. absurd (omega arith)), h.2 k low high) refl)
-      | inr on ↦ elim (cases_lt other place) [
-        | inl lt ↦ rw (le-ltb place from on, lt-ltb other place lt) (h.0, or_right (eqb other place) (passes other) h.1, λ k low high. rw (ne_eqb k place (λ e. absurd (omega arith)), h.2 k low high) refl)
-        | inr le ↦ rw (le-ltb place from on, le-ltb other place le) (on, ap (λ b. b || passes place) (eq-eqb place place refl), λ k low high. rw (ne_eqb k place (λ e. absurd (omega arith)), h.2 k low (omega arith)) refl)
+nearer_least : (from : ℕ) (passes : ℕ → Bool) (index : ℕ) (found : Option ℕ) → IsLeastFrom from passes found → IsLeastFrom from (λ k. eqb k index || passes k) (nearer from index found)
+nearer_least from passes index (Some other) h =
+    elim (cases_lt index from) [
+      | inl before ↦ rw (lt-ltb index from before) (h.0, or_right (eqb other index) (passes other) h.1, λ k low high. rw (ne_eqb k index (λ e. absurd (omega arith)), h.2 k low high) refl)
+      | inr on ↦ elim (cases_lt other index) [
+        | inl lt ↦ rw (le-ltb index from on, lt-ltb other index lt) (h.0, or_right (eqb other index) (passes other) h.1, λ k low high. rw (ne_eqb k index (λ e. absurd (omega arith)), h.2 k low high) refl)
+        | inr le ↦ rw (le-ltb index from on, le-ltb other index le) (on, ap (λ b. b || passes index) (eq-eqb index index refl), λ k low high. rw (ne_eqb k index (λ e. absurd (omega arith)), h.2 k low (omega arith)) refl)
       ]
     ] where
       or_right : (a b : Bool) → b ≡ true → (a || b) ≡ true
       or_right true b h = refl
       or_right false b h = h
-nearer_least from passes place None h =
-    elim (cases_lt place from) [
-      | inl before ↦ rw (lt-ltb place from before) (λ k low. rw (ne_eqb k place (λ e. absurd (omega arith)), h k low) refl)
-      | inr on ↦ rw (le-ltb place from on) (on, ap (λ b. b || passes place) (eq-eqb place place refl), λ k low high. rw (ne_eqb k place (λ e. absurd (omega arith)), h k low) refl)
+nearer_least from passes index None h =
+    elim (cases_lt index from) [
+      | inl before ↦ rw (lt-ltb index from before) (λ k low. rw (ne_eqb k index (λ e. absurd (omega arith)), h k low) refl)
+      | inr on ↦ rw (le-ltb index from on) (on, ap (λ b. b || passes index) (eq-eqb index index refl), λ k low high. rw (ne_eqb k index (λ e. absurd (omega arith)), h k low) refl)
     ]
 
-least_of_four : (from a b c d : ℕ) → IsLeastFrom from (λ place. list_any (nat_eq place) (a ∷ b ∷ c ∷ d ∷ [])) (nearer from a (nearer from b (nearer from c (nearer from d None))))
+least_of_four : (from a b c d : ℕ) → IsLeastFrom from (λ index. list_any (nat_eq index) (a ∷ b ∷ c ∷ d ∷ [])) (nearer from a (nearer from b (nearer from c (nearer from d None))))
 least_of_four from a b c d =
     nearer_least from (λ k. list_any (nat_eq k) (b ∷ c ∷ d ∷ [])) a (nearer from b (nearer from c (nearer from d None)))
     (nearer_least from (λ k. list_any (nat_eq k) (c ∷ d ∷ [])) b (nearer from c (nearer from d None))
     (nearer_least from (λ k. list_any (nat_eq k) (d ∷ [])) c (nearer from d None)
     (nearer_least from (λ k. false) d None (λ k _. refl))))
 
-pub least_of_list : (from : ℕ) (places : List ℕ) → length places ≡ 4 → IsLeastFrom from (λ place. list_any (nat_eq place) places) (nearer from (get_or places 0 0) (nearer from (get_or places 1 0) (nearer from (get_or places 2 0) (nearer from (get_or places 3 0) None))))
+pub least_of_list : (from : ℕ) (indices : List ℕ) → length indices ≡ 4 → IsLeastFrom from (λ index. list_any (nat_eq index) indices) (nearer from (get_or indices 0 0) (nearer from (get_or indices 1 0) (nearer from (get_or indices 2 0) (nearer from (get_or indices 3 0) None))))
 least_of_list from [] long = absurd (omega arith)
 least_of_list from (a ∷ []) long = absurd (omega arith)
 least_of_list from (a ∷ b ∷ []) long = absurd (omega arith)
@@ -54,38 +54,38 @@ filter_none : (p : ℕ → Bool) (n a : ℕ) → ((i : ℕ) → a ≤ i → p i 
 filter_none p zero a none = refl
 filter_none p (suc n) a none = rw (none a (omega arith)) (filter_none p n (a + 1) (λ i low. none i (omega arith)))
 
-filter_from : (p : ℕ → Bool) (place n a : ℕ) → a ≤ place → place < a + n → p place ≡ true → ((i : ℕ) → a ≤ i → i < place → p i ≡ false) → filter p (range_with_len a n) ≡ place ∷ filter p (range_with_len (place + 1) (a + n - (place + 1)))
-filter_from p place zero a low high here none = absurd (omega arith)
-filter_from p place (suc n) a low high here none =
-    elim (cases_eq a place) [
+filter_from : (p : ℕ → Bool) (index n a : ℕ) → a ≤ index → index < a + n → p index ≡ true → ((i : ℕ) → a ≤ i → i < index → p i ≡ false) → filter p (range_with_len a n) ≡ index ∷ filter p (range_with_len (index + 1) (a + n - (index + 1)))
+filter_from p index zero a low high here none = absurd (omega arith)
+filter_from p index (suc n) a low high here none =
+    elim (cases_eq a index) [
       | inl same ↦
           let passes : p a ≡ true = ap p same ∙ here in
-          let e : n ≡ a + suc n - (place + 1) = omega arith in
-          rw passes (ap (λ k. k ∷ filter p (range_with_len (k + 1) n)) same ∙ ap (λ m. place ∷ filter p (range_with_len (place + 1) m)) e)
+          let e : n ≡ a + suc n - (index + 1) = omega arith in
+          rw passes (ap (λ k. k ∷ filter p (range_with_len (k + 1) n)) same ∙ ap (λ m. index ∷ filter p (range_with_len (index + 1) m)) e)
       | inr apart ↦
-          let e : a + 1 + n - (place + 1) ≡ a + suc n - (place + 1) = omega arith in
-          rw (none a (omega arith) (omega (arith, apart))) (filter_from p place n (a + 1) (omega (arith, apart)) (omega arith) here (λ i l h. none i (omega arith) h) ∙ ap (λ m. place ∷ filter p (range_with_len (place + 1) m)) e)
+          let e : a + 1 + n - (index + 1) ≡ a + suc n - (index + 1) = omega arith in
+          rw (none a (omega arith) (omega (arith, apart))) (filter_from p index n (a + 1) (omega (arith, apart)) (omega arith) here (λ i l h. none i (omega arith) h) ∙ ap (λ m. index ∷ filter p (range_with_len (index + 1) m)) e)
     ]
 
 -- ---- the remaining cells
 
-list_any_bound : (squares : List ℕ) (end place : ℕ) → All (λ square. square < end) squares → list_any (nat_eq place) squares ≡ true → place < end
-list_any_bound [] end place all h = cc
-list_any_bound (s ∷ ss) end place all h =
-    elim (cases_eq place s) [
+list_any_bound : (squares : List ℕ) (end index : ℕ) → All (λ square. square < end) squares → list_any (nat_eq index) squares ≡ true → index < end
+list_any_bound [] end index all h = cc
+list_any_bound (s ∷ ss) end index all h =
+    elim (cases_eq index s) [
       | inl same ↦ let first : s < end = all 0 s (omega arith) in omega arith
-      | inr apart ↦ list_any_bound ss end place (λ k d within. all (suc k) d (omega arith)) (ap (λ b. b || list_any (nat_eq place) ss) (sym (ne_eqb place s apart)) ∙ h)
+      | inr apart ↦ list_any_bound ss end index (λ k d within. all (suc k) d (omega arith)) (ap (λ b. b || list_any (nat_eq index) ss) (sym (ne_eqb index s apart)) ∙ h)
     ]
 
-pub left_first : (width : ℕ) (squares : List ℕ) (from end place : ℕ) → All (λ square. square < end) squares → IsLeastFrom from (λ k. list_any (nat_eq k) squares) (Some place) → cells_among width squares from end ≡ cell_in width place ∷ cells_among width squares (place + 1) end
-left_first width squares from end place all least =
-    let below = list_any_bound squares end place all least.1 in
-    let e : from + (end - from) - (place + 1) ≡ end - (place + 1) = omega (arith, least.0) in
-    ap (map (cell_in width)) (filter_from (λ k. list_any (nat_eq k) squares) place (end - from) from least.0 (omega (arith, least.0)) least.1 least.2)
-    ∙ ap (λ m. cell_in width place ∷ map (cell_in width) (filter (λ k. list_any (nat_eq k) squares) (range_with_len (place + 1) m))) e
+pub left_first : (width : ℕ) (squares : List ℕ) (from end index : ℕ) → All (λ square. square < end) squares → IsLeastFrom from (λ k. list_any (nat_eq k) squares) (Some index) → cells_among width squares from end ≡ cell_in width index ∷ cells_among width squares (index + 1) end
+left_first width squares from end index all least =
+    let below = list_any_bound squares end index all least.1 in
+    let e : from + (end - from) - (index + 1) ≡ end - (index + 1) = omega (arith, least.0) in
+    ap (map (cell_in width)) (filter_from (λ k. list_any (nat_eq k) squares) index (end - from) from least.0 (omega (arith, least.0)) least.1 least.2)
+    ∙ ap (λ m. cell_in width index ∷ map (cell_in width) (filter (λ k. list_any (nat_eq k) squares) (range_with_len (index + 1) m))) e
 
-pub left_small : (squares : List ℕ) (from end place : ℕ) → All (λ square. square < end) squares → IsLeastFrom from (λ k. list_any (nat_eq k) squares) (Some place) → place < end
-left_small squares from end place all least = list_any_bound squares end place all least.1
+pub left_small : (squares : List ℕ) (from end index : ℕ) → All (λ square. square < end) squares → IsLeastFrom from (λ k. list_any (nat_eq k) squares) (Some index) → index < end
+left_small squares from end index all least = list_any_bound squares end index all least.1
 
 pub left_none : (width : ℕ) (squares : List ℕ) (from end : ℕ) → IsLeastFrom from (λ k. list_any (nat_eq k) squares) None → cells_among width squares from end ≡ []
 left_none width squares from end none = ap (map (cell_in width)) (filter_none (λ k. list_any (nat_eq k) squares) (end - from) from none)

@@ -214,9 +214,9 @@ same_start grid a b made_a made_b same k l in_a in_b e =
     ]
 
 -- at most one light in the list has a given start and direction
-pub same_place : (grid : Grid) (i j : ℕ) (d : Light) → i < length (lights_of grid) → j < length (lights_of grid) →
+pub same_index : (grid : Grid) (i j : ℕ) (d : Light) → i < length (lights_of grid) → j < length (lights_of grid) →
     (get_or (lights_of grid) i d).name.direction ≡ (get_or (lights_of grid) j d).name.direction → (get_or (lights_of grid) i d).start ≡ (get_or (lights_of grid) j d).start → i ≡ j
-same_place grid i j d in_i in_j direction start =
+same_index grid i j d in_i in_j direction start =
     let keys : key grid (get_or (lights_of grid) i d) ≡ key grid (get_or (lights_of grid) j d) = ap (λ c. 2 * index_of grid c + part (get_or (lights_of grid) i d).name.direction) start ∙ ap (λ t. 2 * index_of grid (get_or (lights_of grid) j d).start + part t) direction in
     elim (cases_lt i j) [
       | inl lt ↦ absurd (omega (arith, keys, keys_rise grid i j d lt in_j))
@@ -229,7 +229,7 @@ same_place grid i j d in_i in_j direction start =
 pub lights_are_apart : LightsAreApart
 lights_are_apart grid i j d k l in_i in_j direction in_k in_l e =
     let made = lights_are_made grid in
-    same_place grid i j d in_i in_j direction (same_start grid (get_or (lights_of grid) i d) (get_or (lights_of grid) j d) (made i d in_i) (made j d in_j) direction k l in_k in_l e)
+    same_index grid i j d in_i in_j direction (same_start grid (get_or (lights_of grid) i d) (get_or (lights_of grid) j d) (made i d in_i) (made j d in_j) direction k l in_k in_l e)
 
 -- two lights that cross meet in one row and one column
 crossing : (a b : Cell) (k l m n : ℕ) → step Across a k ≡ step Down b l → step Across a m ≡ step Down b n → step Across a k ≡ step Across a m

@@ -59,11 +59,11 @@ index_of grid cell = (cell.row - 1) * grid.width + (cell.col - 1)
 
 -- the cell at an index in reading order, in a grid of this width
 abbrev pub cell_in : ℕ → ℕ → Cell
-cell_in width place = record { row = place / width + 1; col = place % width + 1 }
+cell_in width index = record { row = index / width + 1; col = index % width + 1 }
 
 -- the cell of a grid at an index in reading order
 abbrev pub cell_at : Grid → ℕ → Cell
-cell_at grid place = cell_in grid.width place
+cell_at grid index = cell_in grid.width index
 
 -- all cells in reading order
 abbrev pub cells : Grid → List Cell

@@ -6,6 +6,6 @@ pub mod Light
 pub mod Clue
 pub mod ClueView
 pub mod LightLaws
-pub mod Places
+pub mod LightTable
 pub mod EditLaws
 pub mod Puzzle

@@ -117,12 +117,12 @@ abbrev pub name_before : LightName → LightName → Bool
 name_before a b = nat_lt a.number b.number || ((a.number == b.number) && (same_direction a.direction Across && same_direction b.direction Down))
 
 -- the index of the light with a name
-abbrev pub place_named : List Light → LightName → Option ℕ
-place_named lights name = position (λ light. same_name light.name name) lights
+abbrev pub index_named : List Light → LightName → Option ℕ
+index_named lights name = position (λ light. same_name light.name name) lights
 
 -- whether a number is one of `count` consecutive numbers from `first` on
 abbrev pub is_within : ℕ → ℕ → ℕ → Bool
-is_within first count place = nat_le first place && nat_lt (place - first) count
+is_within first count number = nat_le first number && nat_lt (number - first) count
 
 -- whether a cell is one of `count` consecutive cells from `first` on
 abbrev pub is_on_line : Direction → Cell → ℕ → Cell → Bool
@@ -138,16 +138,16 @@ abbrev pub passes : Direction → Cell → Light → Bool
 passes direction cell light = same_direction light.name.direction direction && holds light cell
 
 -- the index of the light in a direction through a cell
-abbrev pub place_through : List Light → Direction → Cell → Option ℕ
-place_through lights direction cell = position (passes direction cell) lights
+abbrev pub index_through : List Light → Direction → Cell → Option ℕ
+index_through lights direction cell = position (passes direction cell) lights
 
 -- whether two lights have the same cells
 abbrev pub have_same_cells : Light → Light → Bool
 have_same_cells a b = pointwise same_cell (cells_of a) (cells_of b)
 
 -- the index of the light that has the same cells as a given one
-abbrev pub place_with_cells : List Light → Light → Option ℕ
-place_with_cells lights light = position (have_same_cells light) lights
+abbrev pub index_with_cells : List Light → Light → Option ℕ
+index_with_cells lights light = position (have_same_cells light) lights
 
 -- the number in a cell: that of a light that begins there
 abbrev pub number_in : List Light → Cell → Option ℕ

@@ -40,16 +40,16 @@ orbit_of grid cell = if is_inside grid cell then filter (is_in_orbit grid cell) 
 
 -- the cells whose index is in a list and from `from` up to `end`, in reading order
 abbrev pub cells_among : ℕ → List ℕ → ℕ → ℕ → List Cell
-cells_among width squares from end = map (cell_in width) (filter (λ place. list_any (nat_eq place) squares) (range_with_len from (end - from)))
+cells_among width squares from end = map (cell_in width) (filter (λ index. list_any (nat_eq index) squares) (range_with_len from (end - from)))
 
 -- the lesser of two numbers, where one below `from` does not count
 abbrev pub nearer : ℕ → ℕ → Option ℕ → Option ℕ
-nearer from place (Some other) = if nat_lt place from || nat_lt other place then Some other else Some place
-nearer from place None = if nat_lt place from then None else Some place
+nearer from index (Some other) = if nat_lt index from || nat_lt other index then Some other else Some index
+nearer from index None = if nat_lt index from then None else Some index
 
 -- the answer is the least number from `from` on that passes a test
 abbrev pub IsLeastFrom : ℕ → (ℕ → Bool) → Option ℕ → Type 0
-IsLeastFrom from passes (Some place) = (from ≤ place) × (passes place ≡ true) × ((k : ℕ) → from ≤ k → k < place → passes k ≡ false)
+IsLeastFrom from passes (Some index) = (from ≤ index) × (passes index ≡ true) × ((k : ℕ) → from ≤ k → k < index → passes k ≡ false)
 IsLeastFrom from passes None = (k : ℕ) → from ≤ k → passes k ≡ false
 
 -- whether an edge is the one between a pair of cells

@@ -5,7 +5,7 @@ mod entries;
 mod symmetry;
 
 ghost use Rattle.std.specs.Prelude.{◌≡◌, ◌≢◌, ◌<◌, ◌≤◌, ◌*◌, true, length, All, Some, None, Ok, Err, IfOk, IfErr, IfSome, IsOk, IsOkUnless, if◌then◌else◌};
-ghost use Rattle.xw_grid.specs.Grid.{IsGrid, IsSquare, cell_at as cell_in_place, is_inside, index_of};
+ghost use Rattle.xw_grid.specs.Grid.{IsGrid, IsSquare, cell_at as cell_at_index, is_inside, index_of};
 ghost use Rattle.xw_grid.specs.Edit.{new_grid, grid_of};
 
 use crate::cell::{Cell, Square, Symmetry};
@@ -200,7 +200,7 @@ impl Grid {
     #[tactic(auto, using(crate::proofs::GridLemmas::size_steps))]
     pub fn cell_at(&self, index: usize) -> Cell
         requires { index < self.now.width * self.now.height }
-        ensures cell { result ≡ cell_in_place self.now index }
+        ensures cell { result ≡ cell_at_index self.now index }
         ensures inside { is_inside self.now result ≡ true }
     {
         let width = self.width as usize;

@@ -7,9 +7,9 @@ pub mod clues;
 pub mod fault;
 pub mod grid;
 pub mod laws;
+mod light_table;
 pub mod lights;
 pub mod orbit;
-mod places;
 pub mod puzzle;
 
 pub use cell::{Cell, Direction, Edge, LightName, Side, Square, Symmetry};

@@ -1,15 +1,15 @@
 //! The lights of a grid and their numbers.
 ghost use Rattle.std.specs.Prelude.{◌≡◌, ℕ, ◌+◌, ◌++◌, ◌<◌, ◌≤◌, ◌^◌, true, List, Some, None, slice_get, IfOk, OnOk, IsOkUnless, length, if◌then◌else◌, ◌&&◌, ◌==◌};
 ghost use Rattle.xw_grid.specs.Grid.{is_inside, same_cell};
-ghost use Rattle.xw_grid.specs.Light.{is_joined as is_joined_to_next, begins as begins_light, previous as cell_before, begins_some as begins_some_light, step as cell_after, run_from, light_from, lights_at, lights_of, number_at, same_name, place_named, place_through, place_with_cells, number_in, same_name, name_before};
+ghost use Rattle.xw_grid.specs.Light.{is_joined as is_joined_to_next, begins as begins_light, previous as cell_before, begins_some as begins_some_light, step as cell_after, run_from, light_from, lights_at, lights_of, number_at, same_name, index_named, index_through, index_with_cells, number_in, same_name, name_before};
 ghost use Rattle.xw_grid.specs.LightLaws.{LightsAreLights, LightsAreAll, LightsBegin, LightsAreOrdered, LightsAreApart, LightsAreFew, LightsMeetOnce};
-ghost use Rattle.xw_grid.specs.Places.{ArePlaces, number_of_start, is_such};
+ghost use Rattle.xw_grid.specs.LightTable.{IsLightTable, number_of_start, is_such};
 ghost use Rattle.std.specs.Option.{option_and_then};
 
 use crate::cell::{Cell, Direction, LightName, Side};
 use crate::fault::GridFault;
 use crate::grid::Grid;
-use crate::places;
+use crate::light_table;
 use std::alloc::{AllocError, Global};
 use std::marker::Model;
 
@@ -45,7 +45,7 @@ pub struct Lights {
 impl Model for Lights {
     ghost use Rattle.std.specs.Prelude.{List};
     ghost use Rattle.xw_grid.specs.declared.lights.Light.{Light as LightOfGrid};
-    ghost use Rattle.xw_grid.specs.Places.{AreKept};
+    ghost use Rattle.xw_grid.specs.LightTable.{AreKept};
 
     ghost Value = { List LightOfGrid };
 
@@ -61,8 +61,8 @@ impl Lights {
         ensures memory { IsOkUnless result GridFault.Memory }
     {
         let lights = list(alloc, grid)?;
-        let across = places::through(alloc, grid, &lights, Direction::Across)?;
-        let down = places::through(alloc, grid, &lights, Direction::Down)?;
+        let across = light_table::through(alloc, grid, &lights, Direction::Across)?;
+        let down = light_table::through(alloc, grid, &lights, Direction::Down)?;
         Ok(kept(grid, lights, across, down))
     }
 
@@ -83,23 +83,23 @@ impl Lights {
 
     /// The index of a light by its name: a binary search.
     pub fn index(&self, name: LightName) -> Option<usize>
-        ensures { result ≡ place_named self.now name }
+        ensures { result ≡ index_named self.now name }
     {
-        let place = self
+        let index = self
             .lights
             .partition_point(|light| is_before(light.name, name));
-        if self.is_at(place, name) {
-            Some(place)
+        if self.is_at(index, name) {
+            Some(index)
         } else {
             None
         }
     }
 
     /// Whether the light at an index has this name.
-    fn is_at(&self, place: usize, name: LightName) -> bool
-        ensures { result ≡ is_such (λ light. same_name light.name name) (slice_get self.now place) }
+    fn is_at(&self, index: usize, name: LightName) -> bool
+        ensures { result ≡ is_such (λ light. same_name light.name name) (slice_get self.now index) }
     {
-        match self.lights.get(place) {
+        match self.lights.get(index) {
             Some(light) => is_named(light, name),
             None => false,
         }
@@ -117,10 +117,10 @@ impl Lights {
     }
 
     /// The number of the light at an index, if it begins at the cell.
-    fn number_by(&self, place: Option<usize>, cell: Cell) -> Option<u16>
-        ensures { result ≡ number_of_start self.now place cell }
+    fn number_by(&self, index: Option<usize>, cell: Cell) -> Option<u16>
+        ensures { result ≡ number_of_start self.now index cell }
     {
-        let light = self.get(place?)?;
+        let light = self.get(index?)?;
         if starts_at(&light, cell) {
             Some(light.name.number)
         } else {
@@ -130,22 +130,22 @@ impl Lights {
 
     /// The index of the across light through a cell.
     pub fn across_at(&self, cell: Cell) -> Option<usize>
-        ensures { result ≡ place_through self.now Direction.Across cell }
+        ensures { result ≡ index_through self.now Direction.Across cell }
     {
-        places::at(self.width, self.height, &self.across, cell)
+        light_table::at(self.width, self.height, &self.across, cell)
     }
 
     /// The index of the down light through a cell.
     pub fn down_at(&self, cell: Cell) -> Option<usize>
-        ensures { result ≡ place_through self.now Direction.Down cell }
+        ensures { result ≡ index_through self.now Direction.Down cell }
     {
-        places::at(self.width, self.height, &self.down, cell)
+        light_table::at(self.width, self.height, &self.down, cell)
     }
 
     /// The index, in another grid's lights, of the light with the same cells as the light at
     /// `index` here.
     pub fn same(&self, index: usize, other: &Lights) -> Option<usize>
-        ensures { result ≡ option_and_then (place_with_cells other.now) (slice_get self.now index) }
+        ensures { result ≡ option_and_then (index_with_cells other.now) (slice_get self.now index) }
     {
         let _ = &self.lights;
         let light = self.get(index)?;
@@ -155,12 +155,12 @@ impl Lights {
     /// The index of the light with the same cells as `light`.
     fn same_as(&self, light: &Light) -> Option<usize>
         requires { 2 ≤ light.now.size }
-        ensures { result ≡ place_with_cells self.now light.now }
+        ensures { result ≡ index_with_cells self.now light.now }
     {
         let _ = &self.lights;
-        let place = self.through(light.name.direction, light.start)?;
-        if self.is_like(place, light) {
-            Some(place)
+        let index = self.through(light.name.direction, light.start)?;
+        if self.is_like(index, light) {
+            Some(index)
         } else {
             None
         }
@@ -168,7 +168,7 @@ impl Lights {
 
     /// The index of the light in a direction through a cell.
     fn through(&self, direction: Direction, cell: Cell) -> Option<usize>
-        ensures { result ≡ place_through self.now direction cell }
+        ensures { result ≡ index_through self.now direction cell }
     {
         match direction {
             Direction::Across => self.across_at(cell),
@@ -177,10 +177,10 @@ impl Lights {
     }
 
     /// Whether the light at an index has the same first cell and size as `light`.
-    fn is_like(&self, place: usize, light: &Light) -> bool
-        ensures { result ≡ is_such (λ other. same_cell other.start light.now.start && (other.size == light.now.size)) (slice_get self.now place) }
+    fn is_like(&self, index: usize, light: &Light) -> bool
+        ensures { result ≡ is_such (λ other. same_cell other.start light.now.start && (other.size == light.now.size)) (slice_get self.now index) }
     {
-        match self.lights.get(place) {
+        match self.lights.get(index) {
             Some(other) => starts_at(other, light.start) && other.size == light.size,
             None => false,
         }
@@ -208,8 +208,8 @@ fn kept(
     down: Vec<Option<usize>>,
 ) -> Lights
     requires lights { lights.items ≡ lights_of grid.now }
-    requires across { ArePlaces grid.now lights.items Direction.Across across.items }
-    requires down { ArePlaces grid.now lights.items Direction.Down down.items }
+    requires across { IsLightTable grid.now lights.items Direction.Across across.items }
+    requires down { IsLightTable grid.now lights.items Direction.Down down.items }
     ensures { result ≡ lights.items }
 {
     grid.well_formed();

@@ -3,7 +3,7 @@ ghost use Rattle.std.specs.Prelude.{◌≡◌, ℕ, ◌<◌, ◌≤◌, ◌||◌
 ghost use Rattle.std.specs.Iterator.{YieldsFirst, item_count};
 ghost use Rattle.std.specs.List.{list_any};
 ghost use Rattle.xw_grid.specs.Grid.{cell_in};
-ghost use Rattle.xw_grid.specs.Orbit.{cells_among, IsLeastFrom, nearer as nearer_place, AreNeighbours, IsEdgeBetween, OrbitIsLeast, EdgeOrbitIsLeast, OrbitsAreSmall, EdgeOrbitsAreSmall};
+ghost use Rattle.xw_grid.specs.Orbit.{cells_among, IsLeastFrom, nearer as nearer_index, AreNeighbours, IsEdgeBetween, OrbitIsLeast, EdgeOrbitIsLeast, OrbitsAreSmall, EdgeOrbitsAreSmall};
 
 use crate::cell::{Cell, Edge, Side};
 use std::marker::Model;
@@ -82,33 +82,33 @@ impl Iterator for Orbit {
 
 /// The least of four numbers that is at least `from`.
 fn least_from(squares: &[usize; 4], from: usize) -> Option<usize>
-    ensures { IsLeastFrom from (λ place. list_any (nat_eq place) squares.now) result }
+    ensures { IsLeastFrom from (λ index. list_any (nat_eq index) squares.now) result }
 {
     let [first, second, third, fourth] = *squares;
     let last = nearer(from, fourth, None);
     nearer(from, first, nearer(from, second, nearer(from, third, last)))
 }
 
-/// The lesser of `place` and `found`; it ignores `place` if that is below `from`.
-fn nearer(from: usize, place: usize, found: Option<usize>) -> Option<usize>
-    ensures { result ≡ nearer_place from place found }
+/// The lesser of `index` and `found`; it ignores `index` if that is below `from`.
+fn nearer(from: usize, index: usize, found: Option<usize>) -> Option<usize>
+    ensures { result ≡ nearer_index from index found }
 {
     match found {
-        Some(other) if place < from || other < place => Some(other),
-        None if place < from => None,
-        _ => Some(place),
+        Some(other) if index < from || other < index => Some(other),
+        None if index < from => None,
+        _ => Some(index),
     }
 }
 
-fn cell_of(width: u32, place: usize) -> Cell
+fn cell_of(width: u32, index: usize) -> Cell
     requires wide { 1 ≤ width }
-    requires small { place < 65025 }
-    ensures { result ≡ cell_in width place }
+    requires small { index < 65025 }
+    ensures { result ≡ cell_in width index }
 {
     let width = width as usize;
     Cell {
-        row: (place / width) as u32 + 1,
-        col: (place % width) as u32 + 1,
+        row: (index / width) as u32 + 1,
+        col: (index % width) as u32 + 1,
     }
 }
 

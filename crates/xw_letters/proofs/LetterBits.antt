@@ -13,19 +13,19 @@ use Rattle.xw_letters.specs.Letter.{alphabet, is_capital}
 use Rattle.xw_letters.specs.LetterSet.{has, letters_in}
 use Rattle.xw_bits.specs.Bits.{has_bit}
 use Rattle.xw_bits.proofs.BitLemmas.{ones_of_word}
-use Rattle.xw_bits.proofs.PlaceLemmas.{has_bit-shifted}
+use Rattle.xw_bits.proofs.SetBitLemmas.{has_bit-shifted}
 use Rattle.xw_letters.proofs.LetterSetLemmas.{letter_is_capital, length-alphabet, count-more}
 
-has_at : (set place : ℕ) → place < 26 → has set (65 + place) ≡ has_bit set place
+has_at : (set index : ℕ) → index < 26 → has set (65 + index) ≡ has_bit set index
 unfolding has_bit
-has_at set place within =
-    let is : is_capital (65 + place) ≡ true = letter_is_capital (65 + place) (omega arith, omega arith) in
-    let back : 65 + place - 65 ≡ place = omega arith in
+has_at set index within =
+    let is : is_capital (65 + index) ≡ true = letter_is_capital (65 + index) (omega arith, omega arith) in
+    let back : 65 + index - 65 ≡ index = omega arith in
     rw is (ap (λ n. eqb (bit_at set n) 1) back)
 
-has_past : (set place : ℕ) → 26 ≤ place → has set (65 + place) ≡ false
-has_past set place past =
-    let none : is_capital (65 + place) ≡ false = grind (arith, nat_tests) in
+has_past : (set index : ℕ) → 26 ≤ index → has set (65 + index) ≡ false
+has_past set index past =
+    let none : is_capital (65 + index) ≡ false = grind (arith, nat_tests) in
     rw none refl
 
 -- ---- the letters of a shifted set
@@ -47,9 +47,9 @@ module _ (set from : ℕ) where
     fits : set / 2 ^ from < 2 ^ 32
     fits = omega (arith, shr_le set from)
 
-    pub first_place : (from + trailing_zeros w32 (set / 2 ^ from) < 26) × (has set (65 + (from + trailing_zeros w32 (set / 2 ^ from))) ≡ true)
+    pub first_index : (from + trailing_zeros w32 (set / 2 ^ from) < 26) × (has set (65 + (from + trailing_zeros w32 (set / 2 ^ from))) ≡ true)
     unfolding has_bit
-    first_place =
+    first_index =
         let low = trailing_zeros w32 (set / 2 ^ from) in
         let found = bit_at-trailing_zeros w32 (set / 2 ^ from) some fits in
         let on : has_bit (set / 2 ^ from) low ≡ true = eq-eqb (bit_at (set / 2 ^ from) low) 1 found.1 in
@@ -65,7 +65,7 @@ module _ (set from : ℕ) where
     unfolding has_bit
     none_before other low high =
         let found = bit_at-trailing_zeros w32 (set / 2 ^ from) some fits in
-        shifted other low (omega (arith, first_place.0)) ∙ ap (λ x. eqb x 1) (found.2 (other - from) (omega arith))
+        shifted other low (omega (arith, first_index.0)) ∙ ap (λ x. eqb x 1) (found.2 (other - from) (omega arith))
 
 -- the number of the first letters of the alphabet that are in a set
 counted : (set k : ℕ) → k ≤ 26 → length (filter (has set) (take k alphabet)) ≡ count_by (λ b. b) (map (λ i. has_bit set i) (range_with_len 0 k))

@@ -184,9 +184,9 @@ pub length-alphabet : length alphabet ≡ 26
 unfolding alphabet
 length-alphabet = refl
 
-pub letter_at_place : (k : ℕ) → k < 26 → get_or alphabet k 0 ≡ 65 + k
+pub letter_at_index : (k : ℕ) → k < 26 → get_or alphabet k 0 ≡ 65 + k
 unfolding alphabet
-letter_at_place k within = get_or-map-range_with_len (λ n. 65 + n) 0 26 k k 0 within (omega arith)
+letter_at_index k within = get_or-map-range_with_len (λ n. 65 + n) 0 26 k k 0 within (omega arith)
 
 one_or_none : (b : Bool) (l : ℕ) → length (cond b (l ∷ []) []) ≡ cond b 1 0
 one_or_none true l = refl
@@ -198,7 +198,7 @@ count-more set k within =
     ap length (filter_more (has set) alphabet k 0 (omega (arith, length-alphabet)))
     ∙ length-append (filter (has set) (take k alphabet)) (cond (has set (get_or alphabet k 0)) (get_or alphabet k 0 ∷ []) [])
     ∙ ap (λ n. length (filter (has set) (take k alphabet)) + n)
-    (ap (λ l. length (cond (has set l) (l ∷ []) [])) (letter_at_place k within)
+    (ap (λ l. length (cond (has set l) (l ∷ []) [])) (letter_at_index k within)
     ∙ one_or_none (has set (65 + k)) (65 + k))
 
 -- every capital is in the alphabet
@@ -206,7 +206,7 @@ one_of_alphabet : (letter : ℕ) → is_capital letter ≡ true → list_any (λ
 one_of_alphabet letter is =
     let at = capital_is_letter letter is in
     let low : letter - 65 < length alphabet = omega (arith, length-alphabet, at.0, at.1) in
-    let same : get_or alphabet (letter - 65) 0 ≡ letter = letter_at_place (letter - 65) (omega (arith, at.1)) ∙ (let h : 65 + (letter - 65) ≡ letter = omega (arith, at.0) in h) in
+    let same : get_or alphabet (letter - 65) 0 ≡ letter = letter_at_index (letter - 65) (omega (arith, at.1)) ∙ (let h : 65 + (letter - 65) ≡ letter = omega (arith, at.0) in h) in
     list_any_at (λ other. eqb letter other) alphabet (letter - 65) 0 low (eq-eqb letter (get_or alphabet (letter - 65) 0) (sym same))
 
 -- a letter is among the letters of a set if and only if the set contains it
@@ -244,18 +244,18 @@ is_same-letters a b small_a small_b =
     ]
 
 -- the next letter of the alphabet is yielded if the set contains it, and skipped otherwise
-pub letters_from-next : (set place : ℕ) → place < 26 → has set (65 + place) ≡ true → letters_from set place ≡ (65 + place) ∷ letters_from set (place + 1)
-letters_from-next set place within there =
-    let at = letter_at_place place (omega arith) in
-    ap (filter (has set)) (drop_more alphabet place 0 (omega (arith, length-alphabet))) ∙ rw (at, there) refl
+pub letters_from-next : (set index : ℕ) → index < 26 → has set (65 + index) ≡ true → letters_from set index ≡ (65 + index) ∷ letters_from set (index + 1)
+letters_from-next set index within there =
+    let at = letter_at_index index (omega arith) in
+    ap (filter (has set)) (drop_more alphabet index 0 (omega (arith, length-alphabet))) ∙ rw (at, there) refl
 
-pub letters_from-other : (set place : ℕ) → place < 26 → has set (65 + place) ≡ false → letters_from set place ≡ letters_from set (place + 1)
-letters_from-other set place within none =
-    let at = letter_at_place place (omega arith) in
-    ap (filter (has set)) (drop_more alphabet place 0 (omega (arith, length-alphabet))) ∙ rw (at, none) refl
+pub letters_from-other : (set index : ℕ) → index < 26 → has set (65 + index) ≡ false → letters_from set index ≡ letters_from set (index + 1)
+letters_from-other set index within none =
+    let at = letter_at_index index (omega arith) in
+    ap (filter (has set)) (drop_more alphabet index 0 (omega (arith, length-alphabet))) ∙ rw (at, none) refl
 
-pub letters_from-end : (set place : ℕ) → 26 ≤ place → letters_from set place ≡ []
-letters_from-end set place past = ap (filter (has set)) (drop_all place alphabet (omega (arith, length-alphabet)))
+pub letters_from-end : (set index : ℕ) → 26 ≤ index → letters_from set index ≡ []
+letters_from-end set index past = ap (filter (has set)) (drop_all index alphabet (omega (arith, length-alphabet)))
 
 pub ruleset walking_steps = (letters_from-next, letters_from-other, letters_from-end)
 

@@ -9,7 +9,7 @@ has set letter = is_capital letter && (bit_at set (letter - 65) == 1)
 
 -- the letters of a set in alphabetical order, from an index in the alphabet on
 abbrev pub letters_from : ℕ → ℕ → List ℕ
-letters_from set place = filter (has set) (drop place alphabet)
+letters_from set index = filter (has set) (drop index alphabet)
 
 -- the letters of a set in alphabetical order
 abbrev pub letters_in : ℕ → List ℕ

@@ -52,12 +52,12 @@ impl Letter {
     }
 
     /// The letter at an index in the alphabet; A has index 0.
-    pub fn at(place: u32) -> Letter
-        requires { place < 26 }
-        ensures { result ≡ 65 + place }
+    pub fn at(index: u32) -> Letter
+        requires { index < 26 }
+        ensures { result ≡ 65 + index }
     {
         Letter {
-            code: b'A' + place as u8,
+            code: b'A' + index as u8,
         }
     }
 

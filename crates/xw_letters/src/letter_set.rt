@@ -108,17 +108,17 @@ impl LetterSet {
     }
 
     /// Whether the set contains the letter at an index in the alphabet.
-    pub(crate) fn holds(self, place: u32) -> bool
-        requires { place < 26 }
-        ensures { result ≡ has self (65 + place) }
+    pub(crate) fn holds(self, index: u32) -> bool
+        requires { index < 26 }
+        ensures { result ≡ has self (65 + index) }
     {
-        (self.bits >> place) & 1 == 1
+        (self.bits >> index) & 1 == 1
     }
 
     /// The first index in the alphabet, from `from` on, whose letter is in the set.
-    pub fn next_place(self, from: u32) -> Option<u32>
-        ensures set { IfSome result (λ place. (from ≤ place) × (place < 26) × (has self (65 + place) ≡ true)) }
-        ensures first { IfSome result (λ place. (other : ℕ) → from ≤ other → other < place → has self (65 + other) ≡ false) }
+    pub fn next_index(self, from: u32) -> Option<u32>
+        ensures set { IfSome result (λ index. (from ≤ index) × (index < 26) × (has self (65 + index) ≡ true)) }
+        ensures first { IfSome result (λ index. (other : ℕ) → from ≤ other → other < index → has self (65 + other) ≡ false) }
         ensures none { IfNone result ((other : ℕ) → from ≤ other → has self (65 + other) ≡ false) }
     {
         if from >= 26 {

@@ -11,7 +11,7 @@ use std::marker::Model;
 #[derive(Drop)]
 pub struct Letters {
     set: LetterSet,
-    place: u32,
+    index: u32,
 }
 
 impl Model for Letters {
@@ -20,7 +20,7 @@ impl Model for Letters {
 
     ghost Value = { List ℕ };
 
-    ghost view = { λ letters. letters_from letters.set letters.place };
+    ghost view = { λ letters. letters_from letters.set letters.index };
 }
 
 impl Letters {
@@ -28,7 +28,7 @@ impl Letters {
     pub(crate) fn new(set: LetterSet) -> Letters
         ensures { result ≡ letters_in set }
     {
-        Letters { set, place: 0 }
+        Letters { set, index: 0 }
     }
 }
 
@@ -41,11 +41,11 @@ impl Iterator for Letters {
 
     #[tactic(auto, using(crate::proofs::LetterSetLemmas::walking_steps))]
     fn next(&mut self) -> Option<Letter> {
-        while self.place < 26 {
-            let place = self.place;
-            self.place += 1;
-            if self.set.holds(place) {
-                return Some(Letter::at(place));
+        while self.index < 26 {
+            let index = self.index;
+            self.index += 1;
+            if self.set.holds(index) {
+                return Some(Letter::at(index));
             }
         }
         None

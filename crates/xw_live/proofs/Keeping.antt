@@ -181,8 +181,8 @@ kept_count state net lights are kept light below =
     ap (λ ls. standing_count (flags_at ls net light)) are ∙ count_is (board_of state.grid) state.words (flags_of (lights_of state.grid) net) (sets_of net) rows light within
 
 -- the number of cells of a light
-pub light_size : (grid : Grid) (place : ℕ) (light : Light) → place < length (lights_of grid) → slice_get (lights_of grid) place ≡ Some light → length (light_at (board_of grid) place) ≡ light.size
-light_size grid place light below found =
-    ap length (light_at-found grid place light found below)
+pub light_size : (grid : Grid) (index : ℕ) (light : Light) → index < length (lights_of grid) → slice_get (lights_of grid) index ≡ Some light → length (light_at (board_of grid) index) ≡ light.size
+light_size grid index light below found =
+    ap length (light_at-found grid index light found below)
     ∙ length-map (cells_of light) (index_of grid)
     ∙ length-line light.name.direction light.start light.size

@@ -24,9 +24,9 @@ pub fn note(noted: &mut [(Cell, Option<Letter>)], grid: &Grid)
     ensures len { length noted.new ≡ length noted.old }
     ensures noted { noted.new ≡ map (with_entry_of grid.now) (cells grid.now) }
 {
-    for place in 0..grid.size() {
-        let cell = grid.cell_at(place);
-        noted[place] = (cell, grid.entry(cell));
+    for index in 0..grid.size() {
+        let cell = grid.cell_at(index);
+        noted[index] = (cell, grid.entry(cell));
     }
 }
 
@@ -48,8 +48,8 @@ pub fn keep_changed(noted: &mut [(Cell, Option<Letter>)], grid: &Grid) -> usize
     ensures kept { take result noted.new ≡ filter (is_changed grid.now) noted.old }
 {
     let mut count = 0;
-    for place in 0..noted.len() {
-        let listed = noted[place];
+    for index in 0..noted.len() {
+        let listed = noted[index];
         if is_changed(grid, listed.0, listed.1) {
             noted[count] = listed;
             count += 1;

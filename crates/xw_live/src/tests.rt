@@ -8,7 +8,7 @@ mod watched;
 mod writing;
 
 use crate::live::Live;
-use crate::tests::watched::{ANYTHING, Place, Wanted, Watched, does, open, watch};
+use crate::tests::watched::{ANYTHING, Item, Wanted, Watched, does, open, watch};
 use std::alloc::Global;
 use std::process::Abort;
 use xw_feas::changed::Changed;
@@ -185,8 +185,8 @@ fn is_told(told: Option<(Cell, LetterSet)>, cell: Cell, text: &[u8]) -> bool {
 
 /// Whether exactly these cells are reported as changed, with these letters.
 fn tells(mut changed: Changed<'_>, cells: &[(u32, u32, &[u8])]) -> bool {
-    for place in 0..cells.len() {
-        let (row, col, text) = cells[place];
+    for index in 0..cells.len() {
+        let (row, col, text) = cells[index];
         if !is_told(changed.next(), at(row, col), text) {
             return false;
         }
@@ -242,11 +242,11 @@ fn watch_spelled(
     watched: &mut Watched,
     spelled: Do,
     wanted: Wanted,
-    place: Place,
+    item: Item,
 ) -> bool {
     match edit_of(spelled) {
         Some(edit) => {
-            watch(rt, watched, &edit, wanted, place);
+            watch(rt, watched, &edit, wanted, item);
             true
         }
         None => false,
@@ -254,14 +254,14 @@ fn watch_spelled(
 }
 
 /// Whether a call has the outcome that the table says.
-fn goes(rt: &(impl Abort + AllocGlobal), watched: &mut Watched, step: Step, place: Place) -> bool {
+fn goes(rt: &(impl Abort + AllocGlobal), watched: &mut Watched, step: Step, item: Item) -> bool {
     match step {
         Step::Told(edit, cells) => {
             let wanted = Wanted {
                 cells: Some(cells),
                 ..ANYTHING
             };
-            watch_spelled(rt, watched, edit, wanted, place)
+            watch_spelled(rt, watched, edit, wanted, item)
         }
         Step::Spends(edit, cells, least, most) => {
             let wanted = Wanted {
@@ -269,7 +269,7 @@ fn goes(rt: &(impl Abort + AllocGlobal), watched: &mut Watched, step: Step, plac
                 least,
                 most,
             };
-            watch_spelled(rt, watched, edit, wanted, place)
+            watch_spelled(rt, watched, edit, wanted, item)
         }
         Step::Idle(edit) => is_idle(&mut watched.engine, edit),
         Step::Refused(edit, refusal) => refuses(&mut watched.engine, edit, refusal),
@@ -298,8 +298,8 @@ fn pass(
 ) {
     for (at, step) in steps.iter().enumerate() {
         let list = "step";
-        let place = Place { name, list, at };
-        assert!(rt; goes(rt, watched, *step, place), "{name}: step {at} failed");
+        let item = Item { name, list, at };
+        assert!(rt; goes(rt, watched, *step, item), "{name}: step {at} failed");
     }
 }
 
@@ -316,7 +316,7 @@ fn block_all(rt: &impl Abort, watched: &mut Watched, start: Start, name: &'stati
             row: *row,
             col: *col,
         });
-        watch(rt, watched, &edit, ANYTHING, Place { name, list, at });
+        watch(rt, watched, &edit, ANYTHING, Item { name, list, at });
     }
 }
 
@@ -324,7 +324,7 @@ fn add_all(rt: &impl Abort, watched: &mut Watched, start: Start, name: &'static 
     let list = "word";
     for (at, word) in start.words.split_ascii_whitespace().enumerate() {
         let edit = Edit::Add(word.as_bytes());
-        watch(rt, watched, &edit, ANYTHING, Place { name, list, at });
+        watch(rt, watched, &edit, ANYTHING, Item { name, list, at });
     }
 }
 

@@ -1,6 +1,6 @@
 -- How words and letters without support are removed.
 pub mod StruckRows
-pub mod SearchPlaces
+pub mod SearchStarts
 pub mod StepsKeepInvariant
 pub mod HeldWords
 pub mod WordsByNumber

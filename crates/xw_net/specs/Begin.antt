@@ -10,7 +10,7 @@ use Rattle.xw_net.specs.Base.{base_bits, IsBaseBut}
 use Rattle.xw_feas.specs.Known.{spellings, actives}
 use Rattle.xw_feas.specs.Choices.{is_base_at}
 use Rattle.xw_net.specs.Revival.{StandsOn}
-use Rattle.xw_net.specs.Marks.{Marks, IsPlace, cell_at, slot_at, known, puts}
+use Rattle.xw_net.specs.Marks.{Marks, IsPositionIn, cell_at, slot_at, known, puts}
 use Rattle.xw_grid.specs.declared.cell.Cell.{Cell}
 use Rattle.xw_grid.specs.declared.lights.Light.{Light}
 use Rattle.xw_grid.specs.Grid.{Grid, index_of}
@@ -47,7 +47,7 @@ is_seed board word cells bits = is_wholly_entered board cells || may_have word (
 
 -- the light has the length of the changed word
 abbrev pub HasLength : Board → Option (ℕ × ℕ) → ℕ → Type 0
-HasLength board word light = (place : ℕ) × (word ≡ Some (length (light_at board light), place)) × (light < length board.lights)
+HasLength board word light = (index : ℕ) × (word ≡ Some (length (light_at board light), index)) × (light < length board.lights)
 
 -- no light before the edit has the cells of this one
 abbrev pub IsNewLight : List Light → List Light → ℕ → Type 0
@@ -83,9 +83,9 @@ module _ (board : Board) where
   -- and the lights through it are on the chain
   pub record IsEdited (letters : ℕ → ℕ → Bool) (in_queue in_chain : ℕ → Bool) (cell : ℕ) (old : Option ℕ) : Type 0 where
     pub may : (letter : ℕ) → letters cell letter ≡ true → may_stand board cell letter ≡ true
-    pub queued : (light place : ℕ) → IsPlace board light place → cell_at board light place ≡ cell → in_queue light ≡ true
+    pub queued : (light position : ℕ) → IsPositionIn board light position → cell_at board light position ≡ cell → in_queue light ≡ true
     pub all : is_fill board cell old ≡ false → HasAll board letters cell
-    pub marked : is_fill board cell old ≡ false → (light place : ℕ) → IsPlace board light place → cell_at board light place ≡ cell → in_chain light ≡ true
+    pub marked : is_fill board cell old ≡ false → (light position : ℕ) → IsPositionIn board light position → cell_at board light position ≡ cell → in_chain light ≡ true
 
   -- a cell stays such a cell
   abbrev pub StaysEdited : List ℕ → ListOfLights → ListOfLights → List ℕ → ListOfLights → ListOfLights → ℕ → Option ℕ → Type 0
@@ -142,13 +142,16 @@ pub record IsStarted (before after : Board) (old new : Dictionary) (same : ℕ �
   pub letters_from : (cell letter : ℕ) → start.letters cell letter ≡ true → may_stand after cell letter ≡ true
   pub letters_stay : (cell letter : ℕ) → may_stand after cell letter ≡ true → settled.letters cell letter ≡ true → start.letters cell letter ≡ true
   pub letters_come : (cell letter : ℕ) → may_stand after cell letter ≡ true → ¬ (may_stand before cell letter ≡ true) → start.letters cell letter ≡ true
-  pub letters_reach : (light place letter : ℕ) → IsPlace after light place → start.letters (cell_at after light place) letter ≡ true → ¬ (settled.letters (cell_at after light place) letter ≡ true) → seed light ≡ true
+  pub letters_reach : (light position letter : ℕ) → IsPositionIn after light position → start.letters (cell_at after light position) letter ≡ true
+      → ¬ (settled.letters (cell_at after light position) letter ≡ true) → seed light ≡ true
   pub freed : (other k : ℕ) → other < length before.lights → ¬ StandsOn after same other → k < length (light_at before other) → HasAll after start.letters (slice_index (light_at before other) k)
   -- a light that is not a seed keeps its supports
-  pub held : (light place letter : ℕ) → IsPlace after light place → is_capital letter ≡ true → seed light ≡ false → start.held (slot_at after light place) letter ≡ settled.held (slot_at after light place) letter
+  pub held : (light position letter : ℕ) → IsPositionIn after light position → is_capital letter ≡ true → seed light ≡ false
+      → start.held (slot_at after light position) letter ≡ settled.held (slot_at after light position) letter
   pub restart : (slot letter : ℕ) → start.restart slot letter ≡ settled.restart slot letter
-  pub pending : (light place letter : ℕ) → IsPlace after light place → start.pending (slot_at after light place) letter ≡ false
-  pub hits : (light place letter : ℕ) → IsPlace after light place → is_capital letter ≡ true → start.held (slot_at after light place) letter < known after new light → puts after new light place letter (start.held (slot_at after light place) letter) ≡ true
+  pub pending : (light position letter : ℕ) → IsPositionIn after light position → start.pending (slot_at after light position) letter ≡ false
+  pub hits : (light position letter : ℕ) → IsPositionIn after light position → is_capital letter ≡ true
+      → start.held (slot_at after light position) letter < known after new light → puts after new light position letter (start.held (slot_at after light position) letter) ≡ true
 
 -- each base row is right except perhaps for the changed word
 abbrev pub AreBaseBut : Board → (ℕ → List Entry) → Option (ℕ × ℕ) → List RowOfBits → Type 0

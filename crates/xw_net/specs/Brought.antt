@@ -10,7 +10,7 @@ use Rattle.xw_net.specs.Base.{base_bits, base_row, IsRowBut}
 use Rattle.xw_net.specs.Region.{chunks_of}
 use Rattle.xw_net.specs.Due.{sum_to}
 use Rattle.xw_net.specs.Revival.{StandsOn, was, IsKept}
-use Rattle.xw_net.specs.Marks.{Marks, IsPlace, cell_at, slot_at, known, puts, letter_of, IsHeld, IsHolding}
+use Rattle.xw_net.specs.Marks.{Marks, IsPositionIn, cell_at, slot_at, known, puts, letter_of, IsHeld, IsHolding}
 use Rattle.xw_net.specs.Spread.{bits_in, HasAll}
 
 -- a base row for each light, with a bit for each known word of its length
@@ -44,16 +44,18 @@ pub record IsBrought (board : Board) (dictionary : Dictionary) (old new : Marks)
   pub words_on : (light choice : ℕ) → chain light ≡ true → new.words light choice ≡ is_base_at board dictionary light choice
   pub words_off : (light choice : ℕ) → chain light ≡ false → new.words light choice ≡ old.words light choice
   -- the cells of the chain have all letters that they allow
-  pub letters_on : (light place : ℕ) → IsPlace board light place → chain light ≡ true → HasAll board new.letters (cell_at board light place)
+  pub letters_on : (light position : ℕ) → IsPositionIn board light position → chain light ≡ true → HasAll board new.letters (cell_at board light position)
   -- each light through a cell where a letter came back is on the chain
-  pub letters_off : (light place letter : ℕ) → IsPlace board light place → new.letters (cell_at board light place) letter ≡ true → old.letters (cell_at board light place) letter ≡ false → chain light ≡ true
+  pub letters_off : (light position letter : ℕ) → IsPositionIn board light position
+      → new.letters (cell_at board light position) letter ≡ true → old.letters (cell_at board light position) letter ≡ false → chain light ≡ true
   -- each letter was there or is allowed, and an allowed letter that was there stays
   pub letters_from : (cell letter : ℕ) → new.letters cell letter ≡ true → (old.letters cell letter ≡ true) ⊎ (may_stand board cell letter ≡ true)
   pub letters_stay : (cell letter : ℕ) → may_stand board cell letter ≡ true → old.letters cell letter ≡ true → new.letters cell letter ≡ true
   -- supports stay, but on the chain words before them may have come back
   pub held : (slot letter : ℕ) → new.held slot letter ≡ old.held slot letter
-  pub restart_on : (light place letter : ℕ) → IsPlace board light place → chain light ≡ true → is_capital letter ≡ true → new.restart (slot_at board light place) letter ≡ true
-  pub restart_off : (slot letter : ℕ) → ((light place : ℕ) → IsPlace board light place → slot_at board light place ≡ slot → chain light ≡ false) → new.restart slot letter ≡ old.restart slot letter
+  pub restart_on : (light position letter : ℕ) → IsPositionIn board light position → chain light ≡ true → is_capital letter ≡ true → new.restart (slot_at board light position) letter ≡ true
+  pub restart_off : (slot letter : ℕ) → ((light position : ℕ) → IsPositionIn board light position → slot_at board light position ≡ slot → chain light ≡ false)
+      → new.restart slot letter ≡ old.restart slot letter
   pub pending : (slot letter : ℕ) → new.pending slot letter ≡ old.pending slot letter
   -- the lights of the chain are queued
   pub queued_on : (light : ℕ) → chain light ≡ true → new.queued light ≡ true
@@ -73,21 +75,24 @@ module _ (before after : Board) (old new : Dictionary) (same : ℕ → Option �
     pub letters_come : (cell letter : ℕ) → IsTrue (may_stand after cell letter) → ¬ IsTrue (may_stand before cell letter) → IsTrue (letters' cell letter)
     pub freed : (other k : ℕ) → other < length before.lights → ¬ StandsOn after same other → k < length (light_at before other) → HasAll after letters' (slice_index (light_at before other) k)
     -- each light through a cell that has a new letter is a seed
-    pub seeds : (light place letter : ℕ) → IsPlace after light place → IsTrue (letters' (cell_at after light place) letter) → ¬ IsTrue (letters (cell_at after light place) letter) → IsTrue (seed light)
+    pub seeds : (light position letter : ℕ) → IsPositionIn after light position → IsTrue (letters' (cell_at after light position) letter)
+        → ¬ IsTrue (letters (cell_at after light position) letter) → IsTrue (seed light)
 
 -- nothing is pending, and each light that is not a seed is ready for stripping
 pub record IsReadyBut (board : Board) (dictionary : Dictionary) (marks : Marks) (seed : ℕ → Bool) : Type 0 where
   pub lights : (light choice : ℕ) → marks.words light choice ≡ true → light < length board.lights
   pub words : (light choice : ℕ) → seed light ≡ false → marks.words light choice ≡ true → is_base_at board dictionary light choice ≡ true
   pub letters : (cell letter : ℕ) → marks.letters cell letter ≡ true → may_stand board cell letter ≡ true
-  pub spelled : (light place choice : ℕ) → IsPlace board light place → seed light ≡ false → marks.words light choice ≡ true → marks.letters (cell_at board light place) (letter_of board dictionary light choice place) ≡ true
-  pub pending : (light place letter : ℕ) → IsPlace board light place → marks.pending (slot_at board light place) letter ≡ false
+  pub spelled : (light position choice : ℕ) → IsPositionIn board light position → seed light ≡ false → marks.words light choice ≡ true
+      → marks.letters (cell_at board light position) (letter_of board dictionary light choice position) ≡ true
+  pub pending : (light position letter : ℕ) → IsPositionIn board light position → marks.pending (slot_at board light position) letter ≡ false
   -- each held known word has the letter that it is held for, at seeds too
   pub hits : IsHolding board dictionary marks
-  pub first : (light place letter choice : ℕ) → IsPlace board light place → seed light ≡ false → marks.letters (cell_at board light place) letter ≡ true
-      → marks.held (slot_at board light place) letter < known board dictionary light → marks.restart (slot_at board light place) letter ≡ false
-      → choice < known board dictionary light → marks.words light choice ≡ true → puts board dictionary light place letter choice ≡ true → marks.held (slot_at board light place) letter ≤ choice
-  pub held : (light place letter : ℕ) → IsPlace board light place → seed light ≡ false → marks.queued light ≡ false → marks.letters (cell_at board light place) letter ≡ true → IsHeld board dictionary marks light place letter
+  pub first : (light position letter choice : ℕ) → IsPositionIn board light position → seed light ≡ false → marks.letters (cell_at board light position) letter ≡ true
+      → marks.held (slot_at board light position) letter < known board dictionary light → marks.restart (slot_at board light position) letter ≡ false
+      → choice < known board dictionary light → marks.words light choice ≡ true → puts board dictionary light position letter choice ≡ true → marks.held (slot_at board light position) letter ≤ choice
+  pub held : (light position letter : ℕ) → IsPositionIn board light position → seed light ≡ false → marks.queued light ≡ false
+      → marks.letters (cell_at board light position) letter ≡ true → IsHeld board dictionary marks light position letter
 
 -- a settled net was adapted to the state after an edit: each light that is not a seed has the marks
 -- of the matching light before
@@ -100,8 +105,10 @@ pub record IsCarried (before after : Board) (old new : Dictionary) (same : ℕ �
   -- a light that loses a word is queued
   pub calm : (light choice : ℕ) → light < length after.lights → seed light ≡ false → start.queued light ≡ false → IsTrue (was before after old new same settled.words light choice) → IsTrue (is_base_at after new light choice)
   pub letters : (cell letter : ℕ) → start.letters cell letter ≡ true → may_stand after cell letter ≡ true
-  pub held : (light place letter : ℕ) → IsPlace after light place → is_capital letter ≡ true → seed light ≡ false → start.held (slot_at after light place) letter ≡ settled.held (slot_at after light place) letter
-  pub restart : (light place letter : ℕ) → IsPlace after light place → seed light ≡ false → start.restart (slot_at after light place) letter ≡ settled.restart (slot_at after light place) letter
-  pub pending : (light place letter : ℕ) → IsPlace after light place → start.pending (slot_at after light place) letter ≡ false
+  pub held : (light position letter : ℕ) → IsPositionIn after light position → is_capital letter ≡ true → seed light ≡ false
+      → start.held (slot_at after light position) letter ≡ settled.held (slot_at after light position) letter
+  pub restart : (light position letter : ℕ) → IsPositionIn after light position → seed light ≡ false
+      → start.restart (slot_at after light position) letter ≡ settled.restart (slot_at after light position) letter
+  pub pending : (light position letter : ℕ) → IsPositionIn after light position → start.pending (slot_at after light position) letter ≡ false
   -- each held word has the letter that it is held for, at seeds too
   pub hits : IsHolding after new start

@@ -8,7 +8,7 @@ use Rattle.xw_feas.specs.State.{State, Action}
 use Rattle.xw_net.specs.declared.net.Net.{Net}
 use Rattle.xw_net.specs.Revival.{IsMatching, IsRevived}
 use Rattle.xw_net.specs.Region.{IsRegion}
-use Rattle.xw_net.specs.Marks.{IsPosition, IsReady}
+use Rattle.xw_net.specs.Marks.{IsSetting, IsReady}
 use Rattle.xw_net.specs.Nets.{marks_of, word_stands, letter_stands}
 use Rattle.xw_net.specs.Brought.{IsBase, IsBrought, IsBegun, IsReadyBut}
 use Rattle.xw_net.specs.Worklist.{is_marked}
@@ -36,7 +36,7 @@ module _ (board : Board) (old new : Net) where
   -- and the net is ready for stripping
   abbrev pub ReadiesChain : Type 0
   ReadiesChain =
-      (entries : ℕ → List Entry) (dictionary : Dictionary) → IsPosition board entries dictionary → IsBase board dictionary old.base.items
+      (entries : ℕ → List Entry) (dictionary : Dictionary) → IsSetting board entries dictionary → IsBase board dictionary old.base.items
       → IsReadyBut board dictionary (marks_of old) (is_marked old.chain.marks) → CoversSupported board dictionary (word_stands new) (letter_stands new) → IsReady board dictionary (marks_of new)
 
   -- a chain that starts in the region of an edit stays in it

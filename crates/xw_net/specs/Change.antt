@@ -56,30 +56,30 @@ abbrev pub entries_written : Grid → Action → List (Cell × Option ℕ)
 entries_written grid action = map (with_entry_of grid) (cells_written grid action)
 
 -- the length and index of an added word
-abbrev pub place_added : ℕ → Result Added WordFault → Option (ℕ × ℕ)
-place_added len (Ok (New place)) = Some (len, place)
-place_added len (Ok (Returned place)) = Some (len, place)
-place_added len (Err fault) = None
+abbrev pub index_added : ℕ → Result Added WordFault → Option (ℕ × ℕ)
+index_added len (Ok (New index)) = Some (len, index)
+index_added len (Ok (Returned index)) = Some (len, index)
+index_added len (Err fault) = None
 
 -- the length and index of a struck word
-abbrev pub place_struck : ℕ → Result ℕ WordFault → Option (ℕ × ℕ)
-place_struck len (Ok place) = Some (len, place)
-place_struck len (Err fault) = None
+abbrev pub index_struck : ℕ → Result ℕ WordFault → Option (ℕ × ℕ)
+index_struck len (Ok index) = Some (len, index)
+index_struck len (Err fault) = None
 
 -- the length and index of the word that an edit adds or strikes
 abbrev pub word_changed : Dictionary → Action → Option (ℕ × ℕ)
-word_changed words (word_added word) = place_added (length word) (add_answer words word)
-word_changed words (word_struck word) = place_struck (length word) (strike_answer words word)
+word_changed words (word_added word) = index_added (length word) (add_answer words word)
+word_changed words (word_struck word) = index_struck (length word) (strike_answer words word)
 word_changed words other = None
 
 -- the indices of the listed cells
-abbrev pub places_listed : Grid → List (Cell × Option ℕ) → List ℕ
-places_listed grid cells = map (λ listed. index_of grid listed.0) cells
+abbrev pub indices_listed : Grid → List (Cell × Option ℕ) → List ℕ
+indices_listed grid cells = map (λ listed. index_of grid listed.0) cells
 
 -- the changed word has this length and index
-abbrev pub IsPlaceOf : Option (ℕ × ℕ) → ℕ → ℕ → Type 0
-IsPlaceOf None len place = ⊥
-IsPlaceOf (Some word) len place = (word.0 ≡ len) × (word.1 ≡ place)
+abbrev pub IsIndexOf : Option (ℕ × ℕ) → ℕ → ℕ → Type 0
+IsIndexOf None len index = ⊥
+IsIndexOf (Some word) len index = (word.0 ≡ len) × (word.1 ≡ index)
 
 -- the change describes this edit
 pub record IsChange (before now : State) (action : Action) (change : Fields) : Type 0 where
@@ -96,10 +96,10 @@ pub record IsChange (before now : State) (action : Action) (change : Fields) : T
   -- the grid has the same size and, outside the listed cells, the same squares
   pub width : now.grid.width ≡ before.grid.width
   pub height : now.grid.height ≡ before.grid.height
-  pub squares : (place : ℕ) → ¬ Contains (places_listed before.grid change.cells) place → slice_get now.grid.squares place ≡ slice_get before.grid.squares place
+  pub squares : (index : ℕ) → ¬ Contains (indices_listed before.grid change.cells) index → slice_get now.grid.squares index ≡ slice_get before.grid.squares index
   -- the known words are the same, except perhaps whether the changed word is known and active
-  pub entries : (len place : ℕ) → ¬ IsPlaceOf change.word len place → slice_get (row now.words len) place ≡ slice_get (row before.words len) place
-  pub spelling : (len place : ℕ) → place < length (row before.words len) → (entry_at (row now.words len) place).word ≡ (entry_at (row before.words len) place).word
+  pub entries : (len index : ℕ) → ¬ IsIndexOf change.word len index → slice_get (row now.words len) index ≡ slice_get (row before.words len) index
+  pub spelling : (len index : ℕ) → index < length (row before.words len) → (entry_at (row now.words len) index).word ≡ (entry_at (row before.words len) index).word
 
 -- the edit adds or strikes the word with this length and index, and keeps the grid
 pub record IsWordEdit (grid : Grid) (old new : Dictionary) (action : Action) (word : ℕ × ℕ) : Type 0 where

@@ -4,7 +4,7 @@ use Rattle.xw_words.specs.Dictionary.{Dictionary}
 use Rattle.xw_feas.specs.Board.{Board, light_at}
 use Rattle.xw_feas.specs.Feasible.{IsFeasibleLetter}
 use Rattle.xw_net.specs.Region.{chunks_of}
-use Rattle.xw_net.specs.Marks.{Marks, IsPlace, cell_at, slot_at, known, puts, IsKept}
+use Rattle.xw_net.specs.Marks.{Marks, IsPositionIn, cell_at, slot_at, known, puts, IsKept}
 
 -- f 0 + .. + f (n - 1)
 unfoldable pub sum_to : (ℕ → ℕ) → ℕ → ℕ
@@ -41,17 +41,17 @@ module _ (board : Board) (dictionary : Dictionary) where
 
   -- the ticks that a letter at a position may still cost
   unfoldable pub due_letter : Marks → ℕ → ℕ → ℕ → ℕ
-  due_letter marks light place letter =
-      due_of (puts board dictionary light place letter) (known board dictionary light) (marks.letters (cell_at board light place) letter)
-      (marks.held (slot_at board light place) letter) (marks.restart (slot_at board light place) letter) (marks.pending (slot_at board light place) letter)
+  due_letter marks light position letter =
+      due_of (puts board dictionary light position letter) (known board dictionary light) (marks.letters (cell_at board light position) letter)
+      (marks.held (slot_at board light position) letter) (marks.restart (slot_at board light position) letter) (marks.pending (slot_at board light position) letter)
 
   -- the ticks that a position may still cost
-  unfoldable pub due_place : Marks → ℕ → ℕ → ℕ
-  due_place marks light place = sum_letters (due_letter marks light place)
+  unfoldable pub due_position : Marks → ℕ → ℕ → ℕ
+  due_position marks light position = sum_letters (due_letter marks light position)
 
   -- the ticks that a light may still cost
   unfoldable pub due_light : Marks → ℕ → ℕ
-  due_light marks light = sum_to (due_place marks light) (length (light_at board light))
+  due_light marks light = sum_to (due_position marks light) (length (light_at board light))
 
   -- the ticks that the lights of a set may still cost
   unfoldable pub due : (ℕ → Bool) → Marks → ℕ
@@ -69,9 +69,9 @@ module _ (board : Board) (dictionary : Dictionary) where
   -- has a letter that is not feasible
   abbrev pub IsClosed : (ℕ → Bool) → (ℕ → ℕ → Bool) → Type 0
   IsClosed member letters =
-      (light place other other_place letter : ℕ) → IsPlace board light place → IsPlace board other other_place
-      → cell_at board other other_place ≡ cell_at board light place → letters (cell_at board light place) letter ≡ true
-      → ¬ IsFeasibleLetter board dictionary (cell_at board light place) letter → member light ≡ true → member other ≡ true
+      (light position other other_position letter : ℕ) → IsPositionIn board light position → IsPositionIn board other other_position
+      → cell_at board other other_position ≡ cell_at board light position → letters (cell_at board light position) letter ≡ true
+      → ¬ IsFeasibleLetter board dictionary (cell_at board light position) letter → member light ≡ true → member other ≡ true
 
 -- the set contains the queued lights
 abbrev pub HasQueued : Board → (ℕ → Bool) → Marks → Type 0

@@ -5,7 +5,7 @@ use Rattle.xw_letters.specs.Letter.{is_capital}
 use Rattle.xw_words.specs.Dictionary.{Dictionary, Entry, row, most_words}
 use Rattle.xw_feas.specs.Board.{Board, light_at}
 use Rattle.xw_feas.specs.Choices.{IsExact}
-use Rattle.xw_net.specs.Marks.{IsPlace, slot_at, IsHolding, IsReady, IsSettledNet}
+use Rattle.xw_net.specs.Marks.{IsPositionIn, slot_at, IsHolding, IsReady, IsSettledNet}
 use Rattle.xw_net.specs.Room.{row_at}
 use Rattle.xw_net.specs.Nets.{marks_of, word_stands, letter_stands, held_in, pending_in, queued_in, IsShaped, IsChained, HasBits}
 use Rattle.xw_net.specs.Worklist.{is_marked}
@@ -40,7 +40,7 @@ pub record IsQuiet (net : Net) : Type 0 where
 pub record IsFresh (board : Board) (entries : ℕ → List Entry) (net : Net) : Type 0 where
   pub whole : IsWholeNet board entries net
   pub words : (light choice : ℕ) → word_stands net light choice ≡ false
-  pub held : (light place letter : ℕ) → IsPlace board light place → is_capital letter ≡ true → most_words ≤ held_in net (slot_at board light place) letter
+  pub held : (light position letter : ℕ) → IsPositionIn board light position → is_capital letter ≡ true → most_words ≤ held_in net (slot_at board light position) letter
   pub pending : (slot letter : ℕ) → pending_in net slot letter ≡ false
   pub quiet : IsQuiet net
 

@@ -5,7 +5,7 @@ use Rattle.xw_words.specs.Dictionary.{Entry}
 use Rattle.xw_grid.specs.declared.lights.Light.{Light}
 use Rattle.xw_feas.specs.Board.{Board, light_at}
 use Rattle.xw_feas.specs.Flags.{set_has}
-use Rattle.xw_net.specs.Marks.{IsPlace, slot_at}
+use Rattle.xw_net.specs.Marks.{IsPositionIn, slot_at}
 use Rattle.xw_net.specs.Renumber.{same_before}
 use Rattle.xw_net.specs.Change.{Fields}
 
@@ -36,13 +36,13 @@ module _ (board : Board) (light : ℕ) where
   -- the supports of the light changed in this way,
   abbrev pub ChangesHeld : (ℕ → ℕ) → List ℕ → List ℕ → Type 0
   ChangesHeld change held held' =
-      (place letter : ℕ) → place < length (light_at board light) → is_capital letter ≡ true
-      → slice_index held' (26 * slot_at board light place + (letter - 65)) ≡ change (slice_index held (26 * slot_at board light place + (letter - 65)))
+      (position letter : ℕ) → position < length (light_at board light) → is_capital letter ≡ true
+      → slice_index held' (26 * slot_at board light position + (letter - 65)) ≡ change (slice_index held (26 * slot_at board light position + (letter - 65)))
 
   -- and those at other slots stay
   abbrev pub KeepsHeld : List ℕ → List ℕ → Type 0
   KeepsHeld held held' =
-      (slot letter : ℕ) → ((place : ℕ) → place < length (light_at board light) → slot_at board light place ≡ slot → ⊥) → is_capital letter ≡ true
+      (slot letter : ℕ) → ((position : ℕ) → position < length (light_at board light) → slot_at board light position ≡ slot → ⊥) → is_capital letter ≡ true
       → slice_index held' (26 * slot + (letter - 65)) ≡ slice_index held (26 * slot + (letter - 65))
 
 -- the least index of a support that a light of the board has to forget after an edit
@@ -59,7 +59,7 @@ ForgetNone change board lights entries = (light : ℕ) → light < length board.
 pub record Forgets (board : Board) (first : ℕ → ℕ) (held held' pending pending' : List ℕ) : Type 0 where
   pub held_len : length held' ≡ length held
   pub pending_len : length pending' ≡ length pending
-  pub cuts : (light place letter : ℕ) → IsPlace board light place → is_capital letter ≡ true
-      → slice_index held' (26 * slot_at board light place + (letter - 65)) ≡ lose (first light) (slice_index held (26 * slot_at board light place + (letter - 65)))
+  pub cuts : (light position letter : ℕ) → IsPositionIn board light position → is_capital letter ≡ true
+      → slice_index held' (26 * slot_at board light position + (letter - 65)) ≡ lose (first light) (slice_index held (26 * slot_at board light position + (letter - 65)))
   pub less : (slot letter : ℕ) → set_has pending' slot letter ≡ true → set_has pending slot letter ≡ true
-  pub cleared : (light place letter : ℕ) → IsPlace board light place → first light < nowhere → set_has pending' (slot_at board light place) letter ≡ false
+  pub cleared : (light position letter : ℕ) → IsPositionIn board light position → first light < nowhere → set_has pending' (slot_at board light position) letter ≡ false

@@ -11,15 +11,15 @@ use Rattle.xw_net.specs.Worklist.{ListOfLights, Grows, HasSeeds, MarksOnly}
 use Rattle.xw_net.specs.Renumber.{same_before}
 
 -- the cell is that of a light at a position
-pub record IsAlong (grid : Grid) (light : Light) (place cell : ℕ) : Type 0 where
-  pub inside : is_inside grid (step light.name.direction light.start place) ≡ true
-  pub is : index_of grid (step light.name.direction light.start place) ≡ cell
+pub record IsAlong (grid : Grid) (light : Light) (position cell : ℕ) : Type 0 where
+  pub inside : is_inside grid (step light.name.direction light.start position) ≡ true
+  pub is : index_of grid (step light.name.direction light.start position) ≡ cell
 
 -- the cell is that of a light at one of its first positions
 pub record IsAmong (grid : Grid) (light : Light) (count cell : ℕ) : Type 0 where
-  pub place : ℕ
-  pub below : place < count
-  pub along : IsAlong grid light place cell
+  pub position : ℕ
+  pub below : position < count
+  pub along : IsAlong grid light position cell
 
 -- the light was there before, and no light after the edit has its cells
 pub record IsGone (before after : List Light) (other : ℕ) (light : Light) : Type 0 where

@@ -77,7 +77,7 @@ pub record StoodFor (lights : List Light) (counts : ℕ → ℕ) (net : Net) : T
 
 -- the first set flag from an index on
 abbrev pub first_from : List Bool → ℕ → Option ℕ
-first_from flags from = option_map (λ place. from + place) (position (λ flag. flag) (drop from flags))
+first_from flags from = option_map (λ index. from + index) (position (λ flag. flag) (drop from flags))
 
 -- the new net has the answers of the old one, and is settled for whatever the old one was. If it
 -- has the same spare arrays, it has at least the old one's room

@@ -4,10 +4,10 @@ use Rattle.xw_bits.specs.Bits.{RowOfBits}
 use Rattle.xw_words.specs.Dictionary.{Entry}
 use Rattle.xw_feas.specs.Board.{Board, light_at}
 use Rattle.xw_feas.specs.Flags.{set_has, set_sum}
-use Rattle.xw_net.specs.Marks.{Marks, IsPlace, cell_at, slot_at}
+use Rattle.xw_net.specs.Marks.{Marks, IsPositionIn, cell_at, slot_at}
 use Rattle.xw_net.specs.Room.{row_at}
 use Rattle.xw_net.specs.Worklist.{is_waiting}
-use Rattle.xw_net.specs.declared.place.Place.{Place}
+use Rattle.xw_net.specs.declared.position.Position.{Position}
 use Rattle.xw_net.specs.declared.net.Net.{Net}
 
 -- the bits of a row; none if there is no row
@@ -76,12 +76,12 @@ pub record IsLeft (old new : Net) : Type 0 where
 abbrev pub HasBits : Board → (ℕ → List Entry) → Net → Type 0
 HasBits board entries net = (light : ℕ) → light < length board.lights → length (bits_for net light) ≡ length (entries (length (light_at board light)))
 
--- the fields of a `Place` describe a position of a light of the board
-pub record IsThere (board : Board) (here : Place) : Type 0 where
-  pub place : IsPlace board here.light here.place
+-- the fields of a `Position` describe a position of a light of the board
+pub record IsThere (board : Board) (here : Position) : Type 0 where
+  pub position : IsPositionIn board here.light here.position
   pub len : here.len ≡ length (light_at board here.light)
-  pub cell : here.cell ≡ cell_at board here.light here.place
-  pub slot : here.slot ≡ slot_at board here.light here.place
+  pub cell : here.cell ≡ cell_at board here.light here.position
+  pub slot : here.slot ≡ slot_at board here.light here.position
   pub in_board : here.cell < length board.open_cells
   pub in_slots : here.slot < 2 * length board.open_cells
 

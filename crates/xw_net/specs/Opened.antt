@@ -13,7 +13,7 @@ use Rattle.xw_net.specs.Revival.{same_light}
 use Rattle.xw_net.specs.Region.{IsRegion}
 use Rattle.xw_net.specs.Marks.{known}
 use Rattle.xw_net.specs.Nets.{marks_of, word_stands, letter_stands}
-use Rattle.xw_net.specs.Spread.{no_places, HasAll, IsSpread, bits_in}
+use Rattle.xw_net.specs.Spread.{no_positions, HasAll, IsSpread, bits_in}
 use Rattle.xw_net.specs.Worklist.{ListOfLights, is_marked, is_waiting, HasSeeds, Grows, MarksAll, MarksOnly}
 use Rattle.xw_net.specs.Brought.{IsBase, IsBegun, IsReadyBut}
 use Rattle.xw_net.specs.Begin.{IsNewLight, IsThroughListed, HasLength, AreEdited, Prepares}
@@ -54,7 +54,7 @@ pub record Touches (grid : Grid) (board : Board) (lights : List Light) (change :
   pub new_queued : MarksAll (IsNewLight change.before lights) queue'
   pub new_marked : MarksAll (IsNewLight change.before lights) chain'
   pub edited : AreEdited grid board change.cells (set_has letters') (is_marked queue'.marks) (is_marked chain'.marks)
-  pub spread : IsSpread board (set_has letters) (set_has letters') (is_marked chain'.marks) (is_waiting chain'.lights) no_places
+  pub spread : IsSpread board (set_has letters) (set_has letters') (is_marked chain'.marks) (is_waiting chain'.lights) no_positions
   pub freed : (cell : ℕ) → IsFreed grid change.before lights (length change.before) cell → HasAll board (set_has letters') cell
   pub queued_within : MarksOnly (IsTouched grid board lights change) queue queue'
   pub within : MarksOnly (MayGain grid board lights change letters queue) chain chain'
@@ -71,7 +71,7 @@ pub record IsOpening (grid : Grid) (board : Board) (lights : List Light) (entrie
   pub new_queued : MarksAll (IsNewLight change.before lights) new.queue
   pub new_marked : MarksAll (IsNewLight change.before lights) new.chain
   pub edited : AreEdited grid board change.cells (set_has new.letters) (is_marked new.queue.marks) (is_marked new.chain.marks)
-  pub spread : IsSpread board (set_has old.letters) (set_has new.letters) (is_marked new.chain.marks) (is_waiting new.chain.lights) no_places
+  pub spread : IsSpread board (set_has old.letters) (set_has new.letters) (is_marked new.chain.marks) (is_waiting new.chain.lights) no_positions
   pub freed : (cell : ℕ) → IsFreed grid change.before lights (length change.before) cell → HasAll board (set_has new.letters) cell
   pub prepared : Prepares board entries change.word old.rows new.rows old.base new.base new.queue new.chain
   -- no other light is
@@ -86,7 +86,7 @@ module _ (before now : State) where
         → bits_in net.rows.items light ≡ bits_in settled.rows.items other
     pub base : (light other : ℕ) → light < length (board_of now.grid).lights → same_light before.grid now.grid light ≡ Some other → known (board_of now.grid) now.words light ≡ known (board_of before.grid) before.words other
         → bits_in net.base.items light ≡ bits_in settled.base.items other
-    pub base_at : (light other place : ℕ) → light < length (board_of now.grid).lights → same_light before.grid now.grid light ≡ Some other → slice_index_or (bits_in net.base.items light) place false ≡ slice_index_or (bits_in settled.base.items other) place false
+    pub base_at : (light other index : ℕ) → light < length (board_of now.grid).lights → same_light before.grid now.grid light ≡ Some other → slice_index_or (bits_in net.base.items light) index false ≡ slice_index_or (bits_in settled.base.items other) index false
     pub entered : (light other : ℕ) → light < length (board_of now.grid).lights → same_light before.grid now.grid light ≡ Some other → slice_index_or net.entered.items light false ≡ slice_index_or settled.entered.items other false
     pub lights : (light choice : ℕ) → word_stands net light choice ≡ true → light < length (board_of now.grid).lights
     pub letters : net.letters.items ≡ settled.letters.items

@@ -3,7 +3,7 @@ use Rattle.std.specs.Prelude.{◌≡◌, ℕ, ◌<◌, ◌≤◌, Bool, false, L
 use Rattle.xw_bits.specs.Bits.{RowOfBits}
 use Rattle.xw_grid.specs.declared.lights.Light.{Light}
 use Rattle.xw_grid.specs.Grid.{Grid}
-use Rattle.xw_grid.specs.Light.{lights_of, place_with_cells}
+use Rattle.xw_grid.specs.Light.{lights_of, index_with_cells}
 use Rattle.xw_net.specs.Room.{size_at, row_at}
 use Rattle.xw_net.specs.declared.net.Net.{Net}
 
@@ -14,7 +14,7 @@ pub record AreLights (lights : List Light) : Type 0 where
 
 -- the index of the light before the edit that has the cells of a light after it
 abbrev pub same_before : List Light → List Light → ℕ → Option ℕ
-same_before before after light = option_and_then (place_with_cells before) (slice_get after light)
+same_before before after light = option_and_then (index_with_cells before) (slice_get after light)
 
 -- the bits of the old row; for a new light, `known` clear bits
 abbrev pub bits_from : List RowOfBits → ℕ → Option ℕ → List Bool

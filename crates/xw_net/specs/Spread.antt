@@ -5,17 +5,17 @@ use Rattle.xw_letters.specs.Letter.{is_capital}
 use Rattle.xw_feas.specs.Board.{Board, light_at, is_wholly_entered}
 use Rattle.xw_feas.specs.Feasible.{may_stand}
 use Rattle.xw_feas.specs.Flags.{set_has}
-use Rattle.xw_net.specs.Marks.{IsPlace, cell_at, slot_at}
+use Rattle.xw_net.specs.Marks.{IsPositionIn, cell_at, slot_at}
 use Rattle.xw_net.specs.Nets.{bits_at}
 use Rattle.xw_net.specs.Worklist.{ListOfLights, is_marked, is_waiting}
 
 -- the positions of a light from one on
-abbrev pub places_from : ℕ → ℕ → ℕ → ℕ → Bool
-places_from light place other other_place = (other == light) && nat_le place other_place
+abbrev pub positions_from : ℕ → ℕ → ℕ → ℕ → Bool
+positions_from light position other other_position = (other == light) && nat_le position other_position
 
 -- no positions
-abbrev pub no_places : ℕ → ℕ → Bool
-no_places light place = false
+abbrev pub no_positions : ℕ → ℕ → Bool
+no_positions light position = false
 
 -- the bits of a light's row
 abbrev pub bits_in : List RowOfBits → ℕ → List Bool
@@ -52,7 +52,7 @@ module _ (board : Board) where
 
   -- a light through the cell
   abbrev pub IsThrough : ℕ → ℕ → Type 0
-  IsThrough cell light = (place : ℕ) × IsPlace board light place × (cell_at board light place ≡ cell)
+  IsThrough cell light = (position : ℕ) × IsPositionIn board light position × (cell_at board light position ≡ cell)
 
   -- the cell has all letters that it allows
   abbrev pub HasAll : (ℕ → ℕ → Bool) → ℕ → Type 0
@@ -60,19 +60,21 @@ module _ (board : Board) where
 
   -- all searches for a support in the light start at the first word again,
   abbrev pub RestartsLight : ℕ → List ℕ → Type 0
-  RestartsLight light restart = (place letter : ℕ) → place < length (light_at board light) → is_capital letter ≡ true → set_has restart (slot_at board light place) letter ≡ true
+  RestartsLight light restart = (position letter : ℕ) → position < length (light_at board light) → is_capital letter ≡ true → set_has restart (slot_at board light position) letter ≡ true
 
   -- and those in other lights as before
   abbrev pub OtherSlotsStay : ℕ → List ℕ → List ℕ → Type 0
-  OtherSlotsStay light restart restart' = (slot : ℕ) → ((place : ℕ) → place < length (light_at board light) → slot_at board light place ≡ slot → ⊥) → slice_index_or restart' slot 0 ≡ slice_index_or restart slot 0
+  OtherSlotsStay light restart restart' = (slot : ℕ) → ((position : ℕ) → position < length (light_at board light) → slot_at board light position ≡ slot → ⊥)
+      → slice_index_or restart' slot 0 ≡ slice_index_or restart slot 0
 
   -- the letters that came back while the chain grows
   pub record IsSpread (old new : ℕ → ℕ → Bool) (marked waiting : ℕ → Bool) (coming : ℕ → ℕ → Bool) : Type 0 where
     -- the cells of marked lights have all letters that they allow, except at lights that are still
     -- on the list and positions still to come
-    pub on : (light place : ℕ) → IsPlace board light place → marked light ≡ true → waiting light ≡ false → coming light place ≡ false → HasAll new (cell_at board light place)
+    pub on : (light position : ℕ) → IsPositionIn board light position → marked light ≡ true → waiting light ≡ false → coming light position ≡ false → HasAll new (cell_at board light position)
     -- each light through a cell that got a letter is marked
-    pub reaches : (light place letter : ℕ) → IsPlace board light place → new (cell_at board light place) letter ≡ true → old (cell_at board light place) letter ≡ false → marked light ≡ true
+    pub reaches : (light position letter : ℕ) → IsPositionIn board light position
+        → new (cell_at board light position) letter ≡ true → old (cell_at board light position) letter ≡ false → marked light ≡ true
     -- a letter was there or is allowed, and an allowed letter that was there stays
     pub from : (cell letter : ℕ) → new cell letter ≡ true → (old cell letter || may_stand board cell letter) ≡ true
     pub stay : (cell letter : ℕ) → may_stand board cell letter ≡ true → old cell letter ≡ true → new cell letter ≡ true
@@ -84,14 +86,14 @@ module _ (board : Board) where
 
   -- letters came back in a step between lights, and the chain grew
   abbrev pub KeepsSpread : List ℕ → ListOfLights → List ℕ → ListOfLights → Type 0
-  KeepsSpread letters chain letters' chain' = (start : ℕ → ℕ → Bool) → SpreadsOn start no_places letters chain no_places letters' chain'
+  KeepsSpread letters chain letters' chain' = (start : ℕ → ℕ → Bool) → SpreadsOn start no_positions letters chain no_positions letters' chain'
 
   -- a set that contains, with a light, every light through a cell of it where a letter may come
   -- back
   abbrev pub IsReachClosed : (ℕ → ℕ → Bool) → (ℕ → Bool) → Type 0
   IsReachClosed letters member =
-      (light place other other_place : ℕ) → IsPlace board light place → IsPlace board other other_place
-      → cell_at board other other_place ≡ cell_at board light place → ¬ HasAll letters (cell_at board light place) → member light ≡ true → member other ≡ true
+      (light position other other_position : ℕ) → IsPositionIn board light position → IsPositionIn board other other_position
+      → cell_at board other other_position ≡ cell_at board light position → ¬ HasAll letters (cell_at board light position) → member light ≡ true → member other ≡ true
 
   -- the chain grew only within each such set that contains the lights that were marked
   abbrev pub Reaches : (ℕ → ℕ → Bool) → ListOfLights → ListOfLights → Type 0
@@ -109,8 +111,10 @@ module _ (board : Board) where
     pub rows_off : (light : ℕ) → marked light ≡ false → bits_in new.rows light ≡ bits_in old.rows light
     pub entered_on : (light : ℕ) → light < length board.lights → marked light ≡ true → waiting light ≡ false → slice_index_or new.entered light false ≡ is_wholly_entered board (light_at board light)
     pub entered_off : (light : ℕ) → marked light ≡ false → slice_index_or new.entered light false ≡ slice_index_or old.entered light false
-    pub restart_on : (light place letter : ℕ) → IsPlace board light place → marked light ≡ true → waiting light ≡ false → is_capital letter ≡ true → set_has new.restart (slot_at board light place) letter ≡ true
-    pub restart_off : (slot : ℕ) → ((light place : ℕ) → IsPlace board light place → slot_at board light place ≡ slot → marked light ≡ false) → slice_index_or new.restart slot 0 ≡ slice_index_or old.restart slot 0
+    pub restart_on : (light position letter : ℕ) → IsPositionIn board light position → marked light ≡ true → waiting light ≡ false → is_capital letter ≡ true
+        → set_has new.restart (slot_at board light position) letter ≡ true
+    pub restart_off : (slot : ℕ) → ((light position : ℕ) → IsPositionIn board light position → slot_at board light position ≡ slot → marked light ≡ false)
+        → slice_index_or new.restart slot 0 ≡ slice_index_or old.restart slot 0
     pub queued_on : (light : ℕ) → light < length board.lights → marked light ≡ true → waiting light ≡ false → slice_index_or new.queued light false ≡ true
     pub queued_off : (light : ℕ) → marked light ≡ false → slice_index_or new.queued light false ≡ slice_index_or old.queued light false
     -- the lengths stay

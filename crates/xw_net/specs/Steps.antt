@@ -3,12 +3,12 @@ use Rattle.std.specs.Prelude.{◌≡◌, ◌⊎◌, ℕ, ◌≤◌, ◌+◌, ◌
 use Rattle.xw_words.specs.Dictionary.{Dictionary, Entry}
 use Rattle.xw_feas.specs.Board.{Board}
 use Rattle.xw_feas.specs.Choices.{IsExact}
-use Rattle.xw_net.specs.Marks.{IsPlace, IsSlot, IsPosition, IsHeld, IsHolding, IsReady, IsSettledNet, Stays, cell_at, slot_at}
+use Rattle.xw_net.specs.Marks.{IsPositionIn, IsSlot, IsSetting, IsHeld, IsHolding, IsReady, IsSettledNet, Stays, cell_at, slot_at}
 use Rattle.xw_net.specs.Due.{Measure, IsUnderway, IsClosed, HasQueued, and_light, set_cost}
 use Rattle.xw_net.specs.Nets.{marks_of, word_stands, letter_stands, pending_in, queued_in, Waits, left_of, IsShaped, IsLeft, HasBits}
 use Rattle.xw_net.specs.Filled.{IsUnstripped, IsFilled}
 use Rattle.xw_net.specs.declared.net.Net.{Net}
-use Rattle.xw_net.specs.declared.place.Place.{Place}
+use Rattle.xw_net.specs.declared.position.Position.{Position}
 
 -- the light was queued
 abbrev pub IsQueuedToo : ℕ → Net → Net → Type 0
@@ -47,7 +47,7 @@ OthersStand cell letter old new = (other : ℕ) → (other ≡ letter → ⊥) �
 module _ (board : Board) where
   -- no letter is pending at the position
   abbrev pub IsCleared : Net → ℕ → ℕ → Type 0
-  IsCleared net light place = (letter : ℕ) → pending_in net (slot_at board light place) letter ≡ false
+  IsCleared net light position = (letter : ℕ) → pending_in net (slot_at board light position) letter ≡ false
 
   -- letters became pending only at slots of the board's lights
   abbrev pub PendAtSlots : Net → Net → Type 0
@@ -66,27 +66,29 @@ module _ (board : Board) where
       pub rest : IsLeft old new
 
     -- the letter has a support if it is in the net
-    abbrev pub IsLetterHeld : Net → Place → ℕ → Type 0
+    abbrev pub IsLetterHeld : Net → Position → ℕ → Type 0
     IsLetterHeld net here letter =
-        (dictionary : Dictionary) → IsPosition board entries dictionary → letter_stands net here.cell letter ≡ true → IsHeld board dictionary (marks_of net) here.light here.place letter
+        (dictionary : Dictionary) → IsSetting board entries dictionary → letter_stands net here.cell letter ≡ true → IsHeld board dictionary (marks_of net) here.light here.position letter
 
     -- each letter at the position has a support
-    abbrev pub ArePlaceHeld : Net → ℕ → ℕ → Type 0
-    ArePlaceHeld net light place =
-        (dictionary : Dictionary) → IsPosition board entries dictionary → (letter : ℕ) → letter_stands net (cell_at board light place) letter ≡ true → IsHeld board dictionary (marks_of net) light place letter
+    abbrev pub ArePositionHeld : Net → ℕ → ℕ → Type 0
+    ArePositionHeld net light position =
+        (dictionary : Dictionary) → IsSetting board entries dictionary → (letter : ℕ) → letter_stands net (cell_at board light position) letter ≡ true
+        → IsHeld board dictionary (marks_of net) light position letter
 
     -- each letter of the light has a support
     abbrev pub AreLightHeld : Net → ℕ → Type 0
     AreLightHeld net light =
-        (dictionary : Dictionary) → IsPosition board entries dictionary → (place letter : ℕ) → IsPlace board light place → letter_stands net (cell_at board light place) letter ≡ true → IsHeld board dictionary (marks_of net) light place letter
+        (dictionary : Dictionary) → IsSetting board entries dictionary → (position letter : ℕ) → IsPositionIn board light position → letter_stands net (cell_at board light position) letter ≡ true
+        → IsHeld board dictionary (marks_of net) light position letter
 
     -- the letters of the light keep their supports
     abbrev pub KeepSupports : ℕ → Net → Net → Type 0
-    KeepSupports light old new = (dictionary : Dictionary) → IsPosition board entries dictionary → Stays board dictionary light (marks_of old) (marks_of new)
+    KeepSupports light old new = (dictionary : Dictionary) → IsSetting board entries dictionary → Stays board dictionary light (marks_of old) (marks_of new)
 
     -- each held word still has the letter that it is held for
     abbrev pub KeepsHolding : Net → Net → Type 0
-    KeepsHolding old new = (dictionary : Dictionary) → IsPosition board entries dictionary → IsHolding board dictionary (marks_of old) → IsHolding board dictionary (marks_of new)
+    KeepsHolding old new = (dictionary : Dictionary) → IsSetting board entries dictionary → IsHolding board dictionary (marks_of old) → IsHolding board dictionary (marks_of new)
 
     -- what a check of letters keeps: it takes the net no further from its end, and leaves all that
     -- it makes pending to queued lights
@@ -99,41 +101,41 @@ module _ (board : Board) where
     -- the invariant of stripping is kept, and the ticks stay within budget: by a step,
     abbrev pub StepsOn : Net → ℕ → Net → ℕ → Type 0
     StepsOn old ticks new ticks' =
-        (dictionary : Dictionary) (measure : Measure) → IsPosition board entries dictionary
+        (dictionary : Dictionary) (measure : Measure) → IsSetting board entries dictionary
         → IsUnderway board dictionary measure (marks_of old) (queued_in old) ticks → IsUnderway board dictionary measure (marks_of new) (queued_in new) ticks'
 
     -- by a step that removes words from a queued light,
     abbrev pub StrikesOn : ℕ → Net → ℕ → Net → ℕ → Type 0
     StrikesOn light old ticks new ticks' =
-        (dictionary : Dictionary) (measure : Measure) → IsPosition board entries dictionary → queued_in old light ≡ true → measure.member light ≡ true
+        (dictionary : Dictionary) (measure : Measure) → IsSetting board entries dictionary → queued_in old light ≡ true → measure.member light ≡ true
         → IsUnderway board dictionary measure (marks_of old) (queued_in old) ticks → IsUnderway board dictionary measure (marks_of new) (queued_in new) ticks'
 
     -- and by one that checks letters of a light that counts as queued
     abbrev pub ChecksOn : ℕ → Net → ℕ → Net → ℕ → Type 0
     ChecksOn light old ticks new ticks' =
-        (dictionary : Dictionary) (measure : Measure) → IsPosition board entries dictionary → measure.member light ≡ true
+        (dictionary : Dictionary) (measure : Measure) → IsSetting board entries dictionary → measure.member light ≡ true
         → IsUnderway board dictionary measure (marks_of old) (and_light (queued_in old) light) ticks → IsUnderway board dictionary measure (marks_of new) (and_light (queued_in new) light) ticks'
 
     -- stripping leaves nothing pending,
     abbrev pub LeavesNonePending : Net → Net → Type 0
     LeavesNonePending old new =
-        (dictionary : Dictionary) → IsPosition board entries dictionary → IsReady board dictionary (marks_of old) → ((slot letter : ℕ) → pending_in old slot letter ≡ true → IsSlot board slot)
+        (dictionary : Dictionary) → IsSetting board entries dictionary → IsReady board dictionary (marks_of old) → ((slot letter : ℕ) → pending_in old slot letter ≡ true → IsSlot board slot)
         → (slot letter : ℕ) → pending_in new slot letter ≡ false
 
     -- settles the marks,
     abbrev pub SettlesMarks : Net → Net → Type 0
-    SettlesMarks old new = (dictionary : Dictionary) → IsPosition board entries dictionary → IsReady board dictionary (marks_of old) → IsSettledNet board dictionary (marks_of new)
+    SettlesMarks old new = (dictionary : Dictionary) → IsSetting board entries dictionary → IsReady board dictionary (marks_of old) → IsSettledNet board dictionary (marks_of new)
 
     -- leaves exactly the feasible words and letters,
     abbrev pub LeavesFeasible : Net → Net → Type 0
-    LeavesFeasible old new = (dictionary : Dictionary) → IsPosition board entries dictionary → IsReady board dictionary (marks_of old) → IsExact board dictionary (word_stands new) (letter_stands new)
+    LeavesFeasible old new = (dictionary : Dictionary) → IsSetting board entries dictionary → IsReady board dictionary (marks_of old) → IsExact board dictionary (word_stands new) (letter_stands new)
 
     -- and prepares the net for the next edit
     abbrev pub FillsNet : Net → Net → Type 0
-    FillsNet old new = (dictionary : Dictionary) → IsPosition board entries dictionary → IsUnstripped board dictionary old → IsFilled board dictionary new
+    FillsNet old new = (dictionary : Dictionary) → IsSetting board entries dictionary → IsUnstripped board dictionary old → IsFilled board dictionary new
 
     -- it spends at most the cost of a set of lights that has the queued ones and is closed
     abbrev pub StripsWithin : Net → ℕ → ℕ → Type 0
     StripsWithin old ticks ticks' =
-        (dictionary : Dictionary) (member : ℕ → Bool) → IsPosition board entries dictionary → IsReady board dictionary (marks_of old) → IsClosed board dictionary member (letter_stands old) → HasQueued board member (marks_of old)
+        (dictionary : Dictionary) (member : ℕ → Bool) → IsSetting board entries dictionary → IsReady board dictionary (marks_of old) → IsClosed board dictionary member (letter_stands old) → HasQueued board member (marks_of old)
         → ticks' ≤ ticks + set_cost board dictionary member

@@ -37,42 +37,42 @@ NoneSupports row words position letter from end = (other : ℕ) → from ≤ oth
 -- the held supports by slot and letter, and by slot the letters whose search has to restart at the
 -- first word
 pub record Held : Type 0 where
-  pub places : List ℕ
+  pub indices : List ℕ
   pub restart : List ℕ
 
 -- the two arrays together
 abbrev pub holds : List ℕ → List ℕ → Held
-holds places restart = record { places = places; restart = restart }
+holds indices restart = record { indices = indices; restart = restart }
 
 -- the word held for a letter at a slot
-abbrev pub place_for : Held → ℕ → ℕ → ℕ
-place_for held slot letter = slice_index held.places (26 * slot + (letter - 65))
+abbrev pub index_for : Held → ℕ → ℕ → ℕ
+index_for held slot letter = slice_index held.indices (26 * slot + (letter - 65))
 
 -- whether a known word is held, and no word before it can support the letter
 abbrev pub is_read_in : Held → ℕ → ℕ → ℕ → Bool
-is_read_in held slot letter words = nat_lt (place_for held slot letter) words && not (set_has held.restart slot letter)
+is_read_in held slot letter words = nat_lt (index_for held slot letter) words && not (set_has held.restart slot letter)
 
 -- the chunk where the next search starts
 abbrev pub search_from : Held → ℕ → ℕ → ℕ → ℕ
-search_from held slot letter words = if is_read_in held slot letter words then place_for held slot letter / 64 else 0
+search_from held slot letter words = if is_read_in held slot letter words then index_for held slot letter / 64 else 0
 
 -- the outcomes of a search for a support of a letter
 pub data Finds (row : List Bool) (words : List Entry) (position slot letter : ℕ) (old new : Held) (found : Bool) (spent : ℕ) : Type 0 where
   -- the held word is still in the row
-  stands : found ≡ true → place_for old slot letter < length row → slice_index_or row (place_for old slot letter) false ≡ true
+  stands : found ≡ true → index_for old slot letter < length row → slice_index_or row (index_for old slot letter) false ≡ true
       → new ≡ old → spent ≡ 0 → Finds row words position slot letter old new found spent
   -- another word supports the letter; it is the first one from the start of the search on
   moves : (word : ℕ) → found ≡ true
-      → (place_for old slot letter < length row → slice_index_or row (place_for old slot letter) false ≡ false)
+      → (index_for old slot letter < length row → slice_index_or row (index_for old slot letter) false ≡ false)
       → 64 * search_from old slot letter (length row) ≤ word → supports row words position letter word ≡ true
       → ((other : ℕ) → 64 * search_from old slot letter (length row) ≤ other → other < word → supports row words position letter other ≡ false)
-      → new.places ≡ slice_set old.places (26 * slot + (letter - 65)) word
+      → new.indices ≡ slice_set old.indices (26 * slot + (letter - 65)) word
       → length new.restart ≡ length old.restart
       → ((other_slot other : ℕ) → set_has new.restart other_slot other ≡ (set_has old.restart other_slot other && not ((other_slot == slot) && (other == letter))))
       → spent + search_from old slot letter (length row) ≤ word / 64 + 1 → Finds row words position slot letter old new found spent
   -- no word does
   nowhere : found ≡ false
-      → (place_for old slot letter < length row → slice_index_or row (place_for old slot letter) false ≡ false)
+      → (index_for old slot letter < length row → slice_index_or row (index_for old slot letter) false ≡ false)
       → ((other : ℕ) → 64 * search_from old slot letter (length row) ≤ other → supports row words position letter other ≡ false)
       → new ≡ old
       → spent ≤ chunks_of (length row) - search_from old slot letter (length row) → Finds row words position slot letter old new found spent

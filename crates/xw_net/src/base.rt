@@ -26,18 +26,18 @@ fn agreeing_in<R: Rows>(
     rows: &mut R,
     board: &Board<'_>,
     cells: &Cells,
-    place: usize,
+    position: usize,
     chunk: usize,
 ) -> u64
-    requires { place < length cells.now }
+    requires { position < length cells.now }
     ensures entries { R.entries rows.new ≡ R.entries rows.old }
     ensures risen { R.ticks rows.old ≤ R.ticks rows.new }
-    ensures words { (k : ℕ) → k < 64 → has_bit result k ≡ has_entry (entry board.now (slice_index cells.now place)) (R.entries rows.old (length cells.now)) place (64 * chunk + k) }
+    ensures words { (k : ℕ) → k < 64 → has_bit result k ≡ has_entry (entry board.now (slice_index cells.now position)) (R.entries rows.old (length cells.now)) position (64 * chunk + k) }
     ensures cost { R.ticks rows.new ≤ R.ticks rows.old + 1 }
 {
-    match board.entry(cells.at(place)) {
+    match board.entry(cells.at(position)) {
         None => u64::MAX,
-        Some(letter) => rows.column(cells.len(), place, letter, chunk),
+        Some(letter) => rows.column(cells.len(), position, letter, chunk),
     }
 }
 
@@ -51,11 +51,11 @@ fn base_in<R: Rows>(rows: &mut R, board: &Board<'_>, cells: &Cells, chunk: usize
     ensures cost { R.ticks rows.new ≤ R.ticks rows.old + (length cells.now + 1) }
 {
     let mut words = rows.active(cells.len(), chunk);
-    for place in 0..cells.len() {
+    for position in 0..cells.len() {
         if words == 0 {
             return 0;
         }
-        words &= agreeing_in(rows, board, cells, place, chunk);
+        words &= agreeing_in(rows, board, cells, position, chunk);
     }
     words
 }
@@ -106,20 +106,20 @@ fn keep_agreeing<R: Rows>(
     rows: &mut R,
     board: &Board<'_>,
     cells: &Cells,
-    place: usize,
+    position: usize,
     row: &mut BitRow,
 )
-    requires place { place < length cells.now }
+    requires position { position < length cells.now }
     requires row { length row.old.bits ≡ length (R.entries rows.old (length cells.now)) }
     ensures entries { R.entries rows.new ≡ R.entries rows.old }
     ensures risen { R.ticks rows.old ≤ R.ticks rows.new }
     ensures len { length row.new.bits ≡ length row.old.bits }
-    ensures bits { KeepsAgreeing board.now cells.now (R.entries rows.old) place row.old.bits row.new.bits }
+    ensures bits { KeepsAgreeing board.now cells.now (R.entries rows.old) position row.old.bits row.new.bits }
     ensures room { row.new.room ≡ row.old.room }
     ensures cost { R.ticks rows.new ≤ R.ticks rows.old + chunks_of (length row.old.bits) }
 {
-    if let Some(letter) = board.entry(cells.at(place)) {
-        rows.keep_columns(cells.len(), place, LetterSet::only(letter), row);
+    if let Some(letter) = board.entry(cells.at(position)) {
+        rows.keep_columns(cells.len(), position, LetterSet::only(letter), row);
     }
 }
 
@@ -136,8 +136,8 @@ fn read_open<R: Rows>(rows: &mut R, board: &Board<'_>, cells: &Cells, row: &mut 
     ensures cost { R.ticks rows.new ≤ R.ticks rows.old + (length cells.now + 1) * chunks_of (length row.old.bits) }
 {
     read_active(rows, cells.len(), row);
-    for place in 0..cells.len() {
-        keep_agreeing(rows, board, cells, place, row);
+    for position in 0..cells.len() {
+        keep_agreeing(rows, board, cells, position, row);
     }
 }
 
@@ -164,12 +164,12 @@ pub fn read_base<R: Rows>(rows: &mut R, board: &Board<'_>, light: usize, row: &m
     }
 }
 
-/// Updates the chunk of a base row that has the word at index `place`.
+/// Updates the chunk of a base row that has the word at this index.
 fn read_chunk<R: Rows>(
     rows: &mut R,
     board: &Board<'_>,
     light: usize,
-    place: usize,
+    index: usize,
     row: &mut BitRow,
 )
     requires light { light < length board.now.lights }
@@ -178,26 +178,26 @@ fn read_chunk<R: Rows>(
     ensures entries { R.entries rows.new ≡ R.entries rows.old }
     ensures risen { R.ticks rows.old ≤ R.ticks rows.new }
     ensures len { length row.new.bits ≡ length row.old.bits }
-    ensures bits { IsRightBut board.now (R.entries rows.old) light place row.old.bits → row.new.bits ≡ base_row board.now (R.entries rows.old) light }
+    ensures bits { IsRightBut board.now (R.entries rows.old) light index row.old.bits → row.new.bits ≡ base_row board.now (R.entries rows.old) light }
     ensures room { row.new.room ≡ row.old.room }
     ensures cost { R.ticks rows.new ≤ R.ticks rows.old + row_cost board.now light (length row.old.bits) }
 {
-    if place >= row.len() {
+    if index >= row.len() {
         return;
     }
     let cells = board.light(light);
     let entered = has_all_entries(board, &cells);
-    let words = base_chunk(rows, board, &cells, entered, place / 64);
-    row.set_chunk(place / 64, words);
+    let words = base_chunk(rows, board, &cells, entered, index / 64);
+    row.set_chunk(index / 64, words);
 }
 
 /// The index of the changed word, if that word has length `len`.
-pub(crate) fn place_if_long(word: Option<(usize, usize)>, len: usize) -> Option<usize>
-    ensures found { IfSome result (λ place. word ≡ Some (len, place)) }
-    ensures none { IfNone result ((place : ℕ) → word ≡ Some (len, place) → ⊥) }
+pub(crate) fn index_if_long(word: Option<(usize, usize)>, len: usize) -> Option<usize>
+    ensures found { IfSome result (λ index. word ≡ Some (len, index)) }
+    ensures none { IfNone result ((index : ℕ) → word ≡ Some (len, index) → ⊥) }
 {
     match word {
-        Some((long, place)) if long == len => Some(place),
+        Some((long, index)) if long == len => Some(index),
         _ => None,
     }
 }
@@ -221,8 +221,8 @@ fn read_changed<R: Rows>(
     ensures room { row.new.room ≡ row.old.room }
     ensures cost { R.ticks rows.new ≤ R.ticks rows.old + row_cost board.now light (length row.old.bits) }
 {
-    match place_if_long(word, board.light(light).len()) {
-        Some(place) => read_chunk(rows, board, light, place, row),
+    match index_if_long(word, board.light(light).len()) {
+        Some(index) => read_chunk(rows, board, light, index, row),
         None => read_base(rows, board, light, row),
     }
 }

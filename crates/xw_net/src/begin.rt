@@ -69,13 +69,13 @@ fn edit_cell(
 }
 
 /// The index of a cell inside the grid.
-fn place_in(grid: &Grid, cell: Cell) -> usize
+fn index_in(grid: &Grid, cell: Cell) -> usize
     requires { is_inside grid.now cell ≡ true }
-    ensures place { result ≡ index_of grid.now cell }
+    ensures index { result ≡ index_of grid.now cell }
     ensures within { result < length grid.now.squares }
 {
     match grid.index(cell) {
-        Some(place) => place,
+        Some(index) => index,
         None => unreachable!(),
     }
 }
@@ -99,7 +99,7 @@ pub(crate) fn edit_cells(
 {
     for at in 0..cells.len() {
         let (cell, old) = cells[at];
-        let cell = place_in(grid, cell);
+        let cell = index_in(grid, cell);
         edit_cell(board, cell, old, letters, queue, chain);
     }
 }
@@ -110,8 +110,8 @@ fn may_have_word(word: Option<(usize, usize)>, len: usize, row: &BitRow) -> bool
     ensures { result ≡ may_have word len row.now.bits }
 {
     match word {
-        Some((long, place)) => {
-            long == len && (row.len() <= place || row.len() - 1 == place || row.has(place))
+        Some((long, index)) => {
+            long == len && (row.len() <= index || row.len() - 1 == index || row.has(index))
         }
         None => false,
     }

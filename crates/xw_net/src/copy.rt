@@ -34,8 +34,8 @@ fn have_same_entries(before: &Board<'_>, cells: &Cells, after: &Board<'_>, other
     if cells.len() != others.len() {
         return false;
     }
-    for place in 0..cells.len() {
-        if before.entry(cells.at(place)) != after.entry(others.at(place)) {
+    for position in 0..cells.len() {
+        if before.entry(cells.at(position)) != after.entry(others.at(position)) {
             return false;
         }
     }

@@ -37,7 +37,7 @@ impl Net {
     ghost use Rattle.xw_words.specs.Dictionary.{Dictionary};
     ghost use Rattle.xw_grid.specs.Light.{lights_of};
     ghost use Rattle.xw_feas.specs.WellFormed.{HasLetterEntries};
-    ghost use Rattle.xw_net.specs.Marks.{IsPosition};
+    ghost use Rattle.xw_net.specs.Marks.{IsSetting};
     ghost use Rattle.xw_net.specs.Filled.{AreLong, IsFresh, IsFilled};
     ghost use Rattle.xw_net.specs.Update.{state_of};
     ghost use Rattle.xw_net.specs.Net.{IsSettledFor, HasRoomFor, known_counts};
@@ -49,7 +49,7 @@ impl Net {
         ensures entries { R.entries rows.new ≡ R.entries rows.old }
         ensures letters { HasLetterEntries board.now }
         ensures spare { self.new.spare ≡ self.old.spare }
-        ensures filled { (dictionary : Dictionary) → IsPosition board.now (R.entries rows.old) dictionary → IsFilled board.now dictionary self.new }
+        ensures filled { (dictionary : Dictionary) → IsSetting board.now (R.entries rows.old) dictionary → IsFilled board.now dictionary self.new }
     {
         fill_letters(board, &mut self.letters);
         mark_all(board, &mut self.chain);

@@ -9,7 +9,7 @@ ghost use Rattle.xw_net.specs.Renumber.{same_before};
 ghost use Rattle.xw_net.specs.Forget.{cut, lose, lost_from as lost_from_of, lost_at, nowhere, ChangesHeld, KeepsHeld, KeepsFewer, ForgetNone, Forgets};
 
 use crate::change::Change;
-use crate::place::place_of;
+use crate::position::position_of;
 use crate::room::NOWHERE;
 use xw_feas::board::Board;
 use xw_grid::lights::Lights;
@@ -50,13 +50,13 @@ fn forget_light(
     ensures cuts { ChangesHeld board.now light (lose first) held.old held.new }
     ensures others { KeepsHeld board.now light held.old held.new }
     ensures less { KeepsFewer pending.old pending.new }
-    ensures cleared { (place letter : ℕ) → first < nowhere → place < length (light_at board.now light) → set_has pending.new (slot_at board.now light place) letter ≡ false }
+    ensures cleared { (position letter : ℕ) → first < nowhere → position < length (light_at board.now light) → set_has pending.new (slot_at board.now light position) letter ≡ false }
 {
     if first >= NOWHERE {
         return;
     }
-    for place in 0..board.light(light).len() {
-        let slot = place_of(board, light, place).slot;
+    for position in 0..board.light(light).len() {
+        let slot = position_of(board, light, position).slot;
         forget_slot(slot, first, held);
         pending[slot] = LetterSet::new();
     }

@@ -12,7 +12,7 @@ use xw_grid::lights::{Light, Lights};
 use xw_letters::letter_set::LetterSet;
 
 /// The index of cell `k` of a light, if it is inside the grid.
-fn place_along(grid: &Grid, light: &Light, k: u32) -> Option<usize>
+fn index_along(grid: &Grid, light: &Light, k: u32) -> Option<usize>
     ensures along { IfSome result (λ cell. IsAlong grid.now light.now k cell) }
     ensures within { IfSome result (λ cell. cell < length grid.now.squares) }
     ensures only { result ≡ None → (cell : ℕ) → IsAlong grid.now light.now k cell → ⊥ }
@@ -39,7 +39,7 @@ fn raise_along(
     ensures { Raises board.now (IsAmong grid.now light.now light.now.size) letters.old chain.old letters.new chain.new }
 {
     for k in 0..light.size {
-        let Some(cell) = place_along(grid, light, k) else {
+        let Some(cell) = index_along(grid, light, k) else {
             continue;
         };
         raise_cell(board, cell, letters, chain);

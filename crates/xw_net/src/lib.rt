@@ -18,7 +18,7 @@ mod forget;
 mod gone;
 mod narrow;
 pub mod net;
-mod place;
+mod position;
 mod queries;
 mod renumber;
 mod reserve;

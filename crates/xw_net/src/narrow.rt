@@ -4,17 +4,17 @@ ghost use Rattle.xw_net.specs.Begin.{IsNarrowedRow, IsNarrowed};
 ghost use Rattle.xw_net.specs.Room.{KeepRoom};
 ghost use Rattle.xw_net.specs.Spread.{OtherRowsStay, IsAsLong};
 
-use crate::base::place_if_long;
+use crate::base::index_if_long;
 use xw_bits::bit_row::BitRow;
 use xw_feas::board::Board;
 
-/// Removes, from the chunk of the word at index `place`, the words that are not base words.
-fn narrow_at(base: &BitRow, place: usize, row: &mut BitRow)
+/// Removes, from the chunk of the word at this index, the words that are not base words.
+fn narrow_at(base: &BitRow, index: usize, row: &mut BitRow)
     requires { length row.old.bits ≡ length base.now.bits }
     ensures room { row.new.room ≡ row.old.room }
-    ensures narrowed { (len : ℕ) → IsNarrowedRow (Some (len, place)) len row.old.bits base.now.bits row.new.bits }
+    ensures narrowed { (len : ℕ) → IsNarrowedRow (Some (len, index)) len row.old.bits base.now.bits row.new.bits }
 {
-    let chunk = place / 64;
+    let chunk = index / 64;
     if 64 * chunk >= row.len() {
         return;
     }
@@ -29,8 +29,8 @@ fn narrow(word: Option<(usize, usize)>, len: usize, base: &BitRow, row: &mut Bit
     ensures room { row.new.room ≡ row.old.room }
     ensures narrowed { IsNarrowedRow word len row.old.bits base.now.bits row.new.bits }
 {
-    match place_if_long(word, len) {
-        Some(place) => narrow_at(base, place, row),
+    match index_if_long(word, len) {
+        Some(index) => narrow_at(base, index, row),
         None => {
             row.and(base);
             row.keep_count();

@@ -4,7 +4,7 @@ ghost use Rattle.xw_letters.specs.Letter.{IsLetter};
 ghost use Rattle.xw_letters.specs.LetterSet.{has};
 ghost use Rattle.xw_feas.specs.Board.{light_at};
 
-use crate::place::{Place, place_of, side};
+use crate::position::{Position, position_of, side};
 use crate::room::{NOWHERE, Spare};
 use crate::support::{find_support, strike_row};
 use crate::worklist::Worklist;
@@ -57,7 +57,7 @@ fn with_all(set: LetterSet, more: LetterSet) -> LetterSet
 {
     let mut all = set;
     let mut from = 0;
-    while let Some(number) = more.next_place(from) {
+    while let Some(number) = more.next_index(from) {
         all.insert(Letter::at(number));
         from = number + 1;
     }
@@ -69,38 +69,51 @@ impl Net {
     ghost use Rattle.xw_letters.specs.Letter.{IsLetter};
     ghost use Rattle.xw_letters.specs.LetterSet.{has};
     ghost use Rattle.xw_feas.specs.Board.{light_at};
-    ghost use Rattle.xw_net.specs.Marks.{side_of, IsPlace, Drops, LeavesPending, cell_at, slot_at};
+    ghost use Rattle.xw_net.specs.Marks.{side_of, IsPositionIn, Drops, LeavesPending, cell_at, slot_at};
     ghost use Rattle.xw_net.specs.Nets.{marks_of, letter_stands, pending_in, queued_in, IsShaped, IsLeft, IsThere, IsQueue, Waits, left_of};
-    ghost use Rattle.xw_net.specs.Steps.{IsQueuedToo, IsCheck, IsStruck, StandFewer, OthersStand, IsLetterHeld, IsStruckFrom, IsLeftPending, IsStrippable, IsStep, WaitMore, PendLess, IsCleared, PendAtSlots, ArePlaceHeld, AreLightHeld, KeepSupports, KeepsHolding, StepsOn, StrikesOn, ChecksOn, FillsNet, StripsWithin};
+    ghost use Rattle.xw_net.specs.Steps.{IsQueuedToo, IsCheck, IsStruck, StandFewer, OthersStand, IsLetterHeld, IsStruckFrom, IsLeftPending, IsStrippable, IsStep, WaitMore, PendLess, IsCleared, PendAtSlots, ArePositionHeld, AreLightHeld, KeepSupports, KeepsHolding, StepsOn, StrikesOn, ChecksOn, FillsNet, StripsWithin};
     ghost use Rattle.xw_net.specs.Worklist.{is_waiting};
 
     /// Removes from a light the words with a pending letter at a position.
-    fn strike_place<R: Rows>(&mut self, rows: &mut R, board: &Board<'_>, light: usize, place: usize)
+    fn strike_position<R: Rows>(
+        &mut self,
+        rows: &mut R,
+        board: &Board<'_>,
+        light: usize,
+        position: usize,
+    )
         requires net { IsStrippable board.now (R.entries rows.old) self.old }
-        requires place { IsPlace board.now light place }
+        requires position { IsPositionIn board.now light position }
         ensures entries { R.entries rows.new ≡ R.entries rows.old }
         ensures risen { R.ticks rows.old ≤ R.ticks rows.new }
         ensures step { IsStep board.now (R.entries rows.old) self.old self.new }
         ensures struck { IsStruck self.old self.new }
-        ensures cleared { IsCleared board.now self.new light place }
+        ensures cleared { IsCleared board.now self.new light position }
         ensures less { PendLess self.old self.new }
         ensures kept { StrikesOn board.now (R.entries rows.old) light self.old (R.ticks rows.old) self.new (R.ticks rows.new) }
     {
-        let here = place_of(board, light, place);
+        let here = position_of(board, light, position);
         let pending = self.pending[here.slot];
         let alive = self.letters[here.cell];
         self.pending[here.slot] = LetterSet::new();
-        strike_row(rows, &mut self.rows[light], here.len, place, pending, alive);
+        strike_row(
+            rows,
+            &mut self.rows[light],
+            here.len,
+            position,
+            pending,
+            alive,
+        );
         self.entered[light] &= !pending.has(board.letter(here.cell));
     }
 
     /// Whether no letter is pending at a position of a light.
-    fn is_clear(&self, board: &Board<'_>, light: usize, place: usize) -> bool
+    fn is_clear(&self, board: &Board<'_>, light: usize, position: usize) -> bool
         requires shaped { IsShaped board.now self.now }
-        requires place { IsPlace board.now light place }
-        ensures { result ≡ true → IsCleared board.now self.now light place }
+        requires position { IsPositionIn board.now light position }
+        ensures { result ≡ true → IsCleared board.now self.now light position }
     {
-        let here = place_of(board, light, place);
+        let here = position_of(board, light, position);
         self.pending[here.slot].is_same(LetterSet::new())
     }
 
@@ -112,15 +125,15 @@ impl Net {
         ensures risen { R.ticks rows.old ≤ R.ticks rows.new }
         ensures step { IsStep board.now (R.entries rows.old) self.old self.new }
         ensures struck { IsStruck self.old self.new }
-        ensures cleared { (place letter : ℕ) → IsPlace board.now light place → pending_in self.new (slot_at board.now light place) letter ≡ false }
+        ensures cleared { (position letter : ℕ) → IsPositionIn board.now light position → pending_in self.new (slot_at board.now light position) letter ≡ false }
         ensures less { PendLess self.old self.new }
         ensures kept { StrikesOn board.now (R.entries rows.old) light self.old (R.ticks rows.old) self.new (R.ticks rows.new) }
     {
-        for place in 0..board.light(light).len() {
-            if self.is_clear(board, light, place) {
+        for position in 0..board.light(light).len() {
+            if self.is_clear(board, light, position) {
                 continue;
             }
-            self.strike_place(rows, board, light, place);
+            self.strike_position(rows, board, light, position);
         }
     }
 
@@ -144,7 +157,7 @@ impl Net {
     }
 
     /// Removes a letter from a cell, and makes it pending for the crossing light.
-    fn drop_letter(&mut self, board: &Board<'_>, here: Place, letter: Letter)
+    fn drop_letter(&mut self, board: &Board<'_>, here: Position, letter: Letter)
         requires shaped { IsShaped board.now self.old }
         requires there { IsThere board.now here }
         requires stood { letter_stands self.old here.cell letter ≡ true }
@@ -153,10 +166,10 @@ impl Net {
         ensures same { IsStruckFrom self.old self.new }
         ensures fewer { left_of self.new ≤ left_of self.old }
         ensures waits { WaitMore self.old self.new }
-        ensures drops { Drops board.now here.light here.place letter (marks_of self.old) (marks_of self.new) }
+        ensures drops { Drops board.now here.light here.position letter (marks_of self.old) (marks_of self.new) }
     {
         self.letters[here.cell].remove(letter);
-        if let Some(other) = board.crossing(here.light, here.place) {
+        if let Some(other) = board.crossing(here.light, here.position) {
             self.leave_pending(board, other, here.cell, letter);
         }
     }
@@ -183,7 +196,7 @@ impl Net {
 
     /// Removes all letters of a cell, and makes them pending for the crossing light. `_first` is one
     /// of them.
-    fn empty_place(&mut self, board: &Board<'_>, here: Place, _first: Letter)
+    fn empty_position(&mut self, board: &Board<'_>, here: Position, _first: Letter)
         requires shaped { IsShaped board.now self.old }
         requires there { IsThere board.now here }
         requires stood { letter_stands self.old here.cell _first ≡ true }
@@ -192,19 +205,25 @@ impl Net {
         ensures same { IsStruckFrom self.old self.new }
         ensures fewer { left_of self.new ≤ left_of self.old }
         ensures waits { WaitMore self.old self.new }
-        ensures letters { (cell letter : ℕ) → letter_stands self.new cell letter ≡ (letter_stands self.old cell letter && not (cell == cell_at board.now here.light here.place)) }
-        ensures leaves { LeavesPending board.now here.light here.place (letter_stands self.old (cell_at board.now here.light here.place)) (marks_of self.old) (marks_of self.new) }
+        ensures letters { (cell letter : ℕ) → letter_stands self.new cell letter ≡ (letter_stands self.old cell letter && not (cell == cell_at board.now here.light here.position)) }
+        ensures leaves { LeavesPending board.now here.light here.position (letter_stands self.old (cell_at board.now here.light here.position)) (marks_of self.old) (marks_of self.new) }
     {
         let gone = self.letters[here.cell];
         self.letters[here.cell] = LetterSet::new();
-        if let Some(other) = board.crossing(here.light, here.place) {
+        if let Some(other) = board.crossing(here.light, here.position) {
             self.leave_all_pending(board, other, here.cell, gone);
         }
     }
 
     /// Checks one letter of a cell: if its support is gone, it looks for another, and removes the
     /// letter if there is none.
-    fn keep_letter<R: Rows>(&mut self, rows: &mut R, board: &Board<'_>, here: Place, letter: Letter)
+    fn keep_letter<R: Rows>(
+        &mut self,
+        rows: &mut R,
+        board: &Board<'_>,
+        here: Position,
+        letter: Letter,
+    )
         requires letter { IsLetter letter }
         requires net { IsStrippable board.now (R.entries rows.old) self.old }
         requires there { IsThere board.now here }
@@ -228,29 +247,35 @@ impl Net {
     }
 
     /// Checks each letter at a position. If the light has no word left, all go at once.
-    fn keep_place<R: Rows>(&mut self, rows: &mut R, board: &Board<'_>, light: usize, place: usize)
+    fn keep_position<R: Rows>(
+        &mut self,
+        rows: &mut R,
+        board: &Board<'_>,
+        light: usize,
+        position: usize,
+    )
         requires net { IsStrippable board.now (R.entries rows.old) self.old }
-        requires place { IsPlace board.now light place }
+        requires position { IsPositionIn board.now light position }
         requires open { slice_index_or self.old.entered.items light false ≡ false }
         ensures entries { R.entries rows.new ≡ R.entries rows.old }
         ensures risen { R.ticks rows.old ≤ R.ticks rows.new }
         ensures step { IsStep board.now (R.entries rows.old) self.old self.new }
         ensures check { IsCheck board.now (R.entries rows.old) self.old self.new }
         ensures entered { self.new.entered.items ≡ self.old.entered.items }
-        ensures held { ArePlaceHeld board.now (R.entries rows.old) self.new light place }
+        ensures held { ArePositionHeld board.now (R.entries rows.old) self.new light position }
         ensures stays { KeepSupports board.now (R.entries rows.old) light self.old self.new }
         ensures kept { ChecksOn board.now (R.entries rows.old) light self.old (R.ticks rows.old) self.new (R.ticks rows.new) }
     {
-        let here = place_of(board, light, place);
+        let here = position_of(board, light, position);
         let alive = self.letters[here.cell];
-        if let Some(first) = alive.next_place(0) {
+        if let Some(first) = alive.next_index(0) {
             if self.rows[light].count() == 0 {
-                self.empty_place(board, here, Letter::at(first));
+                self.empty_position(board, here, Letter::at(first));
                 return;
             }
         }
         let mut from = 0;
-        while let Some(number) = alive.next_place(from) {
+        while let Some(number) = alive.next_index(from) {
             self.keep_letter(rows, board, here, Letter::at(number));
             from = number + 1;
         }
@@ -271,8 +296,8 @@ impl Net {
         if self.entered[light] {
             return;
         }
-        for place in 0..board.light(light).len() {
-            self.keep_place(rows, board, light, place);
+        for position in 0..board.light(light).len() {
+            self.keep_position(rows, board, light, position);
         }
     }
 

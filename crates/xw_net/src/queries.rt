@@ -32,8 +32,8 @@ impl Net {
         ensures { result ≡ first_from (flags_at lights.now self.now light) from }
     {
         let row = &self.rows[light];
-        if let Some(place) = row.next_one(from) {
-            return Some(place);
+        if let Some(index) = row.next_one(from) {
+            return Some(index);
         }
         if from <= row.len() && self.entered[light] {
             Some(row.len())

@@ -4,13 +4,13 @@ ghost use Rattle.xw_letters.specs.Letter.{is_capital};
 ghost use Rattle.xw_letters.specs.LetterSet.{has};
 ghost use Rattle.xw_feas.specs.Feasible.{may_stand};
 ghost use Rattle.xw_feas.specs.Flags.{set_has};
-ghost use Rattle.xw_net.specs.Marks.{IsPlace, cell_at, AreByCell, AreBySlot, HasFewCells};
+ghost use Rattle.xw_net.specs.Marks.{IsPositionIn, cell_at, AreByCell, AreBySlot, HasFewCells};
 ghost use Rattle.xw_net.specs.Room.{KeepRoom};
-ghost use Rattle.xw_net.specs.Spread.{RestartsLight, OtherSlotsStay, places_from, no_places, bits_in, AreAsLong, HasAll, IsThrough, IsSpread, SpreadsOn, ReachesFrom, Reaches, Brings, lit, IsLit, IsListed, none_waits, OtherRowsStay, IsAsLong};
+ghost use Rattle.xw_net.specs.Spread.{RestartsLight, OtherSlotsStay, positions_from, no_positions, bits_in, AreAsLong, HasAll, IsThrough, IsSpread, SpreadsOn, ReachesFrom, Reaches, Brings, lit, IsLit, IsListed, none_waits, OtherRowsStay, IsAsLong};
 ghost use Rattle.xw_net.specs.Worklist.{is_marked, HasSeeds, Grows, MarksAll, MarksOnly, HasLights};
 
 use crate::net::Net;
-use crate::place::place_of;
+use crate::position::position_of;
 use crate::worklist::Worklist;
 use xw_bits::bit_row::BitRow;
 use xw_feas::board::{Board, allowed, has_all_entries};
@@ -39,41 +39,41 @@ pub(crate) fn raise(letters: &mut [LetterSet], cell: usize, may: LetterSet) -> b
 }
 
 /// Marks the light that crosses another at a position, if there is one.
-fn mark_crossing(board: &Board<'_>, light: usize, place: usize, chain: &mut Worklist)
-    requires place { IsPlace board.now light place }
+fn mark_crossing(board: &Board<'_>, light: usize, position: usize, chain: &mut Worklist)
+    requires position { IsPositionIn board.now light position }
     requires chain { HasLights board.now chain.old }
     ensures grows { Grows chain.old chain.new }
-    ensures marked { is_marked chain.old.marks light ≡ true → MarksAll (IsThrough board.now (cell_at board.now light place)) chain.new }
-    ensures within { MarksOnly (IsThrough board.now (cell_at board.now light place)) chain.old chain.new }
+    ensures marked { is_marked chain.old.marks light ≡ true → MarksAll (IsThrough board.now (cell_at board.now light position)) chain.new }
+    ensures within { MarksOnly (IsThrough board.now (cell_at board.now light position)) chain.old chain.new }
 {
-    if let Some(other) = board.crossing(light, place) {
+    if let Some(other) = board.crossing(light, position) {
         chain.insert(other);
     }
 }
 
 /// Gives the cell at a position of a light all letters that it allows. If it gets a letter back,
 /// marks the crossing light.
-fn raise_place(
+fn raise_position(
     board: &Board<'_>,
     light: usize,
-    place: usize,
+    position: usize,
     letters: &mut [LetterSet],
     chain: &mut Worklist,
 )
     requires few { HasFewCells board.now }
-    requires place { IsPlace board.now light place }
+    requires position { IsPositionIn board.now light position }
     requires letters { AreByCell board.now letters.old }
     requires chain { HasLights board.now chain.old }
     requires marked { is_marked chain.old.marks light ≡ true }
     ensures letters { length letters.new ≡ length letters.old }
     ensures grows { Grows chain.old chain.new }
-    ensures all { HasAll board.now (set_has letters.new) (cell_at board.now light place) }
+    ensures all { HasAll board.now (set_has letters.new) (cell_at board.now light position) }
     ensures spread { (start : ℕ → ℕ → Bool) (coming : _) → SpreadsOn board.now start coming letters.old chain.old coming letters.new chain.new }
     ensures within { (start : ℕ → ℕ → Bool) (coming : _) → ReachesFrom board.now start coming letters.old chain.old chain.new }
 {
-    let cell = place_of(board, light, place).cell;
+    let cell = position_of(board, light, position).cell;
     if raise(letters, cell, letters_allowed(board, cell)) {
-        mark_crossing(board, light, place, chain);
+        mark_crossing(board, light, position, chain);
     }
 }
 
@@ -87,11 +87,11 @@ fn raise_light(board: &Board<'_>, light: usize, letters: &mut [LetterSet], chain
     requires marked { is_marked chain.old.marks light ≡ true }
     ensures letters { length letters.new ≡ length letters.old }
     ensures grows { Grows chain.old chain.new }
-    ensures spread { (start : ℕ → ℕ → Bool) → SpreadsOn board.now start (places_from light 0) letters.old chain.old no_places letters.new chain.new }
-    ensures within { (start : ℕ → ℕ → Bool) → ReachesFrom board.now start (places_from light 0) letters.old chain.old chain.new }
+    ensures spread { (start : ℕ → ℕ → Bool) → SpreadsOn board.now start (positions_from light 0) letters.old chain.old no_positions letters.new chain.new }
+    ensures within { (start : ℕ → ℕ → Bool) → ReachesFrom board.now start (positions_from light 0) letters.old chain.old chain.new }
 {
-    for place in 0..board.light(light).len() {
-        raise_place(board, light, place, letters, chain);
+    for position in 0..board.light(light).len() {
+        raise_position(board, light, position, letters, chain);
     }
 }
 
@@ -105,8 +105,8 @@ fn restart_light(board: &Board<'_>, light: usize, restart: &mut [LetterSet])
     ensures off { OtherSlotsStay board.now light restart.old restart.new }
     ensures more { (slot letter : ℕ) → is_capital letter ≡ true → set_has restart.old slot letter ≡ true → set_has restart.new slot letter ≡ true }
 {
-    for place in 0..board.light(light).len() {
-        let slot = place_of(board, light, place).slot;
+    for position in 0..board.light(light).len() {
+        let slot = position_of(board, light, position).slot;
         restart[slot] = LetterSet::all();
     }
 }
@@ -182,7 +182,7 @@ pub(crate) fn spread(
     ensures size { length chain.new.marks ≡ length chain.old.marks }
     ensures more { (light : ℕ) → is_marked chain.old.marks light ≡ true → is_marked chain.new.marks light ≡ true }
     ensures words { IsLit board.now base.now (lit rows.old entered.old restart.old queue.old) (lit rows.new entered.new restart.new queue.new) (is_marked chain.new.marks) none_waits }
-    ensures spread { IsSpread board.now (set_has letters.old) (set_has letters.new) (is_marked chain.new.marks) none_waits no_places }
+    ensures spread { IsSpread board.now (set_has letters.old) (set_has letters.new) (is_marked chain.new.marks) none_waits no_positions }
     ensures within { Reaches board.now (set_has letters.old) chain.old chain.new }
 {
     while let Some(light) = chain.take_last() {
@@ -194,7 +194,7 @@ pub(crate) fn spread(
 impl Net {
     ghost use Rattle.std.specs.Prelude.{◌≡◌, ℕ, true, false, [], List};
     ghost use Rattle.xw_words.specs.Dictionary.{Entry};
-    ghost use Rattle.xw_feas.specs.Board.{Board as BoardOfPlaces};
+    ghost use Rattle.xw_feas.specs.Board.{Board as BoardOfIndices};
     ghost use Rattle.xw_net.specs.Brought.{HasBase};
     ghost use Rattle.xw_net.specs.Chain.{BringsBack, RevivesChain, CoversFeasible, ReadiesChain, StaysInRegion};
     ghost use Rattle.xw_net.specs.Nets.{letter_stands, IsShaped, IsChained, HasBits, IsQueue};
@@ -240,8 +240,8 @@ impl Net {
         ensures empty { self.new.chain.lights ≡ [] }
         ensures marked { (light : ℕ) → is_marked self.new.chain.marks light ≡ false }
         ensures rest { self.new ≡ record self.old { chain = self.new.chain } }
-        ensures shaped { (board : BoardOfPlaces) → IsShaped board self.old → IsShaped board self.new }
-        ensures chained { (board : BoardOfPlaces) → IsChained board self.old → IsChained board self.new }
+        ensures shaped { (board : BoardOfIndices) → IsShaped board self.old → IsShaped board self.new }
+        ensures chained { (board : BoardOfIndices) → IsChained board self.old → IsChained board self.new }
     {
         self.chain.clear();
     }

@@ -5,7 +5,7 @@ ghost use Rattle.xw_letters.specs.LetterSet.{has};
 ghost use Rattle.xw_net.specs.Region.{chunks_of};
 ghost use Rattle.xw_net.specs.Support.{holds, supports, letter_count, Finds, StrikesRow, NoneSupports};
 
-use crate::place::Place;
+use crate::position::Position;
 use xw_bits::bit_row::BitRow;
 use xw_letters::letter::Letter;
 use xw_letters::letter_set::LetterSet;
@@ -109,7 +109,7 @@ fn search_start(row: &BitRow, held: usize, is_new: bool) -> Option<usize>
 pub(crate) fn find_support<R: Rows>(
     rows: &mut R,
     row: &BitRow,
-    here: Place,
+    here: Position,
     letter: Letter,
     held: &mut [usize],
     restart: &mut [LetterSet],
@@ -122,13 +122,13 @@ pub(crate) fn find_support<R: Rows>(
     ensures risen { R.ticks rows.old ≤ R.ticks rows.new }
     ensures held { length held.new ≡ length held.old }
     ensures restart { length restart.new ≡ length restart.old }
-    ensures finds { Finds row.now.bits (R.entries rows.old here.len) here.place here.slot letter (holds held.old restart.old) (holds held.new restart.new) result (R.ticks rows.new - R.ticks rows.old) }
+    ensures finds { Finds row.now.bits (R.entries rows.old here.len) here.position here.slot letter (holds held.old restart.old) (holds held.new restart.new) result (R.ticks rows.new - R.ticks rows.old) }
 {
     let at = 26 * here.slot + (letter.byte() - b'A') as usize;
     let Some(from) = search_start(row, held[at], restart[here.slot].has(letter)) else {
         return true;
     };
-    match first_support(rows, row, here.len, here.place, letter, from) {
+    match first_support(rows, row, here.len, here.position, letter, from) {
         Some(word) => {
             held[at] = word;
             restart[here.slot].remove(letter);

@@ -35,11 +35,11 @@ covers_without_letters board dictionary word_stands before after covers kept fam
 }
 
 -- a flag of rows with one row replaced
-pub flag_at-set_same : (rows : List (List Bool)) (k place : ℕ) (row : List Bool) → k < length rows → flag_at (set rows k row) k place ≡ get_or row place false
-flag_at-set_same rows k place row below = ap (λ r. get_or r place false) (get_or-set_same rows k row [] below)
+pub flag_at-set_same : (rows : List (List Bool)) (k index : ℕ) (row : List Bool) → k < length rows → flag_at (set rows k row) k index ≡ get_or row index false
+flag_at-set_same rows k index row below = ap (λ r. get_or r index false) (get_or-set_same rows k row [] below)
 
-pub flag_at-set_other : (rows : List (List Bool)) (k other place : ℕ) (row : List Bool) → (other ≡ k → ⊥) → flag_at (set rows k row) other place ≡ flag_at rows other place
-flag_at-set_other rows k other place row apart = ap (λ r. get_or r place false) (get_or-set_other rows k other row [] apart)
+pub flag_at-set_other : (rows : List (List Bool)) (k other index : ℕ) (row : List Bool) → (other ≡ k → ⊥) → flag_at (set rows k row) other index ≡ flag_at rows other index
+flag_at-set_other rows k other index row apart = ap (λ r. get_or r index false) (get_or-set_other rows k other row [] apart)
 
 pub StripsUnsupported-start : (board : Board) (dictionary : Dictionary) (words : List (List Bool)) (letters : List ℕ) → StripsUnsupported board dictionary words letters words letters false
 StripsUnsupported-start board dictionary words letters = record {

@@ -422,9 +422,9 @@ impl Plain {
             }
             return None;
         }
-        for place in from..known {
-            if row.at(place) {
-                return Some(Found::Listed(place));
+        for index in from..known {
+            if row.at(index) {
+                return Some(Found::Listed(index));
             }
         }
         None
@@ -479,11 +479,11 @@ impl Feasible for Plain {
     fn letters(&self, cell: Cell) -> Result<LetterSet, Refusal> {
         match self.grid.index(cell) {
             None => Err(Refusal::Grid(GridFault::OutOfGrid)),
-            Some(place) => {
+            Some(index) => {
                 if self.grid.is_block(cell) {
                     return Err(Refusal::Grid(GridFault::OnBlock));
                 }
-                Ok(self.letters[place])
+                Ok(self.letters[index])
             }
         }
     }

@@ -34,8 +34,8 @@ fn agrees_with(board: &Board<'_>, cells: &Cells, word: &[Letter]) -> bool
     requires { length word.now ≡ length cells.now }
     ensures { result ≡ agrees board.now cells.now word.now }
 {
-    for place in 0..cells.len() {
-        if !allowed_by(board.entry(cells.at(place)), word[place]) {
+    for position in 0..cells.len() {
+        if !allowed_by(board.entry(cells.at(position)), word[position]) {
             return false;
         }
     }
@@ -48,16 +48,16 @@ fn choice_letter(
     bank: &Bank,
     cells: &Cells,
     choice: usize,
-    place: usize,
+    position: usize,
 ) -> Letter
     requires choice { choice ≤ length (spellings bank.now.words (length cells.now)) }
-    requires place { place < length cells.now }
-    ensures { result ≡ slice_index (slice_index_or (choices board.now bank.now.words cells.now) choice []) place }
+    requires position { position < length cells.now }
+    ensures { result ≡ slice_index (slice_index_or (choices board.now bank.now.words cells.now) choice []) position }
 {
     if choice < bank.known(cells.len()) {
-        bank.word(cells.len(), choice)[place]
+        bank.word(cells.len(), choice)[position]
     } else {
-        board.letter(cells.at(place))
+        board.letter(cells.at(position))
     }
 }
 
@@ -100,9 +100,9 @@ fn has_letters(
     requires in_board { All (λ cell. cell < length letters.now) cells.now }
     ensures { IsTrue result ↔ HasLetters (set_has letters.now) cells.now (slice_index_or (choices board.now bank.now.words cells.now) choice []) }
 {
-    for place in 0..cells.len() {
-        let letter = choice_letter(board, bank, cells, choice, place);
-        if !letters[cells.at(place)].has(letter) {
+    for position in 0..cells.len() {
+        let letter = choice_letter(board, bank, cells, choice, position);
+        if !letters[cells.at(position)].has(letter) {
             return false;
         }
     }
@@ -141,21 +141,21 @@ fn letters_seen(
     bank: &Bank,
     cells: &Cells,
     words: &Flags,
-    place: usize,
+    position: usize,
 ) -> LetterSet
     requires long { length words.now ≡ length (spellings bank.now.words (length cells.now)) + 1 }
-    requires place { place < length cells.now }
+    requires position { position < length cells.now }
     ensures each { (choice : ℕ) →
         IsTrue (slice_index_or words.now choice false) →
-        IsTrue (has result (slice_index (slice_index_or (choices board.now bank.now.words cells.now) choice []) place)) }
+        IsTrue (has result (slice_index (slice_index_or (choices board.now bank.now.words cells.now) choice []) position)) }
     ensures no_other { (letter : ℕ) →
         IsTrue (has result letter) →
-        HasWordWith words.now (choices board.now bank.now.words cells.now) place letter }
+        HasWordWith words.now (choices board.now bank.now.words cells.now) position letter }
 {
     let mut seen = LetterSet::new();
     for choice in 0..words.len() {
         if words.at(choice) {
-            seen.insert(choice_letter(board, bank, cells, choice, place));
+            seen.insert(choice_letter(board, bank, cells, choice, position));
         }
     }
     seen
@@ -188,9 +188,9 @@ fn strip_letters(
     ensures { KeepsLettersBelow words.now (choices board.now bank.now.words cells.now) cells.now letters.old letters.new result (length cells.now) }
 {
     let mut removed = false;
-    for place in 0..cells.len() {
-        let seen = letters_seen(board, bank, cells, words, place);
-        let cell = cells.at(place);
+    for position in 0..cells.len() {
+        let seen = letters_seen(board, bank, cells, words, position);
+        let cell = cells.at(position);
         let set = &mut letters[cell];
         let lacks_words = keep_common(set, seen);
         removed |= lacks_words;

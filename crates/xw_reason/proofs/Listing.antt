@@ -16,7 +16,7 @@ use Rattle.xw_feas.specs.Board.{board_of, square_is_open, square_entry, is_open 
 use Rattle.xw_feas.specs.State.{State}
 use Rattle.xw_feas.specs.WellFormed.{IsWellFormed}
 use Rattle.xw_feas.proofs.BoardLemmas.{length-entries}
-use Rattle.xw_feas.proofs.ChangesLemmas.{open_place}
+use Rattle.xw_feas.proofs.ChangesLemmas.{open_index}
 use Rattle.xw_reason.specs.Reason.{entry_in, entries_of, IsPart, no_entries}
 use Rattle.xw_reason.specs.Sparing.{CanBeWritten, by_index, written_in, emptied, IsListOf}
 use Rattle.xw_reason.proofs.Writing.{written_is}
@@ -44,7 +44,7 @@ opens_entry grid cell letter h = opens_square grid.squares cell letter h
 
 -- a cell with an entry is open
 pub entered_open : (grid : Grid) (cell letter : ℕ) → IsGrid grid → entry_in (board_of grid).entries cell ≡ Some letter → is_open grid (cell_at grid cell) ≡ true
-entered_open grid cell letter is h = open_place grid cell is (cell_within grid cell is (entry_within (board_of grid).entries cell letter h)) ∙ opens_entry grid cell letter h
+entered_open grid cell letter is h = open_index grid cell is (cell_within grid cell is (entry_within (board_of grid).entries cell letter h)) ∙ opens_entry grid cell letter h
 
 -- a cell without an entry has none in a part of the entries
 pub none_in : (part entries : List (Option ℕ)) (cell : ℕ) → IsPart part entries → entry_in entries cell ≡ None → entry_in part cell ≡ None
@@ -61,14 +61,14 @@ IsPart-then first second third a b = record { long = b.long ∙ a.long; kept = �
 
 -- a part with one more of the entries
 IsPart-entered : (part entries : List (Option ℕ)) (cell : ℕ) → IsPart part entries → IsPart (set part cell (entry_in entries cell)) entries
-IsPart-entered part entries cell is = record { long = length-set part cell (entry_in entries cell) ∙ is.long; kept = λ other letter h. by_place other letter (cases_eq other cell) h } where
-  by_place : (other letter : ℕ) → (other ≡ cell) ⊎ (other ≡ cell → ⊥) → entry_in (set part cell (entry_in entries cell)) other ≡ Some letter → entry_in entries other ≡ Some letter
-  by_place other letter (inl here) h =
+IsPart-entered part entries cell is = record { long = length-set part cell (entry_in entries cell) ∙ is.long; kept = λ other letter h. by_cell other letter (cases_eq other cell) h } where
+  by_cell : (other letter : ℕ) → (other ≡ cell) ⊎ (other ≡ cell → ⊥) → entry_in (set part cell (entry_in entries cell)) other ≡ Some letter → entry_in entries other ≡ Some letter
+  by_cell other letter (inl here) h =
       let below = entry_within (set part cell (entry_in entries cell)) other letter h in
       ap (entry_in entries) here
       ∙ sym (get_or-set_same part cell (entry_in entries cell) None (omega (arith, below, length-set part cell (entry_in entries cell), here)))
       ∙ ap (entry_in (set part cell (entry_in entries cell))) (sym here) ∙ h
-  by_place other letter (inr apart) h = is.kept other letter (sym (get_or-set_other part cell other (entry_in entries cell) None apart) ∙ h)
+  by_cell other letter (inr apart) h = is.kept other letter (sym (get_or-set_other part cell other (entry_in entries cell) None apart) ∙ h)
 
 -- and with those of a list
 pub IsPart-written : (list : List (ℕ × Option ℕ)) (part entries : List (Option ℕ)) → All (λ written. written.1 ≡ entry_in entries written.0) list → IsPart part entries → IsPart (written_in part list) entries

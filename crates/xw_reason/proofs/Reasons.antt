@@ -88,7 +88,7 @@ cell_back before between now cell found opens is emptied rest written rest_now =
     let k = index_of before.grid cell in
     same_entries before now (DiffersInEntries-then before between now rest rest_now)
     (written
-    ∙ ap (λ place. set (entries_of between) place found) (differs_index before between cell rest)
+    ∙ ap (λ index. set (entries_of between) index found) (differs_index before between cell rest)
     ∙ ap (λ entries. set entries k found) emptied
     ∙ set_twice (entries_of before) k None found
     ∙ ap (set (entries_of before) k) (is ∙ entry_of_open before.grid cell opens)
@@ -98,13 +98,13 @@ cell_back before between now cell found opens is emptied rest written rest_now =
 
 -- the entries without one of them
 pub IsPart-set : (entries : List (Option ℕ)) (cell : ℕ) → IsPart (set entries cell None) entries
-IsPart-set entries cell = record { long = length-set entries cell None; kept = λ other letter h. by_place other letter (cases_eq other cell) h } where
-  by_place : (other letter : ℕ) → (other ≡ cell) ⊎ (other ≡ cell → ⊥) → entry_in (set entries cell None) other ≡ Some letter → entry_in entries other ≡ Some letter
-  by_place other letter (inl here) h =
+IsPart-set entries cell = record { long = length-set entries cell None; kept = λ other letter h. by_cell other letter (cases_eq other cell) h } where
+  by_cell : (other letter : ℕ) → (other ≡ cell) ⊎ (other ≡ cell → ⊥) → entry_in (set entries cell None) other ≡ Some letter → entry_in entries other ≡ Some letter
+  by_cell other letter (inl here) h =
       let below = entry_within (set entries cell None) other letter h in
       let none : entry_in (set entries cell None) other ≡ None = ap (entry_in (set entries cell None)) here ∙ get_or-set_same entries cell None None (omega (arith, below, length-set entries cell None, here)) in
       cc
-  by_place other letter (inr apart) h = sym (get_or-set_other entries cell other None None apart) ∙ h
+  by_cell other letter (inr apart) h = sym (get_or-set_other entries cell other None None apart) ∙ h
 
 pub fewer_without : (entries : List (Option ℕ)) (cell letter : ℕ) → entry_in entries cell ≡ Some letter → count_by is_some (set entries cell None) < count_by is_some entries
 fewer_without entries cell letter was =
@@ -176,7 +176,7 @@ pub needed_from : (start now : State) (light : ℕ) (entries : List (Option ℕ)
     → All (λ written. IsNeeded (position_of start) light entries (index_of start.grid written.0)) list
 needed_from start now light entries list differs =
     All-weaker (λ written. IsNeeded (position_of now) light entries (index_of now.grid written.0)) (λ written. IsNeeded (position_of start) light entries (index_of start.grid written.0))
-    (λ written needed. subst (λ place. IsNeeded (position_of start) light entries place) (differs_index start now written.0 differs)
+    (λ written needed. subst (λ index. IsNeeded (position_of start) light entries index) (differs_index start now written.0 differs)
     (λ letter h. sym (leaves_along start now light (set entries (index_of now.grid written.0) None) differs) ∙ needed letter h)) list
 
 pub needed_along : (start now : State) (light : ℕ) (list : List (Cell × Option ℕ)) → DiffersInEntries start now → All (λ written. IsNeeded (position_of now) light (entries_of now) (index_of now.grid written.0)) list
@@ -228,7 +228,7 @@ reason_some start empty now light list is empty_rest emptied alive rest part dea
   minimal = λ cell letter h.
       let there = is.all cell letter (part.kept cell letter h) in
       let here = All-contains (λ written. IsNeeded (position_of start) light (entries_of now) (index_of start.grid written.0)) list (cell_at start.grid cell, entry_in (entries_of start) cell) needed there in
-      subst (λ place. IsNeeded (position_of start) light (entries_of now) place) (index_of-cell_at start.grid cell) here letter h;
+      subst (λ index. IsNeeded (position_of start) light (entries_of now) index) (index_of-cell_at start.grid cell) here letter h;
   least = λ h. absurd (false≢true (sym alive ∙ lacks_at start empty light (no_entries (entries_of start)) empty_rest emptied ∙ h));
 }
 

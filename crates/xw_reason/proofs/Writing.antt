@@ -11,7 +11,7 @@ use Rattle.xw_grid.specs.Grid.{Grid, IsGrid, is_open, index_of, letter_in, entry
 use Rattle.xw_grid.specs.Light.{lights_of}
 use Rattle.xw_grid.specs.Edit.{with_entry}
 use Rattle.xw_grid.proofs.LightLemmas.{inside_from_open}
-use Rattle.xw_feas.specs.Board.{board_of, square_is_open, square_entry, places_of}
+use Rattle.xw_feas.specs.Board.{board_of, square_is_open, square_entry, indices_of}
 use Rattle.xw_feas.specs.Engine.{IsEdited}
 use Rattle.xw_feas.specs.Feasible.{Answers}
 use Rattle.xw_feas.specs.State.{State, list_written, write_list, then_write, with_grid, by_fault}
@@ -37,8 +37,8 @@ pub position_at : (start now : State) → DiffersInEntries start now → positio
 unfolding board_of
 position_at start now differs =
     let twin = IsTwin-entries start now differs in
-    let lights : map (places_of now.grid) (lights_of now.grid) ≡ map (places_of start.grid) (lights_of start.grid) =
-    ap (λ (s : State). map (places_of s.grid) (lights_of now.grid)) differs ∙ ap (map (places_of start.grid)) twin.shape.lights in
+    let lights : map (indices_of now.grid) (lights_of now.grid) ≡ map (indices_of start.grid) (lights_of start.grid) =
+    ap (λ (s : State). map (indices_of s.grid) (lights_of now.grid)) differs ∙ ap (map (indices_of start.grid)) twin.shape.lights in
     let opens : map square_is_open now.grid.squares ≡ map square_is_open start.grid.squares =
     ap (λ (s : State). map square_is_open s.grid.squares) differs ∙ opens_with start.grid.squares (entries_of now) in
     λ i. record { board = record { lights = lights i; open_cells = opens i; entries = entries_of now }; words = twin.words i }
@@ -110,14 +110,14 @@ written_is [] now to long sound all = ext_get_or None now to long (λ cell below
 written_is (first ∷ list) now to long sound all =
     let holds = All-head (λ written. written.1 ≡ entry_in to written.0) first list sound in
     written_is list (set now first.0 first.1) to (length-set now first.0 first.1 ∙ long) (All-tail (λ written. written.1 ≡ entry_in to written.0) first list sound)
-    (λ cell below. by_place cell below holds (cases_eq cell first.0) (all cell below)) where
+    (λ cell below. by_cell cell below holds (cases_eq cell first.0) (all cell below)) where
       later : (cell : ℕ) → (cell ≡ first.0 → ⊥) → Contains (first.0 ∷ map (λ written. written.0) list) cell → Contains (map (λ written. written.0) list) cell
       later cell apart (zero, below, is) = absurd (apart (sym is))
       later cell apart (suc k, below, is) = (k, omega (arith, below), is)
 
-      by_place : (cell : ℕ) → cell < length to → first.1 ≡ entry_in to first.0 → (cell ≡ first.0) ⊎ (cell ≡ first.0 → ⊥) → (entry_in now cell ≡ entry_in to cell) ⊎ Contains (first.0 ∷ map (λ written. written.0) list) cell
+      by_cell : (cell : ℕ) → cell < length to → first.1 ≡ entry_in to first.0 → (cell ≡ first.0) ⊎ (cell ≡ first.0 → ⊥) → (entry_in now cell ≡ entry_in to cell) ⊎ Contains (first.0 ∷ map (λ written. written.0) list) cell
           → (entry_in (set now first.0 first.1) cell ≡ entry_in to cell) ⊎ Contains (map (λ written. written.0) list) cell
-      by_place cell below holds (inl here) either =
+      by_cell cell below holds (inl here) either =
           inl (ap (entry_in (set now first.0 first.1)) here ∙ get_or-set_same now first.0 first.1 None (omega (arith, long, below, here)) ∙ holds ∙ sym (ap (entry_in to) here))
-      by_place cell below holds (inr apart) (inl same) = inl (get_or-set_other now first.0 cell first.1 None apart ∙ same)
-      by_place cell below holds (inr apart) (inr there) = inr (later cell apart there)
+      by_cell cell below holds (inr apart) (inl same) = inl (get_or-set_other now first.0 cell first.1 None apart ∙ same)
+      by_cell cell below holds (inr apart) (inr there) = inr (later cell apart there)

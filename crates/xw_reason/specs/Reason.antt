@@ -1,7 +1,7 @@
 -- The definition of a reason why a light has no feasible word: entries that leave it none, and none of which can be spared.
 use Rattle.std.specs.Prelude.{◌≡◌, ℕ, Bool, true, false, List, map, length, slice_index_or, slice_set, Option, Some, None}
 use Rattle.xw_grid.specs.declared.cell.LightName.{LightName}
-use Rattle.xw_grid.specs.Light.{lights_of, place_named}
+use Rattle.xw_grid.specs.Light.{lights_of, index_named}
 use Rattle.xw_feas.specs.Board.{board_of}
 use Rattle.xw_feas.specs.State.{State}
 use Rattle.xw_fill.specs.Position.{Position, position_of, holding}
@@ -46,14 +46,14 @@ pub record IsReason (position : Position) (light : ℕ) (entries : List (Option 
 
 -- a reason for the light with this name
 abbrev pub IsReasonOf : State → LightName → List (Option ℕ) → Type 0
-IsReasonOf state name entries = (light : ℕ) × (place_named (lights_of state.grid) name ≡ Some light) × IsReason (position_of state) light entries
+IsReasonOf state name entries = (light : ℕ) × (index_named (lights_of state.grid) name ≡ Some light) × IsReason (position_of state) light entries
 
 -- there is a light with this name, and whether it has no feasible word
 abbrev pub IsLight : State → LightName → Bool → Type 0
-IsLight state name dead = (light : ℕ) × (place_named (lights_of state.grid) name ≡ Some light) × (lacks_words (position_of state) light ≡ dead)
+IsLight state name dead = (light : ℕ) × (index_named (lights_of state.grid) name ≡ Some light) × (lacks_words (position_of state) light ≡ dead)
 
 -- why there is no reason: there is no such light, it has a feasible word, or an allocation failed
 abbrev pub IsRefused : State → LightName → NoReason → Type 0
-IsRefused state name NoLight = place_named (lights_of state.grid) name ≡ None
+IsRefused state name NoLight = index_named (lights_of state.grid) name ≡ None
 IsRefused state name Alive = IsLight state name false
 IsRefused state name Memory = IsLight state name true

@@ -3,7 +3,7 @@ use Rattle.std.proofs.Common.{◌≡◌, zero, suc, Bool, true, false, [], ◌�
 use Rattle.std.specs.Prelude.{List, All, Option, is_some, if◌then◌else◌, Result, Ok, Err, IfOk, IfErr, OnErr}
 use Rattle.std.proofs.lemmas.Bool.{false≢true}
 use Rattle.xw_grid.specs.declared.cell.LightName.{LightName}
-use Rattle.xw_grid.specs.Light.{lights_of, place_named}
+use Rattle.xw_grid.specs.Light.{lights_of, index_named}
 use Rattle.xw_commands.specs.declared.command.LightArg.{LightArg}
 use Rattle.xw_feas.specs.State.{State as Position}
 use Rattle.xw_feas.specs.declared.edit.Refusal.{Refusal as EditRefusal}
@@ -34,7 +34,7 @@ module _ {X : Type 0} (P : X → Type 0) (x : X) (xs : List X) where
 module _ (position : Position) where
   -- the light of a command is in the grid
   abbrev is_there : LightArg → Bool
-  is_there named = is_some (place_named (lights_of position.grid) (name_of_light named))
+  is_there named = is_some (index_named (lights_of position.grid) (name_of_light named))
 
   -- all these lights are in the grid if the remaining ones are
   pub record AreLeft (lights left : List LightArg) : Type 0 where
@@ -45,7 +45,7 @@ module _ (position : Position) where
   all_left lights = record { all = λ are. are; some = λ are. are }
 
   abbrev IsLight : LightName → Type 0
-  IsLight name = is_some (place_named (lights_of position.grid) name) ≡ true
+  IsLight name = is_some (index_named (lights_of position.grid) name) ≡ true
 
   pub one_known : (lights left rest : List LightArg) (named : LightArg) → AreLeft lights left → left ≡ named ∷ rest → is_there named ≡ true → AreLeft lights rest
   one_known lights left rest named are is there = record {

@@ -18,7 +18,7 @@ use Rattle.xw_grid.specs.declared.lights.Light.{Light}
 use Rattle.xw_grid.specs.Grid.{Grid, IsGrid, IsSquare, is_inside, index_of, letter_in, entry}
 use Rattle.xw_grid.specs.Light.{lights_of, no_light, cells_of}
 use Rattle.xw_grid.proofs.LightLemmas.{length-line, get_or-line, size_of_light}
-use Rattle.xw_grid.proofs.PlaceLemmas.{light_inside}
+use Rattle.xw_grid.proofs.LightTableLemmas.{light_inside}
 use Rattle.xw_feas.specs.Board.{board_of, light_at, allows, agrees, is_wholly_entered, spelled, entry as entry_at}
 use Rattle.xw_feas.specs.Feasible.{base_words, base_words_at}
 use Rattle.xw_feas.proofs.BoardLemmas.{entry-square, length-lights, light_at-board}
@@ -146,5 +146,5 @@ pub named_pattern : (grid : Grid) (light : ℕ) (name : LightName) → light < l
     → pattern_of grid (light_of grid name) ≡ pattern grid (get_or (lights_of grid) light no_light)
 named_pattern grid light name within is =
     ap (λ n. pattern_of grid (light_of grid n)) is
-    ∙ ap (λ place. pattern_of grid (option_and_then (slice_get (lights_of grid)) place)) (found_by_name grid light no_light within)
+    ∙ ap (λ index. pattern_of grid (option_and_then (slice_get (lights_of grid)) index)) (found_by_name grid light no_light within)
     ∙ ap (pattern_of grid) (slice_get-get_or (lights_of grid) light no_light within)

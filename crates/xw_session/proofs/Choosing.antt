@@ -13,30 +13,30 @@ use Rattle.xw_fill.specs.Words.{spellings_at, words_left, IsNextWord, HasNoMore}
 -- ---- the words from an index on
 
 -- the first element that passes, and the others
-rest_from : (p : List ℕ → Bool) (xs : List (List ℕ)) (k from place : ℕ) → place ≡ from + k → place < length xs → ((j : ℕ) → from ≤ j → j < place → p (get_or xs j []) ≡ false) → p (get_or xs place []) ≡ true
-    → filter p (drop from xs) ≡ get_or xs place [] ∷ filter p (drop (place + 1) xs)
-rest_from p xs zero from place is within none passes =
-    let same : from ≡ place = omega (arith, is) in
-    let one : suc place ≡ place + 1 = omega arith in
-    let x = get_or xs place [] in
+rest_from : (p : List ℕ → Bool) (xs : List (List ℕ)) (k from index : ℕ) → index ≡ from + k → index < length xs → ((j : ℕ) → from ≤ j → j < index → p (get_or xs j []) ≡ false) → p (get_or xs index []) ≡ true
+    → filter p (drop from xs) ≡ get_or xs index [] ∷ filter p (drop (index + 1) xs)
+rest_from p xs zero from index is within none passes =
+    let same : from ≡ index = omega (arith, is) in
+    let one : suc index ≡ index + 1 = omega arith in
+    let x = get_or xs index [] in
     ap (λ n. filter p (drop n xs)) same
-    ∙ ap (filter p) (drop-cons xs place [] within)
-    ∙ ap (λ b. cond b (x ∷ filter p (drop (suc place) xs)) (filter p (drop (suc place) xs))) passes
+    ∙ ap (filter p) (drop-cons xs index [] within)
+    ∙ ap (λ b. cond b (x ∷ filter p (drop (suc index) xs)) (filter p (drop (suc index) xs))) passes
     ∙ ap (λ n. x ∷ filter p (drop n xs)) one
-rest_from p xs (suc k) from place is within none passes =
-    let below : from < place = omega (arith, is) in
+rest_from p xs (suc k) from index is within none passes =
+    let below : from < index = omega (arith, is) in
     let x = get_or xs from [] in
     ap (filter p) (drop-cons xs from [] (omega (arith, below, within)))
     ∙ ap (λ b. cond b (x ∷ filter p (drop (suc from) xs)) (filter p (drop (suc from) xs))) (none from (omega arith) below)
-    ∙ rest_from p xs k (suc from) place (omega (arith, is)) within (λ j above under. none j (omega (arith, above)) under) passes
+    ∙ rest_from p xs k (suc from) index (omega (arith, is)) within (λ j above under. none j (omega (arith, above)) under) passes
 
 none_pass : (p : List ℕ → Bool) (xs : List (List ℕ)) → ((k : ℕ) → k < length xs → p (get_or xs k []) ≡ false) → filter p xs ≡ []
 none_pass p [] h = refl
 none_pass p (x ∷ xs) h = rw (h 0 (omega arith)) (none_pass p xs (λ k below. h (suc k) (omega arith)))
 
-pub next_left : (position : Position) (light from place : ℕ) → IsNextWord position light from place → words_left position light from ≡ get_or (spellings_at position light) place [] ∷ words_left position light (place + 1)
-next_left position light from place next =
-    rest_from (is_feasible_word position light) (spellings_at position light) (place - from) from place (omega (arith, next.above)) next.within next.first next.feasible
+pub next_left : (position : Position) (light from index : ℕ) → IsNextWord position light from index → words_left position light from ≡ get_or (spellings_at position light) index [] ∷ words_left position light (index + 1)
+next_left position light from index next =
+    rest_from (is_feasible_word position light) (spellings_at position light) (index - from) from index (omega (arith, next.above)) next.within next.first next.feasible
 
 pub none_left : (position : Position) (light from : ℕ) → HasNoMore position light from → words_left position light from ≡ []
 none_left position light from none =

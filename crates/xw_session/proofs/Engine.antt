@@ -42,8 +42,8 @@ letters_are position answers exact = λ i. λ cell. answered_letters (position_o
 
 changes_are : (before now : Position) (a b : Answers) → Knows before a → Knows now b → changes now.grid a b ≡ changes_between before now
 changes_are before now a b exact_before exact_now =
-    ap (λ (letters : ℕ → List ℕ). map (λ place. (cell_at now.grid place, letters_of b place)) (cells_that_differ now.grid letters (letters_of b) 0)) (letters_are before a exact_before)
-    ∙ ap (λ (letters : ℕ → List ℕ). map (λ place. (cell_at now.grid place, letters place)) (cells_that_differ now.grid (feasible_letters (position_of before)) letters 0)) (letters_are now b exact_now)
+    ap (λ (letters : ℕ → List ℕ). map (λ index. (cell_at now.grid index, letters_of b index)) (cells_that_differ now.grid letters (letters_of b) 0)) (letters_are before a exact_before)
+    ∙ ap (λ (letters : ℕ → List ℕ). map (λ index. (cell_at now.grid index, letters index)) (cells_that_differ now.grid (feasible_letters (position_of before)) letters 0)) (letters_are now b exact_now)
 
 may_move : (state : State) (r : Result Position EditRefusal) → IsOk r → IsOk (moved state r)
 may_move state (Ok position) is = is

@@ -37,16 +37,16 @@ piece_read : (byte : ℕ) (letter : Option ℕ) (rest : List ℕ) → Fits byte 
 piece_read byte None rest plain = rw plain refl
 piece_read byte (Some letter) rest means = nothing_before (joined (one_byte (meaning letter)) (text_left false rest)) ∙ ap (λ found. joined (one_byte found) (text_left false rest)) means
 
-pieces_read : (text places : List ℕ) → text_left false (flat_map (spelled_at text) places) ≡ Some (map (λ place. slice_index text place) places)
+pieces_read : (text indices : List ℕ) → text_left false (flat_map (spelled_at text) indices) ≡ Some (map (λ index. slice_index text index) indices)
 pieces_read text [] = refl
-pieces_read text (place ∷ places) =
-    piece_read (slice_index text place) (letter_for (is_end text place) (slice_index text place)) (flat_map (spelled_at text) places) (letter_fits (is_end text place) (slice_index text place))
-    ∙ ap (joined (Some (slice_index text place ∷ []))) (pieces_read text places)
+pieces_read text (index ∷ indices) =
+    piece_read (slice_index text index) (letter_for (is_end text index) (slice_index text index)) (flat_map (spelled_at text) indices) (letter_fits (is_end text index) (slice_index text index))
+    ∙ ap (joined (Some (slice_index text index ∷ []))) (pieces_read text indices)
 
 pub reads_back : (text : List ℕ) → text_spelled (escaped_text text) ≡ Some text
 reads_back text =
     pieces_read text (range_with_len 0 (length text))
-    ∙ ap Some (sym (fill_by_all (λ place. slice_index text place) text (length text) 0 refl (λ k h. refl)))
+    ∙ ap Some (sym (fill_by_all (λ index. slice_index text index) text (length text) 0 refl (λ k h. refl)))
 
 -- ---- reading a spelling
 

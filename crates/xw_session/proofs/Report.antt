@@ -28,12 +28,12 @@ use Rattle.xw_session.proofs.Engine.{Knows}
 -- ---- lights
 
 -- the line of a light with its count of words is the specified one
-pub counted_line : (position : Position) (answers : Answers) (place : ℕ) (light : Light) (count : ℕ) → Knows position answers
-    → slice_get (lights_of position.grid) place ≡ Some light → count ≡ length (words_of answers place) → numbered_line light.name count ≡ count_line position place
-counted_line position answers place light count exact there is =
-    let found : get_or (lights_of position.grid) place no_light ≡ light = get_or_from_slice_get (lights_of position.grid) place light no_light there in
-    let same : count ≡ length (feasible_words (position_of position) place) = is ∙ ap length (answered_words (position_of position) answers exact place) in
-    ap (λ (l : Light). numbered_line l.name count) (sym found) ∙ ap (numbered_line (get_or (lights_of position.grid) place no_light).name) same
+pub counted_line : (position : Position) (answers : Answers) (index : ℕ) (light : Light) (count : ℕ) → Knows position answers
+    → slice_get (lights_of position.grid) index ≡ Some light → count ≡ length (words_of answers index) → numbered_line light.name count ≡ count_line position index
+counted_line position answers index light count exact there is =
+    let found : get_or (lights_of position.grid) index no_light ≡ light = get_or_from_slice_get (lights_of position.grid) index light no_light there in
+    let same : count ≡ length (feasible_words (position_of position) index) = is ∙ ap length (answered_words (position_of position) answers exact index) in
+    ap (λ (l : Light). numbered_line l.name count) (sym found) ∙ ap (numbered_line (get_or (lights_of position.grid) index no_light).name) same
 
 -- ---- cells
 

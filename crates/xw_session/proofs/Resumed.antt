@@ -49,17 +49,17 @@ pub done-more : (lines : List (List ℕ)) (file : List ℕ) (number : ℕ) (star
     → AreDone file number start (lines ++ line ∷ []) (transcript ++ told_of file (number + length lines) refusal) (refused + count refusal) end
 done-more [] file number start mid end transcript line refused refusal done one =
     let first : IsDone start line refusal end = subst (λ state. IsDone state line refusal end) done.2 one in
-    let place : number + 0 ≡ number = omega arith in
-    (refusal, end, [], 0, first, (refl, refl, refl), rw done.0 (ap (λ n. told_of file n refusal) place ∙ sym (append-nil (told_of file number refusal))), rw done.1 (omega arith))
+    let numbered : number + 0 ≡ number = omega arith in
+    (refusal, end, [], 0, first, (refl, refl, refl), rw done.0 (ap (λ n. told_of file n refusal) numbered ∙ sym (append-nil (told_of file number refusal))), rw done.1 (omega arith))
 done-more (first ∷ lines) file number start mid end transcript line refused refusal (why, next, others, more, did, rest, transcript-is, count-is) one =
-    let place : number + length (first ∷ lines) ≡ (number + 1) + length lines = omega arith in (
+    let numbered : number + length (first ∷ lines) ≡ (number + 1) + length lines = omega arith in (
       why,
       next,
       others ++ told_of file ((number + 1) + length lines) refusal,
       more + count refusal,
       did,
       done-more lines file (number + 1) next mid end others line more refusal rest one,
-      rw transcript-is (ap (λ n. (told_of file number why ++ others) ++ told_of file n refusal) place ∙ append_assoc (told_of file number why) others (told_of file ((number + 1) + length lines) refusal)),
+      rw transcript-is (ap (λ n. (told_of file number why ++ others) ++ told_of file n refusal) numbered ∙ append_assoc (told_of file number why) others (told_of file ((number + 1) + length lines) refusal)),
       rw count-is (omega arith),
     )
 
@@ -89,7 +89,7 @@ module _ {S : Type 0} (transcript : S → List ℕ) (failures : S → ℕ) where
     before : List (List ℕ)
     out : List ℕ
     parts : lines_of text ≡ before ++ lines_of rest
-    place : number ≡ length before
+    numbered : number ≡ length before
     done : AreDone file 1 start before out refused state
     tells : Tells transcript failures old new out
 
@@ -99,7 +99,7 @@ module _ {S : Type 0} (transcript : S → List ℕ) (failures : S → ℕ) where
     before = [];
     out = [];
     parts = refl;
-    place = refl;
+    numbered = refl;
     done = (refl, refl, refl);
     tells = tells-nothing old old refl;
   }
@@ -108,14 +108,14 @@ module _ {S : Type 0} (transcript : S → List ℕ) (failures : S → ℕ) where
   pub goes-on : (file : List ℕ) (start mid end : State) (text rest next line : List ℕ) (number refused more : ℕ) (old now new : S) → lines_of rest ≡ line ∷ lines_of next
       → ResumesLine transcript failures file (number + 1) mid line (Ok more) end now new → Goes file start text rest number refused mid old now → Goes file start text next (number + 1) (refused + more) end old new
   goes-on file start mid end text rest next line number refused more old now new first (refusal, did, counted, said) goes =
-      let place : 1 + length goes.before ≡ number + 1 = rw goes.place (omega arith) in
+      let numbered : 1 + length goes.before ≡ number + 1 = rw goes.numbered (omega arith) in
       let longer = done-more goes.before file 1 start mid end goes.out line refused refusal goes.done did in
       record {
         before = goes.before ++ line ∷ [];
         out = goes.out ++ told_of file (number + 1) refusal;
         parts = goes.parts ∙ ap (λ lines. goes.before ++ lines) first ∙ sym (append_assoc goes.before (line ∷ []) (lines_of next));
-        place = rw goes.place (sym (length-append goes.before (line ∷ [])));
-        done = rw counted (subst (λ n. AreDone file 1 start (goes.before ++ line ∷ []) (goes.out ++ told_of file n refusal) (refused + count refusal) end) place longer);
+        numbered = rw goes.numbered (sym (length-append goes.before (line ∷ [])));
+        done = rw counted (subst (λ n. AreDone file 1 start (goes.before ++ line ∷ []) (goes.out ++ told_of file n refusal) (refused + count refusal) end) numbered longer);
         tells = tells-more old now new goes.out (told_of file (number + 1) refusal) goes.tells said;
       }
 
@@ -127,7 +127,7 @@ module _ {S : Type 0} (transcript : S → List ℕ) (failures : S → ℕ) where
     after = lines_of next;
     refused = refused;
     parts = goes.parts ∙ ap (λ lines. goes.before ++ lines) first;
-    place = ap (λ n. n + 1) goes.place;
+    numbered = ap (λ n. n + 1) goes.numbered;
     done = goes.done;
   }
 
@@ -135,7 +135,7 @@ module _ {S : Type 0} (transcript : S → List ℕ) (failures : S → ℕ) where
   pub goes-stop : (file : List ℕ) (start mid end : State) (text rest next line : List ℕ) (number refused : ℕ) (stop : Stop) (old now new : S) → lines_of rest ≡ line ∷ lines_of next
       → ResumesLine transcript failures file (number + 1) mid line (Err stop) end now new → Goes file start text rest number refused mid old now
       → (out : List ℕ) × Resumes file start (lines_of text) (Err stop) out end × Tells transcript failures old new out
-  goes-stop file start mid end text rest next line number refused (NoCommand place refusal) old now new first (here, why, same, quiet) goes =
+  goes-stop file start mid end text rest next line number refused (NoCommand told refusal) old now new first (here, why, same, quiet) goes =
       let at = reached file start mid text rest next line number refused old now first goes in (
         goes.out,
         (line, why, rw (here, same) at),

@@ -9,8 +9,8 @@ use Rattle.xw_grid.specs.declared.cell.Direction.{Direction}
 use Rattle.xw_grid.specs.declared.cell.Direction.TheVariants.{Across, Down}
 use Rattle.xw_grid.specs.declared.lights.Light.{Light}
 use Rattle.xw_grid.specs.Grid.{Grid}
-use Rattle.xw_grid.specs.Light.{step, lights_of, no_light, same_direction, holds, passes, place_through}
-use Rattle.xw_grid.proofs.PlaceLemmas.{held_step}
+use Rattle.xw_grid.specs.Light.{step, lights_of, no_light, same_direction, holds, passes, index_through}
+use Rattle.xw_grid.proofs.LightTableLemmas.{held_step}
 use Rattle.xw_feas.specs.Board.{board_of, light_at}
 use Rattle.xw_feas.specs.Feasible.{Answers}
 use Rattle.xw_feas.specs.Queries.{tally_of}
@@ -33,7 +33,7 @@ distance_steps : (direction : Direction) (first : Cell) (k : ℕ) → distance d
 distance_steps Across first k = omega arith
 distance_steps Down first k = omega arith
 
-module _ (grid : Grid) (direction : Direction) (cell : Cell) (light : ℕ) (found : place_through (lights_of grid) direction cell ≡ Some light) where
+module _ (grid : Grid) (direction : Direction) (cell : Cell) (light : ℕ) (found : index_through (lights_of grid) direction cell ≡ Some light) where
   -- the light through a cell is a light of the grid
   pub light_there : light < length (lights_of grid)
   light_there = (position-Some (passes direction cell) (lights_of grid) light no_light found).0

@@ -5,12 +5,12 @@ use Rattle.std.specs.Option.{is_some}
 use Rattle.xw_commands.specs.declared.command.Field.{Field}
 use Rattle.xw_commands.specs.declared.command.TextMode.{TextMode}
 use Rattle.xw_commands.specs.declared.command.TextMode.TheVariants.{Behind}
-use Rattle.xw_session.specs.declared.session.putting.Place.{Place}
+use Rattle.xw_session.specs.declared.session.putting.Target.{Target}
 use Rattle.xw_session.specs.declared.refusal.Refusal.{Refusal}
 use Rattle.xw_session.specs.declared.refusal.Refusal.TheVariants as refusals
 use Rattle.xw_session.specs.State.{State}
 use Rattle.xw_session.specs.Escape.{text_spelled}
-use Rattle.xw_session.specs.Put.{place_of, has_place, text_at, with_text_at, with_piece}
+use Rattle.xw_session.specs.Put.{target_of, has_target, text_at, with_text_at, with_piece}
 use Rattle.xw_session.specs.Reply.{Reply, put, edited, has_nul, want_of_text, grid_memory}
 use Rattle.xw_session.proofs.Escapes.{nul_spelled}
 
@@ -29,21 +29,21 @@ last_of_three true true x y z p q = cc
 last_of_three false b x y z p q = cc
 
 module _ (state : State) (putting : TextMode) (field : Field) (spelling : List ℕ) where
-  pub nul_due : is_some (text_spelled spelling) ≡ true → has_place state.position.grid (place_of field) ≡ true → has_nul spelling ≡ true
+  pub nul_due : is_some (text_spelled spelling) ≡ true → has_target state.position.grid (target_of field) ≡ true → has_nul spelling ≡ true
       → put state putting field (text_spelled spelling) ≡ Err refusals.NulByte
-  nul_due is placed nul =
+  nul_due is targeted nul =
       let found = spelled_some (text_spelled spelling) is in
       ap (put state putting field) found.1
-      ∙ first_of_three (has_place state.position.grid (place_of field)) (has_nul found.0) _ _ _ placed (nul_spelled false spelling found.0 found.1 ∙ nul)
+      ∙ first_of_three (has_target state.position.grid (target_of field)) (has_nul found.0) _ _ _ targeted (nul_spelled false spelling found.0 found.1 ∙ nul)
 
-  pub put_due : is_some (text_spelled spelling) ≡ true → has_place state.position.grid (place_of field) ≡ true → has_nul spelling ≡ false
-      → (piece : List ℕ) × (text_spelled spelling ≡ Some piece) × (put state putting field (text_spelled spelling) ≡ edited (with_piece state putting (place_of field) piece))
-  put_due is placed plain =
+  pub put_due : is_some (text_spelled spelling) ≡ true → has_target state.position.grid (target_of field) ≡ true → has_nul spelling ≡ false
+      → (piece : List ℕ) × (text_spelled spelling ≡ Some piece) × (put state putting field (text_spelled spelling) ≡ edited (with_piece state putting (target_of field) piece))
+  put_due is targeted plain =
       let found = spelled_some (text_spelled spelling) is in (
         found.0,
         found.1,
         ap (put state putting field) found.1
-            ∙ last_of_three (has_place state.position.grid (place_of field)) (has_nul found.0) _ _ _ placed (nul_spelled false spelling found.0 found.1 ∙ plain),
+            ∙ last_of_three (has_target state.position.grid (target_of field)) (has_nul found.0) _ _ _ targeted (nul_spelled false spelling found.0 found.1 ∙ plain),
       )
 
 is_edited : (due : Result Reply Refusal) (state : State) → due ≡ edited state → IsOk due
@@ -55,16 +55,16 @@ wanted [] some = absurd (some refl)
 wanted (byte ∷ bytes) some = refl
 
 -- if a text is put, an allocation may fail
-pub memory_due : (state : State) (putting : TextMode) (field : Field) (spelling : List ℕ) → is_some (text_spelled spelling) ≡ true → has_place state.position.grid (place_of field) ≡ true → has_nul spelling ≡ false
+pub memory_due : (state : State) (putting : TextMode) (field : Field) (spelling : List ℕ) → is_some (text_spelled spelling) ≡ true → has_target state.position.grid (target_of field) ≡ true → has_nul spelling ≡ false
     → (spelling ≡ [] → ⊥) → IsOk (put state putting field (text_spelled spelling)) × (want_of_text spelling ≡ Some grid_memory)
-memory_due state putting field spelling is placed plain some =
-    let due = put_due state putting field spelling is placed plain in
-    (is_edited (put state putting field (text_spelled spelling)) (with_piece state putting (place_of field) due.0) due.2, wanted spelling some)
+memory_due state putting field spelling is targeted plain some =
+    let due = put_due state putting field spelling is targeted plain in
+    (is_edited (put state putting field (text_spelled spelling)) (with_piece state putting (target_of field) due.0) due.2, wanted spelling some)
 
 -- a piece that is not empty is appended
-pub put_behind : (state : State) (place : Place) (piece : List ℕ) → (piece ≡ [] → ⊥) → with_text_at state place (text_at state place ++ piece) ≡ with_piece state Behind place piece
-put_behind state place [] some = absurd (some refl)
-put_behind state place (byte ∷ bytes) some = refl
+pub put_behind : (state : State) (target : Target) (piece : List ℕ) → (piece ≡ [] → ⊥) → with_text_at state target (text_at state target ++ piece) ≡ with_piece state Behind target piece
+put_behind state target [] some = absurd (some refl)
+put_behind state target (byte ∷ bytes) some = refl
 
 pub where_done : {T E P Q : Type 0} (r : Result T E) → (P → Q) → OnOk r P → OnOk r Q
 where_done (Ok x) f p = f p

@@ -5,7 +5,7 @@ use Rattle.xw_grid.specs.declared.cell.Direction.{Direction}
 use Rattle.xw_grid.specs.declared.cell.Direction.TheVariants.{Across, Down}
 use Rattle.xw_grid.specs.declared.lights.Light.{Light}
 use Rattle.xw_grid.specs.Grid.{entry}
-use Rattle.xw_grid.specs.Light.{cells_of, lights_of, place_through}
+use Rattle.xw_grid.specs.Light.{cells_of, lights_of, index_through}
 use Rattle.xw_feas.specs.State.{State as Position}
 use Rattle.xw_fill.specs.Position.{position_of}
 use Rattle.xw_fill.specs.Search.{is_entered}
@@ -22,7 +22,7 @@ is_complete position (Some light) = is_entered (position_of position) light
 
 -- the light that crosses those of a direction at the cell is wholly entered
 abbrev pub is_held : Position → Direction → Cell → Bool
-is_held position direction cell = is_complete position (place_through (lights_of position.grid) (crossing direction) cell)
+is_held position direction cell = is_complete position (index_through (lights_of position.grid) (crossing direction) cell)
 
 -- the cell has a letter; if complete words are spared, none of them crosses there
 abbrev pub is_erased : Position → Bool → Direction → Cell → Bool

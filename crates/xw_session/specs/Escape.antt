@@ -60,10 +60,10 @@ escaped byte (Some letter) = 92 ∷ letter ∷ []
 
 -- the index is that of the first or the last byte
 abbrev pub is_end : List ℕ → ℕ → Bool
-is_end text place = (place == 0) || (place + 1 == length text)
+is_end text index = (index == 0) || (index + 1 == length text)
 
 abbrev pub spelled_at : List ℕ → ℕ → List ℕ
-spelled_at text place = escaped (slice_index text place) (letter_for (is_end text place) (slice_index text place))
+spelled_at text index = escaped (slice_index text index) (letter_for (is_end text index) (slice_index text index))
 
 -- the text with an escape for each LF, CR and backslash, and for a space or tab at an end
 abbrev pub escaped_text : List ℕ → List ℕ

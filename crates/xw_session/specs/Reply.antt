@@ -12,7 +12,7 @@ use Rattle.xw_grid.specs.declared.fault.GridFault.TheVariants as grids
 use Rattle.xw_grid.specs.declared.lights.Light.{Light}
 use Rattle.xw_grid.specs.Grid.{Grid, is_inside, is_open, is_block, index_of, cell_at}
 use Rattle.xw_grid.specs.Edit.{new_grid}
-use Rattle.xw_grid.specs.Light.{lights_of, place_named}
+use Rattle.xw_grid.specs.Light.{lights_of, index_named}
 use Rattle.xw_grid.specs.Clue.{no_clues, with_clue, is_circled, with_circle}
 use Rattle.xw_feas.specs.declared.edit.Refusal.{Refusal as EditRefusal}
 use Rattle.xw_feas.specs.State.{State as Position, Action, after, want_of as want_of_edit, letter_set, cell_cleared, word_placed, list_written, block_toggled, bar_toggled, symmetry_chosen, word_added, word_struck}
@@ -47,7 +47,7 @@ use Rattle.xw_session.specs.Choices.{choice_lines}
 use Rattle.xw_session.specs.Told.{cell_lines, count_lines, text_lines}
 use Rattle.xw_session.specs.Stats.{stat_lines}
 use Rattle.xw_session.specs.Record.{record_lines}
-use Rattle.xw_session.specs.Put.{place_of, has_place, with_piece}
+use Rattle.xw_session.specs.Put.{target_of, has_target, with_piece}
 use Rattle.xw_session.specs.Text.{word_line, light_lines, circle_lines, change_line, letters_line, counted_lines, light_of, duplicate_line, spelled_line, suggestion_line}
 use Rattle.xw_session.specs.Show.{show_lines}
 
@@ -72,7 +72,7 @@ shown state lines = Ok (record { lines = lines; state = state })
 -- the open cells whose feasible letters changed, each with its new letters, in reading order
 abbrev pub changes_between : Position → Position → List (Cell × List ℕ)
 changes_between before after =
-    map (λ place. (cell_at after.grid place, feasible_letters (position_of after) place))
+    map (λ index. (cell_at after.grid index, feasible_letters (position_of after) index))
     (cells_that_differ after.grid (feasible_letters (position_of before)) (feasible_letters (position_of after)) 0)
 
 -- the changed cells if the watch is on
@@ -123,9 +123,9 @@ written state field text = if has_nul text then Err refusals.NulByte else edited
 abbrev pub put : State → TextMode → Field → Option (List ℕ) → Result Reply Refusal
 put state putting field None = Err refusals.Escape
 put state putting field (Some text) =
-    if not (has_place state.position.grid (place_of field)) then Err (refusals.Grid grids.OutOfGrid)
+    if not (has_target state.position.grid (target_of field)) then Err (refusals.Grid grids.OutOfGrid)
     else if has_nul text then Err refusals.NulByte
-    else edited (with_piece state putting (place_of field) text)
+    else edited (with_piece state putting (target_of field) text)
 
 -- the report on the whole puzzle
 abbrev pub told_lines : State → Report → List ℕ
@@ -208,8 +208,8 @@ reply_to state (commands.Circle spot) = circle_toggled state (cell_of spot)
 reply_to state commands.Circles = shown state (circle_lines state.position.grid state.circles)
 reply_to state commands.Show = shown state (show_lines state.position.grid)
 reply_to state commands.Lights = shown state (light_lines state.position.grid)
-reply_to state (commands.Words named most) = worded state (place_named (lights_of state.position.grid) (name_of_light named)) most
-reply_to state (commands.Choices named most) = weighed state (place_named (lights_of state.position.grid) (name_of_light named)) most
+reply_to state (commands.Words named most) = worded state (index_named (lights_of state.position.grid) (name_of_light named)) most
+reply_to state (commands.Choices named most) = weighed state (index_named (lights_of state.position.grid) (name_of_light named)) most
 reply_to state (commands.Letters spot) = lettered state (cell_of spot)
 reply_to state (commands.Tally spot) = tallied state (cell_of spot)
 reply_to state commands.Duplicates = shown state (flat_map (duplicate_line state.position.grid) (duplicates_of state.position))

@@ -76,8 +76,8 @@ Tells transcript failures old new text = ((transcript new ≡ transcript old ++ 
 abbrev pub ResumesLine : {S : Type 0} → (S → List ℕ) → (S → ℕ) → List ℕ → ℕ → State → List ℕ → Result ℕ Stop → State → S → S → Type 0
 ResumesLine transcript failures file number state line (Ok refused) after old new =
     (refusal : Option Refusal) × IsDone state line refusal after × (refused ≡ count refusal) × Tells transcript failures old new (told_of file number refusal)
-ResumesLine transcript failures file number state line (Err (NoCommand place refusal)) after old new =
-    (place ≡ number) × (line_fault line ≡ Some refusal) × (after ≡ state) × (new ≡ old)
+ResumesLine transcript failures file number state line (Err (NoCommand told refusal)) after old new =
+    (told ≡ number) × (line_fault line ≡ Some refusal) × (after ≡ state) × (new ≡ old)
 ResumesLine transcript failures file number state line (Err Memory) after old new =
     (line_fault line ≡ None) × MayBeDone state line after × (new ≡ old)
 
@@ -98,7 +98,7 @@ pub record IsReached (file : List ℕ) (start : State) (lines : List (List ℕ))
   pub after : List (List ℕ)
   pub refused : ℕ
   pub parts : lines ≡ before ++ line ∷ after
-  pub place : number ≡ length before + 1
+  pub numbered : number ≡ length before + 1
   pub done : AreDone file 1 start before transcript refused state
 
 -- how a replay ends, what it reports, and the state it leaves: all lines are commands and were executed; or the first line that is

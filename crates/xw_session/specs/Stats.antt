@@ -7,7 +7,7 @@ use Rattle.xw_grid.specs.declared.cell.Side.TheVariants.{Right, Below}
 use Rattle.xw_grid.specs.declared.cell.Direction.TheVariants.{Across, Down}
 use Rattle.xw_grid.specs.declared.lights.Light.{Light}
 use Rattle.xw_grid.specs.Grid.{Grid, cells, is_block, is_barred, entry}
-use Rattle.xw_grid.specs.Light.{lights_of, place_through}
+use Rattle.xw_grid.specs.Light.{lights_of, index_through}
 use Rattle.xw_session.specs.declared.stats.Tally.{Tally}
 use Rattle.xw_session.specs.declared.stats.Tally.TheVariants as tallies
 use Rattle.xw_session.specs.Text.{line_of}
@@ -24,7 +24,7 @@ in_one true down = not down
 in_one false down = down
 
 abbrev pub is_unchecked : Grid → Cell → Bool
-is_unchecked grid cell = in_one (is_some (place_through (lights_of grid) Across cell)) (is_some (place_through (lights_of grid) Down cell))
+is_unchecked grid cell = in_one (is_some (index_through (lights_of grid) Across cell)) (is_some (index_through (lights_of grid) Down cell))
 
 -- the cell is a block, has a bar on this side, has a letter, is in exactly one light, or has this letter
 abbrev pub is_counted : Grid → Tally → Cell → Bool
@@ -50,8 +50,8 @@ abbrev pub mean_hundredths : ℕ → ℕ → ℕ
 mean_hundredths count sum = if count == 0 then 0 else (200 * sum + count) / (2 * count)
 
 -- hundredths as a number with two decimals
-abbrev pub two_places : ℕ → List ℕ
-two_places hundredths = decimal (hundredths / 100) ++ (46 ∷ (48 + hundredths / 10 % 10) ∷ (48 + hundredths % 10) ∷ [])
+abbrev pub two_decimals : ℕ → List ℕ
+two_decimals hundredths = decimal (hundredths / 100) ++ (46 ∷ (48 + hundredths / 10 % 10) ∷ (48 + hundredths % 10) ∷ [])
 
 -- ---- lines
 
@@ -69,7 +69,7 @@ abbrev pub letter_line : Grid → ℕ → List ℕ
 letter_line grid letter = some_line (codes "letter") (letter ∷ []) (count_of grid (tallies.Letter letter))
 
 abbrev pub mean_line : Grid → List ℕ
-mean_line grid = line_of (codes "mean" ∷ two_places (mean_hundredths (length (lights_of grid)) (total_size (lights_of grid))) ∷ [])
+mean_line grid = line_of (codes "mean" ∷ two_decimals (mean_hundredths (length (lights_of grid)) (total_size (lights_of grid))) ∷ [])
 
 abbrev pub cells_line : Grid → List ℕ
 cells_line grid = number_line (codes "cells") (length (cells grid))

@@ -4,7 +4,7 @@ use Rattle.xw_grid.specs.declared.cell.Cell.{Cell}
 use Rattle.xw_grid.specs.declared.cell.Direction.{Direction}
 use Rattle.xw_grid.specs.declared.cell.Direction.TheVariants.{Across, Down}
 use Rattle.xw_grid.specs.Grid.{Grid, index_of}
-use Rattle.xw_grid.specs.Light.{lights_of, no_light, place_through}
+use Rattle.xw_grid.specs.Light.{lights_of, no_light, index_through}
 use Rattle.xw_feas.specs.State.{State as Position}
 use Rattle.xw_fill.specs.Position.{position_of}
 use Rattle.xw_fill.specs.FeasibleWords.{feasible_words}
@@ -27,7 +27,7 @@ words_with position direction cell letter light =
 
 -- the same for the light through the cell; None if there is no light
 abbrev pub tally_at : Position → Direction → Cell → ℕ → Option ℕ
-tally_at position direction cell letter = option_map (words_with position direction cell letter) (place_through (lights_of position.grid) direction cell)
+tally_at position direction cell letter = option_map (words_with position direction cell letter) (index_through (lights_of position.grid) direction cell)
 
 abbrev pub number_or_dash : Option ℕ → List ℕ
 number_or_dash None = codes "-"

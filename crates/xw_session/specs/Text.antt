@@ -7,7 +7,7 @@ use Rattle.xw_grid.specs.declared.fault.GridFault.TheVariants as grids
 use Rattle.xw_grid.specs.declared.lights.Light.{Light}
 use Rattle.xw_grid.specs.Grid.{Grid, entry, is_open, cells}
 use Rattle.xw_grid.specs.Clue.{is_circled}
-use Rattle.xw_grid.specs.Light.{cells_of, lights_of, place_named}
+use Rattle.xw_grid.specs.Light.{cells_of, lights_of, index_named}
 use Rattle.xw_grid.specs.declared.cell.LightName.{LightName}
 use Rattle.xw_words.specs.Dictionary.{entry_at, row as known_words}
 use Rattle.xw_feas.specs.State.{State as Position}
@@ -38,7 +38,7 @@ word_line word = line_of (word ∷ [])
 -- ---- refusals
 
 abbrev pub word_fault : WordFault → List ℕ
-word_fault (words.BadLetter place) = codes "BadLetter"
+word_fault (words.BadLetter position) = codes "BadLetter"
 word_fault words.Length = codes "Length"
 word_fault words.Known = codes "Known"
 word_fault words.Full = codes "Full"
@@ -59,7 +59,7 @@ syntax_fault syntax.LineTooLong = codes "LineTooLong"
 syntax_fault syntax.Command = codes "Command"
 syntax_fault syntax.Arguments = codes "Arguments"
 
--- the name of a refusal, without the place of the fault
+-- the name of a refusal, without the location of the fault
 abbrev pub name_of : Refusal → List ℕ
 name_of (refusals.Syntax fault) = syntax_fault fault
 name_of (refusals.Word fault) = word_fault fault
@@ -111,7 +111,7 @@ light_line grid light = line_of (decimal light.name.number ∷ direction_name li
 
 -- the light with this name
 abbrev pub light_of : Grid → LightName → Option Light
-light_of grid name = option_and_then (slice_get (lights_of grid)) (place_named (lights_of grid) name)
+light_of grid name = option_and_then (slice_get (lights_of grid)) (index_named (lights_of grid) name)
 
 -- the letters of a light, or none if there is no light
 abbrev pub pattern_of : Grid → Option Light → List ℕ
@@ -133,13 +133,13 @@ size_of (Some light) = light.size
 
 -- the known word at an index among those of the light's length
 abbrev pub word_at : Position → LightName → ℕ → List ℕ
-word_at position name place = (entry_at (known_words position.words (size_of (light_of position.grid name))) place).word
+word_at position name index = (entry_at (known_words position.words (size_of (light_of position.grid name))) index).word
 
 -- the line of a suggestion
 abbrev pub suggestion_line : Position → Suggestion → List ℕ
 suggestion_line position (suggestions.Dead name) = line_of (codes "dead" ∷ decimal name.number ∷ direction_name name.direction ∷ [])
 suggestion_line position suggestions.Done = line_of (codes "done" ∷ [])
-suggestion_line position (suggestions.Try name place) = line_of (codes "try" ∷ decimal name.number ∷ direction_name name.direction ∷ word_at position name place ∷ [])
+suggestion_line position (suggestions.Try name index) = line_of (codes "try" ∷ decimal name.number ∷ direction_name name.direction ∷ word_at position name index ∷ [])
 suggestion_line position (suggestions.NoWord name) = line_of (codes "noword" ∷ decimal name.number ∷ direction_name name.direction ∷ [])
 
 -- all lights of a grid

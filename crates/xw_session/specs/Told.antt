@@ -32,7 +32,7 @@ numbered_line name count = line_of (decimal name.number ∷ direction_name name.
 
 -- the light at an index, with the number of its feasible words
 abbrev pub count_line : Position → ℕ → List ℕ
-count_line position place = numbered_line (slice_index_or (lights_of position.grid) place no_light).name (length (feasible_words (position_of position) place))
+count_line position index = numbered_line (slice_index_or (lights_of position.grid) index no_light).name (length (feasible_words (position_of position) index))
 
 -- all lights, in order
 abbrev pub count_lines : Position → List ℕ

@@ -3,7 +3,7 @@ use Rattle.std.specs.Prelude.{◌≡◌, ◌⊎◌, ℕ, ◌*◌, false, List, f
 use Rattle.std.specs.List.{range_with_len}
 use Rattle.xw_grid.specs.declared.cell.LightName.{LightName}
 use Rattle.xw_grid.specs.Grid.{Grid, cell_at}
-use Rattle.xw_grid.specs.Light.{lights_of, place_named}
+use Rattle.xw_grid.specs.Light.{lights_of, index_named}
 use Rattle.xw_reason.specs.Reason.{entry_in, IsReasonOf, IsLight}
 use Rattle.xw_session.specs.declared.refusal.Refusal.{Refusal}
 use Rattle.xw_session.specs.declared.refusal.Refusal.TheVariants as refusals
@@ -13,7 +13,7 @@ use Rattle.xw_session.specs.Reply.{Reply}
 
 -- the line of a cell, by its index in reading order
 abbrev pub entry_told : Grid → List (Option ℕ) → ℕ → List ℕ
-entry_told grid entries place = entry_line (cell_at grid place) (entry_in entries place)
+entry_told grid entries index = entry_line (cell_at grid index) (entry_in entries index)
 
 -- each cell that has an entry, in reading order
 abbrev pub entry_lines : Grid → List (Option ℕ) → List ℕ
@@ -28,7 +28,7 @@ pub record IsWhyReply (state : State) (name : LightName) (reply : Reply) : Type 
 -- no light has this name, or it has a feasible word
 abbrev pub IsWhyRefusal : State → LightName → Refusal → Type 0
 IsWhyRefusal state name refusal =
-    ((refusal ≡ refusals.NoLight) × (place_named (lights_of state.position.grid) name ≡ None)) ⊎ ((refusal ≡ refusals.Alive) × IsLight state.position name false)
+    ((refusal ≡ refusals.NoLight) × (index_named (lights_of state.position.grid) name ≡ None)) ⊎ ((refusal ≡ refusals.Alive) × IsLight state.position name false)
 
 -- a reply that why may get if no allocation fails: a reason, or why there is none
 abbrev pub IsWhyDue : State → LightName → Result Reply Refusal → Type 0

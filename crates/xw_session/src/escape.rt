@@ -95,11 +95,11 @@ fn letter_for(is_end: bool, byte: u8) -> Option<u8>
     }
 }
 
-fn is_end(text: &[u8], place: usize) -> bool
-    requires { place < length text.now }
-    ensures { result ≡ is_end_of text.now place }
+fn is_end(text: &[u8], index: usize) -> bool
+    requires { index < length text.now }
+    ensures { result ≡ is_end_of text.now index }
 {
-    place == 0 || place + 1 == text.len()
+    index == 0 || index + 1 == text.len()
 }
 
 /// Writes a byte, or its escape if it has an escape letter.
@@ -113,19 +113,19 @@ fn write_escaped<W: Sink>(sink: &mut W, byte: u8, letter: Option<u8>) -> Result<
 }
 
 /// Writes the byte of a text at an index, escaped if needed.
-fn write_at<W: Sink>(sink: &mut W, text: &[u8], place: usize) -> Result<(), WriteFailed>
-    requires { place < length text.now }
-    ensures { Sends W.transcript W.failures sink.old sink.new result (spelled_at text.now place) }
+fn write_at<W: Sink>(sink: &mut W, text: &[u8], index: usize) -> Result<(), WriteFailed>
+    requires { index < length text.now }
+    ensures { Sends W.transcript W.failures sink.old sink.new result (spelled_at text.now index) }
 {
-    let byte = text[place];
-    write_escaped(sink, byte, letter_for(is_end(text, place), byte))
+    let byte = text[index];
+    write_escaped(sink, byte, letter_for(is_end(text, index), byte))
 }
 
 fn write<W: Sink>(sink: &mut W, text: &[u8]) -> Result<(), WriteFailed>
     ensures { Sends W.transcript W.failures sink.old sink.new result (escaped_text text.now) }
 {
-    for place in 0..text.len() {
-        write_at(sink, text, place)?;
+    for index in 0..text.len() {
+        write_at(sink, text, index)?;
     }
     Ok(())
 }

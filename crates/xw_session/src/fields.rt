@@ -88,12 +88,12 @@ fn write_clue_at<W: Sink>(
     sink: &mut W,
     lights: &Lights,
     clues: &Clues,
-    place: usize,
+    index: usize,
 ) -> Result<(), WriteFailed>
-    requires { place < length lights.now }
-    ensures { Sends W.transcript W.failures sink.old sink.new result (clue_told clues.now (slice_index_or lights.now place no_light)) }
+    requires { index < length lights.now }
+    ensures { Sends W.transcript W.failures sink.old sink.new result (clue_told clues.now (slice_index_or lights.now index no_light)) }
 {
-    match lights.get(place) {
+    match lights.get(index) {
         Some(light) => {
             let text = clues.get(light.start, light.name.direction);
             write_clue(sink, light.name, text)
@@ -112,8 +112,8 @@ pub fn write_clues<W: Sink>(
     requires { lights.now ≡ lights_of grid.now }
     ensures { Sends W.transcript W.failures sink.old sink.new result (clue_lines clues.now grid.now) }
 {
-    for place in 0..lights.len() {
-        write_clue_at(sink, lights, clues, place)?;
+    for index in 0..lights.len() {
+        write_clue_at(sink, lights, clues, index)?;
     }
     Ok(())
 }

@@ -34,8 +34,8 @@ pub fn write_lights<W: Sink>(sink: &mut W, grid: &Grid, lights: &Lights) -> Resu
     ensures { Sends W.transcript W.failures sink.old sink.new result (light_lines grid.now) }
 {
     let mut line = AnswerLine::new();
-    for place in 0..lights.len() {
-        write_light_at(sink, &mut line, grid, lights, place)?;
+    for index in 0..lights.len() {
+        write_light_at(sink, &mut line, grid, lights, index)?;
     }
     Ok(())
 }
@@ -46,14 +46,14 @@ fn write_light_at<W: Sink>(
     line: &mut AnswerLine,
     grid: &Grid,
     lights: &Lights,
-    place: usize,
+    index: usize,
 ) -> Result<(), WriteFailed>
     requires lights { lights.now ≡ lights_of grid.now }
-    requires place { place < length lights.now }
-    ensures { Sends W.transcript W.failures sink.old sink.new result (light_line grid.now (slice_index_or lights.now place no_light)) }
+    requires index { index < length lights.now }
+    ensures { Sends W.transcript W.failures sink.old sink.new result (light_line grid.now (slice_index_or lights.now index no_light)) }
 {
     grid.well_formed();
-    match lights.get(place) {
+    match lights.get(index) {
         Some(light) => write_light(sink, line, grid, &light),
         None => Ok(()),
     }
@@ -98,8 +98,8 @@ pub fn write_circles<W: Sink>(
 ) -> Result<(), WriteFailed>
     ensures { Sends W.transcript W.failures sink.old sink.new result (circle_lines grid.now circles.now) }
 {
-    for place in 0..grid.size() {
-        write_circle(sink, grid, circles, grid.cell_at(place))?;
+    for index in 0..grid.size() {
+        write_circle(sink, grid, circles, grid.cell_at(index))?;
     }
     Ok(())
 }

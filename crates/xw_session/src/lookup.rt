@@ -1,7 +1,7 @@
 //! Finds lights by the names in command lines.
 ghost use Rattle.std.specs.Prelude.{◌≡◌, ◌≤◌, IfSome, IfNone, slice_get};
 ghost use Rattle.std.specs.Option.{option_and_then};
-ghost use Rattle.xw_grid.specs.Light.{place_named};
+ghost use Rattle.xw_grid.specs.Light.{index_named};
 ghost use Rattle.xw_session.specs.Reply.{name_of_light};
 
 use xw_commands::command::LightArg;
@@ -23,7 +23,7 @@ pub fn light_name(named: LightArg) -> Option<LightName>
 
 /// Returns the light with this name, if the grid has one.
 pub fn light_named(lights: &Lights, name: LightName) -> Option<Light>
-    ensures { result ≡ option_and_then (slice_get lights.now) (place_named lights.now name) }
+    ensures { result ≡ option_and_then (slice_get lights.now) (index_named lights.now name) }
 {
     lights.get(lights.index(name)?)
 }

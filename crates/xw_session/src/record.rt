@@ -103,8 +103,8 @@ fn write_added<W: Sink>(
 ) -> Result<(), WriteFailed>
     ensures { Sends W.transcript W.failures sink.old sink.new result (command_lines (map add_command (drop begun (words_of bank.now.words count)))) }
 {
-    for place in begun..bank.known(count) {
-        write_word_command(sink, WithWord::Add, bank.word(count, place))?;
+    for index in begun..bank.known(count) {
+        write_word_command(sink, WithWord::Add, bank.word(count, index))?;
     }
     Ok(())
 }
@@ -114,23 +114,23 @@ fn write_struck_at<W: Sink>(
     sink: &mut W,
     bank: &Bank,
     count: usize,
-    place: usize,
+    index: usize,
 ) -> Result<(), WriteFailed>
-    requires { place < length (words_of bank.now.words count) }
-    ensures { Sends W.transcript W.failures sink.old sink.new result (command_lines (strike_commands (entry_at (words_of bank.now.words count) place))) }
+    requires { index < length (words_of bank.now.words count) }
+    ensures { Sends W.transcript W.failures sink.old sink.new result (command_lines (strike_commands (entry_at (words_of bank.now.words count) index))) }
 {
-    if bank.is_active(count, place) {
+    if bank.is_active(count, index) {
         return Ok(());
     }
-    write_word_command(sink, WithWord::Strike, bank.word(count, place))
+    write_word_command(sink, WithWord::Strike, bank.word(count, index))
 }
 
 /// Writes a `strike` command for each struck word of a length.
 fn write_struck<W: Sink>(sink: &mut W, bank: &Bank, count: usize) -> Result<(), WriteFailed>
     ensures { Sends W.transcript W.failures sink.old sink.new result (command_lines (flat_map strike_commands (words_of bank.now.words count))) }
 {
-    for place in 0..bank.known(count) {
-        write_struck_at(sink, bank, count, place)?;
+    for index in 0..bank.known(count) {
+        write_struck_at(sink, bank, count, index)?;
     }
     Ok(())
 }
@@ -401,8 +401,8 @@ pub fn write_part<W: Sink>(
 ) -> Result<(), WriteFailed>
     ensures { Sends W.transcript W.failures sink.old sink.new result (command_lines (part_commands grid.now clues.now circles.now part)) }
 {
-    for place in 0..grid.size() {
-        write_kept(sink, grid, clues, circles, part, grid.cell_at(place))?;
+    for index in 0..grid.size() {
+        write_kept(sink, grid, clues, circles, part, grid.cell_at(index))?;
     }
     Ok(())
 }

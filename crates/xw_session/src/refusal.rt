@@ -21,7 +21,7 @@ pub enum Refusal {
     Alive,
 }
 
-/// Returns the name of a refusal. The name does not include the place of the fault.
+/// Returns the name of a refusal. The name does not include the location of the fault.
 pub fn name(refusal: Refusal) -> &'static str
     ensures { result.now ≡ name_of refusal }
 {

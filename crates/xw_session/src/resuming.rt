@@ -100,8 +100,8 @@ fn tell_refused<E: Sink>(
     ensures transcript { (refusal : Refusal) → answer.now ≡ refused refusal → OnOk result (Tells E.transcript E.failures errors.old errors.new (refused_line file.now number refusal)) }
     ensures untold { OnErr result (errors.new ≡ errors.old) }
 {
-    let place = format!(in alloc; "xw: {file}: line {number}: ")?;
-    tell(errors, place.as_bytes());
+    let location = format!(in alloc; "xw: {file}: line {number}: ")?;
+    tell(errors, location.as_bytes());
     tell(errors, name_line(answer));
     Ok(())
 }

@@ -16,8 +16,8 @@ fn spell(letters: &[Letter], bytes: &mut [u8; TOGETHER]) -> usize
     ensures bytes { take result bytes.new ≡ take result letters.now }
 {
     let count = letters.len().min(TOGETHER);
-    for place in 0..count {
-        bytes[place] = letters[place].byte();
+    for position in 0..count {
+        bytes[position] = letters[position].byte();
     }
     count
 }

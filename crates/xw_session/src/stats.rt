@@ -3,7 +3,7 @@ ghost use Rattle.std.specs.Prelude.{◌≡◌, ◌+◌, ◌*◌, ◌<◌, ◌≤
 ghost use Rattle.xw_grid.specs.Light.{lights_of, no_light};
 ghost use Rattle.xw_lines.specs.Sends.{Sends};
 ghost use Rattle.xw_session.specs.Text.{line_of};
-ghost use Rattle.xw_session.specs.Stats.{is_unchecked as is_unchecked_cell, is_counted as is_counted_cell, count_of, count_of_size, total_size, mean_hundredths, two_places, number_line, some_line, size_line, letter_line, mean_line, cells_line, bars_line, lights_line, cells_and_blocks, bars_and_entries, size_lines, lights_and_sizes, unchecked_and_mean, letter_lines, stat_lines};
+ghost use Rattle.xw_session.specs.Stats.{is_unchecked as is_unchecked_cell, is_counted as is_counted_cell, count_of, count_of_size, total_size, mean_hundredths, two_decimals, number_line, some_line, size_line, letter_line, mean_line, cells_line, bars_line, lights_line, cells_and_blocks, bars_and_entries, size_lines, lights_and_sizes, unchecked_and_mean, letter_lines, stat_lines};
 
 use crate::text;
 use itoa::Buffer;
@@ -61,8 +61,8 @@ fn count(grid: &Grid, lights: &Lights, tally: Tally) -> u64
     ensures few { result ≤ 65025 }
 {
     let mut count = 0;
-    for place in 0..grid.size() {
-        if is_counted(grid, lights, tally, grid.cell_at(place)) {
+    for index in 0..grid.size() {
+        if is_counted(grid, lights, tally, grid.cell_at(index)) {
             count += 1;
         }
     }
@@ -70,11 +70,11 @@ fn count(grid: &Grid, lights: &Lights, tally: Tally) -> u64
 }
 
 /// Returns the length of the light at an index.
-fn size_at(lights: &Lights, place: usize) -> u32
-    requires { place < length lights.now }
-    ensures { result ≡ (slice_index_or lights.now place no_light).size }
+fn size_at(lights: &Lights, index: usize) -> u32
+    requires { index < length lights.now }
+    ensures { result ≡ (slice_index_or lights.now index no_light).size }
 {
-    match lights.get(place) {
+    match lights.get(index) {
         Some(light) => light.size,
         None => 0,
     }
@@ -84,8 +84,8 @@ fn count_size(lights: &Lights, size: u32) -> u64
     ensures { result ≡ count_of_size lights.now size }
 {
     let mut count = 0;
-    for place in 0..lights.len() {
-        if size_at(lights, place) == size {
+    for index in 0..lights.len() {
+        if size_at(lights, index) == size {
             count += 1;
         }
     }
@@ -98,8 +98,8 @@ fn total(lights: &Lights) -> u64
     ensures small { result ≤ 64770 * 4294967295 }
 {
     let mut total = 0;
-    for place in 0..lights.len() {
-        total += u64::from(size_at(lights, place));
+    for index in 0..lights.len() {
+        total += u64::from(size_at(lights, index));
     }
     total
 }
@@ -250,8 +250,8 @@ fn write_digits<W: Sink>(sink: &mut W, number: u64) -> Result<(), WriteFailed>
 }
 
 /// Writes hundredths as a number with two decimals, and an LF.
-fn write_two_places<W: Sink>(sink: &mut W, hundredths: u64) -> Result<(), WriteFailed>
-    ensures { Sends W.transcript W.failures sink.old sink.new result (line_of (two_places hundredths ∷ [])) }
+fn write_two_decimals<W: Sink>(sink: &mut W, hundredths: u64) -> Result<(), WriteFailed>
+    ensures { Sends W.transcript W.failures sink.old sink.new result (line_of (two_decimals hundredths ∷ [])) }
 {
     let tenth = b'0' + (hundredths / 10 % 10) as u8;
     let hundredth = b'0' + (hundredths % 10) as u8;
@@ -260,10 +260,10 @@ fn write_two_places<W: Sink>(sink: &mut W, hundredths: u64) -> Result<(), WriteF
 }
 
 fn write_hundredths<W: Sink>(sink: &mut W, hundredths: u64) -> Result<(), WriteFailed>
-    ensures { Sends W.transcript W.failures sink.old sink.new result (line_of (codes "mean" ∷ two_places hundredths ∷ [])) }
+    ensures { Sends W.transcript W.failures sink.old sink.new result (line_of (codes "mean" ∷ two_decimals hundredths ∷ [])) }
 {
     text::write_spaced(sink, b"mean")?;
-    write_two_places(sink, hundredths)
+    write_two_decimals(sink, hundredths)
 }
 
 fn write_mean<W: Sink>(sink: &mut W, grid: &Grid, lights: &Lights) -> Result<(), WriteFailed>

@@ -143,20 +143,20 @@ stands_in at_end byte =
     (λ _. stands_escaped (at_end && nat_eq byte 9) byte 116 _ refl
     (λ _. ap (λ b. not (b || nat_eq byte 13) && true) lf ∙ ap (λ b. not (false || b) && true) cr)))))
 
-stands_each : (piece places : List ℕ) → list_all stands (flat_map (spelled_at piece) places) ≡ true
+stands_each : (piece indices : List ℕ) → list_all stands (flat_map (spelled_at piece) indices) ≡ true
 stands_each piece [] = refl
-stands_each piece (place ∷ places) =
-    all_joined stands (spelled_at piece place) (flat_map (spelled_at piece) places) (stands_in (is_end piece place) (slice_index piece place)) (stands_each piece places)
+stands_each piece (index ∷ indices) =
+    all_joined stands (spelled_at piece index) (flat_map (spelled_at piece) indices) (stands_in (is_end piece index) (slice_index piece index)) (stands_each piece indices)
 
 short_escape : (byte : ℕ) (letter : Option ℕ) → length (escaped byte letter) ≤ 2
 short_escape b None = omega arith
 short_escape b (Some letter) = omega arith
 
-short_each : (piece places : List ℕ) → length (flat_map (spelled_at piece) places) ≤ 2 * length places
+short_each : (piece indices : List ℕ) → length (flat_map (spelled_at piece) indices) ≤ 2 * length indices
 short_each piece [] = omega arith
-short_each piece (place ∷ places) =
-    let one = short_escape (slice_index piece place) (letter_for (is_end piece place) (slice_index piece place)) in
-    omega (arith, length-append (spelled_at piece place) (flat_map (spelled_at piece) places), one, short_each piece places)
+short_each piece (index ∷ indices) =
+    let one = short_escape (slice_index piece index) (letter_for (is_end piece index) (slice_index piece index)) in
+    omega (arith, length-append (spelled_at piece index) (flat_map (spelled_at piece) indices), one, short_each piece indices)
 
 text_fit : (piece : List ℕ) → length piece ≤ 2000 → Fit (1 + 4000 + 0) (escaped_text piece ∷ [])
 text_fit piece short =
@@ -215,9 +215,9 @@ reads_name Notes ws = reads_key text_fields (field_name Notes) (Some Notes) ws r
 reads_field : (where_put : Field) (ws : List (List ℕ)) → IsSmallField where_put → field (spaced (in_field where_put ws)) ≡ Ok (where_put, spaced ws)
 reads_field (fields.Text name) ws small = then_read text_name field_named (spaced (field_name name ∷ ws)) (spaced ws) (Some name) (reads_name name ws)
 reads_field (fields.Clue at way) ws small =
-    let place = decimal at.row ∷ decimal at.col ∷ direction_name way ∷ ws in
-    then_read text_name field_named (spaced (clue_name ∷ place)) (spaced place) None (reads_key text_fields clue_name None place refl refl)
-    ∙ then_read spot (λ start. direction >>= (λ way. given (fields.Clue start way))) (spaced place) (spaced (direction_name way ∷ ws)) at (reads_spot at (direction_name way ∷ ws) small.0 small.1)
+    let rest = decimal at.row ∷ decimal at.col ∷ direction_name way ∷ ws in
+    then_read text_name field_named (spaced (clue_name ∷ rest)) (spaced rest) None (reads_key text_fields clue_name None rest refl refl)
+    ∙ then_read spot (λ start. direction >>= (λ way. given (fields.Clue start way))) (spaced rest) (spaced (direction_name way ∷ ws)) at (reads_spot at (direction_name way ∷ ws) small.0 small.1)
     ∙ then_read direction (λ way. given (fields.Clue at way)) (spaced (direction_name way ∷ ws)) (spaced ws) way (reads_direction way ws)
 
 -- ---- the commands of records

@@ -144,9 +144,9 @@ module _ (position next : Position) (is : IsGrid position.grid) where
   by_spelling light None bytes found e =
       by_length _ _ (with_letters position.grid (cells_of light) (map folded bytes)) (letters_set (cells_of light) position.grid (map folded bytes) (letters_folded bytes found) is) e
 
-  pub with_word_good : (place : Option ℕ) (bytes : List ℕ) → with_edited position (placed_in position.grid place bytes) ≡ Ok next → IsGrid next.grid
+  pub with_word_good : (index : Option ℕ) (bytes : List ℕ) → with_edited position (placed_in position.grid index bytes) ≡ Ok next → IsGrid next.grid
   with_word_good None bytes e = cc
-  with_word_good (Some place) bytes e = by_spelling (slice_index_or (lights_of position.grid) place no_light) (bad_at is_bad_letter bytes) bytes refl e
+  with_word_good (Some index) bytes e = by_spelling (slice_index_or (lights_of position.grid) index no_light) (bad_at is_bad_letter bytes) bytes refl e
 
   by_list : (cells : List Cell) (written : Result Grid GridFault) → write_list (emptied cells) position.grid ≡ written → with_edited position (by_fault written) ≡ Ok next → IsGrid next.grid
   by_list cells (Ok grid) made e = to_grid grid (cells_emptied cells position.grid grid is made) e

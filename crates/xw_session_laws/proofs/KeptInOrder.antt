@@ -52,14 +52,14 @@ in_order_before grid i k wide less =
     ]
 
 module _ (grid : Grid) (wide : 0 < grid.width) (cell other : Cell) (inside : is_inside grid cell ≡ true) (there : is_inside grid other ≡ true) where
-  by_places : cell_cmp cell other ≡ cell_cmp (cell_at grid (index_of grid cell)) (cell_at grid (index_of grid other))
-  by_places = ap (λ c. cell_cmp c other) (sym (cell_at-index_of grid cell inside)) ∙ ap (cell_cmp (cell_at grid (index_of grid cell))) (sym (cell_at-index_of grid other there))
+  by_indices : cell_cmp cell other ≡ cell_cmp (cell_at grid (index_of grid cell)) (cell_at grid (index_of grid other))
+  by_indices = ap (λ c. cell_cmp c other) (sym (cell_at-index_of grid cell inside)) ∙ ap (cell_cmp (cell_at grid (index_of grid cell))) (sym (cell_at-index_of grid other there))
 
   comes_first : index_of grid cell < index_of grid other → cell_cmp cell other ≡ Less
-  comes_first less = by_places ∙ in_order_before grid (index_of grid cell) (index_of grid other) wide less
+  comes_first less = by_indices ∙ in_order_before grid (index_of grid cell) (index_of grid other) wide less
 
   comes_last : index_of grid other < index_of grid cell → cell_cmp cell other ≡ Greater
-  comes_last less = by_places ∙ in_order grid (index_of grid cell) (index_of grid other) wide less
+  comes_last less = by_indices ∙ in_order grid (index_of grid cell) (index_of grid other) wide less
 
   comes_there : index_of grid cell ≡ index_of grid other → cell_cmp cell other ≡ Equal
   comes_there same =

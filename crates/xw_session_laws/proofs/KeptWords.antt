@@ -11,19 +11,19 @@ use Rattle.xw_feas.specs.State.{answered}
 use Rattle.xw_session_laws.specs.Replay.{unstruck, ComeFirst}
 use Rattle.xw_session_laws.proofs.WordsAgain.{no_more}
 
-unstruck_marked : (entries : List Entry) (place n : ℕ) (active : Bool) → map unstruck (take n (marked entries place active)) ≡ map unstruck (take n entries)
-unstruck_marked [] place n active = refl
+unstruck_marked : (entries : List Entry) (index n : ℕ) (active : Bool) → map unstruck (take n (marked entries index active)) ≡ map unstruck (take n entries)
+unstruck_marked [] index n active = refl
 unstruck_marked (e ∷ es) zero zero active = refl
 unstruck_marked (e ∷ es) zero (suc n) active = refl
-unstruck_marked (e ∷ es) (suc place) zero active = refl
-unstruck_marked (e ∷ es) (suc place) (suc n) active = ap (λ rest. unstruck e ∷ rest) (unstruck_marked es place n active)
+unstruck_marked (e ∷ es) (suc index) zero active = refl
+unstruck_marked (e ∷ es) (suc index) (suc n) active = ap (λ rest. unstruck e ∷ rest) (unstruck_marked es index n active)
 
-still_first : (begun entries : List Entry) (place : ℕ) (active : Bool) → ComeFirst begun entries → ComeFirst begun (marked entries place active)
-still_first begun entries place active first = first ∙ sym (unstruck_marked entries place (length begun) active)
+still_first : (begun entries : List Entry) (index : ℕ) (active : Bool) → ComeFirst begun entries → ComeFirst begun (marked entries index active)
+still_first begun entries index active first = first ∙ sym (unstruck_marked entries index (length begun) active)
 
 first_with : (begun entries : List Entry) (word : List ℕ) (added : Added) → ComeFirst begun entries → ComeFirst begun (with_added entries word added)
-first_with begun entries word (New place) first = first ∙ ap (map unstruck) (sym (take-append-le (length begun) entries (record { word = word; active = true } ∷ []) (no_more begun entries first)))
-first_with begun entries word (Returned place) first = still_first begun entries place true first
+first_with begun entries word (New index) first = first ∙ ap (map unstruck) (sym (take-append-le (length begun) entries (record { word = word; active = true } ∷ []) (no_more begun entries first)))
+first_with begun entries word (Returned index) first = still_first begun entries index true first
 
 abbrev pub AllComeFirst : Dictionary → Dictionary → Type 0
 AllComeFirst begun words = (count : ℕ) → ComeFirst (row begun count) (row words count)
@@ -39,7 +39,7 @@ module _ (begun words : Dictionary) (first : AllComeFirst begun words) (word : L
   added_kept (Err fault) next e = cc
 
   pub struck_kept : (answer : Result ℕ WordFault) (next : Dictionary) → answered (after_strike words word) answer ≡ Ok next → AllComeFirst begun next
-  struck_kept (Ok place) next e =
-      let same : after_strike words word place ≡ next = cc in
-      subst (AllComeFirst begun) same (set_kept (marked (row words (length word)) place false) (still_first (row begun (length word)) (row words (length word)) place false (first (length word))))
+  struck_kept (Ok index) next e =
+      let same : after_strike words word index ≡ next = cc in
+      subst (AllComeFirst begun) same (set_kept (marked (row words (length word)) index false) (still_first (row begun (length word)) (row words (length word)) index false (first (length word))))
   struck_kept (Err fault) next e = cc

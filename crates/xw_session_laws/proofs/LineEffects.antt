@@ -14,7 +14,7 @@ use Rattle.xw_grid.specs.declared.lights.Light.{Light}
 use Rattle.xw_grid.specs.Grid.{Grid, IsGrid, IsSquare, is_inside, is_open, is_block, index_of, letter_in}
 use Rattle.xw_grid.specs.Edit.{blank, new_grid}
 use Rattle.xw_grid.specs.Clue.{no_clues, with_clue, with_circle, is_circled}
-use Rattle.xw_grid.specs.Light.{lights_of, place_named}
+use Rattle.xw_grid.specs.Light.{lights_of, index_named}
 use Rattle.xw_feas.specs.Board.{board_of, square_entry}
 use Rattle.xw_feas.specs.declared.edit.Refusal.{Refusal as EditRefusal}
 use Rattle.xw_feas.specs.State.{State as Position, letter_set, cell_cleared, word_placed, list_written, block_toggled, bar_toggled, symmetry_chosen, word_added, word_struck, after}
@@ -39,8 +39,8 @@ use Rattle.xw_commands.specs.declared.command.TextField.{TextField}
 use Rattle.xw_commands.specs.declared.command.TextMode.{TextMode}
 use Rattle.xw_session.specs.declared.refusal.Refusal.{Refusal}
 use Rattle.xw_session.specs.declared.refusal.Refusal.TheVariants as refusals
-use Rattle.xw_session.specs.declared.session.putting.Place.{Place}
-use Rattle.xw_session.specs.declared.session.putting.Place.TheVariants as places
+use Rattle.xw_session.specs.declared.session.putting.Target.{Target}
+use Rattle.xw_session.specs.declared.session.putting.Target.TheVariants as targets
 use Rattle.xw_commands.specs.declared.command.TextMode.TheVariants.{Instead, Behind}
 use Rattle.xw_session.specs.Refusal.{refusal_of}
 use Rattle.xw_session.specs.Autofill.{names_of}
@@ -51,7 +51,7 @@ use Rattle.xw_session.specs.Choices.{choice_lines}
 use Rattle.xw_session.specs.Answer.{IsDue}
 use Rattle.xw_session.specs.Escape.{text_spelled}
 use Rattle.xw_session.specs.State.{State, with_text_in, cell_of}
-use Rattle.xw_session.specs.Put.{place_of, has_place, text_at, with_text_at, with_piece}
+use Rattle.xw_session.specs.Put.{target_of, has_target, text_at, with_text_at, with_piece}
 use Rattle.xw_session.specs.Show.{show_lines}
 use Rattle.xw_session.specs.Text.{word_line, light_lines, circle_lines, letters_line, counted_lines, duplicate_line, spelled_line, suggestion_line}
 use Rattle.xw_session.specs.Reply.{Reply, reply_to, edited, shown, moved, watch_lines, with_letter, resized, matched, with_clue_of, erased, has_nul, written, circle_toggled, worded, weighed, put, light_named, name_of_light, told_lines, first_words, filling_name}
@@ -177,8 +177,8 @@ module _ (state : State) (is : IsGrid state.position.grid) (reply : Reply) where
   effected commands.Circles e = when_shown (circle_lines state.position.grid state.circles) e
   effected commands.Show e = when_shown (show_lines state.position.grid) e
   effected commands.Lights e = when_shown (light_lines state.position.grid) e
-  effected (commands.Words named most) e = of_light (place_named (lights_of state.position.grid) (name_of_light named)) most e
-  effected (commands.Choices named most) e = of_choices (place_named (lights_of state.position.grid) (name_of_light named)) most e
+  effected (commands.Words named most) e = of_light (index_named (lights_of state.position.grid) (name_of_light named)) most e
+  effected (commands.Choices named most) e = of_choices (index_named (lights_of state.position.grid) (name_of_light named)) most e
   effected (commands.Letters at) e = of_cell (cell_of at) (letters_line (feasible_letters (position_of state.position) (index_of state.position.grid (cell_of at)))) e
   effected (commands.Tally at) e = of_cell (cell_of at) (tally_lines state.position (cell_of at)) e
   effected commands.Duplicates e = when_shown (flat_map (duplicate_line state.position.grid) (duplicates_of state.position)) e
@@ -249,21 +249,21 @@ module _ (state : State) (is : IsGrid state.position.grid) (reply : Reply) where
       by_test Good (not (is_inside state.position.grid cell)) (Err (refusals.Grid grids.OutOfGrid)) (if not (is_open state.position.grid cell) then Err (refusals.Grid grids.OnBlock) else edited next) (refused_not Good (refusals.Grid grids.OutOfGrid))
       (λ _. by_test Good (not (is_open state.position.grid cell)) (Err (refusals.Grid grids.OnBlock)) (edited next) (refused_not Good (refusals.Grid grids.OnBlock)) (λ _. good_edited next is)) e
 
-  good_placed : (place : Place) (text : List ℕ) → IsGrid (with_text_at state place text).position.grid
-  good_placed (places.Text name) text = is
-  good_placed (places.Clue cell direction) text = is
+  good_target : (target : Target) (text : List ℕ) → IsGrid (with_text_at state target text).position.grid
+  good_target (targets.Text name) text = is
+  good_target (targets.Clue cell direction) text = is
 
-  good_piece : (putting : TextMode) (place : Place) (text : List ℕ) → IsGrid (with_piece state putting place text).position.grid
-  good_piece Instead place text = good_placed place text
-  good_piece Behind place [] = is
-  good_piece Behind place (byte ∷ bytes) = good_placed place (text_at state place ++ byte ∷ bytes)
+  good_piece : (putting : TextMode) (target : Target) (text : List ℕ) → IsGrid (with_piece state putting target text).position.grid
+  good_piece Instead target text = good_target target text
+  good_piece Behind target [] = is
+  good_piece Behind target (byte ∷ bytes) = good_target target (text_at state target ++ byte ∷ bytes)
 
   good_put : (putting : TextMode) (field : Field) (spelling : Option (List ℕ)) → put state putting field spelling ≡ Ok reply → Good
   good_put putting field None e = refused_not Good refusals.Escape e
   good_put putting field (Some text) e =
-      let next : Result Reply Refusal = edited (with_piece state putting (place_of field) text) in
-      by_test Good (not (has_place state.position.grid (place_of field))) (Err (refusals.Grid grids.OutOfGrid)) (if has_nul text then Err refusals.NulByte else next) (refused_not Good (refusals.Grid grids.OutOfGrid))
-      (λ _. by_test Good (has_nul text) (Err refusals.NulByte) next (refused_not Good refusals.NulByte) (λ _. good_edited (with_piece state putting (place_of field) text) (good_piece putting (place_of field) text))) e
+      let next : Result Reply Refusal = edited (with_piece state putting (target_of field) text) in
+      by_test Good (not (has_target state.position.grid (target_of field))) (Err (refusals.Grid grids.OutOfGrid)) (if has_nul text then Err refusals.NulByte else next) (refused_not Good (refusals.Grid grids.OutOfGrid))
+      (λ _. by_test Good (has_nul text) (Err refusals.NulByte) next (refused_not Good refusals.NulByte) (λ _. good_edited (with_piece state putting (target_of field) text) (good_piece putting (target_of field) text))) e
 
   size_good : (width height : ℕ) (grid : Grid) → new_grid width height ≡ Ok grid → IsGrid grid
   size_good width height grid e =
@@ -282,7 +282,7 @@ module _ (state : State) (is : IsGrid state.position.grid) (reply : Reply) where
   grid_left (commands.Set at letter) e = good_letter at letter (letter_of letter) refl e
   grid_left (commands.Clear at) e = good_moved (after state.position (cell_cleared (cell_of at))) (λ next. with_letter_good state.position next is (cell_of at) None tt) e
   grid_left (commands.Place named word) e =
-      good_moved (after state.position (word_placed (name_of_light named) word)) (λ next. with_word_good state.position next is (place_named (lights_of state.position.grid) (name_of_light named)) word) e
+      good_moved (after state.position (word_placed (name_of_light named) word)) (λ next. with_word_good state.position next is (index_named (lights_of state.position.grid) (name_of_light named)) word) e
   grid_left (commands.Erase named) e = good_erased (light_named state.position.grid named) e
   grid_left (commands.Block at) e = good_moved (after state.position (block_toggled (cell_of at))) (λ next. with_orbit_good state.position next is (cell_of at)) e
   grid_left (commands.Bar at side) e = good_moved (after state.position (bar_toggled (cell_of at) side)) (λ next. with_bar_good state.position next is (cell_of at) side) e

@@ -18,7 +18,7 @@ use Rattle.xw_grid.specs.declared.cell.Symmetry.TheVariants as kinds
 use Rattle.xw_text.proofs.Position.{position_is_some, position_is_none}
 use Rattle.xw_commands.specs.declared.command.SyntaxFault.{SyntaxFault}
 use Rattle.xw_commands.specs.declared.command.SyntaxFault.TheVariants as faults
-use Rattle.xw_commands.specs.Line.{is_blank, is_ink, is_digit, number_in, byte_in, first_place, trimmed_start, parted, first_word}
+use Rattle.xw_commands.specs.Line.{is_blank, is_ink, is_digit, number_in, byte_in, first_index, trimmed_start, parted, first_word}
 use Rattle.xw_commands.specs.declared.command.CellArg.{CellArg}
 use Rattle.xw_commands.specs.Reading.{Reading, ◌>>=◌, given, wanted, word, number, byte, lookup, key_word, direction, side, symmetry, switch, spot}
 use Rattle.xw_commands.specs.Names.{direction_name, side_name, symmetry_name, switch_name, directions, sides, symmetries, switches}
@@ -46,8 +46,8 @@ IsOneWord (byte ∷ bytes) = list_all is_ink (byte ∷ bytes) ≡ true
 
 -- ---- the first index of a byte
 
-first_place_is : (test : ℕ → Bool) (xs : List ℕ) (n : ℕ) → n ≤ length xs → ((k : ℕ) → k < n → test (get_or xs k 0) ≡ false) → (n < length xs → test (get_or xs n 0) ≡ true) → first_place test xs ≡ n
-first_place_is test xs n most before here =
+first_index_is : (test : ℕ → Bool) (xs : List ℕ) (n : ℕ) → n ≤ length xs → ((k : ℕ) → k < n → test (get_or xs k 0) ≡ false) → (n < length xs → test (get_or xs n 0) ≡ true) → first_index test xs ≡ n
+first_index_is test xs n most before here =
     elim (cases_lt n (length xs)) [
       | inl within ↦ ap (λ at. unwrap_or at (length xs)) (position_is_some test xs n 0 within before (here within))
       | inr past ↦
@@ -88,9 +88,9 @@ module _ (rest : List ℕ) (apart : IsApart rest) where
     begins (b ∷ bs) a l = a
   blank_behind (b ∷ bs) l = blank_behind bs (omega (arith, l))
 
-  blank_place : (w : List ℕ) → list_all is_ink w ≡ true → first_place is_blank (w ++ rest) ≡ length w
-  blank_place w h =
-      first_place_is is_blank (w ++ rest) (length w) (omega (arith, length-append w rest)) (λ k l. no_blank_before w k h l) (blank_behind w)
+  first_blank : (w : List ℕ) → list_all is_ink w ≡ true → first_index is_blank (w ++ rest) ≡ length w
+  first_blank w h =
+      first_index_is is_blank (w ++ rest) (length w) (omega (arith, length-append w rest)) (λ k l. no_blank_before w k h l) (blank_behind w)
 
   front_of : (w : List ℕ) → take (length w) (w ++ rest) ≡ w
   front_of [] = refl
@@ -102,20 +102,20 @@ module _ (rest : List ℕ) (apart : IsApart rest) where
 
   word_parted : (w : List ℕ) → list_all is_ink w ≡ true → parted (w ++ rest) ≡ (w, rest)
   word_parted w h =
-      let at = blank_place w h in
+      let at = first_blank w h in
       ap (λ n. (take n (w ++ rest), drop n (w ++ rest))) at ∙ ap (λ front. (front, drop (length w) (w ++ rest))) (front_of w) ∙ ap (λ back. (w, back)) (back_of w)
 
 -- ---- the start of a text
 
 ink_first : (byte : ℕ) (bytes : List ℕ) → is_ink byte ≡ true → trimmed_start (byte ∷ bytes) ≡ byte ∷ bytes
 ink_first byte bytes ink =
-    let at : first_place is_ink (byte ∷ bytes) ≡ 0 = first_place_is is_ink (byte ∷ bytes) 0 (omega arith) (λ k l. absurd (omega (arith, l))) (λ _. ink) in
+    let at : first_index is_ink (byte ∷ bytes) ≡ 0 = first_index_is is_ink (byte ∷ bytes) 0 (omega arith) (λ k l. absurd (omega (arith, l))) (λ _. ink) in
     ap (λ n. drop n (byte ∷ bytes)) at
 
 pub space_first : (byte : ℕ) (bytes : List ℕ) → is_ink byte ≡ true → trimmed_start (32 ∷ byte ∷ bytes) ≡ byte ∷ bytes
 space_first byte bytes ink =
-    let at : first_place is_ink (32 ∷ byte ∷ bytes) ≡ 1 =
-    first_place_is is_ink (32 ∷ byte ∷ bytes) 1 (omega arith) (λ k l. let first : k ≡ 0 = omega (arith, l) in ap (λ n. is_ink (get_or (32 ∷ byte ∷ bytes) n 0)) first) (λ _. ink) in
+    let at : first_index is_ink (32 ∷ byte ∷ bytes) ≡ 1 =
+    first_index_is is_ink (32 ∷ byte ∷ bytes) 1 (omega arith) (λ k l. let first : k ≡ 0 = omega (arith, l) in ap (λ n. is_ink (get_or (32 ∷ byte ∷ bytes) n 0)) first) (λ _. ink) in
     ap (λ n. drop n (32 ∷ byte ∷ bytes)) at
 
 -- ---- one word after another

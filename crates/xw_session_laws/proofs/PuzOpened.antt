@@ -51,12 +51,12 @@ module _ (grid : Grid) (is : IsGrid grid) where
       subst (λ (c : ClueMap). AreTextsFrom grid 0 (clues_of c direction)) (ok_is (with_clues no_clues (lights_of grid) fields.clues) clues counted.1)
       (light_clues_kept (lights_of grid) fields.clues no_clues (lights_begin_inside grid) plain (no_clues_kept grid) direction)
 
-  marks_kept : (bytes : List ℕ) (place : ℕ) (circles : List Cell) → place + length bytes ≤ grid.width * grid.height → AreFrom grid 0 circles → AreFrom grid 0 (with_marks grid circles place bytes)
-  marks_kept [] place circles fit are = are
-  marks_kept (byte ∷ bytes) place circles fit are =
-      let cell = cell_at grid place in
-      let inside : is_inside grid cell ≡ true = cell_at-inside grid place is (omega (arith, fit)) in
-      marks_kept bytes (place + 1) (with_mark grid circles cell byte) (omega (arith, fit))
+  marks_kept : (bytes : List ℕ) (index : ℕ) (circles : List Cell) → index + length bytes ≤ grid.width * grid.height → AreFrom grid 0 circles → AreFrom grid 0 (with_marks grid circles index bytes)
+  marks_kept [] index circles fit are = are
+  marks_kept (byte ∷ bytes) index circles fit are =
+      let cell = cell_at grid index in
+      let inside : is_inside grid cell ≡ true = cell_at-inside grid index is (omega (arith, fit)) in
+      marks_kept bytes (index + 1) (with_mark grid circles cell byte) (omega (arith, fit))
       (cond_both (is_marked byte && is_open grid cell) (with_circle circles cell true) circles (AreFrom grid 0) (λ _. circle_kept grid wide cell circles true inside are) (λ _. are))
 
   file_circles_kept : (section : Option Section) (circles : List Cell) → circles_by grid section ≡ Ok circles → AreFrom grid 0 circles

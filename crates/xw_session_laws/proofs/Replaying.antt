@@ -34,11 +34,11 @@ use Rattle.xw_commands.specs.declared.command.Field.{Field}
 use Rattle.xw_commands.specs.declared.command.TextMode.{TextMode}
 use Rattle.xw_commands.specs.declared.command.TextMode.TheVariants.{Instead, Behind}
 use Rattle.xw_commands.specs.declared.command.TextField.TheVariants.{Title, Author, Copyright, Notes}
-use Rattle.xw_session.specs.declared.session.putting.Place.{Place}
-use Rattle.xw_session.specs.declared.session.putting.Place.TheVariants as places
+use Rattle.xw_session.specs.declared.session.putting.Target.{Target}
+use Rattle.xw_session.specs.declared.session.putting.Target.TheVariants as targets
 use Rattle.xw_session.specs.State.{State}
 use Rattle.xw_session.specs.Escape.{escaped_text}
-use Rattle.xw_session.specs.Put.{place_of, has_place, with_text_at, with_piece}
+use Rattle.xw_session.specs.Put.{target_of, has_target, with_text_at, with_piece}
 use Rattle.xw_session.specs.Reply.{put, reply_to, resized, moved, has_nul}
 use Rattle.xw_session.specs.Record.{piece_at, further_pieces, more_command, text_commands, section_commands}
 use Rattle.xw_session_laws.specs.Replay.{state_left, replayed}
@@ -74,11 +74,11 @@ nul_parts text n none =
 plain_piece : (text : List ℕ) (before : ℕ) → has_nul text ≡ false → has_nul (piece_at text before) ≡ false
 plain_piece text before none = (nul_parts (drop (2000 * before) text) 2000 (nul_parts text (2000 * before) none).1).0
 
-put_again : (state : State) (putting : TextMode) (field : Field) (piece : List ℕ) → has_place state.position.grid (place_of field) ≡ true → has_nul piece ≡ false
-    → state_left (reply_to state (Put putting field (escaped_text piece))) ≡ Some (with_piece state putting (place_of field) piece)
-put_again state putting field piece placed plain =
+put_again : (state : State) (putting : TextMode) (field : Field) (piece : List ℕ) → has_target state.position.grid (target_of field) ≡ true → has_nul piece ≡ false
+    → state_left (reply_to state (Put putting field (escaped_text piece))) ≡ Some (with_piece state putting (target_of field) piece)
+put_again state putting field piece targeted plain =
     ap (λ found. state_left (put state putting field found)) (reads_back piece)
-    ∙ ap state_left (last_of_three (has_place state.position.grid (place_of field)) (has_nul piece) _ _ _ placed plain)
+    ∙ ap state_left (last_of_three (has_target state.position.grid (target_of field)) (has_nul piece) _ _ _ targeted plain)
 
 -- the first bytes of a text, with one more piece
 one_piece_more : (text : List ℕ) (k : ℕ) → take (2000 * (k + 1)) text ++ piece_at text (k + 1) ≡ take (2000 * (k + 1 + 1)) text
@@ -88,31 +88,31 @@ one_piece_more text k =
 
 -- a text in a field that grows by appended pieces
 module _ (state : State) (field : Field) (text : List ℕ) (plain : has_nul text ≡ false)
-    (placed : (front : List ℕ) → has_place (with_text_at state (place_of field) front).position.grid (place_of field) ≡ true)
-    (behind : (front piece : List ℕ) → 0 < length front → with_piece (with_text_at state (place_of field) front) Behind (place_of field) piece ≡ with_text_at state (place_of field) (front ++ piece)) where
+    (targeted : (front : List ℕ) → has_target (with_text_at state (target_of field) front).position.grid (target_of field) ≡ true)
+    (behind : (front piece : List ℕ) → 0 < length front → with_piece (with_text_at state (target_of field) front) Behind (target_of field) piece ≡ with_text_at state (target_of field) (front ++ piece)) where
   further_again : (k n : ℕ) → 0 < length text
-      → replayed (with_text_at state (place_of field) (take (2000 * (k + 1)) text)) (map (more_command field text) (range_with_len k n))
-      ≡ Some (with_text_at state (place_of field) (take (2000 * (k + 1 + n)) text))
+      → replayed (with_text_at state (target_of field) (take (2000 * (k + 1)) text)) (map (more_command field text) (range_with_len k n))
+      ≡ Some (with_text_at state (target_of field) (take (2000 * (k + 1 + n)) text))
   further_again k zero some =
       let same : 2000 * (k + 1) ≡ 2000 * (k + 1 + 0) = omega arith in
-      ap (λ n. Some (with_text_at state (place_of field) (take n text))) same
+      ap (λ n. Some (with_text_at state (target_of field) (take n text))) same
   further_again k (suc n) some =
       let front = take (2000 * (k + 1)) text in
       let there : 0 < length front = omega (arith, length-take (2000 * (k + 1)) text, some) in
-      let grown = behind front (piece_at text (k + 1)) there ∙ ap (with_text_at state (place_of field)) (one_piece_more text k) in
+      let grown = behind front (piece_at text (k + 1)) there ∙ ap (with_text_at state (target_of field)) (one_piece_more text k) in
       let last : 2000 * (k + 1 + 1 + n) ≡ 2000 * (k + 1 + suc n) = omega arith in
-      next_done (with_text_at state (place_of field) front) (with_text_at state (place_of field) (take (2000 * (k + 1 + 1)) text)) (Put Behind field (escaped_text (piece_at text (k + 1)))) (map (more_command field text) (range_with_len (k + 1) n))
-      (put_again (with_text_at state (place_of field) front) Behind field (piece_at text (k + 1)) (placed front) (plain_piece text (k + 1) plain) ∙ ap Some grown)
+      next_done (with_text_at state (target_of field) front) (with_text_at state (target_of field) (take (2000 * (k + 1 + 1)) text)) (Put Behind field (escaped_text (piece_at text (k + 1)))) (map (more_command field text) (range_with_len (k + 1) n))
+      (put_again (with_text_at state (target_of field) front) Behind field (piece_at text (k + 1)) (targeted front) (plain_piece text (k + 1) plain) ∙ ap Some grown)
       ∙ further_again (k + 1) n some
-      ∙ ap (λ n. Some (with_text_at state (place_of field) (take n text))) last
+      ∙ ap (λ n. Some (with_text_at state (target_of field) (take n text))) last
 
-  whole_again : 0 < length text → replayed (with_text_at state (place_of field) (take 2000 text)) (map (more_command field text) (range_with_len 0 (further_pieces text))) ≡ Some (with_text_at state (place_of field) text)
+  whole_again : 0 < length text → replayed (with_text_at state (target_of field) (take 2000 text)) (map (more_command field text) (range_with_len 0 (further_pieces text))) ≡ Some (with_text_at state (target_of field) text)
   whole_again some =
       let count = further_pieces text in
       let parts = div-add-mod (length text - 1) 2000 in
       let small : (length text - 1) % 2000 < 2000 = mod_below (length text - 1) 2000 (omega arith) in
       let enough : length text ≤ 2000 * (0 + 1 + count) = omega (arith, parts, small, some) in
-      further_again 0 count some ∙ ap (λ xs. Some (with_text_at state (place_of field) xs)) (take_all (2000 * (0 + 1 + count)) text enough)
+      further_again 0 count some ∙ ap (λ xs. Some (with_text_at state (target_of field) xs)) (take_all (2000 * (0 + 1 + count)) text enough)
 
 -- ---- appending to a field
 
@@ -147,29 +147,29 @@ set_twice clues cell direction (byte ∷ bytes) [] some more = absurd (omega (ar
 set_twice clues cell Across (byte ∷ bytes) (next ∷ others) some more = ap (λ (texts : Texts). record clues { across = texts }) (inserted_twice clues.across cell (byte ∷ bytes) (next ∷ others) (same_order cell))
 set_twice clues cell Down (byte ∷ bytes) (next ∷ others) some more = ap (λ (texts : Texts). record clues { down = texts }) (inserted_twice clues.down cell (byte ∷ bytes) (next ∷ others) (same_order cell))
 
-grown : (state : State) (place : Place) (front piece : List ℕ) → 0 < length front → with_piece (with_text_at state place front) Behind place piece ≡ with_text_at state place (front ++ piece)
-grown state place front [] some = ap (with_text_at state place) (sym (append-nil front))
-grown state (places.Text Title) front (byte ∷ bytes) some = refl
-grown state (places.Text Author) front (byte ∷ bytes) some = refl
-grown state (places.Text Copyright) front (byte ∷ bytes) some = refl
-grown state (places.Text Notes) front (byte ∷ bytes) some = refl
-grown state (places.Clue cell direction) front (byte ∷ bytes) some =
+grown : (state : State) (target : Target) (front piece : List ℕ) → 0 < length front → with_piece (with_text_at state target front) Behind target piece ≡ with_text_at state target (front ++ piece)
+grown state target front [] some = ap (with_text_at state target) (sym (append-nil front))
+grown state (targets.Text Title) front (byte ∷ bytes) some = refl
+grown state (targets.Text Author) front (byte ∷ bytes) some = refl
+grown state (targets.Text Copyright) front (byte ∷ bytes) some = refl
+grown state (targets.Text Notes) front (byte ∷ bytes) some = refl
+grown state (targets.Clue cell direction) front (byte ∷ bytes) some =
     let set : ClueMap → State = λ clues. record state { clues = clues } in
     ap (λ text. set (with_clue (with_clue state.clues cell direction front) cell direction (text ++ byte ∷ bytes))) (kept_at state.clues cell direction front)
     ∙ ap set (set_twice state.clues cell direction front (front ++ byte ∷ bytes) some (omega (arith, some, length-append front (byte ∷ bytes))))
 
-still_placed : (state : State) (place : Place) (front : List ℕ) → has_place state.position.grid place ≡ true → has_place (with_text_at state place front).position.grid place ≡ true
-still_placed state (places.Text name) front placed = refl
-still_placed state (places.Clue cell direction) front placed = placed
+still_targeted : (state : State) (target : Target) (front : List ℕ) → has_target state.position.grid target ≡ true → has_target (with_text_at state target front).position.grid target ≡ true
+still_targeted state (targets.Text name) front targeted = refl
+still_targeted state (targets.Clue cell direction) front targeted = targeted
 
-pub text_again : (state : State) (field : Field) (text : List ℕ) → has_place state.position.grid (place_of field) ≡ true → has_nul text ≡ false
-    → replayed state (text_commands field text) ≡ Some (with_text_at state (place_of field) text)
-text_again state field [] placed plain = next_done state (with_text_at state (place_of field) []) (Put Instead field []) [] (put_again state Instead field [] placed refl)
-text_again state field (byte ∷ bytes) placed plain =
+pub text_again : (state : State) (field : Field) (text : List ℕ) → has_target state.position.grid (target_of field) ≡ true → has_nul text ≡ false
+    → replayed state (text_commands field text) ≡ Some (with_text_at state (target_of field) text)
+text_again state field [] targeted plain = next_done state (with_text_at state (target_of field) []) (Put Instead field []) [] (put_again state Instead field [] targeted refl)
+text_again state field (byte ∷ bytes) targeted plain =
     let text = byte ∷ bytes in
-    next_done state (with_text_at state (place_of field) (take 2000 text)) (Put Instead field (escaped_text (piece_at text 0))) (map (more_command field text) (range_with_len 0 (further_pieces text)))
-    (put_again state Instead field (piece_at text 0) placed (plain_piece text 0 plain))
-    ∙ whole_again state field text plain (λ front. still_placed state (place_of field) front placed) (grown state (place_of field)) (omega arith)
+    next_done state (with_text_at state (target_of field) (take 2000 text)) (Put Instead field (escaped_text (piece_at text 0))) (map (more_command field text) (range_with_len 0 (further_pieces text)))
+    (put_again state Instead field (piece_at text 0) targeted (plain_piece text 0 plain))
+    ∙ whole_again state field text plain (λ front. still_targeted state (target_of field) front targeted) (grown state (target_of field)) (omega arith)
 
 -- ---- size, symmetry and watch
 

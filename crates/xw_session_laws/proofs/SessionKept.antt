@@ -18,7 +18,7 @@ use Rattle.xw_grid.specs.declared.lights.Light.{Light}
 use Rattle.xw_grid.specs.Grid.{Grid, IsGrid, is_inside, is_edge, is_barred, is_open, is_block, index_of}
 use Rattle.xw_grid.specs.Edit.{blank, new_grid, with_entry, is_occupied, with_orbit, with_edges}
 use Rattle.xw_grid.specs.Clue.{ClueMap, no_clues, with_clue, with_circle, is_circled}
-use Rattle.xw_grid.specs.Light.{lights_of, no_light, place_named, cells_of}
+use Rattle.xw_grid.specs.Light.{lights_of, no_light, index_named, cells_of}
 use Rattle.xw_grid.proofs.OrderLemmas.{lights_are_made, made_inside}
 use Rattle.xw_feas.specs.declared.edit.Refusal.{Refusal as EditRefusal}
 use Rattle.xw_feas.specs.State.{State as Position, Action, letter_set, cell_cleared, word_placed, list_written, block_toggled, bar_toggled, symmetry_chosen, word_added, word_struck, after, with_grid as with_edited, with_words as with_dictionary, by_fault, with_letters, spelled_in, placed_in, then_write, write_list}
@@ -45,8 +45,8 @@ use Rattle.xw_commands.specs.declared.command.SyntaxFault.{SyntaxFault}
 use Rattle.xw_lines.specs.declared.outcome.Step.{Step}
 use Rattle.xw_session.specs.declared.refusal.Refusal.{Refusal}
 use Rattle.xw_session.specs.declared.refusal.Refusal.TheVariants as refusals
-use Rattle.xw_session.specs.declared.session.putting.Place.{Place}
-use Rattle.xw_session.specs.declared.session.putting.Place.TheVariants as places
+use Rattle.xw_session.specs.declared.session.putting.Target.{Target}
+use Rattle.xw_session.specs.declared.session.putting.Target.TheVariants as targets
 use Rattle.xw_session.specs.Refusal.{refusal_of}
 use Rattle.xw_session.specs.Autofill.{names_of}
 use Rattle.xw_session.specs.Why.{entry_lines}
@@ -57,7 +57,7 @@ use Rattle.xw_session.specs.Choices.{choice_lines}
 use Rattle.xw_session.specs.Answer.{IsDue, Replies, state_after, AnswersParsed}
 use Rattle.xw_session.specs.Escape.{text_spelled}
 use Rattle.xw_session.specs.State.{State, with_text_in, cell_of}
-use Rattle.xw_session.specs.Put.{place_of, has_place, text_of_field, text_at, with_text_at, with_piece}
+use Rattle.xw_session.specs.Put.{target_of, has_target, text_of_field, text_at, with_text_at, with_piece}
 use Rattle.xw_session.specs.Show.{show_lines}
 use Rattle.xw_session.specs.Text.{word_line, light_lines, circle_lines, letters_line, counted_lines, duplicate_line, spelled_line, suggestion_line}
 use Rattle.xw_session.specs.Reply.{Reply, edited, shown, moved, watch_lines, with_letter, resized, matched, with_clue_of, erased, has_nul, written, circle_toggled, worded, weighed, lettered, tallied, put, light_named, name_of_light, told_lines, first_words, filling_name}
@@ -145,9 +145,9 @@ module _ (begun : Dictionary) (position next : Position) (is : IsGrid position.g
   by_spelling light None bytes e =
       by_length _ _ (with_letters position.grid (cells_of light) (map folded bytes)) (framed position.grid _ (letters_framed (cells_of light) position.grid (map folded bytes)) only) e
 
-  by_place : (place : Option ℕ) (bytes : List ℕ) → with_edited position (placed_in position.grid place bytes) ≡ Ok next → PositionKept begun position next
-  by_place None bytes e = cc
-  by_place (Some place) bytes e = by_spelling (slice_index_or (lights_of position.grid) place no_light) (bad_at is_bad_letter bytes) bytes e
+  by_index : (index : Option ℕ) (bytes : List ℕ) → with_edited position (placed_in position.grid index bytes) ≡ Ok next → PositionKept begun position next
+  by_index None bytes e = cc
+  by_index (Some index) bytes e = by_spelling (slice_index_or (lights_of position.grid) index no_light) (bad_at is_bad_letter bytes) bytes e
 
   by_list : (list : List (Cell × Option ℕ)) (written : Result Grid GridFault) → write_list list position.grid ≡ written → with_edited position (by_fault written) ≡ Ok next → PositionKept begun position next
   by_list list (Ok grid) made e = to_grid grid (framed position.grid grid (list_framed list position.grid grid made) only) e
@@ -156,7 +156,7 @@ module _ (begun : Dictionary) (position next : Position) (is : IsGrid position.g
   pub edit_kept : (action : Action) → after position action ≡ Ok next → PositionKept begun position next
   edit_kept (letter_set cell letter) e = by_two (is_inside position.grid cell) (is_block position.grid cell) grids.OutOfGrid grids.OnBlock (with_entry position.grid cell (Some letter)) (framed position.grid _ (refl, refl, refl, refl) only) e
   edit_kept (cell_cleared cell) e = by_two (is_inside position.grid cell) (is_block position.grid cell) grids.OutOfGrid grids.OnBlock (with_entry position.grid cell None) (framed position.grid _ (refl, refl, refl, refl) only) e
-  edit_kept (word_placed name word) e = by_place (place_named (lights_of position.grid) name) word e
+  edit_kept (word_placed name word) e = by_index (index_named (lights_of position.grid) name) word e
   edit_kept (list_written list) e = by_list list (write_list list position.grid) refl e
   edit_kept (block_toggled cell) e =
       by_two (is_inside position.grid cell) (not (is_block position.grid cell) && is_occupied position.grid cell) grids.OutOfGrid grids.Occupied (with_orbit position.grid cell (not (is_block position.grid cell))) (framed position.grid _ (refl, refl, refl, refl) only) e
@@ -169,12 +169,12 @@ module _ (begun : Dictionary) (position next : Position) (is : IsGrid position.g
 
 -- ---- lights
 
-light_starts : (grid : Grid) (place_found : Option ℕ) (light : Light) → option_and_then (slice_get (lights_of grid)) place_found ≡ Some light → is_inside grid light.start ≡ true
+light_starts : (grid : Grid) (index_found : Option ℕ) (light : Light) → option_and_then (slice_get (lights_of grid)) index_found ≡ Some light → is_inside grid light.start ≡ true
 light_starts grid None light e = cc
-light_starts grid (Some place) light e =
-    let within = slice_get_within (lights_of grid) place light e in
-    subst (λ (l : Light). is_inside grid l.start ≡ true) (get_or_from_slice_get (lights_of grid) place light no_light e)
-    (made_inside grid (get_or (lights_of grid) place no_light) (lights_are_made grid place no_light within))
+light_starts grid (Some index) light e =
+    let within = slice_get_within (lights_of grid) index light e in
+    subst (λ (l : Light). is_inside grid l.start ≡ true) (get_or_from_slice_get (lights_of grid) index light no_light e)
+    (made_inside grid (get_or (lights_of grid) index no_light) (lights_are_made grid index no_light within))
 
 -- ---- a session after a reply
 
@@ -254,21 +254,21 @@ module _ (words : Dictionary) (state : State) (is : BeganWith words state) where
 
   -- ---- texts put into fields
 
-  placed_text : (place : Place) (text : List ℕ) → has_place state.position.grid place ≡ true → has_nul text ≡ false → BeganWith words (with_text_at state place text)
-  placed_text (places.Text field) text placed plain = with_texts (with_text_in state.texts field text) (λ name. text_kept state.texts field name text plain is.texts)
-  placed_text (places.Clue cell way) text placed plain = with_clues (with_clue state.clues cell way text) (clue_kept state.position.grid wide state.clues cell way text placed plain is.clues)
+  text_put : (target : Target) (text : List ℕ) → has_target state.position.grid target ≡ true → has_nul text ≡ false → BeganWith words (with_text_at state target text)
+  text_put (targets.Text field) text targeted plain = with_texts (with_text_in state.texts field text) (λ name. text_kept state.texts field name text plain is.texts)
+  text_put (targets.Clue cell way) text targeted plain = with_clues (with_clue state.clues cell way text) (clue_kept state.position.grid wide state.clues cell way text targeted plain is.clues)
 
-  plain_there : (place : Place) → has_nul (text_at state place) ≡ false
-  plain_there (places.Text name) = is.texts name
-  plain_there (places.Clue cell Across) = plain_at state.position.grid state.clues.across 0 cell (is.clues Across)
-  plain_there (places.Clue cell Down) = plain_at state.position.grid state.clues.down 0 cell (is.clues Down)
+  plain_there : (target : Target) → has_nul (text_at state target) ≡ false
+  plain_there (targets.Text name) = is.texts name
+  plain_there (targets.Clue cell Across) = plain_at state.position.grid state.clues.across 0 cell (is.clues Across)
+  plain_there (targets.Clue cell Down) = plain_at state.position.grid state.clues.down 0 cell (is.clues Down)
 
-  piece_kept : (putting : TextMode) (place : Place) (text : List ℕ) → has_place state.position.grid place ≡ true → has_nul text ≡ false → BeganWith words (with_piece state putting place text)
-  piece_kept Instead place text placed plain = placed_text place text placed plain
-  piece_kept Behind place [] placed plain = is
-  piece_kept Behind place (byte ∷ bytes) placed plain =
-      placed_text place (text_at state place ++ byte ∷ bytes) placed
-      (list_any-append (nat_eq 0) (text_at state place) (byte ∷ bytes) ∙ ap (λ b. b || has_nul (byte ∷ bytes)) (plain_there place) ∙ plain)
+  piece_kept : (putting : TextMode) (target : Target) (text : List ℕ) → has_target state.position.grid target ≡ true → has_nul text ≡ false → BeganWith words (with_piece state putting target text)
+  piece_kept Instead target text targeted plain = text_put target text targeted plain
+  piece_kept Behind target [] targeted plain = is
+  piece_kept Behind target (byte ∷ bytes) targeted plain =
+      text_put target (text_at state target ++ byte ∷ bytes) targeted
+      (list_any-append (nat_eq 0) (text_at state target) (byte ∷ bytes) ∙ ap (λ b. b || has_nul (byte ∷ bytes)) (plain_there target) ∙ plain)
 
   -- ---- replies
 
@@ -387,11 +387,11 @@ module _ (words : Dictionary) (state : State) (is : BeganWith words state) where
     by_put : (putting : TextMode) (field : Field) (spelling : Option (List ℕ)) → put state putting field spelling ≡ Ok reply → Kept
     by_put putting field None e = not_refused refusals.Escape e
     by_put putting field (Some text) e =
-        let place = place_of field in
-        let next : Result Reply Refusal = edited (with_piece state putting place text) in
-        by_test (not (has_place state.position.grid place)) (Err (refusals.Grid grids.OutOfGrid)) (if has_nul text then Err refusals.NulByte else next) (λ _ e. not_refused (refusals.Grid grids.OutOfGrid) e)
-        (λ placed e. by_test (has_nul text) (Err refusals.NulByte) next (λ _ e. not_refused refusals.NulByte e)
-        (λ plain e. when_edited (with_piece state putting place text) (piece_kept putting place text (not_not (has_place state.position.grid place) placed) plain) e) e) e
+        let target = target_of field in
+        let next : Result Reply Refusal = edited (with_piece state putting target text) in
+        by_test (not (has_target state.position.grid target)) (Err (refusals.Grid grids.OutOfGrid)) (if has_nul text then Err refusals.NulByte else next) (λ _ e. not_refused (refusals.Grid grids.OutOfGrid) e)
+        (λ targeted e. by_test (has_nul text) (Err refusals.NulByte) next (λ _ e. not_refused refusals.NulByte e)
+        (λ plain e. when_edited (with_piece state putting target text) (piece_kept putting target text (not_not (has_target state.position.grid target) targeted) plain) e) e) e
 
     pub reply_kept : (command : Command) → IsDue state command (Ok reply) → Kept
     reply_kept (commands.Size width height) e = by_size (new_grid width height) (λ grid made. size_bars width height grid ((nat_le 1 width && nat_le width 255) && (nat_le 1 height && nat_le height 255)) made) e
@@ -406,14 +406,14 @@ module _ (words : Dictionary) (state : State) (is : BeganWith words state) where
     reply_kept (commands.Block at) e = by_edit (block_toggled (cell_of at)) e
     reply_kept (commands.Bar at side) e = by_edit (bar_toggled (cell_of at) side) e
     reply_kept (commands.Clue named text) e =
-        by_light (light_named state.position.grid named) text (λ light is_found. light_starts state.position.grid (place_named (lights_of state.position.grid) (name_of_light named)) light is_found) e
+        by_light (light_named state.position.grid named) text (λ light is_found. light_starts state.position.grid (index_named (lights_of state.position.grid) (name_of_light named)) light is_found) e
     reply_kept (commands.Write field text) e = by_text field text e
     reply_kept (commands.Circle at) e = by_circle (cell_of at) e
     reply_kept commands.Circles e = when_shown (circle_lines state.position.grid state.circles) e
     reply_kept commands.Show e = when_shown (show_lines state.position.grid) e
     reply_kept commands.Lights e = when_shown (light_lines state.position.grid) e
-    reply_kept (commands.Words named most) e = by_words_of (place_named (lights_of state.position.grid) (name_of_light named)) most e
-    reply_kept (commands.Choices named most) e = by_choices (place_named (lights_of state.position.grid) (name_of_light named)) most e
+    reply_kept (commands.Words named most) e = by_words_of (index_named (lights_of state.position.grid) (name_of_light named)) most e
+    reply_kept (commands.Choices named most) e = by_choices (index_named (lights_of state.position.grid) (name_of_light named)) most e
     reply_kept (commands.Letters at) e = by_letters (cell_of at) e
     reply_kept (commands.Tally at) e = by_tally (cell_of at) e
     reply_kept commands.Duplicates e = when_shown (flat_map (duplicate_line state.position.grid) (duplicates_of state.position)) e

@@ -65,10 +65,10 @@ lights_begin_inside grid = made_all_inside grid (lights_of grid) (recursion_from
 
 -- ---- the words of a new dictionary, and of a word list
 
-no_row : (count place : ℕ) → get_or {A = List Entry} (replicate count []) place [] ≡ []
-no_row zero place = refl
+no_row : (count index : ℕ) → get_or {A = List Entry} (replicate count []) index [] ≡ []
+no_row zero index = refl
 no_row (suc count) zero = refl
-no_row (suc count) (suc place) = no_row count place
+no_row (suc count) (suc index) = no_row count index
 
 pub no_words : NoneIsStruck (replicate 256 [])
 no_words count = subst (λ entries. ComeFirst entries entries) (sym (no_row 256 count)) refl

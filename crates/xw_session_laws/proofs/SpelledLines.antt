@@ -8,7 +8,7 @@ use Rattle.std.proofs.lemmas.List.FromFn.{get_or-range_with_len, length-range_wi
 use Rattle.std.proofs.lemmas.Grind.{flat_map-append}
 use Rattle.xw_text.proofs.Position.{position_is_some}
 use Rattle.xw_lines.specs.Cut.{HasNoLf}
-use Rattle.xw_commands.specs.Line.{is_ink, first_place, trimmed_start, trimmed_end, trimmed}
+use Rattle.xw_commands.specs.Line.{is_ink, first_index, trimmed_start, trimmed_end, trimmed}
 use Rattle.xw_session.specs.Escape.{letter_for, escaped, is_end, spelled_at, escaped_text}
 
 -- ---- no LF
@@ -30,9 +30,9 @@ no_lf_in at_end byte =
     (λ _. lf_escaped (at_end && eqb byte 9) byte 116 _ (λ e. cc)
     (λ _. (eqb-false byte 10 other, tt))))))
 
-no_lf_each : (text places : List ℕ) → HasNoLf (flat_map (spelled_at text) places)
+no_lf_each : (text indices : List ℕ) → HasNoLf (flat_map (spelled_at text) indices)
 no_lf_each text [] = tt
-no_lf_each text (place ∷ places) = no_lf_joined (spelled_at text place) (flat_map (spelled_at text) places) (no_lf_in (is_end text place) (slice_index text place)) (no_lf_each text places)
+no_lf_each text (index ∷ indices) = no_lf_joined (spelled_at text index) (flat_map (spelled_at text) indices) (no_lf_in (is_end text index) (slice_index text index)) (no_lf_each text indices)
 
 pub no_lf_spelled : (text : List ℕ) → HasNoLf (escaped_text text)
 no_lf_spelled text = no_lf_each text (range_with_len 0 (length text))
@@ -57,7 +57,7 @@ inked byte =
     (λ space. inked_chosen (eqb byte 9) byte 116 _ refl
     (λ tab. rw (space, tab) refl)))))
 
-at_once : (byte : ℕ) (bytes : List ℕ) → is_ink byte ≡ true → first_place is_ink (byte ∷ bytes) ≡ 0
+at_once : (byte : ℕ) (bytes : List ℕ) → is_ink byte ≡ true → first_index is_ink (byte ∷ bytes) ≡ 0
 at_once byte bytes ink =
     let found : position is_ink (byte ∷ bytes) ≡ Some 0 = position_is_some is_ink (byte ∷ bytes) 0 0 (omega arith) (λ k before. absurd (omega arith)) ink in
     ap (λ at. unwrap_or at (length (byte ∷ bytes))) found
@@ -68,7 +68,7 @@ start_kept byte bytes ink = ap (λ n. drop n (byte ∷ bytes)) (at_once byte byt
 end_kept : (front : List ℕ) (byte : ℕ) → is_ink byte ≡ true → trimmed_end (front ++ byte ∷ []) ≡ front ++ byte ∷ []
 end_kept front byte ink =
     let back : reverse (front ++ byte ∷ []) ≡ byte ∷ reverse front = reverse-append front (byte ∷ []) in
-    let none : first_place is_ink (reverse (front ++ byte ∷ [])) ≡ 0 = ap (first_place is_ink) back ∙ at_once byte (reverse front) ink in
+    let none : first_index is_ink (reverse (front ++ byte ∷ [])) ≡ 0 = ap (first_index is_ink) back ∙ at_once byte (reverse front) ink in
     ap (λ n. take (length (front ++ byte ∷ []) - n) (front ++ byte ∷ [])) none ∙ take_all _ _ (omega arith)
 
 front_kept : (byte : ℕ) (letter : Option ℕ) (rest : List ℕ) → IsInked byte letter → trimmed_start (escaped byte letter ++ rest) ≡ escaped byte letter ++ rest
@@ -87,12 +87,12 @@ starts_inked byte bytes = front_kept byte (letter_for true byte) (flat_map (spel
 -- the spelling of the last byte comes last
 last_apart : (text : List ℕ) (m : ℕ) → m + 1 ≡ length text → escaped_text text ≡ flat_map (spelled_at text) (take m (range_with_len 0 (length text))) ++ spelled_at text m
 last_apart text m is =
-    let places = range_with_len 0 (length text) in
-    let long : length places ≡ length text = length-range_with_len 0 (length text) in
-    let inside : m < length places = omega (arith, long, is) in
-    let at : get_or places m 0 ≡ m = get_or-range_with_len 0 (length text) m 0 (omega (arith, is)) ∙ zero-add m in
-    let parts : places ≡ take m places ++ m ∷ [] = sym (take_all (m + 1) places (omega (arith, long, is))) ∙ take_more places m 0 inside ∙ ap (λ k. take m places ++ k ∷ []) at in
-    ap (flat_map (spelled_at text)) parts ∙ flat_map-append (spelled_at text) (take m places) (m ∷ []) ∙ ap (λ xs. flat_map (spelled_at text) (take m places) ++ xs) (append-nil (spelled_at text m))
+    let indices = range_with_len 0 (length text) in
+    let long : length indices ≡ length text = length-range_with_len 0 (length text) in
+    let inside : m < length indices = omega (arith, long, is) in
+    let at : get_or indices m 0 ≡ m = get_or-range_with_len 0 (length text) m 0 (omega (arith, is)) ∙ zero-add m in
+    let parts : indices ≡ take m indices ++ m ∷ [] = sym (take_all (m + 1) indices (omega (arith, long, is))) ∙ take_more indices m 0 inside ∙ ap (λ k. take m indices ++ k ∷ []) at in
+    ap (flat_map (spelled_at text)) parts ∙ flat_map-append (spelled_at text) (take m indices) (m ∷ []) ∙ ap (λ xs. flat_map (spelled_at text) (take m indices) ++ xs) (append-nil (spelled_at text m))
 
 ends_inked : (text : List ℕ) (m : ℕ) → m + 1 ≡ length text → trimmed_end (escaped_text text) ≡ escaped_text text
 ends_inked text m is =

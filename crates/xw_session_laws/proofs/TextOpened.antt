@@ -168,9 +168,9 @@ shape_kept lines puzzle e plain =
       circles = tt;
     })
 
-is_shaped : (place : Option ℕ) (bytes : List ℕ) (puzzle : PuzzleShown) → shaped place bytes ≡ Ok puzzle → shape (text_lines bytes) ≡ Ok puzzle
+is_shaped : (offset : Option ℕ) (bytes : List ℕ) (puzzle : PuzzleShown) → shaped offset bytes ≡ Ok puzzle → shape (text_lines bytes) ≡ Ok puzzle
 is_shaped None bytes puzzle e = e
-is_shaped (Some place) bytes puzzle e = absurd cc
+is_shaped (Some offset) bytes puzzle e = absurd cc
 
 is_read : (bytes : List ℕ) (puzzle : PuzzleShown) → all_of bytes ≡ Ok puzzle → shape (text_lines bytes) ≡ Ok puzzle
 unfolding all_of

@@ -15,7 +15,7 @@ use Rattle.xw_words.specs.declared.bank.Added.{Added}
 use Rattle.xw_words.specs.declared.bank.Added.TheVariants.{New}
 use Rattle.xw_letters.specs.Letter.{IsLetter, folded}
 use Rattle.xw_words.specs.Word.{is_bad_letter, word_of, judged}
-use Rattle.xw_words.specs.Dictionary.{Dictionary, Entry, AreWords, IsDictionary, row, no_entry, entry_at, place_in, most_words, marked, added_at, add_to, add_answer, after_add, struck_at, strike_from, strike_answer, after_strike, answer_on}
+use Rattle.xw_words.specs.Dictionary.{Dictionary, Entry, AreWords, IsDictionary, row, no_entry, entry_at, index_in, most_words, marked, added_at, add_to, add_answer, after_add, struck_at, strike_from, strike_answer, after_strike, answer_on}
 use Rattle.xw_text.proofs.Position.{position_is_some, position_is_none}
 use Rattle.xw_feas.specs.State.{answered, with_words as with_dictionary}
 use Rattle.xw_commands.specs.declared.command.Command.{Command}
@@ -82,7 +82,7 @@ module _ (state : State) (word : List ℕ) (entries : List Entry) (fine : IsItse
   abbrev words : Dictionary
   words = state.position.words
 
-  pub added_again : place_in entries word ≡ None → length entries < most_words
+  pub added_again : index_in entries word ≡ None → length entries < most_words
       → state_left (reply_to state (Add word)) ≡ Some (with_words state (set words (length word) (entries ++ record { word = word; active = true } ∷ [])))
   added_again new room =
       let left : Result Added WordFault → Option State = λ answer. state_left (moved state (with_dictionary state.position (answered (after_add words (map folded word)) answer))) in
@@ -93,15 +93,15 @@ module _ (state : State) (word : List ℕ) (entries : List Entry) (fine : IsItse
       ∙ ap (λ w. Some (with_words state (set words (length w) (row words (length w) ++ record { word = w; active = true } ∷ [])))) fine.1
       ∙ ap (λ es. Some (with_words state (set words (length word) (es ++ record { word = word; active = true } ∷ [])))) at
 
-  pub struck_again : (place : ℕ) → place_in entries word ≡ Some place → (entry_at entries place).active ≡ true
-      → state_left (reply_to state (Strike word)) ≡ Some (with_words state (set words (length word) (marked entries place false)))
-  struck_again place known active =
+  pub struck_again : (index : ℕ) → index_in entries word ≡ Some index → (entry_at entries index).active ≡ true
+      → state_left (reply_to state (Strike word)) ≡ Some (with_words state (set words (length word) (marked entries index false)))
+  struck_again index known active =
       let left : Result ℕ WordFault → Option State = λ answer. state_left (moved state (with_dictionary state.position (answered (after_strike words (map folded word)) answer))) in
-      let answer : strike_answer words word ≡ Ok place =
-      ap (answer_on strike_from words) fine.0 ∙ ap (λ es. strike_from es word) at ∙ ap (struck_at entries) known ∙ ap (λ b. if b then Ok place else Err Unknown) active in
+      let answer : strike_answer words word ≡ Ok index =
+      ap (answer_on strike_from words) fine.0 ∙ ap (λ es. strike_from es word) at ∙ ap (struck_at entries) known ∙ ap (λ b. if b then Ok index else Err Unknown) active in
       ap left answer
-      ∙ ap (λ w. Some (with_words state (set words (length w) (marked (row words (length w)) place false)))) fine.1
-      ∙ ap (λ es. Some (with_words state (set words (length word) (marked es place false)))) at
+      ∙ ap (λ w. Some (with_words state (set words (length w) (marked (row words (length w)) index false)))) fine.1
+      ∙ ap (λ es. Some (with_words state (set words (length word) (marked es index false)))) at
 
 -- ---- the words of one length
 
@@ -156,7 +156,7 @@ module _ (state : State) (count : ℕ) (entries : List Entry) (are : AreWords co
           ap (λ (e : Entry). e.word) (get_or-map unstruck (take (n + i) entries) j no_entry no_entry within)
           ∙ ap (λ (e : Entry). e.word) (get_or-take (n + i) entries j no_entry before)
 
-      is_new : place_in (grown i) next.word ≡ None
+      is_new : index_in (grown i) next.word ≡ None
       is_new =
           position_is_none (λ e. bytes_eq e.word next.word) (grown i) no_entry (λ j within.
           let before : j < n + i = omega (arith, within, known) in
@@ -204,8 +204,8 @@ module _ (state : State) (count : ℕ) (entries : List Entry) (are : AreWords co
     before_it : get_or (struck j) j no_entry ≡ unstruck one
     before_it = mixed_next entries (map unstruck entries) as_long j no_entry here ∙ get_or-map unstruck entries j no_entry no_entry here
 
-    its_place : place_in (struck j) one.word ≡ Some j
-    its_place =
+    its_index : index_in (struck j) one.word ≡ Some j
+    its_index =
         let within : j < length (struck j) = omega (arith, here, length-mixed entries (map unstruck entries) as_long j no_entry here) in
         position_is_some (λ e. bytes_eq e.word one.word) (struck j) j no_entry within
         (λ k before. ap (λ w. bytes_eq w one.word) (word_mixed entries j k no_entry) ∙ unlike _ _ (are.distinct k j no_entry before here))
@@ -224,7 +224,7 @@ module _ (state : State) (count : ℕ) (entries : List Entry) (are : AreWords co
         ∙ ap (λ active. set (struck j) j (record { word = one.word; active = active })) (sym is)
         ∙ sym (mixed_more entries (map unstruck entries) as_long j no_entry here) in
         next_done now (with_row (struck (j + 1))) (Strike one.word) []
-        (struck_again now one.word (struck j) (itself j here) at j its_place (ap (λ (e : Entry). e.active) before_it)
+        (struck_again now one.word (struck j) (itself j here) at j its_index (ap (λ (e : Entry). e.active) before_it)
         ∙ ap (λ m. Some (with_words state (set now.position.words m (marked (struck j) j false)))) (size j here)
         ∙ ap (λ ws. Some (with_words state ws)) (row_again_set (struck j) (marked (struck j) j false) ∙ ap (set state.position.words count) mark))
 

@@ -88,15 +88,15 @@ barred grid = record (barred_right grid) { below = grid.below }
 
 -- the cells are in the grid and in strict reading order, starting at this index or later
 abbrev pub AreFrom : Grid → ℕ → List Cell → Type 0
-AreFrom grid place [] = Unit {0}
-AreFrom grid place (cell ∷ cells) = (is_inside grid cell ≡ true) × (place ≤ index_of grid cell) × AreFrom grid (index_of grid cell + 1) cells
+AreFrom grid index [] = Unit {0}
+AreFrom grid index (cell ∷ cells) = (is_inside grid cell ≡ true) × (index ≤ index_of grid cell) × AreFrom grid (index_of grid cell + 1) cells
 
 -- the texts belong to cells of the grid in strict reading order, starting at this index or later; each is not empty and
 -- has no NUL
 abbrev pub AreTextsFrom : Grid → ℕ → Texts → Type 0
-AreTextsFrom grid place [] = Unit {0}
-AreTextsFrom grid place (entry ∷ texts) =
-    (is_inside grid entry.0 ≡ true) × (place ≤ index_of grid entry.0) × (0 < length entry.1) × (has_nul entry.1 ≡ false) × AreTextsFrom grid (index_of grid entry.0 + 1) texts
+AreTextsFrom grid index [] = Unit {0}
+AreTextsFrom grid index (entry ∷ texts) =
+    (is_inside grid entry.0 ≡ true) × (index ≤ index_of grid entry.0) × (0 < length entry.1) × (has_nul entry.1 ≡ false) × AreTextsFrom grid (index_of grid entry.0 + 1) texts
 
 -- the clues of one direction
 abbrev pub clues_of : ClueMap → Direction → Texts

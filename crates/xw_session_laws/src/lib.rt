@@ -24,7 +24,7 @@ ghost use Rattle.xw_session.specs.declared.record.Section.TheVariants as section
 ghost use Rattle.xw_session.specs.declared.record.Part.TheVariants as parts;
 ghost use Rattle.xw_session.specs.State.{State};
 ghost use Rattle.xw_session.specs.Reply.{has_nul};
-ghost use Rattle.xw_session.specs.Put.{place_of, has_place, with_text_at};
+ghost use Rattle.xw_session.specs.Put.{target_of, has_target, with_text_at};
 ghost use Rattle.xw_session.specs.Record.{known_counts, text_commands, section_commands};
 ghost use Rattle.xw_session_laws.specs.Replay.{NoneIsStruck, SessionsBegin, SessionsOpen, SessionsStay, CommandsMakeSessionsAgain, LinesAreReadAgain};
 ghost use Rattle.xw_session_laws.specs.Replay.{LinesMakeSessionsAgain, AnsweredLinesMakeSessionsAgain, RecordsAreRefusedForMemoryOnly, replayed, bared};
@@ -72,8 +72,8 @@ pub fn words_are_made_again()
 
 /// The text commands of a record put a text of any length into its field.
 pub fn texts_are_made_again()
-    ensures { (state : State) (field : Field) (text : List ℕ) → has_place state.position.grid (place_of field) ≡ true → has_nul text ≡ false
-        → replayed state (text_commands field text) ≡ Some (with_text_at state (place_of field) text) }
+    ensures { (state : State) (field : Field) (text : List ℕ) → has_target state.position.grid (target_of field) ≡ true → has_nul text ≡ false
+        → replayed state (text_commands field text) ≡ Some (with_text_at state (target_of field) text) }
 {}
 
 /// The `size` command of a record gives a blank grid of this size without clues and circles, `sym` restores the

@@ -116,8 +116,8 @@ fn is_told(transcript: Option<(Cell, LetterSet)>, cell: Cell, text: &[u8]) -> bo
 
 /// Whether exactly these cells are reported as changed, with these letters.
 fn tells(mut changed: Changed<'_>, cells: &[(u32, u32, &[u8])]) -> bool {
-    for place in 0..cells.len() {
-        let (row, col, text) = cells[place];
+    for index in 0..cells.len() {
+        let (row, col, text) = cells[index];
         if !is_told(changed.next(), at(row, col), text) {
             return false;
         }
@@ -165,8 +165,8 @@ fn goes(alloc: Global, engine: &mut Plain, step: Step) -> Result<bool, Refusal> 
         Step::Size(width, height) => is_size(engine.grid(), width, height),
         Step::Known(length, count) => engine.bank().known(length) == count,
         Step::Lights(count) => engine.lights().len() == count,
-        Step::Light(place, name, row, col, size) => {
-            is_light(engine.lights().get(place), name, at(row, col), size)
+        Step::Light(index, name, row, col, size) => {
+            is_light(engine.lights().get(index), name, at(row, col), size)
         }
         Step::Words(name, texts) => lends(engine, name, texts)?,
         Step::Count(name, count) => engine.word_count(name) == Ok(count),
@@ -189,10 +189,10 @@ struct Case {
 
 /// Makes the calls of a table and checks their answers.
 fn pass(rt: &(impl Abort + AllocGlobal), engine: &mut Plain, steps: &[Step], name: &str) {
-    for (place, step) in steps.iter().enumerate() {
+    for (index, step) in steps.iter().enumerate() {
         assert!(rt;
             goes(rt.alloc(), engine, *step) == Ok(true),
-            "{name}: step {place} failed"
+            "{name}: step {index} failed"
         );
     }
 }

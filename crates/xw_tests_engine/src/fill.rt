@@ -89,10 +89,10 @@ struct Case {
 /// Makes the calls of a case and checks their answers.
 fn pass(rt: &(impl Abort + AllocGlobal), engine: &mut Plain, case: &Case) {
     let name = case.name;
-    for (place, step) in case.steps.iter().enumerate() {
+    for (index, step) in case.steps.iter().enumerate() {
         assert!(rt;
             goes(rt.alloc(), engine, *step) == Ok(true),
-            "{name}: step {place} failed"
+            "{name}: step {index} failed"
         );
     }
 }

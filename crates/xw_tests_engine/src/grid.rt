@@ -108,8 +108,8 @@ fn goes(grid: &mut Grid, step: Step) -> bool {
 
 /// Makes the edits of a table and asks its questions, in order.
 fn pass(rt: &impl Abort, grid: &mut Grid, steps: &[Step], name: &str) {
-    for (place, step) in steps.iter().enumerate() {
-        assert!(rt; goes(grid, *step), "{name}: step {place} failed");
+    for (index, step) in steps.iter().enumerate() {
+        assert!(rt; goes(grid, *step), "{name}: step {index} failed");
     }
 }
 
@@ -139,20 +139,20 @@ fn light_told(transcript: Option<Told>) -> Option<Light> {
 fn answers(lights: &Lights, ask: Ask) -> bool {
     match ask {
         Ask::Count(count) => lights.len() == count,
-        Ask::Index(name, place) => lights.index(name) == place,
-        Ask::Light(place, transcript) => lights.get(place) == light_told(transcript),
+        Ask::Index(name, index) => lights.index(name) == index,
+        Ask::Light(index, transcript) => lights.get(index) == light_told(transcript),
         Ask::Number(row, col, number) => lights.number(cell(row, col)) == number,
-        Ask::Across(row, col, place) => lights.across_at(cell(row, col)) == place,
-        Ask::Down(row, col, place) => lights.down_at(cell(row, col)) == place,
+        Ask::Across(row, col, index) => lights.across_at(cell(row, col)) == index,
+        Ask::Down(row, col, index) => lights.down_at(cell(row, col)) == index,
     }
 }
 
 /// Asks each question of a table.
 fn ask_each(rt: &impl Abort, lights: &Lights, table: &[Ask], name: &str) {
-    for (place, ask) in table.iter().enumerate() {
+    for (index, ask) in table.iter().enumerate() {
         assert!(rt;
             answers(lights, *ask),
-            "{name}: wrong answer to question {place}"
+            "{name}: wrong answer to question {index}"
         );
     }
 }
@@ -299,9 +299,9 @@ const RESHAPINGS: &[Reshaping] = &[
 
 /// Checks, for each entry of a table, the index of the light with the same cells in the other list.
 fn find_each(rt: &impl Abort, lights: &Lights, others: &Lights, table: &[Same], name: &str) {
-    for (light, place) in table {
+    for (light, index) in table {
         assert!(rt;
-            lights.same(*light, others) == *place,
+            lights.same(*light, others) == *index,
             "{name}: wrong match of light {light}"
         );
     }

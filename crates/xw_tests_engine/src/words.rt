@@ -68,8 +68,8 @@ fn goes(bank: &mut Bank, call: Call) -> bool {
 
 /// Makes the calls of a table and checks their answers.
 fn pass(rt: &impl Abort, bank: &mut Bank, calls: &[Call], name: &str) {
-    for (place, call) in calls.iter().enumerate() {
-        assert!(rt; goes(bank, *call), "{name}: call {place} failed");
+    for (index, call) in calls.iter().enumerate() {
+        assert!(rt; goes(bank, *call), "{name}: call {index} failed");
     }
 }
 
@@ -191,8 +191,8 @@ fn room_made_before_a_word(rt: HostRuntime) -> Result<(), WordFault> {
 const ALPHABET: &[u8; 26] = b"ABCDEFGHIJKLMNOPQRSTUVWXYZ";
 
 /// The word at an index of AA, AB and so on to ZZ, with its letters swapped if `turned`.
-fn pair(place: usize, turned: bool) -> [u8; 2] {
-    let (first, second) = (ALPHABET[place / 26 % 26], ALPHABET[place % 26]);
+fn pair(index: usize, turned: bool) -> [u8; 2] {
+    let (first, second) = (ALPHABET[index / 26 % 26], ALPHABET[index % 26]);
     if turned {
         [second, first]
     } else {
@@ -201,11 +201,11 @@ fn pair(place: usize, turned: bool) -> [u8; 2] {
 }
 
 fn add_pairs(rt: &impl Abort, bank: &mut Bank, count: usize, turned: bool) {
-    for place in 0..count {
-        let added = bank.add(&pair(place, turned));
+    for index in 0..count {
+        let added = bank.add(&pair(index, turned));
         assert!(rt;
-            added == Ok(Added::New(place)),
-            "word {place} of {count} was not added"
+            added == Ok(Added::New(index)),
+            "word {index} of {count} was not added"
         );
     }
 }
@@ -237,10 +237,10 @@ fn reads(rows: &mut Counted<'_>, letter: Letter, read: Read) -> bool {
 /// Makes the reads of a table. Each takes one tick.
 fn read_each(rt: &impl Abort, bank: &Bank, letter: Letter, table: &[Read]) {
     let mut rows = Counted::new(bank, 0);
-    for (place, read) in table.iter().enumerate() {
+    for (index, read) in table.iter().enumerate() {
         assert!(rt;
             reads(&mut rows, letter, *read),
-            "wrong answer to read {place}"
+            "wrong answer to read {index}"
         );
     }
     assert!(rt; rows.spent() == table.len() as u64);
@@ -269,28 +269,28 @@ fn multiples(rt: &(impl Abort + AllocGlobal), bits: usize, step: usize) -> Resul
     requires { 0 < step }
 {
     let mut row = BitRow::new(rt.alloc());
-    for place in 0..bits {
+    for index in 0..bits {
         let len = row.len();
-        assert!(rt; len == place && place < 1000);
+        assert!(rt; len == index && index < 1000);
         row.reserve(len + 1)?;
-        row.push(place % step == 0);
+        row.push(index % step == 0);
     }
     Ok(row)
 }
 
 /// Whether a row has exactly the even indices that are multiples of three, or those that are not.
 fn has_even(row: &BitRow, bits: usize, threes: bool) -> bool {
-    let mut places = row.ones();
+    let mut ones = row.ones();
     let mut count: usize = 0;
-    for place in 0..bits {
-        if place % 2 == 0 && (place % 3 == 0) == threes {
-            if places.next() != Some(place) {
+    for index in 0..bits {
+        if index % 2 == 0 && (index % 3 == 0) == threes {
+            if ones.next() != Some(index) {
                 return false;
             }
             count = count.saturating_add(1);
         }
     }
-    places.next().is_none() && row.count() == count && row.len() == bits
+    ones.next().is_none() && row.count() == count && row.len() == bits
 }
 
 /// Keeps or removes the multiples of three in a row of the even indices.
@@ -328,8 +328,8 @@ fn rows_at_chunk_borders(rt: HostRuntime) -> Result<(), WordFault> {
 /// Whether a chunk of the column of B is right, for the words from index `first` on.
 fn is_chunk(bits: u64, first: usize, words: usize) -> bool {
     for bit in 0..64u32 {
-        let place = first.saturating_add(bit as usize);
-        let wanted = place < words && place % 26 == 1;
+        let index = first.saturating_add(bit as usize);
+        let wanted = index < words && index % 26 == 1;
         if ((bits >> bit) & 1 == 1) != wanted {
             return false;
         }
@@ -369,11 +369,11 @@ fn columns_at_chunk_borders(rt: HostRuntime) -> Result<(), WordFault> {
 /// Steps from word to word: in order, from the last one, and shuffled.
 const STEPS: [usize; 3] = [1, 1499, 701];
 
-fn three_letters(place: usize) -> [u8; 3] {
+fn three_letters(index: usize) -> [u8; 3] {
     [
-        ALPHABET[place / 676 % 26],
-        ALPHABET[place / 26 % 26],
-        ALPHABET[place % 26],
+        ALPHABET[index / 676 % 26],
+        ALPHABET[index / 26 % 26],
+        ALPHABET[index % 26],
     ]
 }
 

@@ -4,9 +4,9 @@ use Rattle.std.specs.Prelude.{Some, None, position}
 use Rattle.std.specs.List.{position_or_len}
 use Rattle.std.proofs.lemmas.List.Sums.{position_or_len_is}
 
-pub position_is_some : {X : Type 0} (p : X → Bool) (xs : List X) (place : ℕ) (d : X) → place < length xs → ((k : ℕ) → k < place → p (get_or xs k d) ≡ false) → p (get_or xs place d) ≡ true → position p xs ≡ Some place
-position_is_some p xs place d within before here =
-    let e : position_or_len p xs ≡ place = position_or_len_is p xs place d (omega arith) before (λ _. here) in
+pub position_is_some : {X : Type 0} (p : X → Bool) (xs : List X) (index : ℕ) (d : X) → index < length xs → ((k : ℕ) → k < index → p (get_or xs k d) ≡ false) → p (get_or xs index d) ≡ true → position p xs ≡ Some index
+position_is_some p xs index d within before here =
+    let e : position_or_len p xs ≡ index = position_or_len_is p xs index d (omega arith) before (λ _. here) in
     rw e (grind arith)
 
 pub position_is_none : {X : Type 0} (p : X → Bool) (xs : List X) (d : X) → ((k : ℕ) → k < length xs → p (get_or xs k d) ≡ false) → position p xs ≡ None

@@ -31,12 +31,12 @@ start_past (b ∷ bs) zero le = absurd (omega arith)
 start_past (b ∷ bs) (suc block) le = omega (arith, length-append b (concat (take block bs)), length-append b (concat bs), start_past bs block (omega arith))
 
 -- the entries of a block
-pub get_placed : (blocks : List (List ℕ)) (block i : ℕ) → i < length (block_at blocks block) → get_or (concat blocks) (start blocks block + i) 0 ≡ get_or (block_at blocks block) i 0
-get_placed [] block i lt = absurd (omega arith)
-get_placed (b ∷ bs) zero i lt = ap (λ n. get_or (b ++ concat bs) n 0) (let e : 0 + i ≡ i = omega arith in e) ∙ get_or_append_left b (concat bs) 0 i lt
-get_placed (b ∷ bs) (suc block) i lt =
+pub get_in_block : (blocks : List (List ℕ)) (block i : ℕ) → i < length (block_at blocks block) → get_or (concat blocks) (start blocks block + i) 0 ≡ get_or (block_at blocks block) i 0
+get_in_block [] block i lt = absurd (omega arith)
+get_in_block (b ∷ bs) zero i lt = ap (λ n. get_or (b ++ concat bs) n 0) (let e : 0 + i ≡ i = omega arith in e) ∙ get_or_append_left b (concat bs) 0 i lt
+get_in_block (b ∷ bs) (suc block) i lt =
     let e : length (b ++ concat (take block bs)) + i ≡ length b + (start bs block + i) = omega (arith, length-append b (concat (take block bs))) in
-    ap (λ n. get_or (b ++ concat bs) n 0) e ∙ get_or-append-add b (concat bs) (start bs block + i) 0 ∙ get_placed bs block i lt
+    ap (λ n. get_or (b ++ concat bs) n 0) e ∙ get_or-append-add b (concat bs) (start bs block + i) 0 ∙ get_in_block bs block i lt
 
 pub inside_all : (blocks : List (List ℕ)) (block at : ℕ) → block < length blocks → at < length (block_at blocks block) → start blocks block + at < length (concat blocks)
 inside_all blocks block at lt within = omega (arith, start_next blocks block lt, start_within blocks (suc block))
@@ -56,14 +56,14 @@ part_of len letters blocks block lt part =
     let b = block_at blocks block in
     record {
       within = λ i here.
-          let P : ℕ → Type 0 = λ place. place * len + len ≤ length letters in
-          subst P (get_placed blocks block i here) (part.within (start blocks block + i) (omega arith));
+          let P : ℕ → Type 0 = λ word_index. word_index * len + len ≤ length letters in
+          subst P (get_in_block blocks block i here) (part.within (start blocks block + i) (omega arith));
       sorted = λ i j order here.
           let P : ℕ → ℕ → Type 0 = λ one two. is_before (word_in len letters one) (word_in len letters two) ≡ true in
           let first : P (get_or b i 0) (get_or (concat blocks) (start blocks block + j) 0) =
-          subst (λ one. P one (get_or (concat blocks) (start blocks block + j) 0)) (get_placed blocks block i (omega arith))
+          subst (λ one. P one (get_or (concat blocks) (start blocks block + j) 0)) (get_in_block blocks block i (omega arith))
           (part.sorted (start blocks block + i) (start blocks block + j) (omega arith) (omega arith)) in
-          subst (P (get_or b i 0)) (get_placed blocks block j here) first;
+          subst (P (get_or b i 0)) (get_in_block blocks block j here) first;
     }
 
 module _ (words : ℕ → List ℕ) (blocks : List (List ℕ)) (word : List ℕ) (sorted : IsSorted words (concat blocks)) (filled : All IsFilled blocks) (block : ℕ) (lt : block < length blocks) where
@@ -76,19 +76,19 @@ module _ (words : ℕ → List ℕ) (blocks : List (List ℕ)) (word : List ℕ)
   last_is : last + 1 ≡ start blocks (block + 1)
   last_is = omega (arith, some, start_next blocks block lt, ap (start blocks) (add-one block))
 
-  last_placed : get_or (concat blocks) last 0 ≡ get_or (block_at blocks block) (length (block_at blocks block) - 1) 0
-  last_placed = get_placed blocks block (length (block_at blocks block) - 1) (omega (arith, some))
+  last_in_block : get_or (concat blocks) last 0 ≡ get_or (block_at blocks block) (length (block_at blocks block) - 1) 0
+  last_in_block = get_in_block blocks block (length (block_at blocks block) - 1) (omega (arith, some))
 
   last_within : last < length (concat blocks)
   last_within = omega (arith, some, start_next blocks block lt, start_within blocks (suc block))
 
   pub block_before : is_before (words (get_or (block_at blocks block) (length (block_at blocks block) - 1) 0)) word ≡ true → (i : ℕ) → i < start blocks (block + 1) → is_before (words (get_or (concat blocks) i 0)) word ≡ true
   block_before here i below =
-      all_before words (concat blocks) word sorted last last_within (ap (λ place. is_before (words place) word) last_placed ∙ here) i (omega (arith, last_is))
+      all_before words (concat blocks) word sorted last last_within (ap (λ word_index. is_before (words word_index) word) last_in_block ∙ here) i (omega (arith, last_is))
 
   pub block_from : is_before (words (get_or (block_at blocks block) (length (block_at blocks block) - 1) 0)) word ≡ false → (i : ℕ) → start blocks (block + 1) ≤ i + 1 → i < length (concat blocks) → is_before (words (get_or (concat blocks) i 0)) word ≡ false
   block_from here i above within =
-      none_before words (concat blocks) word sorted last (ap (λ place. is_before (words place) word) last_placed ∙ here) i (omega (arith, last_is)) within
+      none_before words (concat blocks) word sorted last (ap (λ word_index. is_before (words word_index) word) last_in_block ∙ here) i (omega (arith, last_is)) within
 
   module _ (before : (i : ℕ) → i < start blocks block → is_before (words (get_or (concat blocks) i 0)) word ≡ true)
       (from : (i : ℕ) → start blocks (block + 1) ≤ i + 1 → i < length (concat blocks) → is_before (words (get_or (concat blocks) i 0)) word ≡ false)
@@ -98,7 +98,7 @@ module _ (words : ℕ → List ℕ) (blocks : List (List ℕ)) (word : List ℕ)
     inside_block = elim (cases_lt at (length (block_at blocks block))) [
       | inl within ↦ within
       | inr past ↦ absurd (both_ways (is_before (words (get_or (concat blocks) last 0)) word) (from last (omega (arith, last_is)) last_within)
-          (ap (λ place. is_before (words place) word) last_placed ∙ belongs.before (length (block_at blocks block) - 1) (omega (arith, some))))
+          (ap (λ word_index. is_before (words word_index) word) last_in_block ∙ belongs.before (length (block_at blocks block) - 1) (omega (arith, some))))
     ]
 
     pub belongs_there : Belongs words (concat blocks) word (start blocks block + at)
@@ -106,18 +106,18 @@ module _ (words : ℕ → List ℕ) (blocks : List (List ℕ)) (word : List ℕ)
       within = omega (arith, inside_block, start_next blocks block lt, start_within blocks (suc block));
       before = λ i below. elim (cases_lt i (start blocks block)) [
         | inl earlier ↦ before i earlier
-        | inr here ↦ ap (λ place. is_before (words place) word) (placed i here (omega (arith, inside_block))) ∙ belongs.before (i - start blocks block) (omega arith)
+        | inr here ↦ ap (λ word_index. is_before (words word_index) word) (in_block i here (omega (arith, inside_block))) ∙ belongs.before (i - start blocks block) (omega arith)
       ];
       from = λ i above within. elim (cases_lt i (start blocks block + length (block_at blocks block))) [
-        | inl here ↦ ap (λ place. is_before (words place) word) (placed i (omega arith) here) ∙ belongs.from (i - start blocks block) (omega arith) (omega arith)
+        | inl here ↦ ap (λ word_index. is_before (words word_index) word) (in_block i (omega arith) here) ∙ belongs.from (i - start blocks block) (omega arith) (omega arith)
         | inr later ↦ from i (omega (arith, last_is, some)) within
       ];
     }
       where
-        placed : (i : ℕ) → start blocks block ≤ i → i < start blocks block + length (block_at blocks block) → get_or (concat blocks) i 0 ≡ get_or (block_at blocks block) (i - start blocks block) 0
-        placed i le here =
+        in_block : (i : ℕ) → start blocks block ≤ i → i < start blocks block + length (block_at blocks block) → get_or (concat blocks) i 0 ≡ get_or (block_at blocks block) (i - start blocks block) 0
+        in_block i le here =
             let e : i ≡ start blocks block + (i - start blocks block) = omega arith in
-            ap (λ k. get_or (concat blocks) k 0) e ∙ get_placed blocks block (i - start blocks block) (omega arith)
+            ap (λ k. get_or (concat blocks) k 0) e ∙ get_in_block blocks block (i - start blocks block) (omega arith)
 
 -- a word belongs at an entry of a block if it is not after that one and after the one before it
 pub belongs_between : (words : ℕ → List ℕ) (blocks : List (List ℕ)) (word : List ℕ) → IsSorted words (concat blocks) → (block : ℕ) → block < length blocks → (at : ℕ) → 0 < at → at < length (block_at blocks block)
@@ -128,39 +128,39 @@ belongs_between words blocks word sorted block lt at some within before from =
     record {
       within = omega (arith, inside);
       before = λ i below. all_before words (concat blocks) word sorted (start blocks block + (at - 1)) (omega (arith, inside))
-          (ap (λ place. is_before (words place) word) (get_placed blocks block (at - 1) (omega arith)) ∙ before) i (omega (arith, e));
+          (ap (λ word_index. is_before (words word_index) word) (get_in_block blocks block (at - 1) (omega arith)) ∙ before) i (omega (arith, e));
       from = λ i above below. none_before words (concat blocks) word sorted (start blocks block + at)
-          (ap (λ place. is_before (words place) word) (get_placed blocks block at within) ∙ from) i above below;
+          (ap (λ word_index. is_before (words word_index) word) (get_in_block blocks block at within) ∙ from) i above below;
     }
 
 -- ---- one more entry
 
-pub placed_in : (blocks : List (List ℕ)) (block at place : ℕ) → block < length blocks → at ≤ length (block_at blocks block) → concat (set blocks block (insert (block_at blocks block) at place)) ≡ insert (concat blocks) (start blocks block + at) place
-placed_in [] block at place lt le = absurd (omega arith)
-placed_in (b ∷ bs) zero at place lt le = sym (insert-append_left b (concat bs) at place le) ∙ ap (λ n. insert (b ++ concat bs) n place) (let e : at ≡ 0 + at = omega arith in e)
-placed_in (b ∷ bs) (suc block) at place lt le =
+pub inserted_in : (blocks : List (List ℕ)) (block at word_index : ℕ) → block < length blocks → at ≤ length (block_at blocks block) → concat (set blocks block (insert (block_at blocks block) at word_index)) ≡ insert (concat blocks) (start blocks block + at) word_index
+inserted_in [] block at word_index lt le = absurd (omega arith)
+inserted_in (b ∷ bs) zero at word_index lt le = sym (insert-append_left b (concat bs) at word_index le) ∙ ap (λ n. insert (b ++ concat bs) n word_index) (let e : at ≡ 0 + at = omega arith in e)
+inserted_in (b ∷ bs) (suc block) at word_index lt le =
     let long = length-append b (concat (take block bs)) in
     let i : ℕ = length (b ++ concat (take block bs)) + at in
     let e : start bs block + at ≡ i - length b = omega (arith, long) in
-    ap (λ l. b ++ l) (placed_in bs block at place (omega arith) le) ∙ ap (λ n. b ++ insert (concat bs) n place) e
-    ∙ sym (insert-append_right b (concat bs) (length b) i place refl (omega (arith, long)))
+    ap (λ l. b ++ l) (inserted_in bs block at word_index (omega arith) le) ∙ ap (λ n. b ++ insert (concat bs) n word_index) e
+    ∙ sym (insert-append_right b (concat bs) (length b) i word_index refl (omega (arith, long)))
 
-pub placed_last : (blocks : List (List ℕ)) (place : ℕ) → concat (blocks ++ (place ∷ []) ∷ []) ≡ insert (concat blocks) (length (concat blocks)) place
-placed_last blocks place = joined blocks ∙ sym (insert_end (concat blocks) place)
+pub inserted_last : (blocks : List (List ℕ)) (word_index : ℕ) → concat (blocks ++ (word_index ∷ []) ∷ []) ≡ insert (concat blocks) (length (concat blocks)) word_index
+inserted_last blocks word_index = joined blocks ∙ sym (insert_end (concat blocks) word_index)
   where
-    joined : (bs : List (List ℕ)) → concat (bs ++ (place ∷ []) ∷ []) ≡ concat bs ++ place ∷ []
+    joined : (bs : List (List ℕ)) → concat (bs ++ (word_index ∷ []) ∷ []) ≡ concat bs ++ word_index ∷ []
     joined [] = refl
-    joined (b ∷ bs) = ap (λ l. b ++ l) (joined bs) ∙ sym (append_assoc b (concat bs) (place ∷ []))
+    joined (b ∷ bs) = ap (λ l. b ++ l) (joined bs) ∙ sym (append_assoc b (concat bs) (word_index ∷ []))
 
 -- ---- splitting a block
 
 abbrev pub cut : List (List ℕ) → ℕ → ℕ → List (List ℕ)
 cut blocks block n = insert (set blocks block (take n (block_at blocks block))) (suc block) (drop n (block_at blocks block))
 
-cut_places : (blocks : List (List ℕ)) (block n : ℕ) → block < length blocks → concat (cut blocks block n) ≡ concat blocks
-cut_places [] block n lt = absurd (omega arith)
-cut_places (b ∷ bs) zero n lt = sym (append_assoc (take n b) (drop n b) (concat bs)) ∙ ap (λ l. l ++ concat bs) (take-append-drop n b)
-cut_places (b ∷ bs) (suc block) n lt = ap (λ l. b ++ l) (cut_places bs block n (omega arith))
+cut_indices : (blocks : List (List ℕ)) (block n : ℕ) → block < length blocks → concat (cut blocks block n) ≡ concat blocks
+cut_indices [] block n lt = absurd (omega arith)
+cut_indices (b ∷ bs) zero n lt = sym (append_assoc (take n b) (drop n b) (concat bs)) ∙ ap (λ l. l ++ concat bs) (take-append-drop n b)
+cut_indices (b ∷ bs) (suc block) n lt = ap (λ l. b ++ l) (cut_indices bs block n (omega arith))
 
 cut_start : (blocks : List (List ℕ)) (block n : ℕ) → block < length blocks → start (cut blocks block n) block ≡ start blocks block
 cut_start [] block n lt = absurd (omega arith)
@@ -188,7 +188,7 @@ pub is_cut : (blocks : List (List ℕ)) (block n : ℕ) → block < length block
     → IsCut blocks block n (insert (set blocks block (take n (block_at blocks block))) (block + 1) (drop n (block_at blocks block)))
 is_cut blocks block n lt some within filled =
     subst (λ next. IsCut blocks block n (insert front next (drop n b))) (sym (add-one block)) (record {
-      places = cut_places blocks block n lt;
+      indices = cut_indices blocks block n lt;
       first = cut_first blocks block n lt;
       second = ap (block_at (cut blocks block n)) (add-one block) ∙ cut_second blocks block n lt;
       start_first = cut_start blocks block n lt;

@@ -12,8 +12,8 @@ use Rattle.xw_letters.proofs.LetterSetLemmas.{capital_is_letter}
 
 -- whether there is a letter among the first ones of the alphabet, and the set has it
 abbrev pub is_among_first : ℕ → ℕ → Option ℕ → Bool
-is_among_first letters place None = false
-is_among_first letters place (Some letter) = has letters letter && ltb letter (65 + place)
+is_among_first letters index None = false
+is_among_first letters index (Some letter) = has letters letter && ltb letter (65 + index)
 
 and_true : (a : Bool) → (a && true) ≡ a
 and_true true = refl
@@ -36,31 +36,31 @@ among_none letters (Some letter) = elim (cases_Bool (has letters letter)) [
   | inr h ↦ sym (ap (λ b. b && ltb letter 65) h)
 ]
 
-pub among_next : (letters from place : ℕ) → from ≤ place → has letters (65 + place) ≡ true → ((other : ℕ) → from ≤ other → other < place → has letters (65 + other) ≡ false)
-    → (o : Option ℕ) → (is_among_first letters from o || letter_is o (65 + place)) ≡ is_among_first letters (place + 1) o
-among_next letters from place le stands first None = refl
-among_next letters from place le stands first (Some letter) = elim (cases_lt letter (65 + from)) [
+pub among_next : (letters from index : ℕ) → from ≤ index → has letters (65 + index) ≡ true → ((other : ℕ) → from ≤ other → other < index → has letters (65 + other) ≡ false)
+    → (o : Option ℕ) → (is_among_first letters from o || letter_is o (65 + index)) ≡ is_among_first letters (index + 1) o
+among_next letters from index le stands first None = refl
+among_next letters from index le stands first (Some letter) = elim (cases_lt letter (65 + from)) [
   | inl early ↦
-      ap (λ b. (has letters letter && ltb letter (65 + from)) || b) (ne_eqb letter (65 + place) (λ e. omega arith))
+      ap (λ b. (has letters letter && ltb letter (65 + from)) || b) (ne_eqb letter (65 + index) (λ e. omega arith))
       ∙ or_false (has letters letter && ltb letter (65 + from))
-      ∙ ap (λ b. has letters letter && b) (lt-ltb letter (65 + from) early ∙ sym (lt-ltb letter (65 + (place + 1)) (omega arith)))
-  | inr from_on ↦ elim (cases_lt letter (65 + place)) [
+      ∙ ap (λ b. has letters letter && b) (lt-ltb letter (65 + from) early ∙ sym (lt-ltb letter (65 + (index + 1)) (omega arith)))
+  | inr from_on ↦ elim (cases_lt letter (65 + index)) [
     | inl between ↦
         let is : 65 + (letter - 65) ≡ letter = omega arith in
         let lacks : has letters letter ≡ false = ap (has letters) (sym is) ∙ first (letter - 65) (omega arith) (omega arith) in
-        ap (λ b. (has letters letter && ltb letter (65 + from)) || b) (ne_eqb letter (65 + place) (λ e. omega arith))
+        ap (λ b. (has letters letter && ltb letter (65 + from)) || b) (ne_eqb letter (65 + index) (λ e. omega arith))
         ∙ or_false (has letters letter && ltb letter (65 + from))
         ∙ ap (λ b. b && ltb letter (65 + from)) lacks
-        ∙ sym (ap (λ b. b && ltb letter (65 + (place + 1))) lacks)
-    | inr on ↦ elim (cases_eq letter (65 + place)) [
+        ∙ sym (ap (λ b. b && ltb letter (65 + (index + 1))) lacks)
+    | inr on ↦ elim (cases_eq letter (65 + index)) [
       | inl here ↦
-          ap (λ b. (has letters letter && ltb letter (65 + from)) || b) (eq-eqb letter (65 + place) here)
+          ap (λ b. (has letters letter && ltb letter (65 + from)) || b) (eq-eqb letter (65 + index) here)
           ∙ or_true (has letters letter && ltb letter (65 + from))
-          ∙ sym (ap (λ l. has letters l && ltb letter (65 + (place + 1))) here ∙ ap (λ b. b && ltb letter (65 + (place + 1))) stands ∙ lt-ltb letter (65 + (place + 1)) (omega arith))
+          ∙ sym (ap (λ l. has letters l && ltb letter (65 + (index + 1))) here ∙ ap (λ b. b && ltb letter (65 + (index + 1))) stands ∙ lt-ltb letter (65 + (index + 1)) (omega arith))
       | inr past ↦
-          ap (λ b. (has letters letter && ltb letter (65 + from)) || b) (ne_eqb letter (65 + place) past)
+          ap (λ b. (has letters letter && ltb letter (65 + from)) || b) (ne_eqb letter (65 + index) past)
           ∙ or_false (has letters letter && ltb letter (65 + from))
-          ∙ ap (λ b. has letters letter && b) (le-ltb letter (65 + from) from_on ∙ sym (le-ltb letter (65 + (place + 1)) (omega (arith, past))))
+          ∙ ap (λ b. has letters letter && b) (le-ltb letter (65 + from) from_on ∙ sym (le-ltb letter (65 + (index + 1)) (omega (arith, past))))
     ]
   ]
 ]

@@ -18,7 +18,7 @@ pub record IsKeptRow (r : Inside) : Type 0 where
   pub within : length r.active.bits ≤ r.reserved
   pub reserved_few : r.reserved ≤ 1048576
   pub long : 0 < r.reserved → 2 ≤ r.word_len
-  pub index : IsIndex (word_in r.word_len r.letters.items) (length r.active.bits) r.index.places
+  pub index : IsIndex (word_in r.word_len r.letters.items) (length r.active.bits) r.index.indices
   pub column_count : length r.columns.items ≤ 26 * r.word_len
   pub all_columns : 0 < r.reserved → length r.columns.items ≡ 26 * r.word_len
   pub columns : (i : ℕ) → i < length r.columns.items → IsColumn (entries_of r.word_len r.letters.items r.active.bits) (i / 26) (65 + i % 26) (column_at r.columns.items i).bits

@@ -1,7 +1,7 @@
 //! The dictionary: all known words, grouped by length.
 ghost use Rattle.std.specs.Prelude.{◌≡◌, ◌≢◌, ℕ, ◌+◌, ◌*◌, ◌<◌, ◌≤◌, Bool, true, false, [], map, replicate, length, Ok, Err, None, All, IsOk, IfErr, IfOk, IfSome, IfNone, OnOk, OnErr, IsOkUnless, position, vec_len};
 ghost use Rattle.xw_letters.specs.Letter.{folded, IsLetter};
-ghost use Rattle.xw_words.specs.Dictionary.{row as words_of, entry_at, place_of, add_answer, answer_on, add_to, after_add, strike_answer, after_strike, IsNew, IsDictionary, matching_answer, reserve_answer, most_words};
+ghost use Rattle.xw_words.specs.Dictionary.{row as words_of, entry_at, index_of_word, add_answer, answer_on, add_to, after_add, strike_answer, after_strike, IsNew, IsDictionary, matching_answer, reserve_answer, most_words};
 ghost use Rattle.xw_words.specs.Bank.{has_room, IsKept, KeepsRoom, KeepsOtherRoom};
 ghost use Rattle.xw_words.specs.Word.{is_bad_letter, judged};
 ghost use Rattle.xw_bits.specs.Bits.{has_bit};
@@ -81,28 +81,28 @@ impl Bank {
         }
     }
 
-    /// Whether word `place` of length `len` is active; false if there is no such word.
-    pub fn is_active(&self, len: usize, place: usize) -> bool
-        ensures { result ≡ (entry_at (words_of self.now.words len) place).active }
+    /// Whether word `index` of length `len` is active; false if there is no such word.
+    pub fn is_active(&self, len: usize, index: usize) -> bool
+        ensures { result ≡ (entry_at (words_of self.now.words len) index).active }
     {
         match self.rows.get(len) {
-            Some(row) => row.is_active(place),
+            Some(row) => row.is_active(index),
             None => false,
         }
     }
 
-    /// The letters of word `place` of length `len`.
-    pub fn word(&self, len: usize, place: usize) -> &[Letter]
-        requires { place < length (words_of self.now.words len) }
-        ensures word { result.now ≡ (entry_at (words_of self.now.words len) place).word }
+    /// The letters of word `index` of length `len`.
+    pub fn word(&self, len: usize, index: usize) -> &[Letter]
+        requires { index < length (words_of self.now.words len) }
+        ensures word { result.now ≡ (entry_at (words_of self.now.words len) index).word }
         ensures long { length result.now ≡ len }
     {
-        self.rows[len].word(place)
+        self.rows[len].word(index)
     }
 
     /// The index of a word among the known words of its length, including struck ones.
     pub fn find(&self, word: &[Letter]) -> Option<usize>
-        ensures { result ≡ place_of self.now.words word.now }
+        ensures { result ≡ index_of_word self.now.words word.now }
     {
         self.rows.get(word.len())?.find(word)
     }
@@ -111,7 +111,7 @@ impl Bank {
     /// if `position` is out of range or no word of this length is known.
     pub(crate) fn column_of(&self, len: usize, position: usize, letter: Letter) -> Option<&BitRow>
         ensures some { IfSome result (λ column. IsColumn (words_of self.now.words len) position letter column.now.bits) }
-        ensures none { IfNone result ((place : ℕ) → has_letter (words_of self.now.words len) position letter place ≡ false) }
+        ensures none { IfNone result ((index : ℕ) → has_letter (words_of self.now.words len) position letter index ≡ false) }
         ensures within { position < len → IfNone result (length (words_of self.now.words len) ≡ 0) }
     {
         match self.rows.get(len) {
@@ -124,7 +124,7 @@ impl Bank {
     /// known word has a letter there.
     pub(crate) fn columns_of(&self, len: usize, position: usize) -> Option<&[BitRow]>
         ensures some { IfSome result (λ columns. AreColumns (words_of self.now.words len) position columns.now) }
-        ensures none { IfNone result ((place letters : ℕ) → has_one_of (words_of self.now.words len) position letters place ≡ false) }
+        ensures none { IfNone result ((index letters : ℕ) → has_one_of (words_of self.now.words len) position letters index ≡ false) }
     {
         match self.rows.get(len) {
             Some(row) => row.columns_of(position),
@@ -175,7 +175,7 @@ impl Bank {
         ensures err { OnErr result (self.new.words ≡ self.old.words) }
         ensures room { KeepsOtherRoom (length bytes.now) self.old self.new }
         ensures room_at_err { OnErr result (KeepsRoom self.old self.new) }
-        ensures room_at_return { (place : ℕ) → result ≡ Ok (Added.Returned place) → KeepsRoom self.old self.new }
+        ensures room_at_return { (index : ℕ) → result ≡ Ok (Added.Returned index) → KeepsRoom self.old self.new }
     {
         judge_word(bytes)?;
         let row = &mut self.rows[bytes.len()];
@@ -198,7 +198,7 @@ impl Bank {
     /// as `add` does, and `Unknown` if the word is not active.
     pub fn strike(&mut self, bytes: &[u8]) -> Result<usize, WordFault>
         ensures answer { result ≡ strike_answer self.old.words bytes.now }
-        ensures ok { IfOk result (λ place. self.new.words ≡ after_strike self.old.words (map folded bytes.now) place) }
+        ensures ok { IfOk result (λ index. self.new.words ≡ after_strike self.old.words (map folded bytes.now) index) }
         ensures err { OnErr result (self.new.words ≡ self.old.words) }
         ensures room { KeepsRoom self.old self.new }
     {
@@ -250,15 +250,15 @@ impl Bank {
     /// Adds a word that is not known, in reserved room, and returns its index.
     pub fn add_reserved(&mut self, word: &[Letter]) -> usize
         requires room { has_room self.old (length word.now) ≡ true }
-        requires unknown { place_of self.old.words word.now ≡ None }
-        ensures place { result ≡ length (words_of self.old.words (length word.now)) }
+        requires unknown { index_of_word self.old.words word.now ≡ None }
+        ensures index { result ≡ length (words_of self.old.words (length word.now)) }
         ensures words { self.new.words ≡ after_add self.old.words word.now (Added.New result) }
         ensures room { KeepsOtherRoom (length word.now) self.old self.new }
     {
         are_letters(word);
         let row = &mut self.rows[word.len()];
-        let place = row.len();
+        let index = row.len();
         row.add_reserved(word);
-        place
+        index
     }
 }

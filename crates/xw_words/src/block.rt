@@ -5,12 +5,12 @@ use std::alloc::{AllocError, Global};
 use std::marker::Model;
 
 /// The capacity of a block.
-pub(crate) const MOST_PLACES: usize = 512;
+pub(crate) const MOST_INDICES: usize = 512;
 
 /// A list of word indices. It allocates its whole capacity when it is created.
 #[derive(Drop)]
 pub struct Block {
-    places: Vec<u32>,
+    indices: Vec<u32>,
 }
 
 impl Model for Block {
@@ -19,7 +19,7 @@ impl Model for Block {
 
     ghost Value = { List ℕ };
 
-    ghost view = { λ block. block.places.items };
+    ghost view = { λ block. block.indices.items };
 
     ghost invariant = { IsBlock };
 }
@@ -29,25 +29,25 @@ impl Block {
     pub fn new(alloc: Global) -> Result<Block, AllocError>
         ensures { IfOk result (λ block. block ≡ []) }
     {
-        let places = Vec::with_capacity(alloc, MOST_PLACES)?;
-        Ok(Block { places })
+        let indices = Vec::with_capacity(alloc, MOST_INDICES)?;
+        Ok(Block { indices })
     }
 
     /// The word indices, in order.
-    pub fn places(&self) -> &[u32]
+    pub fn indices(&self) -> &[u32]
         ensures value { result.now ≡ self.now }
         ensures few { length result.now ≤ 512 }
     {
-        &self.places
+        &self.indices
     }
 
     /// Inserts a word index at position `at`.
-    pub fn insert(&mut self, at: usize, place: u32)
+    pub fn insert(&mut self, at: usize, word_index: u32)
         requires at { at ≤ length self.old }
         requires room { length self.old < 512 }
-        ensures { self.new ≡ insert self.old at place }
+        ensures { self.new ≡ insert self.old at word_index }
     {
-        let _ = self.places.insert(at, place);
+        let _ = self.indices.insert(at, word_index);
     }
 
     /// Moves the word indices from `at` on into `rest`, an empty block.
@@ -57,7 +57,7 @@ impl Block {
         ensures front { self.new ≡ take at self.old }
         ensures rest { rest.new ≡ drop at self.old }
     {
-        let _ = rest.places.extend_from_slice(&self.places[at..]);
-        self.places.truncate(at);
+        let _ = rest.indices.extend_from_slice(&self.indices[at..]);
+        self.indices.truncate(at);
     }
 }

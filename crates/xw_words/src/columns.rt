@@ -66,7 +66,7 @@ fn lengthen(columns: &mut [BitRow])
     requires room { (i : ℕ) → i < length columns.old → length (column_at columns.old i).bits < (column_at columns.old i).room }
     requires few { (i : ℕ) → i < length columns.old → length (column_at columns.old i).bits ≤ most_words }
     ensures long { (i : ℕ) → i < length columns.old → length (column_at columns.new i).bits ≡ length (column_at columns.old i).bits + 64 }
-    ensures bits { (i place : ℕ) → slice_index_or (column_at columns.new i).bits place false ≡ slice_index_or (column_at columns.old i).bits place false }
+    ensures bits { (i index : ℕ) → slice_index_or (column_at columns.new i).bits index false ≡ slice_index_or (column_at columns.old i).bits index false }
     ensures more { (i : ℕ) → (column_at columns.old i).room ≤ (column_at columns.new i).room }
 {
     for i in 0..columns.len() {
@@ -75,35 +75,35 @@ fn lengthen(columns: &mut [BitRow])
     }
 }
 
-/// Sets bit `place` in the columns of the word's letters.
-fn put_word(columns: &mut [BitRow], word: &[Letter], place: usize)
+/// Sets bit `index` in the columns of the word's letters.
+fn put_word(columns: &mut [BitRow], word: &[Letter], index: usize)
     requires many { length columns.old ≡ 26 * length word.now }
     requires short { length word.now ≤ 255 }
-    requires within { (i : ℕ) → i < length columns.old → place < length (column_at columns.old i).bits }
-    ensures bits { (i : ℕ) → i < length columns.old → (column_at columns.new i).bits ≡ bits_put word.now place i (column_at columns.old i).bits }
+    requires within { (i : ℕ) → i < length columns.old → index < length (column_at columns.old i).bits }
+    ensures bits { (i : ℕ) → i < length columns.old → (column_at columns.new i).bits ≡ bits_put word.now index i (column_at columns.old i).bits }
     ensures more { (i : ℕ) → (column_at columns.old i).room ≤ (column_at columns.new i).room }
 {
     for position in 0..word.len() {
         let letter = word[position].byte() - b'A';
         let column = &mut columns[position * LETTERS + letter as usize];
-        column.put(place, true);
+        column.put(index, true);
     }
 }
 
-/// Appends a word, whose index is `place`.
-pub(crate) fn push_word(columns: &mut [BitRow], word: &[Letter], place: usize)
+/// Appends a word, whose index is `index`.
+pub(crate) fn push_word(columns: &mut [BitRow], word: &[Letter], index: usize)
     requires many { length columns.old ≡ 26 * length word.now }
     requires short { length word.now ≤ 255 }
-    requires few { place < most_words }
-    requires long { (i : ℕ) → i < length columns.old → length (column_at columns.old i).bits ≡ 64 * ((place + 63) / 64) }
-    requires clear { (i : ℕ) → i < length columns.old → slice_index_or (column_at columns.old i).bits place false ≡ false }
-    requires room { (i : ℕ) → i < length columns.old → place < (column_at columns.old i).room }
-    ensures long { (i : ℕ) → i < length columns.old → length (column_at columns.new i).bits ≡ 64 * ((place + 64) / 64) }
-    ensures bits { (i other : ℕ) → i < length columns.old → slice_index_or (column_at columns.new i).bits other false ≡ bit_pushed word.now place i (column_at columns.old i).bits other }
+    requires few { index < most_words }
+    requires long { (i : ℕ) → i < length columns.old → length (column_at columns.old i).bits ≡ 64 * ((index + 63) / 64) }
+    requires clear { (i : ℕ) → i < length columns.old → slice_index_or (column_at columns.old i).bits index false ≡ false }
+    requires room { (i : ℕ) → i < length columns.old → index < (column_at columns.old i).room }
+    ensures long { (i : ℕ) → i < length columns.old → length (column_at columns.new i).bits ≡ 64 * ((index + 64) / 64) }
+    ensures bits { (i other : ℕ) → i < length columns.old → slice_index_or (column_at columns.new i).bits other false ≡ bit_pushed word.now index i (column_at columns.old i).bits other }
     ensures more { (i : ℕ) → (column_at columns.old i).room ≤ (column_at columns.new i).room }
 {
-    if place % 64 == 0 {
+    if index % 64 == 0 {
         lengthen(columns);
     }
-    put_word(columns, word, place);
+    put_word(columns, word, index);
 }

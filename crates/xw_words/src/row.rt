@@ -2,7 +2,7 @@
 ghost use Rattle.xw_bits.specs.Bits.{has_bit};
 ghost use Rattle.xw_words.specs.Columns.{has_letter, has_one_of, is_active, AreFits, IsColumn, AreColumns};
 ghost use Rattle.std.specs.Prelude.{◌≡◌, ℕ, ◌+◌, ◌*◌, ◌<◌, ◌≤◌, ◌||◌, ◌==◌, Bool, true, false, None, [], ◌∷◌, ◌++◌, length, take, map, position, OnOk, OnErr, IfOk, IfErr, IfSome, IfNone, ◌≢◌, vec_len, vec_capacity};
-ghost use Rattle.xw_words.specs.Dictionary.{entry_at, marked, place_in, add_to, added_at, with_added, strike_from, IsNew, most_words};
+ghost use Rattle.xw_words.specs.Dictionary.{entry_at, marked, index_in, add_to, added_at, with_added, strike_from, IsNew, most_words};
 ghost use Rattle.xw_letters.specs.Letter.{folded};
 ghost use Rattle.xw_words.specs.Word.{is_bad_letter, is_bad_in_pattern};
 
@@ -117,34 +117,34 @@ impl Row {
         self.active.len()
     }
 
-    /// Whether word `place` is active; false if there is no such word.
-    pub fn is_active(&self, place: usize) -> bool
-        ensures { result ≡ (entry_at self.now.entries place).active }
+    /// Whether word `index` is active; false if there is no such word.
+    pub fn is_active(&self, index: usize) -> bool
+        ensures { result ≡ (entry_at self.now.entries index).active }
     {
-        place < self.active.len() && self.active.has(place)
+        index < self.active.len() && self.active.has(index)
     }
 
-    /// The letters of word `place`.
-    pub fn word(&self, place: usize) -> &[Letter]
-        requires { place < length self.now.entries }
-        ensures { result.now ≡ (entry_at self.now.entries place).word }
+    /// The letters of word `index`.
+    pub fn word(&self, index: usize) -> &[Letter]
+        requires { index < length self.now.entries }
+        ensures { result.now ≡ (entry_at self.now.entries index).word }
     {
-        &self.letters[place * self.word_len..(place + 1) * self.word_len]
+        &self.letters[index * self.word_len..(index + 1) * self.word_len]
     }
 
-    /// Makes word `place` active or struck.
-    pub fn mark(&mut self, place: usize, active: bool)
-        requires { place < length self.old.entries }
-        ensures entries { self.new.entries ≡ marked self.old.entries place active }
+    /// Makes word `index` active or struck.
+    pub fn mark(&mut self, index: usize, active: bool)
+        requires { index < length self.old.entries }
+        ensures entries { self.new.entries ≡ marked self.old.entries index active }
         ensures word_len { self.new.word_len ≡ self.old.word_len }
         ensures room { self.new.room ≡ self.old.room }
     {
-        self.active.put(place, active);
+        self.active.put(index, active);
     }
 
     /// The index of a word, active or struck.
     pub fn find(&self, word: &[Letter]) -> Option<usize>
-        ensures { result ≡ place_in self.now.entries word.now }
+        ensures { result ≡ index_in self.now.entries word.now }
     {
         if word.len() != self.word_len {
             return None;
@@ -164,7 +164,7 @@ impl Row {
     fn seek(&mut self, word: &[Letter]) -> Option<usize>
         requires { length word.now ≡ self.old.word_len }
         ensures same { self.new ≡ self.old }
-        ensures place { result ≡ place_in self.old.entries word.now }
+        ensures index { result ≡ index_in self.old.entries word.now }
     {
         self.note(word);
         self.find(word)
@@ -185,7 +185,7 @@ impl Row {
     /// no word is known.
     pub fn column_of(&self, position: usize, letter: Letter) -> Option<&BitRow>
         ensures some { IfSome result (λ column. IsColumn self.now.entries position letter column.now.bits) }
-        ensures none { IfNone result ((place : ℕ) → has_letter self.now.entries position letter place ≡ false) }
+        ensures none { IfNone result ((index : ℕ) → has_letter self.now.entries position letter index ≡ false) }
         ensures within { position < self.now.word_len → IfNone result (length self.now.entries ≡ 0) }
     {
         if position >= self.word_len {
@@ -198,7 +198,7 @@ impl Row {
     /// The 26 columns at a position. If it returns `None`, no known word has a letter there.
     pub fn columns_of(&self, position: usize) -> Option<&[BitRow]>
         ensures some { IfSome result (λ columns. AreColumns self.now.entries position columns.now) }
-        ensures none { IfNone result ((place letters : ℕ) → has_one_of self.now.entries position letters place ≡ false) }
+        ensures none { IfNone result ((index letters : ℕ) → has_one_of self.now.entries position letters index ≡ false) }
     {
         if position >= self.word_len {
             return None;
@@ -245,11 +245,11 @@ impl Row {
     {
         let _ = &self.word_len;
         let mut fits = self.active_chunk(chunk);
-        for place in 0..pattern.len() {
+        for position in 0..pattern.len() {
             if fits == 0 {
                 return 0;
             }
-            fits &= self.stand_in_chunk(pattern[place], place, chunk);
+            fits &= self.stand_in_chunk(pattern[position], position, chunk);
         }
         fits
     }
@@ -265,7 +265,7 @@ impl Row {
         ensures ok { IfOk result (λ added. self.new.entries ≡ with_added self.old.entries (map folded bytes.now) added) }
         ensures err { OnErr result (self.new.entries ≡ self.old.entries) }
         ensures room_at_err { OnErr result (self.new.room ≡ self.old.room) }
-        ensures room_at_return { (place : ℕ) → result ≡ Ok (Added.Returned place) → self.new.room ≡ self.old.room }
+        ensures room_at_return { (index : ℕ) → result ≡ Ok (Added.Returned index) → self.new.room ≡ self.old.room }
     {
         let _ = &self.word_len;
         let mut letters = [Letter::first(); LONGEST];
@@ -283,35 +283,35 @@ impl Row {
         ensures ok { IfOk result (λ added. self.new.entries ≡ with_added self.old.entries word.now added) }
         ensures err { OnErr result (self.new.entries ≡ self.old.entries) }
         ensures room_at_err { OnErr result (self.new.room ≡ self.old.room) }
-        ensures room_at_return { (place : ℕ) → result ≡ Ok (Added.Returned place) → self.new.room ≡ self.old.room }
+        ensures room_at_return { (index : ℕ) → result ≡ Ok (Added.Returned index) → self.new.room ≡ self.old.room }
     {
         match self.seek(word) {
-            Some(place) => self.add_again(place),
+            Some(index) => self.add_again(index),
             None => self.add_new(alloc, word),
         }
     }
 
     /// Makes a struck word active again; refuses an active one.
-    fn add_again(&mut self, place: usize) -> Result<Added, WordFault>
-        requires { place < length self.old.entries }
+    fn add_again(&mut self, index: usize) -> Result<Added, WordFault>
+        requires { index < length self.old.entries }
         ensures word_len { self.new.word_len ≡ self.old.word_len }
-        ensures answer { result ≡ added_at self.old.entries (Some place) }
-        ensures ok { OnOk result (self.new.entries ≡ marked self.old.entries place true) }
+        ensures answer { result ≡ added_at self.old.entries (Some index) }
+        ensures ok { OnOk result (self.new.entries ≡ marked self.old.entries index true) }
         ensures err { OnErr result (self.new.entries ≡ self.old.entries) }
         ensures room { self.new.room ≡ self.old.room }
     {
-        if self.is_active(place) {
+        if self.is_active(index) {
             return Err(WordFault::Known);
         }
-        self.mark(place, true);
-        Ok(Added::Returned(place))
+        self.mark(index, true);
+        Ok(Added::Returned(index))
     }
 
     /// Appends a word that is not known.
     fn add_new(&mut self, alloc: Global, word: &[Letter]) -> Result<Added, WordFault>
         requires length { length word.now ≡ self.old.word_len }
         requires long { 2 ≤ self.old.word_len }
-        requires unknown { place_in self.old.entries word.now ≡ None }
+        requires unknown { index_in self.old.entries word.now ≡ None }
         ensures word_len { self.new.word_len ≡ self.old.word_len }
         ensures answer { result ≢ Err WordFault.Memory → result ≡ added_at self.old.entries None }
         ensures memory { result ≡ Err WordFault.Memory → IsNew (added_at self.old.entries None) }
@@ -320,13 +320,13 @@ impl Row {
         ensures room { OnErr result (self.new.room ≡ self.old.room) }
         ensures added { IfOk result (λ added. IsNew (Ok added)) }
     {
-        let place = self.len();
-        if place >= MOST_WORDS {
+        let index = self.len();
+        if index >= MOST_WORDS {
             return Err(WordFault::Full);
         }
         self.reserve(alloc, 0)?;
         self.add_reserved(word);
-        Ok(Added::New(place))
+        Ok(Added::New(index))
     }
 
     /// What `add` would return if no allocation failed.
@@ -339,8 +339,8 @@ impl Row {
         let mut letters = [Letter::first(); LONGEST];
         spell(&mut letters, bytes);
         match self.find(&letters[..bytes.len()]) {
-            Some(place) if self.is_active(place) => Err(WordFault::Known),
-            Some(place) => Ok(Added::Returned(place)),
+            Some(index) if self.is_active(index) => Err(WordFault::Known),
+            Some(index) => Ok(Added::Returned(index)),
             None if self.len() >= MOST_WORDS => Err(WordFault::Full),
             None => Ok(Added::New(self.len())),
         }
@@ -352,7 +352,7 @@ impl Row {
         requires length { length bytes.now ≡ self.old.word_len }
         ensures word_len { self.new.word_len ≡ self.old.word_len }
         ensures answer { result ≡ strike_from self.old.entries (map folded bytes.now) }
-        ensures ok { IfOk result (λ place. self.new.entries ≡ marked self.old.entries place false) }
+        ensures ok { IfOk result (λ index. self.new.entries ≡ marked self.old.entries index false) }
         ensures err { OnErr result (self.new.entries ≡ self.old.entries) }
         ensures room { self.new.room ≡ self.old.room }
     {
@@ -360,9 +360,9 @@ impl Row {
         let mut letters = [Letter::first(); LONGEST];
         spell(&mut letters, bytes);
         match self.find(&letters[..bytes.len()]) {
-            Some(place) if self.is_active(place) => {
-                self.mark(place, false);
-                Ok(place)
+            Some(index) if self.is_active(index) => {
+                self.mark(index, false);
+                Ok(index)
             }
             _ => Err(WordFault::Unknown),
         }
@@ -395,15 +395,15 @@ impl Row {
     pub fn add_reserved(&mut self, word: &[Letter])
         requires length { length word.now ≡ self.old.word_len }
         requires room { self.old.room ≡ true }
-        requires unknown { place_in self.old.entries word.now ≡ None }
+        requires unknown { index_in self.old.entries word.now ≡ None }
         ensures word_len { self.new.word_len ≡ self.old.word_len }
         ensures entries { self.new.entries ≡ self.old.entries ++ record { word = word.now; active = true } ∷ [] }
         ensures few { length self.old.entries < most_words }
         ensures long { 2 ≤ length word.now }
     {
-        let place = self.active.len();
-        self.index.insert(&self.letters, word, place as u32);
-        push_word(&mut self.columns, word, place);
+        let index = self.active.len();
+        self.index.insert(&self.letters, word, index as u32);
+        push_word(&mut self.columns, word, index);
         self.active.push(true);
         append(&mut self.letters, word);
     }

@@ -26,9 +26,9 @@ fn block_with(columns: &[BitRow], letters: LetterSet, at: usize) -> u64x8
 {
     let mut found = u64x8::splat(0);
     let mut from = 0;
-    while let Some(place) = letters.next_place(from) {
-        found = either_block(found, columns[place as usize].block(at));
-        from = place + 1;
+    while let Some(index) = letters.next_index(from) {
+        found = either_block(found, columns[index as usize].block(at));
+        from = index + 1;
     }
     found
 }
@@ -41,9 +41,9 @@ fn chunk_with(columns: &[BitRow], letters: LetterSet, at: usize) -> u64
 {
     let mut found = 0;
     let mut from = 0;
-    while let Some(place) = letters.next_place(from) {
-        found |= columns[place as usize].chunk(at);
-        from = place + 1;
+    while let Some(index) = letters.next_index(from) {
+        found |= columns[index as usize].chunk(at);
+        from = index + 1;
     }
     found
 }

@@ -37,11 +37,11 @@ fn bad_in_pattern(bytes: &[u8]) -> Option<usize>
 
 /// Returns `BadLetter` if there is a bad byte, and otherwise checks the length.
 fn judge(bad: Option<usize>, len: usize) -> Result<(), WordFault>
-    requires { IfSome bad (λ place. place < len) }
+    requires { IfSome bad (λ position. position < len) }
     ensures { result ≡ judged bad len tt }
 {
     match bad {
-        Some(place) => Err(WordFault::BadLetter(place + 1)),
+        Some(position) => Err(WordFault::BadLetter(position + 1)),
         None => judge_length(len),
     }
 }
@@ -77,7 +77,7 @@ pub fn spell(letters: &mut [Letter], bytes: &[u8])
     requires room { length bytes.now ≤ length letters.old }
     ensures { take (length bytes.now) letters.new ≡ map folded bytes.now }
 {
-    for place in 0..bytes.len() {
-        letters[place] = Letter::capital(bytes[place]);
+    for position in 0..bytes.len() {
+        letters[position] = Letter::capital(bytes[position]);
     }
 }

@@ -9,17 +9,17 @@ use Rattle.xw_grid.specs.declared.cell.Square.{Square}
 use Rattle.xw_files.specs.Puz.Board.{square_of, square_or_fault, squares_at}
 use Rattle.xw_files.proofs.StepLemmas.{bind_ok, ok_is}
 
-pub square-found : (width place : ℕ) (read : Option Square) (square : Square) → square_or_fault width place read ≡ Ok square → read ≡ Some square
-square-found width place (Some x) square e = ap (λ s. Some s) (ok_is x square e)
-square-found width place None square e = cc
+pub square-found : (width index : ℕ) (read : Option Square) (square : Square) → square_or_fault width index read ≡ Ok square → read ≡ Some square
+square-found width index (Some x) square e = ap (λ s. Some s) (ok_is x square e)
+square-found width index None square e = cc
 
 -- there is one square for each byte
-pub squares_at-length : (width place : ℕ) (bytes : List ℕ) (squares : List Square) → squares_at width place bytes ≡ Ok squares → length squares ≡ length bytes
-squares_at-length width place [] squares e = ap length (sym (ok_is [] squares e))
-squares_at-length width place (byte ∷ bytes) squares e =
-    let first = bind_ok (square_or_fault width place (square_of byte)) _ squares e in
-    let more = bind_ok (squares_at width (place + 1) bytes) _ squares first.2 in
-    let same = squares_at-length width (place + 1) bytes more.0 more.1 in
+pub squares_at-length : (width index : ℕ) (bytes : List ℕ) (squares : List Square) → squares_at width index bytes ≡ Ok squares → length squares ≡ length bytes
+squares_at-length width index [] squares e = ap length (sym (ok_is [] squares e))
+squares_at-length width index (byte ∷ bytes) squares e =
+    let first = bind_ok (square_or_fault width index (square_of byte)) _ squares e in
+    let more = bind_ok (squares_at width (index + 1) bytes) _ squares first.2 in
+    let same = squares_at-length width (index + 1) bytes more.0 more.1 in
     ap length (sym (ok_is (first.0 ∷ more.0) squares more.2)) ∙ ap (λ n. suc n) same
 
 -- ---- letters
@@ -45,10 +45,10 @@ all-more square squares first rest zero d h = first
 all-more square squares first rest (suc k) d h = rest k d (omega arith)
 
 -- every square that is read is a valid square
-pub squares_at-letters : (width place : ℕ) (bytes : List ℕ) (squares : List Square) → squares_at width place bytes ≡ Ok squares → All IsSquare squares
-squares_at-letters width place [] squares e = subst (All IsSquare) (ok_is [] squares e) (λ k d h. absurd (omega arith))
-squares_at-letters width place (byte ∷ bytes) squares e =
-    let first = bind_ok (square_or_fault width place (square_of byte)) _ squares e in
-    let more = bind_ok (squares_at width (place + 1) bytes) _ squares first.2 in
-    let here = square-read byte (nat_eq byte 46) (nat_eq byte 45) first.0 (square-found width place (square_of byte) first.0 first.1) in
-    subst (All IsSquare) (ok_is (first.0 ∷ more.0) squares more.2) (all-more first.0 more.0 here (squares_at-letters width (place + 1) bytes more.0 more.1))
+pub squares_at-letters : (width index : ℕ) (bytes : List ℕ) (squares : List Square) → squares_at width index bytes ≡ Ok squares → All IsSquare squares
+squares_at-letters width index [] squares e = subst (All IsSquare) (ok_is [] squares e) (λ k d h. absurd (omega arith))
+squares_at-letters width index (byte ∷ bytes) squares e =
+    let first = bind_ok (square_or_fault width index (square_of byte)) _ squares e in
+    let more = bind_ok (squares_at width (index + 1) bytes) _ squares first.2 in
+    let here = square-read byte (nat_eq byte 46) (nat_eq byte 45) first.0 (square-found width index (square_of byte) first.0 first.1) in
+    subst (All IsSquare) (ok_is (first.0 ∷ more.0) squares more.2) (all-more first.0 more.0 here (squares_at-letters width (index + 1) bytes more.0 more.1))

@@ -55,9 +55,9 @@ fielded bytes fields small e =
 
 -- ---- cells
 
--- a place whose cell comes earlier in reading order comes earlier
-place_less : (width p q : ℕ) → 0 < width → IsLess ((cell_in width p).row, (cell_in width p).col) ((cell_in width q).row, (cell_in width q).col) → p < q
-place_less width p q wide less = elim (cases_lt p q) [
+-- an index whose cell comes earlier in reading order comes earlier
+index_less : (width p q : ℕ) → 0 < width → IsLess ((cell_in width p).row, (cell_in width p).col) ((cell_in width q).row, (cell_in width q).col) → p < q
+index_less width p q wide less = elim (cases_lt p q) [
   | inl before ↦ before
   | inr after ↦
       let down : q / width * width ≤ q = div-mul-le_self q width in
@@ -73,43 +73,43 @@ place_less width p q wide less = elim (cases_lt p q) [
       ]
 ]
 
--- the first byte that stands for nothing, j places after the first
-record BadAt (width place : ℕ) (bytes : List ℕ) (fault : ReadFault) : Type 0 where
+-- the first byte that stands for nothing, j bytes after the first
+record BadAt (width index : ℕ) (bytes : List ℕ) (fault : ReadFault) : Type 0 where
   j : ℕ
-  is : BadCell (cell_in width (place + j)) ≡ fault
+  is : BadCell (cell_in width (index + j)) ≡ fault
   inside : j < length bytes
   nothing : square_of (get_or bytes j 0) ≡ None
   before : (i : ℕ) → i < j → square_of (get_or bytes i 0) ≡ None → ⊥
 
-square-lost : (width place : ℕ) (read : Option Square) (fault : ReadFault) → square_or_fault width place read ≡ Err fault → (read ≡ None) × (BadCell (cell_in width place) ≡ fault)
-square-lost width place (Some square) fault e = cc
-square-lost width place None fault e = (refl, err_is (BadCell (cell_in width place)) fault e)
+square-lost : (width index : ℕ) (read : Option Square) (fault : ReadFault) → square_or_fault width index read ≡ Err fault → (read ≡ None) × (BadCell (cell_in width index) ≡ fault)
+square-lost width index (Some square) fault e = cc
+square-lost width index None fault e = (refl, err_is (BadCell (cell_in width index)) fault e)
 
 some-before : (byte : ℕ) (bytes : List ℕ) (square : Square) (j : ℕ) → square_of byte ≡ Some square → ((i : ℕ) → i < j → square_of (get_or bytes i 0) ≡ None → ⊥) → (i : ℕ) → i < suc j → square_of (get_or (byte ∷ bytes) i 0) ≡ None → ⊥
 some-before byte bytes square j e before zero h none = let bad = sym e ∙ none in cc
 some-before byte bytes square j e before (suc i) h none = before i (omega (arith, h)) none
 
-squares_stop : (width place : ℕ) (bytes : List ℕ) (fault : ReadFault) → squares_at width place bytes ≡ Err fault → BadAt width place bytes fault
-squares_stop width place [] fault e = cc
-squares_stop width place (byte ∷ bytes) fault e = elim (bind_err (square_or_fault width place (square_of byte)) _ fault e) [
+squares_stop : (width index : ℕ) (bytes : List ℕ) (fault : ReadFault) → squares_at width index bytes ≡ Err fault → BadAt width index bytes fault
+squares_stop width index [] fault e = cc
+squares_stop width index (byte ∷ bytes) fault e = elim (bind_err (square_or_fault width index (square_of byte)) _ fault e) [
   | inl here ↦
-      let lost = square-lost width place (square_of byte) fault here in
+      let lost = square-lost width index (square_of byte) fault here in
       record {
         j = 0;
-        is = (let plus : place + 0 ≡ place = omega arith in ap (λ n. BadCell (cell_in width n)) plus ∙ lost.1);
+        is = (let plus : index + 0 ≡ index = omega arith in ap (λ n. BadCell (cell_in width n)) plus ∙ lost.1);
         inside = omega arith;
         nothing = lost.0;
         before = λ i h none. absurd (omega (arith, h));
       }
-  | inr square ↦ elim (bind_err (squares_at width (place + 1) bytes) _ fault square.2) [
+  | inr square ↦ elim (bind_err (squares_at width (index + 1) bytes) _ fault square.2) [
     | inl there ↦
-        let rest = squares_stop width (place + 1) bytes fault there in
+        let rest = squares_stop width (index + 1) bytes fault there in
         record {
           j = suc rest.j;
-          is = (let plus : place + suc rest.j ≡ place + 1 + rest.j = omega arith in ap (λ n. BadCell (cell_in width n)) plus ∙ rest.is);
+          is = (let plus : index + suc rest.j ≡ index + 1 + rest.j = omega arith in ap (λ n. BadCell (cell_in width n)) plus ∙ rest.is);
           inside = (let h = rest.inside in omega (arith, h));
           nothing = rest.nothing;
-          before = some-before byte bytes square.0 rest.j (square-found width place (square_of byte) square.0 square.1) rest.before;
+          before = some-before byte bytes square.0 rest.j (square-found width index (square_of byte) square.0 square.1) rest.before;
         }
     | inr all ↦ cc
   ]
@@ -118,7 +118,7 @@ squares_stop width place (byte ∷ bytes) fault e = elim (bind_err (square_or_fa
 no_sooner : (bytes : List ℕ) (j : ℕ) → 0 < width_in bytes → ((i : ℕ) → i < j → square_of (get_or (solution_in bytes) i 0) ≡ None → ⊥) → NoSooner bytes (BadCell (cell_in (width_in bytes) j))
 no_sooner bytes j wide before =
     let Less : Cell → Type 0 = λ c. IsLess (c.row, c.col) ((cell_in (width_in bytes) j).row, (cell_in (width_in bytes) j).col) in
-    only_9 (NotSooner bytes (BadCell (cell_in (width_in bytes) j))) (λ cell less has. before has.0 (place_less (width_in bytes) has.0 j wide (subst Less has.2 less)) has.3)
+    only_9 (NotSooner bytes (BadCell (cell_in (width_in bytes) j))) (λ cell less has. before has.0 (index_less (width_in bytes) has.0 j wide (subst Less has.2 less)) has.3)
 
 pub cell_first : (bytes : List ℕ) (fields : Fields) (fault : ReadFault) → Fielded bytes fields → Clear bytes 9 → grid_at fields ≡ Err fault → IsFirstFault bytes fault
 cell_first bytes fields fault says clear e = elim (bind_err (squares_at fields.header.width 0 fields.solution) _ fault e) [

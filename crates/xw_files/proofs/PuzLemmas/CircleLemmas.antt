@@ -33,11 +33,11 @@ none-filtered p (x ∷ xs) none =
 
 -- ---- reading marks
 
-places-same : (grid : Grid) (i k : ℕ) → same_cell (cell_at grid i) (cell_at grid k) ≡ true → i ≡ k
-places-same grid i k e = sym (index_of-cell_at grid i) ∙ ap (index_of grid) (cells_same (cell_at grid i) (cell_at grid k) e) ∙ index_of-cell_at grid k
+indices-same : (grid : Grid) (i k : ℕ) → same_cell (cell_at grid i) (cell_at grid k) ≡ true → i ≡ k
+indices-same grid i k e = sym (index_of-cell_at grid i) ∙ ap (index_of grid) (cells_same (cell_at grid i) (cell_at grid k) e) ∙ index_of-cell_at grid k
 
-places-apart : (grid : Grid) (i k : ℕ) → (i ≡ k → ⊥) → same_cell (cell_at grid i) (cell_at grid k) ≡ false
-places-apart grid i k other = false_from_ne_true (same_cell (cell_at grid i) (cell_at grid k)) (λ e. other (places-same grid i k e))
+indices-apart : (grid : Grid) (i k : ℕ) → (i ≡ k → ⊥) → same_cell (cell_at grid i) (cell_at grid k) ≡ false
+indices-apart grid i k other = false_from_ne_true (same_cell (cell_at grid i) (cell_at grid k)) (λ e. other (indices-same grid i k e))
 
 -- the mark of another cell changes nothing
 mark-elsewhere : (circles : List Cell) (cell other : Cell) (b : Bool) → same_cell cell other ≡ false → is_circled (cond b (with_circle circles cell true) circles) other ≡ is_circled circles other
@@ -48,22 +48,22 @@ mark-here : (circles : List Cell) (cell : Cell) (b : Bool) → same_cell cell ce
 mark-here circles cell true here = circles_are_kept circles cell cell true ∙ rw here refl
 mark-here circles cell false here = refl
 
-marks-before : (grid : Grid) (circles : List Cell) (place : ℕ) (bytes : List ℕ) (k : ℕ) → k < place → is_circled (with_marks grid circles place bytes) (cell_at grid k) ≡ is_circled circles (cell_at grid k)
-marks-before grid circles place [] k h = refl
-marks-before grid circles place (b ∷ bs) k h =
-    marks-before grid (with_mark grid circles (cell_at grid place) b) (place + 1) bs k (omega arith)
-    ∙ mark-elsewhere circles (cell_at grid place) (cell_at grid k) (is_marked b && is_open grid (cell_at grid place)) (places-apart grid place k (λ e. omega (arith, e)))
+marks-before : (grid : Grid) (circles : List Cell) (index : ℕ) (bytes : List ℕ) (k : ℕ) → k < index → is_circled (with_marks grid circles index bytes) (cell_at grid k) ≡ is_circled circles (cell_at grid k)
+marks-before grid circles index [] k h = refl
+marks-before grid circles index (b ∷ bs) k h =
+    marks-before grid (with_mark grid circles (cell_at grid index) b) (index + 1) bs k (omega arith)
+    ∙ mark-elsewhere circles (cell_at grid index) (cell_at grid k) (is_marked b && is_open grid (cell_at grid index)) (indices-apart grid index k (λ e. omega (arith, e)))
 
-marks-at : (grid : Grid) (circles : List Cell) (place : ℕ) (bytes : List ℕ) (j k : ℕ) → k ≡ place + j
-    → is_circled (with_marks grid circles place bytes) (cell_at grid k) ≡ ((is_marked (get_or bytes j 0) && is_open grid (cell_at grid k)) || is_circled circles (cell_at grid k))
-marks-at grid circles place [] j k e = refl
-marks-at grid circles place (b ∷ bs) zero k e =
-    let at : place ≡ k = omega (arith, e) in
-    marks-before grid (with_mark grid circles (cell_at grid place) b) (place + 1) bs k (omega (arith, e))
+marks-at : (grid : Grid) (circles : List Cell) (index : ℕ) (bytes : List ℕ) (j k : ℕ) → k ≡ index + j
+    → is_circled (with_marks grid circles index bytes) (cell_at grid k) ≡ ((is_marked (get_or bytes j 0) && is_open grid (cell_at grid k)) || is_circled circles (cell_at grid k))
+marks-at grid circles index [] j k e = refl
+marks-at grid circles index (b ∷ bs) zero k e =
+    let at : index ≡ k = omega (arith, e) in
+    marks-before grid (with_mark grid circles (cell_at grid index) b) (index + 1) bs k (omega (arith, e))
     ∙ rw at (mark-here circles (cell_at grid k) (is_marked b && is_open grid (cell_at grid k)) (same_cell_itself (cell_at grid k)))
-marks-at grid circles place (b ∷ bs) (suc j) k e =
-    let later = marks-at grid (with_mark grid circles (cell_at grid place) b) (place + 1) bs j k (omega (arith, e)) in
-    let away = mark-elsewhere circles (cell_at grid place) (cell_at grid k) (is_marked b && is_open grid (cell_at grid place)) (places-apart grid place k (λ same. omega (arith, e, same))) in
+marks-at grid circles index (b ∷ bs) (suc j) k e =
+    let later = marks-at grid (with_mark grid circles (cell_at grid index) b) (index + 1) bs j k (omega (arith, e)) in
+    let away = mark-elsewhere circles (cell_at grid index) (cell_at grid k) (is_marked b && is_open grid (cell_at grid index)) (indices-apart grid index k (λ same. omega (arith, e, same))) in
     later ∙ ap (λ c. (is_marked (get_or bs j 0) && is_open grid (cell_at grid k)) || c) away
 
 open-and-marked : (o m : Bool) → (o && ((m && o) || false)) ≡ (o && m)

@@ -39,9 +39,9 @@ one-cut bytes (section ∷ sections) (other ∷ others) tail end are also =
 -- ---- sections found by reading
 
 pub bytes-after : (front rest : List ℕ) → AreBytes (front ++ rest) → AreBytes rest
-bytes-after front rest small place =
-    let at = small (length front + place) in
-    let same : get_or (front ++ rest) (length front + place) 0 ≡ get_or rest place 0 = get_or-append_right front rest (length front) (length front + place) 0 refl (omega arith) ∙ (let left : length front + place - length front ≡ place = omega arith in rw left refl) in
+bytes-after front rest small index =
+    let at = small (length front + index) in
+    let same : get_or (front ++ rest) (length front + index) 0 ≡ get_or rest index 0 = get_or-append_right front rest (length front) (length front + index) 0 refl (omega arith) ∙ (let left : length front + index - length front ≡ index = omega arith in rw left refl) in
     subst (λ n. n < 2 ^ 8) same at
 
 section-long : (section : Section) (more : List ℕ) → length more < length (section_bytes section ++ more)

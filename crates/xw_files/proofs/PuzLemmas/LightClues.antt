@@ -16,11 +16,11 @@ use Rattle.xw_grid.specs.Puzzle.{clue_of}
 use Rattle.xw_files.specs.Puz.Board.{with_clues}
 
 -- two lights have the same start and direction
-abbrev same_place : Light → Light → Bool
-same_place a b = same_direction a.name.direction b.name.direction && same_cell a.start b.start
+abbrev same_start : Light → Light → Bool
+same_start a b = same_direction a.name.direction b.name.direction && same_cell a.start b.start
 
 abbrev AreDistinct : List Light → Type 0
-AreDistinct lights = (i j : ℕ) (d : Light) → i < j → j < length lights → same_place (get_or lights j d) (get_or lights i d) ≡ false
+AreDistinct lights = (i j : ℕ) (d : Light) → i < j → j < length lights → same_start (get_or lights j d) (get_or lights i d) ≡ false
 
 directions-same : (a b : Direction) → same_direction a b ≡ true → a ≡ b
 directions-same Across Across e = refl
@@ -28,7 +28,7 @@ directions-same Across Down e = cc
 directions-same Down Across e = cc
 directions-same Down Down e = refl
 
-itself : (light : Light) → same_place light light ≡ true
+itself : (light : Light) → same_start light light ≡ true
 itself light = rw (same_cell_itself light.start) (elim light.name.direction as (λ d. (same_direction d d && true) ≡ true) [ Across ↦ refl | Down ↦ refl ])
 
 across-is-down : ◌≡◌ {A = Direction} Across Down → ⊥
@@ -42,17 +42,17 @@ lights-distinct : (grid : Grid) → AreDistinct (lights_of grid)
 lights-distinct grid i j d before within =
     let first = get_or (lights_of grid) i d in
     let later = get_or (lights_of grid) j d in
-    false_from_ne_true (same_place later first) (λ e.
+    false_from_ne_true (same_start later first) (λ e.
     let both = and-true (same_direction later.name.direction first.name.direction) (same_cell later.start first.start) e in
     let start : later.start ≡ first.start = cells_same later.start first.start both.1 in
     let number : first.name.number ≡ later.name.number = (lights_are_lights grid i d (omega arith)).1 ∙ ap (number_at grid) (sym start) ∙ sym (lights_are_lights grid j d within).1 in
     not-before first later number (sym (directions-same later.name.direction first.name.direction both.0)) (lights_are_ordered grid i j d before within))
 
-clue-kept : (clues : ClueMap) (light other : Light) (text : List ℕ) → clue_of (with_clue clues light.start light.name.direction text) other ≡ cond (same_place light other) text (clue_of clues other)
+clue-kept : (clues : ClueMap) (light other : Light) (text : List ℕ) → clue_of (with_clue clues light.start light.name.direction text) other ≡ cond (same_start light other) text (clue_of clues other)
 clue-kept clues light other text = clues_are_kept clues light.start other.start light.name.direction other.name.direction text
 
 -- setting clues of other lights keeps the clue of a light
-clue-left : (clues : ClueMap) (light : Light) (lights : List Light) (texts : List (List ℕ)) → ((k : ℕ) (d : Light) → k < length lights → same_place (get_or lights k d) light ≡ false) → clue_of (with_clues clues lights texts) light ≡ clue_of clues light
+clue-left : (clues : ClueMap) (light : Light) (lights : List Light) (texts : List (List ℕ)) → ((k : ℕ) (d : Light) → k < length lights → same_start (get_or lights k d) light ≡ false) → clue_of (with_clues clues lights texts) light ≡ clue_of clues light
 clue-left clues light [] [] other = refl
 clue-left clues light [] (text ∷ texts) other = refl
 clue-left clues light (first ∷ lights) [] other = refl

@@ -11,7 +11,7 @@ use Rattle.xw_files.specs.declared.fault.SumName.{SumName}
 use Rattle.xw_files.specs.declared.fault.SumName.TheVariants.{Cib, File, Masked}
 use Rattle.xw_files.specs.declared.fault.ReadFault.{ReadFault}
 use Rattle.xw_files.specs.declared.fault.ReadFault.TheVariants.{Short, Magic, Version, Scrambled, Size, NoNul, BadSum, BadCell, ClueCount, GextSize, GextSum}
-use Rattle.xw_files.specs.Puz.Faults.{HasFault, rank, text_place, sum_place, place, IsLess, ComesBefore, IsFirstFault}
+use Rattle.xw_files.specs.Puz.Faults.{HasFault, rank, text_location, sum_location, location, IsLess, ComesBefore, IsFirstFault}
 use Rattle.xw_files.specs.Puz.Laws.{FirstFaultIsOne}
 
 -- ---- where a chain stops
@@ -129,7 +129,7 @@ none_later bytes clear fault has = elim (cases_lt (rank fault) 13) [
 
 -- this fault does not hold, or does not come before another of its rank
 abbrev pub NotSooner : List ℕ → ReadFault → ReadFault → Type 0
-NotSooner bytes fault earlier = IsLess (place earlier) (place fault) → Never bytes earlier
+NotSooner bytes fault earlier = IsLess (location earlier) (location fault) → Never bytes earlier
 
 abbrev pub NoSooner : List ℕ → ReadFault → Type 0
 NoSooner bytes fault = (earlier : ReadFault) → rank earlier ≡ rank fault → NotSooner bytes fault earlier
@@ -150,13 +150,13 @@ not-less p less = elim less [
 ]
 
 -- a fault that is alone in its rank
-pub first_alone : (bytes : List ℕ) (fault : ReadFault) → place fault ≡ (0, 0) → HasFault bytes fault → Clear bytes (rank fault) → IsFirstFault bytes fault
-first_alone bytes fault at holds clear = first_among bytes fault holds clear (λ earlier same less _. not-less (place earlier) (rw at at less))
+pub first_alone : (bytes : List ℕ) (fault : ReadFault) → location fault ≡ (0, 0) → HasFault bytes fault → Clear bytes (rank fault) → IsFirstFault bytes fault
+first_alone bytes fault at holds clear = first_among bytes fault holds clear (λ earlier same less _. not-less (location earlier) (rw at at less))
 
 -- ---- one fault is the first
 
 abbrev IsAt : ReadFault → ReadFault → Type 0
-IsAt fault other = (rank fault ≡ rank other) × ((place fault).0 ≡ (place other).0) × ((place fault).1 ≡ (place other).1)
+IsAt fault other = (rank fault ≡ rank other) × ((location fault).0 ≡ (location other).0) × ((location fault).1 ≡ (location other).1)
 
 ordered : (fault other : ReadFault) → IsAt fault other ⊎ (ComesBefore fault other ⊎ ComesBefore other fault)
 ordered fault other = elim (cases_order (rank fault) (rank other)) [
@@ -164,13 +164,13 @@ ordered fault other = elim (cases_order (rank fault) (rank other)) [
     | inl less ↦ inr (inl (inl less))
     | inr more ↦ inr (inr (inl more))
   ]
-  | inl level ↦ elim (cases_order (place fault).0 (place other).0) [
-    | inr places ↦ elim places [
+  | inl level ↦ elim (cases_order (location fault).0 (location other).0) [
+    | inr locations ↦ elim locations [
       | inl less ↦ inr (inl (inr (level, inl less)))
       | inr more ↦ inr (inr (inr (sym level, inl more)))
     ]
-    | inl first ↦ elim (cases_order (place fault).1 (place other).1) [
-      | inr places ↦ elim places [
+    | inl first ↦ elim (cases_order (location fault).1 (location other).1) [
+      | inr locations ↦ elim locations [
         | inl less ↦ inr (inl (inr (level, inr (first, less))))
         | inr more ↦ inr (inr (inr (sym level, inr (sym first, more))))
       ]
@@ -179,7 +179,7 @@ ordered fault other = elim (cases_order (rank fault) (rank other)) [
   ]
 ]
 
-same_text : (text other : TextName) → (text_place text).0 ≡ (text_place other).0 → (text_place text).1 ≡ (text_place other).1 → text ≡ other
+same_text : (text other : TextName) → (text_location text).0 ≡ (text_location other).0 → (text_location text).1 ≡ (text_location other).1 → text ≡ other
 same_text Title Title p q = refl
 same_text Author Author p q = refl
 same_text Copyright Copyright p q = refl
@@ -187,7 +187,7 @@ same_text (Clue k) (Clue j) p q = ap (λ n. Clue n) q
 same_text Notes Notes p q = refl
 same_text text other p q = absurd (omega (arith, p))
 
-same_sum : (sum other : SumName) → (sum_place sum).0 ≡ (sum_place other).0 → (sum_place sum).1 ≡ (sum_place other).1 → sum ≡ other
+same_sum : (sum other : SumName) → (sum_location sum).0 ≡ (sum_location other).0 → (sum_location sum).1 ≡ (sum_location other).1 → sum ≡ other
 same_sum Cib Cib p q = refl
 same_sum File File p q = refl
 same_sum (Masked k) (Masked j) p q = ap (λ n. Masked n) q
@@ -197,27 +197,27 @@ same_cell : (cell other : Cell) → cell.row ≡ other.row → cell.col ≡ othe
 same_cell cell other p q = λ i. record { row = p i; col = q i }
 
 abbrev Is : ReadFault → ReadFault → Type 0
-Is fault other = ((place fault).0 ≡ (place other).0) → ((place fault).1 ≡ (place other).1) → fault ≡ other
+Is fault other = ((location fault).0 ≡ (location other).0) → ((location fault).1 ≡ (location other).1) → fault ≡ other
 
--- faults of one rank at one place are the same
-at-one-place : (bytes : List ℕ) (fault other : ReadFault) → HasFault bytes fault → rank other ≡ rank fault → Is fault other
-at-one-place bytes (Short part.Header) other has e = only_1 (Is (Short part.Header)) (λ p q. refl) other e
-at-one-place bytes Magic other has e = only_2 (Is Magic) (λ p q. refl) other e
-at-one-place bytes Version other has e = only_3 (Is Version) (λ p q. refl) other e
-at-one-place bytes Scrambled other has e = only_4 (Is Scrambled) (λ p q. refl) other e
-at-one-place bytes Size other has e = only_5 (Is Size) (λ p q. refl) other e
-at-one-place bytes (Short part.Boards) other has e = only_6 (Is (Short part.Boards)) (λ p q. refl) other e
-at-one-place bytes (NoNul text) other has e = only_7 (Is (NoNul text)) (λ t p q. ap (λ x. NoNul x) (same_text text t p q)) other e
-at-one-place bytes (BadSum sum) other has e = only_8 (Is (BadSum sum)) (λ s p q. ap (λ x. BadSum x) (same_sum sum s p q)) other e
-at-one-place bytes (BadCell cell) other has e = only_9 (Is (BadCell cell)) (λ c p q. ap (λ x. BadCell x) (same_cell cell c p q)) other e
-at-one-place bytes ClueCount other has e = only_10 (Is ClueCount) (λ p q. refl) other e
-at-one-place bytes GextSize other has e = only_11 (Is GextSize) (λ p q. refl) other e
-at-one-place bytes GextSum other has e = only_12 (Is GextSum) (λ p q. refl) other e
-at-one-place bytes fault other has e = absurd has
+-- faults of one rank at one location are the same
+at-one-location : (bytes : List ℕ) (fault other : ReadFault) → HasFault bytes fault → rank other ≡ rank fault → Is fault other
+at-one-location bytes (Short part.Header) other has e = only_1 (Is (Short part.Header)) (λ p q. refl) other e
+at-one-location bytes Magic other has e = only_2 (Is Magic) (λ p q. refl) other e
+at-one-location bytes Version other has e = only_3 (Is Version) (λ p q. refl) other e
+at-one-location bytes Scrambled other has e = only_4 (Is Scrambled) (λ p q. refl) other e
+at-one-location bytes Size other has e = only_5 (Is Size) (λ p q. refl) other e
+at-one-location bytes (Short part.Boards) other has e = only_6 (Is (Short part.Boards)) (λ p q. refl) other e
+at-one-location bytes (NoNul text) other has e = only_7 (Is (NoNul text)) (λ t p q. ap (λ x. NoNul x) (same_text text t p q)) other e
+at-one-location bytes (BadSum sum) other has e = only_8 (Is (BadSum sum)) (λ s p q. ap (λ x. BadSum x) (same_sum sum s p q)) other e
+at-one-location bytes (BadCell cell) other has e = only_9 (Is (BadCell cell)) (λ c p q. ap (λ x. BadCell x) (same_cell cell c p q)) other e
+at-one-location bytes ClueCount other has e = only_10 (Is ClueCount) (λ p q. refl) other e
+at-one-location bytes GextSize other has e = only_11 (Is GextSize) (λ p q. refl) other e
+at-one-location bytes GextSum other has e = only_12 (Is GextSum) (λ p q. refl) other e
+at-one-location bytes fault other has e = absurd has
 
 pub one_first : FirstFaultIsOne
 one_first bytes fault other first also = elim (ordered fault other) [
-  | inl same ↦ at-one-place bytes fault other first.0 (sym same.0) same.1 same.2
+  | inl same ↦ at-one-location bytes fault other first.0 (sym same.0) same.1 same.2
   | inr order ↦ elim order [
     | inl before ↦ absurd (also.1 fault before first.0)
     | inr after ↦ absurd (first.1 other after also.0)

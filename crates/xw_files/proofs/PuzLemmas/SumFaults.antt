@@ -7,7 +7,7 @@ use Rattle.xw_files.specs.declared.fault.SumName.TheVariants.{Cib, File, Masked}
 use Rattle.xw_files.specs.declared.fault.ReadFault.TheVariants.{BadSum}
 use Rattle.xw_files.specs.Puz.Reading.{Fields, fields_at}
 use Rattle.xw_files.specs.Puz.Sums.{sums_of, masked_of, wrong_masked, wrong_sum}
-use Rattle.xw_files.specs.Puz.Faults.{AreFields, IsWrong, sum_place, IsLess, IsFirstFault}
+use Rattle.xw_files.specs.Puz.Faults.{AreFields, IsWrong, sum_location, IsLess, IsFirstFault}
 use Rattle.xw_files.proofs.StepLemmas.{ok_is}
 use Rattle.xw_files.proofs.PuzLemmas.Files.{fields_at-again}
 use Rattle.xw_files.proofs.PuzLemmas.SumsAndSquares.{same_from, passing_sums}
@@ -31,7 +31,7 @@ tried false o x y e = inl (refl, some_is x y e)
 pub other_from : (m n : ℕ) → nat_eq m n ≡ false → m ≢ n
 other_from m n e = grind (arith, nat_tests, e)
 
--- the first masked byte that is another one, j places after the first
+-- the first masked byte that is another one, j bytes after the first
 record OtherAt (k : ℕ) (bytes others : List ℕ) (sum : SumName) : Type 0 where
   j : ℕ
   is : Masked (k + j) ≡ sum
@@ -68,10 +68,10 @@ masked_found k (byte ∷ bytes) (other ∷ others) sum l e = elim (tried (nat_eq
 -- the first wrong sum of fields
 record FirstWrong (fields : Fields) (sum : SumName) : Type 0 where
   holds : IsWrong fields sum
-  none : (earlier : SumName) → IsLess (sum_place earlier) (sum_place sum) → IsWrong fields earlier → ⊥
+  none : (earlier : SumName) → IsLess (sum_location earlier) (sum_location sum) → IsWrong fields earlier → ⊥
 
 abbrev NoneSooner : Fields → SumName → Type 0
-NoneSooner fields sum = (earlier : SumName) → IsLess (sum_place earlier) (sum_place sum) → IsWrong fields earlier → ⊥
+NoneSooner fields sum = (earlier : SumName) → IsLess (sum_location earlier) (sum_location sum) → IsWrong fields earlier → ⊥
 
 before_cib : (fields : Fields) → NoneSooner fields Cib
 before_cib fields Cib less wrong = grind (arith, less)
@@ -81,7 +81,7 @@ before_file : (fields : Fields) → fields.header.cib_sum ≡ (sums_of fields).c
 before_file fields cib Cib less wrong = wrong cib
 before_file fields cib other less wrong = grind (arith, less)
 
--- the masked byte of fields, and the one computed, so many places after the first
+-- the masked byte of fields, and the one computed, so many bytes after the first
 abbrev AreSame : Fields → ℕ → Type 0
 AreSame fields i = get_or fields.header.masked i 0 ≡ get_or (masked_of (sums_of fields)) i 0
 

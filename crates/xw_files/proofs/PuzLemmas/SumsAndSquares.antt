@@ -73,23 +73,23 @@ square-again (Open None) h = refl
 square-again (Open (Some letter)) h = rw (other_than 46 letter (omega (arith, h.0)), other_than 45 letter (omega (arith, h.0)), at_most 65 letter h.0, at_most letter 90 h.1, not_at_most 97 letter (omega (arith, h.1))) refl
 
 -- the squares that are read are those of the bytes
-pub squares_found : (width place : ℕ) (bytes : List ℕ) (squares : List Square) → squares_at width place bytes ≡ Ok squares → map square_of bytes ≡ map (λ square. Some square) squares
-squares_found width place [] squares e = ap (map (λ square. Some square)) (ok_is [] squares e)
-squares_found width place (byte ∷ bytes) squares e =
-    let first = bind_ok (square_or_fault width place (square_of byte)) _ squares e in
-    let more = bind_ok (squares_at width (place + 1) bytes) _ squares first.2 in
-    let here = square-found width place (square_of byte) first.0 first.1 in
-    let there = squares_found width (place + 1) bytes more.0 more.1 in
+pub squares_found : (width index : ℕ) (bytes : List ℕ) (squares : List Square) → squares_at width index bytes ≡ Ok squares → map square_of bytes ≡ map (λ square. Some square) squares
+squares_found width index [] squares e = ap (map (λ square. Some square)) (ok_is [] squares e)
+squares_found width index (byte ∷ bytes) squares e =
+    let first = bind_ok (square_or_fault width index (square_of byte)) _ squares e in
+    let more = bind_ok (squares_at width (index + 1) bytes) _ squares first.2 in
+    let here = square-found width index (square_of byte) first.0 first.1 in
+    let there = squares_found width (index + 1) bytes more.0 more.1 in
     rw (here, there) (ap (map (λ square. Some square)) (ok_is (first.0 ∷ more.0) squares more.2))
 
 -- if every byte is a square, the squares are read
-pub squares-from : (width place : ℕ) (bytes : List ℕ) (squares : List Square) → map square_of bytes ≡ map (λ square. Some square) squares → squares_at width place bytes ≡ Ok squares
-squares-from width place [] [] e = refl
-squares-from width place [] (square ∷ squares) e = absurd (let n : 0 ≡ suc (length (map (λ s. Some s) squares)) = ap length e in omega arith)
-squares-from width place (byte ∷ bytes) [] e = absurd (let n : suc (length (map square_of bytes)) ≡ 0 = ap length e in omega arith)
-squares-from width place (byte ∷ bytes) (square ∷ squares) e =
+pub squares-from : (width index : ℕ) (bytes : List ℕ) (squares : List Square) → map square_of bytes ≡ map (λ square. Some square) squares → squares_at width index bytes ≡ Ok squares
+squares-from width index [] [] e = refl
+squares-from width index [] (square ∷ squares) e = absurd (let n : 0 ≡ suc (length (map (λ s. Some s) squares)) = ap length e in omega arith)
+squares-from width index (byte ∷ bytes) [] e = absurd (let n : suc (length (map square_of bytes)) ≡ 0 = ap length e in omega arith)
+squares-from width index (byte ∷ bytes) (square ∷ squares) e =
     let both = cons-same (square_of byte) (Some square) (map square_of bytes) (map (λ s. Some s) squares) e in
-    rw (both.0, squares-from width (place + 1) bytes squares both.1) refl
+    rw (both.0, squares-from width (index + 1) bytes squares both.1) refl
 
 pub part-length : (bytes : List ℕ) (at count : ℕ) → at + count ≤ length bytes → length (take count (drop at bytes)) ≡ count
 part-length bytes at count h = length-take-le count (drop at bytes) (omega (arith, length-drop at bytes))

@@ -13,7 +13,7 @@ use Rattle.xw_files.specs.declared.fault.ReadFault.{ReadFault}
 use Rattle.xw_files.specs.declared.fault.ReadFault.TheVariants.{Short, NoNul}
 use Rattle.xw_files.specs.Puz.Reading.{Fields, cell_count, header_at, text_at, clues_at, texts_at, fields_at}
 use Rattle.xw_files.specs.Puz.Spelling.{HasNoNul, AllHaveNoNul, with_nuls}
-use Rattle.xw_files.specs.Puz.Faults.{width_in, height_in, cells_in, clue_count_in, nuls_in, LacksNul, text_place, IsLess, IsFirstFault}
+use Rattle.xw_files.specs.Puz.Faults.{width_in, height_in, cells_in, clue_count_in, nuls_in, LacksNul, text_location, IsLess, IsFirstFault}
 use Rattle.xw_files.proofs.StepLemmas.{bind_ok, avoided}
 use Rattle.xw_files.proofs.PuzLemmas.Comparisons.{not-same}
 use Rattle.xw_files.proofs.PuzLemmas.Texts.{text_at-takes}
@@ -121,7 +121,7 @@ stops-lacks : (clues nuls : ℕ) (text : TextName) → Stops clues nuls text →
 stops-lacks clues nuls (Clue k) s = (s.0, s.1, omega (arith, s.2))
 stops-lacks clues nuls other s = omega (arith, s)
 
-stops-first : (clues nuls : ℕ) (text earlier : TextName) → Stops clues nuls text → IsLess (text_place earlier) (text_place text) → LacksNul clues nuls earlier → ⊥
+stops-first : (clues nuls : ℕ) (text earlier : TextName) → Stops clues nuls text → IsLess (text_location earlier) (text_location text) → LacksNul clues nuls earlier → ⊥
 stops-first clues nuls (Clue k) (Clue j) s less lacks = grind (arith, s, less, lacks)
 stops-first clues nuls text earlier s less lacks = grind (arith, s, less, lacks)
 

@@ -54,9 +54,9 @@ unended : (raw : List ℕ) → NoEnds raw → without_terminator (raw ++ 10 ∷ 
 unended raw none =
     let ended = raw ++ 10 ∷ [] in
     let size : length ended ≡ length raw + 1 = length-append raw (10 ∷ []) in
-    let place : length ended - 1 ≡ length raw = omega (arith, size) in
+    let index : length ended - 1 ≡ length raw = omega (arith, size) in
     let some : ltb 0 (length ended) ≡ true = lt-ltb 0 (length ended) (omega (arith, size)) in
-    rw (some, place, last_is raw, take_at raw (10 ∷ []) (length raw) refl) (keeps raw none)
+    rw (some, index, last_is raw, take_at raw (10 ∷ []) (length raw) refl) (keeps raw none)
 
 pub cut_line : (raw rest : List ℕ) → NoEnds raw → cut (raw ++ 10 ∷ rest) ≡ raw ∷ cut rest
 cut_line raw rest none = ap (map without_terminator) (first_line raw rest none) ∙ ap (λ (t : List ℕ). t ∷ cut rest) (unended raw none)

@@ -7,15 +7,15 @@ use Rattle.xw_files.specs.declared.fault.ReadFault.{ReadFault}
 use Rattle.xw_files.specs.declared.fault.ReadFault.TheVariants as faults
 use Rattle.xw_files.specs.Steps.{◌>>=◌}
 use Rattle.xw_files.specs.Text.Shape.{Lines}
-use Rattle.xw_files.specs.Text.Faults.{LinesHave, place_of, within_place, ComesBefore}
+use Rattle.xw_files.specs.Text.Faults.{LinesHave, location_of, within_location, ComesBefore}
 
 -- lines have a fault, and none that comes before it
 abbrev pub IsFirst : Lines → ReadFault → Type 0
 IsFirst lines fault = LinesHave lines fault × ((earlier : ReadFault) → ComesBefore earlier fault → LinesHave lines earlier → ⊥)
 
--- lines have no fault of an earlier place
+-- lines have no fault of an earlier location
 abbrev pub NoneBefore : Lines → ℕ → Type 0
-NoneBefore lines place = (earlier : ReadFault) → place_of earlier < place → LinesHave lines earlier → ⊥
+NoneBefore lines location = (earlier : ReadFault) → location_of earlier < location → LinesHave lines earlier → ⊥
 
 -- a step gives what has this property, or the first fault
 abbrev pub Leads : {A : Type 0} → Lines → (A → Type 0) → Result A ReadFault → Type 0
@@ -26,28 +26,28 @@ pub leads_then : {A B : Type 0} (lines : Lines) (P : A → Type 0) (Q : B → Ty
 leads_then lines P Q (Ok x) f led more = more x led
 leads_then lines P Q (Err fault) f led more = led
 
--- ---- places with one fault
+-- ---- locations with one fault
 
--- the fault of a place that has no other
+-- the fault of a location that has no other
 abbrev fault_at : ℕ → ReadFault
-fault_at place =
-    cond (eqb place (place_of faults.Header)) faults.Header
-    (cond (eqb place (place_of (faults.Tag tags.Title))) (faults.Tag tags.Title)
-    (cond (eqb place (place_of (faults.Tag tags.Author))) (faults.Tag tags.Author)
-    (cond (eqb place (place_of (faults.Tag tags.Copyright))) (faults.Tag tags.Copyright)
-    (cond (eqb place (place_of (faults.Tag tags.Size))) (faults.Tag tags.Size)
-    (cond (eqb place (place_of faults.SizeLine)) faults.SizeLine
-    (cond (eqb place (place_of (faults.Tag tags.Grid))) (faults.Tag tags.Grid)
-    (cond (eqb place (place_of (faults.Tag tags.Across))) (faults.Tag tags.Across)
-    (cond (eqb place (place_of faults.AcrossCount)) faults.AcrossCount
-    (cond (eqb place (place_of (faults.Tag tags.Down))) (faults.Tag tags.Down)
-    (cond (eqb place (place_of faults.DownCount)) faults.DownCount (faults.Tag tags.Notepad)))))))))))
+fault_at location =
+    cond (eqb location (location_of faults.Header)) faults.Header
+    (cond (eqb location (location_of (faults.Tag tags.Title))) (faults.Tag tags.Title)
+    (cond (eqb location (location_of (faults.Tag tags.Author))) (faults.Tag tags.Author)
+    (cond (eqb location (location_of (faults.Tag tags.Copyright))) (faults.Tag tags.Copyright)
+    (cond (eqb location (location_of (faults.Tag tags.Size))) (faults.Tag tags.Size)
+    (cond (eqb location (location_of faults.SizeLine)) faults.SizeLine
+    (cond (eqb location (location_of (faults.Tag tags.Grid))) (faults.Tag tags.Grid)
+    (cond (eqb location (location_of (faults.Tag tags.Across))) (faults.Tag tags.Across)
+    (cond (eqb location (location_of faults.AcrossCount)) faults.AcrossCount
+    (cond (eqb location (location_of (faults.Tag tags.Down))) (faults.Tag tags.Down)
+    (cond (eqb location (location_of faults.DownCount)) faults.DownCount (faults.Tag tags.Notepad)))))))))))
 
 abbrev pub is_single : ℕ → Bool
-is_single place = (leb 1 place && leb place 13) && not (eqb place 8)
+is_single location = (leb 1 location && leb location 13) && not (eqb location 8)
 
--- each tag has a place of its own
-pub tag_single : (tag : Tag) → is_single (place_of (faults.Tag tag)) ≡ true
+-- each tag has a location of its own
+pub tag_single : (tag : Tag) → is_single (location_of (faults.Tag tag)) ≡ true
 tag_single tags.Title = refl
 tag_single tags.Author = refl
 tag_single tags.Copyright = refl
@@ -57,7 +57,7 @@ tag_single tags.Across = refl
 tag_single tags.Down = refl
 tag_single tags.Notepad = refl
 
-decoded : (fault : ReadFault) → is_single (place_of fault) ≡ true → fault_at (place_of fault) ≡ fault
+decoded : (fault : ReadFault) → is_single (location_of fault) ≡ true → fault_at (location_of fault) ≡ fault
 decoded faults.Header single = refl
 decoded (faults.Tag tags.Title) single = refl
 decoded (faults.Tag tags.Author) single = refl
@@ -72,18 +72,18 @@ decoded faults.DownCount single = refl
 decoded (faults.Tag tags.Notepad) single = refl
 decoded fault single = absurd cc
 
-pub alone : (one other : ReadFault) → is_single (place_of one) ≡ true → place_of other ≡ place_of one → other ≡ one
+pub alone : (one other : ReadFault) → is_single (location_of one) ≡ true → location_of other ≡ location_of one → other ≡ one
 alone one other single same = sym (decoded other (ap is_single same ∙ single)) ∙ ap fault_at same ∙ decoded one single
 
--- the next place has a fault no more than those before it
-pub passed : (lines : Lines) (fault : ReadFault) → is_single (place_of fault) ≡ true → NoneBefore lines (place_of fault) → (LinesHave lines fault → ⊥) → NoneBefore lines (place_of fault + 1)
+-- the next location has a fault no more than those before it
+pub passed : (lines : Lines) (fault : ReadFault) → is_single (location_of fault) ≡ true → NoneBefore lines (location_of fault) → (LinesHave lines fault → ⊥) → NoneBefore lines (location_of fault + 1)
 passed lines fault single none lacks earlier lt have =
-    elim (cases_eq (place_of earlier) (place_of fault)) [
+    elim (cases_eq (location_of earlier) (location_of fault)) [
       | inl same ↦ lacks (subst (LinesHave lines) (alone fault earlier single same) have)
       | inr apart ↦ none earlier (omega (arith, lt, apart)) have
     ]
 
-pub first_at : (lines : Lines) (fault : ReadFault) → (within_place fault).0 ≡ 0 → (within_place fault).1 ≡ 0 → NoneBefore lines (place_of fault) → LinesHave lines fault → IsFirst lines fault
+pub first_at : (lines : Lines) (fault : ReadFault) → (within_location fault).0 ≡ 0 → (within_location fault).1 ≡ 0 → NoneBefore lines (location_of fault) → LinesHave lines fault → IsFirst lines fault
 first_at lines fault row col none have = (
   have,
   λ earlier before. elim before [
@@ -92,7 +92,7 @@ first_at lines fault row col none have = (
   ],
 )
   where
-    not_within : {a b : ℕ} → (a < (within_place fault).0) ⊎ ((a ≡ (within_place fault).0) × (b < (within_place fault).1)) → ⊥
+    not_within : {a b : ℕ} → (a < (within_location fault).0) ⊎ ((a ≡ (within_location fault).0) × (b < (within_location fault).1)) → ⊥
     not_within (inl lt) = omega (arith, row, lt)
     not_within (inr both) = omega (arith, col, both.1)
 
@@ -101,7 +101,7 @@ pub none_at_first : (lines : Lines) → NoneBefore lines 1
 none_at_first lines (faults.NulByte offset) lt have = have
 none_at_first lines (faults.Tag tag) lt have = absurd (tag_later tag lt)
   where
-    tag_later : (tag : Tag) → place_of (faults.Tag tag) < 1 → ⊥
+    tag_later : (tag : Tag) → location_of (faults.Tag tag) < 1 → ⊥
     tag_later tags.Title lt = omega (arith, lt)
     tag_later tags.Author lt = omega (arith, lt)
     tag_later tags.Copyright lt = omega (arith, lt)

@@ -14,7 +14,7 @@ use Rattle.xw_files.specs.Steps.{◌>>=◌}
 use Rattle.xw_files.specs.Text.Tag.{is_tag_line}
 use Rattle.xw_files.specs.Text.Shape.{Lines, is_bad_square, square_of, squares_in, cells_at, row_at, rows_at}
 use Rattle.xw_files.specs.Text.Relation.{IsPlain, IsRow}
-use Rattle.xw_files.specs.Text.Faults.{below, from_size, from_grid, from_across, HasSize, IsNoRow, HasBadByte, WithRow, LinesHave, place_of, within_place}
+use Rattle.xw_files.specs.Text.Faults.{below, from_size, from_grid, from_across, HasSize, IsNoRow, HasBadByte, WithRow, LinesHave, location_of, within_location}
 use Rattle.xw_files.proofs.TextLemmas.Alls.{all_at}
 use Rattle.xw_files.proofs.TextLemmas.Takes.{row_takes, rows_take}
 use Rattle.xw_files.proofs.TextLemmas.FaultOrder.{IsFirst, NoneBefore, Leads, is_single, tag_single}
@@ -33,19 +33,19 @@ abbrev pub IsFine : ℕ → Option (List ℕ) → Type 0
 IsFine width None = ⊥
 IsFine width (Some line) = IsRow width line
 
--- a line of the right width whose first bad byte is at this place
-pub record IsBadAt (width : ℕ) (line : List ℕ) (place : ℕ) : Type 0 where
+-- a line of the right width whose first bad byte is at this index
+pub record IsBadAt (width : ℕ) (line : List ℕ) (index : ℕ) : Type 0 where
   pub plain : IsPlain line
   pub wide : length line ≡ width
-  pub within : place < length line
-  pub bad : is_bad_square (get_or line place 0) ≡ true
-  pub before : (k : ℕ) → k < place → is_bad_square (get_or line k 0) ≡ false
+  pub within : index < length line
+  pub bad : is_bad_square (get_or line index 0) ≡ true
+  pub before : (k : ℕ) → k < index → is_bad_square (get_or line k 0) ≡ false
 
 -- a row is no line of a row, or has a bad byte
 abbrev pub Fails : ℕ → ℕ → Option (List ℕ) → ReadFault → Type 0
 Fails width row line fault =
     ((fault ≡ faults.GridLine row) × IsNoRow width line)
-    ⊎ ((own : List ℕ) × (place : ℕ) × (line ≡ Some own) × IsBadAt width own place × (fault ≡ faults.BadCell (record { row = row; col = place + 1 })))
+    ⊎ ((own : List ℕ) × (index : ℕ) × (line ≡ Some own) × IsBadAt width own index × (fault ≡ faults.BadCell (record { row = row; col = index + 1 })))
 
 ok_fails : {X : Type 0} {x : X} {fault : ReadFault} → ◌≡◌ {A = Result X ReadFault} (Ok x) (Err fault) → ⊥
 ok_fails e = cc
@@ -57,11 +57,11 @@ line_fails width row line rest fault plain e =
       | inl wide ↦ bytes_fail wide (position is_bad_square line) refl (sym (cond-true _ _ _ (eq-eqb _ _ wide)) ∙ e)
     ]
   where
-    bytes_fail : length line ≡ width → (place : Option ℕ) → position is_bad_square line ≡ place → ◌>>=◌ {B = List Square × Lines} (squares_in row (position is_bad_square line) line) (λ squares. Ok (squares, rest)) ≡ Err fault → Fails width row (Some line) fault
+    bytes_fail : length line ≡ width → (index : Option ℕ) → position is_bad_square line ≡ index → ◌>>=◌ {B = List Square × Lines} (squares_in row (position is_bad_square line) line) (λ squares. Ok (squares, rest)) ≡ Err fault → Fails width row (Some line) fault
     bytes_fail wide None none e = absurd (ok_fails (rw none at e))
-    bytes_fail wide (Some place) some e =
-        let there = position-Some is_bad_square line place 0 some in
-        inr (line, place, refl, record { plain = plain; wide = wide; within = there.0; bad = there.1; before = there.2 }, err_is (faults.BadCell (record { row = row; col = place + 1 })) fault (rw some at e))
+    bytes_fail wide (Some index) some e =
+        let there = position-Some is_bad_square line index 0 some in
+        inr (line, index, refl, record { plain = plain; wide = wide; within = there.0; bad = there.1; before = there.2 }, err_is (faults.BadCell (record { row = row; col = index + 1 })) fault (rw some at e))
 
 row_fails : (width row : ℕ) (lines : Lines) (fault : ReadFault) → row_at width row lines ≡ Err fault → Fails width row (slice_get lines 0) fault
 unfolding row_at
@@ -133,8 +133,8 @@ no_row_fine width None fine wrong = fine
 no_row_fine width (Some line) fine (inl tagged) = true_not_false tagged fine.plain
 no_row_fine width (Some line) fine (inr apart) = apart fine.wide
 
-not_bad_before : (line : List ℕ) (place col : ℕ) → ((k : ℕ) → k < place → is_bad_square (get_or line k 0) ≡ false) → col < place + 1 → HasBadByte col (Some line) → ⊥
-not_bad_before line place col good lt bad =
+not_bad_before : (line : List ℕ) (index col : ℕ) → ((k : ℕ) → k < index → is_bad_square (get_or line k 0) ≡ false) → col < index + 1 → HasBadByte col (Some line) → ⊥
+not_bad_before line index col good lt bad =
     let is : get_or line (col - 1) 0 ≡ bad.0 = get_or_from_slice_get line (col - 1) bad.0 0 bad.2 in
     true_not_false (ap is_bad_square is ∙ bad.3) (good (col - 1) (omega (arith, lt, bad.1)))
 
@@ -148,8 +148,8 @@ fine_not_bad width (Some line) col fine bad =
 -- a size is there
 module _ (lines : Lines) (width height : ℕ) (has : HasSize (below (from_size lines)) width height) where
   -- a row that is neither wrong nor has the bad byte has no fault there
-  no_fault_in : (row : ℕ) (fault : ReadFault) → place_of fault ≡ 8 → (within_place fault).0 ≡ row
-      → (1 ≤ row → row ≤ height → (IsNoRow width (slice_get (from_grid lines) row) → ⊥) × (HasBadByte (within_place fault).1 (slice_get (from_grid lines) row) → ⊥)) → LinesHave lines fault → ⊥
+  no_fault_in : (row : ℕ) (fault : ReadFault) → location_of fault ≡ 8 → (within_location fault).0 ≡ row
+      → (1 ≤ row → row ≤ height → (IsNoRow width (slice_get (from_grid lines) row) → ⊥) × (HasBadByte (within_location fault).1 (slice_get (from_grid lines) row) → ⊥)) → LinesHave lines fault → ⊥
   no_fault_in row (faults.GridLine own) at is good have =
       let there = of_size lines width height (λ w h. (1 ≤ row) × (row ≤ h) × IsNoRow w (slice_get (from_grid lines) row)) has (subst (λ r. WithRow lines r IsNoRow) is have) in
       (good there.0 there.1).0 there.2
@@ -159,50 +159,50 @@ module _ (lines : Lines) (width height : ℕ) (has : HasSize (below (from_size l
   no_fault_in row (faults.Tag tag) at is good have = true_not_false (tag_single tag) (ap is_single at)
   no_fault_in row fault at is good have = absurd (omega (arith, at))
 
-  no_fault_in_fine : (row : ℕ) (fault : ReadFault) → place_of fault ≡ 8 → (within_place fault).0 ≡ row → (1 ≤ row → row ≤ height → IsFine width (slice_get (from_grid lines) row)) → LinesHave lines fault → ⊥
+  no_fault_in_fine : (row : ℕ) (fault : ReadFault) → location_of fault ≡ 8 → (within_location fault).0 ≡ row → (1 ≤ row → row ≤ height → IsFine width (slice_get (from_grid lines) row)) → LinesHave lines fault → ⊥
   no_fault_in_fine row fault at is fine have =
       no_fault_in row fault at is (λ one high. (
         no_row_fine width (slice_get (from_grid lines) row) (fine one high),
-        fine_not_bad width (slice_get (from_grid lines) row) (within_place fault).1 (fine one high),
+        fine_not_bad width (slice_get (from_grid lines) row) (within_location fault).1 (fine one high),
       )) have
 
   abbrev Under : Lines
   Under = below (from_grid lines)
 
   abbrev AllRows : List Square × Lines → Type 0
-  AllRows x = (x.1 ≡ from_across height lines) × (x.0 ≡ flat_map (map square_of) (take height Under)) × NoneBefore lines (place_of (faults.Tag tags.Across))
+  AllRows x = (x.1 ≡ from_across height lines) × (x.0 ≡ flat_map (map square_of) (take height Under)) × NoneBefore lines (location_of (faults.Tag tags.Across))
 
   -- so many rows from above are right
   abbrev FineTo : ℕ → Type 0
   FineTo count = (k : ℕ) → k < count → IsFine width (slice_get Under k)
 
-  none_to : (count : ℕ) → FineTo count → (fault : ReadFault) → place_of fault ≡ 8 → (within_place fault).0 < count + 1 → LinesHave lines fault → ⊥
+  none_to : (count : ℕ) → FineTo count → (fault : ReadFault) → location_of fault ≡ 8 → (within_location fault).0 < count + 1 → LinesHave lines fault → ⊥
   none_to count fine fault at lt have =
-      let row = (within_place fault).0 in
+      let row = (within_location fault).0 in
       no_fault_in_fine row fault at refl (λ one high. subst (IsFine width) (sym (by_number (from_grid lines) row (row - 1) (omega (arith, one)))) (fine (row - 1) (omega (arith, one, lt)))) have
 
-  none_after : FineTo height → NoneBefore lines 8 → NoneBefore lines (place_of (faults.Tag tags.Across))
+  none_after : FineTo height → NoneBefore lines 8 → NoneBefore lines (location_of (faults.Tag tags.Across))
   none_after fine none earlier lt have =
-      elim (cases_eq (place_of earlier) 8) [
-        | inl same ↦ no_fault_in_fine (within_place earlier).0 earlier same refl (λ one high.
-            let row = (within_place earlier).0 in
+      elim (cases_eq (location_of earlier) 8) [
+        | inl same ↦ no_fault_in_fine (within_location earlier).0 earlier same refl (λ one high.
+            let row = (within_location earlier).0 in
             subst (IsFine width) (sym (by_number (from_grid lines) row (row - 1) (omega (arith, one)))) (fine (row - 1) (omega (arith, one, high)))) have
         | inr apart ↦ none earlier (omega (arith, lt, apart)) have
       ]
 
   -- the bad byte that comes first
-  bad_is_first : (above number place : ℕ) (own : List ℕ) → above < height → number ≡ 1 + above → FineTo above → slice_get Under above ≡ Some own → IsBadAt width own place → NoneBefore lines 8 → IsFirst lines (faults.BadCell (record { row = number; col = place + 1 }))
-  bad_is_first above number place own lt is fine line bad none =
+  bad_is_first : (above number index : ℕ) (own : List ℕ) → above < height → number ≡ 1 + above → FineTo above → slice_get Under above ≡ Some own → IsBadAt width own index → NoneBefore lines 8 → IsFirst lines (faults.BadCell (record { row = number; col = index + 1 }))
+  bad_is_first above number index own lt is fine line bad none =
       let there : slice_get (from_grid lines) number ≡ Some own = by_number (from_grid lines) number above is ∙ line in
-      let same : place + 1 - 1 ≡ place = omega arith in (
-        (width, height, has, (omega (arith, is), omega (arith, is, lt), subst (HasBadByte (place + 1)) (sym there) (get_or own place 0, omega arith, ap (slice_get own) same ∙ slice_get-get_or own place 0 bad.within, bad.bad))),
+      let same : index + 1 - 1 ≡ index = omega arith in (
+        (width, height, has, (omega (arith, is), omega (arith, is, lt), subst (HasBadByte (index + 1)) (sym there) (get_or own index 0, omega arith, ap (slice_get own) same ∙ slice_get-get_or own index 0 bad.within, bad.bad))),
         λ earlier before have. elim before [
           | inl sooner ↦ none earlier sooner have
           | inr same ↦ elim same.1 [
             | inl higher ↦ none_to above fine earlier same.0 (omega (arith, is, higher)) have
             | inr left ↦ no_fault_in number earlier same.0 left.0 (λ one high. (
               λ wrong. not_no_row (subst (IsNoRow width) there wrong),
-              λ byte. not_bad_before own place (within_place earlier).1 bad.before left.1 (subst (HasBadByte (within_place earlier).1) there byte),
+              λ byte. not_bad_before own index (within_location earlier).1 bad.before left.1 (subst (HasBadByte (within_location earlier).1) there byte),
             )) have
           ]
         ],

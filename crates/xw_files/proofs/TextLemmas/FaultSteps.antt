@@ -9,7 +9,7 @@ use Rattle.xw_files.specs.Text.Tag.{header, name_of, names, is_tag_line}
 use Rattle.xw_grid.specs.Puzzle.{TextsShown}
 use Rattle.xw_files.specs.Text.Shape.{Lines, header_at, tag_at, plain_at, text_at, texts_at, sized, size_at, sides_of}
 use Rattle.xw_files.specs.Text.Relation.{IsPlain, IsSizeLine}
-use Rattle.xw_files.specs.Text.Faults.{below, past_line, from_title, from_author, from_copyright, from_size, from_grid, Lacks, HasSize, WithSize, LinesHave, place_of}
+use Rattle.xw_files.specs.Text.Faults.{below, past_line, from_title, from_author, from_copyright, from_size, from_grid, Lacks, HasSize, WithSize, LinesHave, location_of}
 use Rattle.xw_files.proofs.TextLemmas.FaultOrder.{IsFirst, NoneBefore, Leads, leads_then, is_single, passed, first_at, none_at_first}
 use Rattle.xw_files.proofs.TextLemmas.Sizes.{sides_line, line_sides}
 
@@ -18,7 +18,7 @@ true_not_false is isnt = cc
 
 -- ---- the header and the tags
 
-pub header_leads : (lines : Lines) → Leads lines (λ rest. (rest ≡ from_title lines) × NoneBefore lines (place_of (faults.Tag tags.Title))) (header_at lines)
+pub header_leads : (lines : Lines) → Leads lines (λ rest. (rest ≡ from_title lines) × NoneBefore lines (location_of (faults.Tag tags.Title))) (header_at lines)
 unfolding header_at
 header_leads [] = first_at [] faults.Header refl refl (none_at_first []) tt
 header_leads (line ∷ rest) =
@@ -30,9 +30,9 @@ header_leads (line ∷ rest) =
 
 module _ (lines : Lines) (tag : Tag) where
   abbrev After : Lines → Lines → Type 0
-  After from rest = (rest ≡ below from) × NoneBefore lines (place_of (faults.Tag tag) + 1)
+  After from rest = (rest ≡ below from) × NoneBefore lines (location_of (faults.Tag tag) + 1)
 
-  tag_leads_from : (from : Lines) → is_single (place_of (faults.Tag tag)) ≡ true → NoneBefore lines (place_of (faults.Tag tag))
+  tag_leads_from : (from : Lines) → is_single (location_of (faults.Tag tag)) ≡ true → NoneBefore lines (location_of (faults.Tag tag))
       → (Lacks (name_of tag) from → LinesHave lines (faults.Tag tag)) → (LinesHave lines (faults.Tag tag) → Lacks (name_of tag) from) → Leads lines (After from) (tag_at tag from)
   unfolding tag_at
   tag_leads_from [] single none has lacks = first_at lines (faults.Tag tag) refl refl none (has tt)
@@ -42,7 +42,7 @@ module _ (lines : Lines) (tag : Tag) where
         | inr other ↦ rw other (first_at lines (faults.Tag tag) refl refl none (has other))
       ]
 
-  pub tag_leads : (at from : Lines) → at ≡ from → is_single (place_of (faults.Tag tag)) ≡ true → NoneBefore lines (place_of (faults.Tag tag))
+  pub tag_leads : (at from : Lines) → at ≡ from → is_single (location_of (faults.Tag tag)) ≡ true → NoneBefore lines (location_of (faults.Tag tag))
       → (Lacks (name_of tag) from → LinesHave lines (faults.Tag tag)) → (LinesHave lines (faults.Tag tag) → Lacks (name_of tag) from) → Leads lines (After from) (tag_at tag at)
   tag_leads at from same single none has lacks = subst (λ t. Leads lines (After from) (tag_at tag t)) (sym same) (tag_leads_from from single none has lacks)
 
@@ -52,7 +52,7 @@ past_is : (lines : Lines) → (plain_at lines).1 ≡ past_line lines
 past_is [] = refl
 past_is (line ∷ rest) = elim (cases_Bool (is_tag_line line)) [ inl tagged ↦ rw tagged refl | inr plain ↦ rw plain refl ]
 
-pub texts_lead : (lines at : Lines) → at ≡ from_title lines → NoneBefore lines (place_of (faults.Tag tags.Title)) → Leads lines (λ (x : TextsShown × Lines). (x.1 ≡ from_size lines) × NoneBefore lines (place_of (faults.Tag tags.Size))) (texts_at at)
+pub texts_lead : (lines at : Lines) → at ≡ from_title lines → NoneBefore lines (location_of (faults.Tag tags.Title)) → Leads lines (λ (x : TextsShown × Lines). (x.1 ≡ from_size lines) × NoneBefore lines (location_of (faults.Tag tags.Size))) (texts_at at)
 unfolding texts_at text_at
 texts_lead lines at same none =
     leads_then lines _ _ (tag_at tags.Title at) _ (tag_leads lines tags.Title at (from_title lines) same refl none (λ h. h) (λ h. h)) (λ a p.
@@ -95,13 +95,13 @@ size_finds (line ∷ rest) =
     plain_goes_on : is_tag_line line ≡ false → size_at (line ∷ rest) ≡ sized (sides_of line) rest
     plain_goes_on plain = rw plain refl
 
-size_found : (lines : Lines) (r : Result ((ℕ × ℕ) × Lines) ReadFault) → FindsSize (below (from_size lines)) r → NoneBefore lines (place_of faults.SizeLine)
-    → Leads lines (λ x. HasSize (below (from_size lines)) x.0.0 x.0.1 × (x.1 ≡ from_grid lines) × NoneBefore lines (place_of (faults.Tag tags.Grid))) r
+size_found : (lines : Lines) (r : Result ((ℕ × ℕ) × Lines) ReadFault) → FindsSize (below (from_size lines)) r → NoneBefore lines (location_of faults.SizeLine)
+    → Leads lines (λ x. HasSize (below (from_size lines)) x.0.0 x.0.1 × (x.1 ≡ from_grid lines) × NoneBefore lines (location_of (faults.Tag tags.Grid))) r
 size_found lines (Ok x) found none = (found.0, found.1, passed lines faults.SizeLine refl none (λ none_there. none_there x.0.0 x.0.1 found.0))
 size_found lines (Err fault) found none = subst (IsFirst lines) (sym found.0) (first_at lines faults.SizeLine refl refl none found.1)
 
-pub size_leads : (lines at : Lines) → at ≡ below (from_size lines) → NoneBefore lines (place_of faults.SizeLine)
-    → Leads lines (λ x. HasSize (below (from_size lines)) x.0.0 x.0.1 × (x.1 ≡ from_grid lines) × NoneBefore lines (place_of (faults.Tag tags.Grid))) (size_at at)
+pub size_leads : (lines at : Lines) → at ≡ below (from_size lines) → NoneBefore lines (location_of faults.SizeLine)
+    → Leads lines (λ x. HasSize (below (from_size lines)) x.0.0 x.0.1 × (x.1 ≡ from_grid lines) × NoneBefore lines (location_of (faults.Tag tags.Grid))) (size_at at)
 size_leads lines at same none = size_found lines (size_at at) (subst (λ t. FindsSize t (size_at at)) same (size_finds at)) none
 
 -- there is one size

@@ -22,7 +22,7 @@ use Rattle.xw_files.specs.Text.Lines.{text_lines}
 use Rattle.xw_files.specs.Text.Tag.{name_of, names}
 use Rattle.xw_files.specs.Text.Starts.{starts}
 use Rattle.xw_files.specs.Text.Shape.{Lines, header_at, tag_at, texts_at, size_at, rows_at, grid_at, clues_at, both_clues_at, notes_at, shape, is_nul, all_of}
-use Rattle.xw_files.specs.Text.Faults.{below, count_plain, past_lines, from_size, from_grid, from_across, from_down, from_notes, Lacks, HasOther, HasSize, WithSize, CountsApart, grid_in, LinesHave, HasFault, place_of, within_place, ComesBefore, IsFirstFault}
+use Rattle.xw_files.specs.Text.Faults.{below, count_plain, past_lines, from_size, from_grid, from_across, from_down, from_notes, Lacks, HasOther, HasSize, WithSize, CountsApart, grid_in, LinesHave, HasFault, location_of, within_location, ComesBefore, IsFirstFault}
 use Rattle.xw_files.proofs.TextLemmas.FaultOrder.{IsFirst, NoneBefore, Leads, leads_then, is_single, tag_single, passed, first_at}
 use Rattle.xw_files.proofs.TextLemmas.FaultSteps.{true_not_false, header_leads, tag_leads, texts_lead, size_leads, of_size}
 use Rattle.xw_files.proofs.TextLemmas.FaultRows.{rows_lead}
@@ -32,9 +32,9 @@ use Rattle.xw_files.proofs.TextLemmas.Plains.{cases_option}
 
 -- a size and a grid were read, and what comes next
 abbrev pub GridThere : Lines → Grid × Lines → Type 0
-GridThere lines x = (width : ℕ) × (height : ℕ) × HasSize (below (from_size lines)) width height × (x.0 ≡ grid_in width height lines) × (x.1 ≡ from_across height lines) × NoneBefore lines (place_of (faults.Tag tags.Across))
+GridThere lines x = (width : ℕ) × (height : ℕ) × HasSize (below (from_size lines)) width height × (x.0 ≡ grid_in width height lines) × (x.1 ≡ from_across height lines) × NoneBefore lines (location_of (faults.Tag tags.Across))
 
-grid_leads : (lines at : Lines) → at ≡ from_size lines → NoneBefore lines (place_of (faults.Tag tags.Size)) → Leads lines (GridThere lines) (grid_at at)
+grid_leads : (lines at : Lines) → at ≡ from_size lines → NoneBefore lines (location_of (faults.Tag tags.Size)) → Leads lines (GridThere lines) (grid_at at)
 unfolding grid_at
 grid_leads lines at same none =
     leads_then lines _ (GridThere lines) (tag_at tags.Size at) _ (tag_leads lines tags.Size at (from_size lines) same refl none (λ h. h) (λ h. h)) (λ a p.
@@ -45,9 +45,9 @@ grid_leads lines at same none =
 
 -- ---- the clues
 
-clues_lead_from : (lines under : Lines) (fault : ReadFault) (direction : Direction) (begins : List Cell) (clues : ClueMap) → is_single (place_of fault) ≡ true → (within_place fault).0 ≡ 0 → (within_place fault).1 ≡ 0 → NoneBefore lines (place_of fault)
+clues_lead_from : (lines under : Lines) (fault : ReadFault) (direction : Direction) (begins : List Cell) (clues : ClueMap) → is_single (location_of fault) ≡ true → (within_location fault).0 ≡ 0 → (within_location fault).1 ≡ 0 → NoneBefore lines (location_of fault)
     → (count_plain under ≢ length begins → LinesHave lines fault) → (LinesHave lines fault → count_plain under ≢ length begins)
-    → Leads lines (λ (x : ClueMap × Lines). (x.1 ≡ past_lines under) × NoneBefore lines (place_of fault + 1)) (clues_at fault direction begins clues under)
+    → Leads lines (λ (x : ClueMap × Lines). (x.1 ≡ past_lines under) × NoneBefore lines (location_of fault + 1)) (clues_at fault direction begins clues under)
 unfolding clues_at
 clues_lead_from lines under fault direction begins clues single row col none has apart =
     elim (cases_eq (count_plain under) (length begins)) [
@@ -55,11 +55,11 @@ clues_lead_from lines under fault direction begins clues single row col none has
       | inr other ↦ rw (ne_eqb _ _ other) (first_at lines fault row col none (has other))
     ]
 
-clues_lead : (lines at under : Lines) (fault : ReadFault) (direction : Direction) (begins : List Cell) (clues : ClueMap) → at ≡ under → is_single (place_of fault) ≡ true → (within_place fault).0 ≡ 0 → (within_place fault).1 ≡ 0 → NoneBefore lines (place_of fault)
+clues_lead : (lines at under : Lines) (fault : ReadFault) (direction : Direction) (begins : List Cell) (clues : ClueMap) → at ≡ under → is_single (location_of fault) ≡ true → (within_location fault).0 ≡ 0 → (within_location fault).1 ≡ 0 → NoneBefore lines (location_of fault)
     → (count_plain under ≢ length begins → LinesHave lines fault) → (LinesHave lines fault → count_plain under ≢ length begins)
-    → Leads lines (λ (x : ClueMap × Lines). (x.1 ≡ past_lines under) × NoneBefore lines (place_of fault + 1)) (clues_at fault direction begins clues at)
+    → Leads lines (λ (x : ClueMap × Lines). (x.1 ≡ past_lines under) × NoneBefore lines (location_of fault + 1)) (clues_at fault direction begins clues at)
 clues_lead lines at under fault direction begins clues same single row col none has apart =
-    subst (λ t. Leads lines (λ (x : ClueMap × Lines). (x.1 ≡ past_lines under) × NoneBefore lines (place_of fault + 1)) (clues_at fault direction begins clues t)) (sym same)
+    subst (λ t. Leads lines (λ (x : ClueMap × Lines). (x.1 ≡ past_lines under) × NoneBefore lines (location_of fault + 1)) (clues_at fault direction begins clues t)) (sym same)
     (clues_lead_from lines under fault direction begins clues single row col none has apart)
 
 module _ (lines : Lines) (width height : ℕ) (has : HasSize (below (from_size lines)) width height) where
@@ -67,11 +67,11 @@ module _ (lines : Lines) (width height : ℕ) (has : HasSize (below (from_size l
   there : (P : ℕ → ℕ → Type 0) → P width height → WithSize lines P
   there P p = (width, height, has, p)
 
-  both_lead_from : (at : Lines) → at ≡ from_across height lines → NoneBefore lines (place_of (faults.Tag tags.Across)) → Leads lines (λ (x : ClueMap × Lines). (x.1 ≡ from_notes height lines) × NoneBefore lines (place_of (faults.Tag tags.Notepad))) (both_clues_at (grid_in width height lines) at)
+  both_lead_from : (at : Lines) → at ≡ from_across height lines → NoneBefore lines (location_of (faults.Tag tags.Across)) → Leads lines (λ (x : ClueMap × Lines). (x.1 ≡ from_notes height lines) × NoneBefore lines (location_of (faults.Tag tags.Notepad))) (both_clues_at (grid_in width height lines) at)
   unfolding both_clues_at
   both_lead_from at same none =
       let grid = grid_in width height lines in
-      let Q : ClueMap × Lines → Type 0 = λ x. (x.1 ≡ from_notes height lines) × NoneBefore lines (place_of (faults.Tag tags.Notepad)) in
+      let Q : ClueMap × Lines → Type 0 = λ x. (x.1 ≡ from_notes height lines) × NoneBefore lines (location_of (faults.Tag tags.Notepad)) in
       let lacks_across : ℕ → ℕ → Type 0 = λ w h. Lacks (name_of tags.Across) (from_across h lines) in
       let lacks_down : ℕ → ℕ → Type 0 = λ w h. Lacks (name_of tags.Down) (from_down h lines) in
       let across : ℕ → ℕ → Type 0 = λ w h. CountsApart Across (grid_in w h lines) (below (from_across h lines)) in
@@ -82,12 +82,12 @@ module _ (lines : Lines) (width height : ℕ) (has : HasSize (below (from_size l
       leads_then lines _ Q (tag_at tags.Down x.1) _ (tag_leads lines tags.Down x.1 (from_down height lines) q.0 refl q.1 (there lacks_down) (of_size lines width height lacks_down has)) (λ b r.
       clues_lead lines b (below (from_down height lines)) faults.DownCount Down (starts grid Down) x.0 r.0 refl refl refl r.1 (there down) (of_size lines width height down has))))
 
-  pub both_lead : (grid : Grid) (at : Lines) → grid ≡ grid_in width height lines → at ≡ from_across height lines → NoneBefore lines (place_of (faults.Tag tags.Across))
-      → Leads lines (λ (x : ClueMap × Lines). (x.1 ≡ from_notes height lines) × NoneBefore lines (place_of (faults.Tag tags.Notepad))) (both_clues_at grid at)
+  pub both_lead : (grid : Grid) (at : Lines) → grid ≡ grid_in width height lines → at ≡ from_across height lines → NoneBefore lines (location_of (faults.Tag tags.Across))
+      → Leads lines (λ (x : ClueMap × Lines). (x.1 ≡ from_notes height lines) × NoneBefore lines (location_of (faults.Tag tags.Notepad))) (both_clues_at grid at)
   both_lead grid at is same none =
-      subst (λ g. Leads lines (λ (x : ClueMap × Lines). (x.1 ≡ from_notes height lines) × NoneBefore lines (place_of (faults.Tag tags.Notepad))) (both_clues_at g at)) (sym is) (both_lead_from at same none)
+      subst (λ g. Leads lines (λ (x : ClueMap × Lines). (x.1 ≡ from_notes height lines) × NoneBefore lines (location_of (faults.Tag tags.Notepad))) (both_clues_at g at)) (sym is) (both_lead_from at same none)
 
-  notes_lead_from : (notes : Lines) → NoneBefore lines (place_of (faults.Tag tags.Notepad)) → (HasOther (name_of tags.Notepad) notes → LinesHave lines (faults.Tag tags.Notepad)) → Leads lines (λ (x : List ℕ). Unit {0}) (notes_at notes)
+  notes_lead_from : (notes : Lines) → NoneBefore lines (location_of (faults.Tag tags.Notepad)) → (HasOther (name_of tags.Notepad) notes → LinesHave lines (faults.Tag tags.Notepad)) → Leads lines (λ (x : List ℕ). Unit {0}) (notes_at notes)
   unfolding notes_at
   notes_lead_from [] none has_other = tt
   notes_lead_from (line ∷ rest) none has_other =
@@ -96,7 +96,7 @@ module _ (lines : Lines) (width height : ℕ) (has : HasSize (below (from_size l
         | inr other ↦ rw other (first_at lines (faults.Tag tags.Notepad) refl refl none (has_other other))
       ]
 
-  pub notes_lead : (at : Lines) → at ≡ from_notes height lines → NoneBefore lines (place_of (faults.Tag tags.Notepad)) → Leads lines (λ (x : List ℕ). Unit {0}) (notes_at at)
+  pub notes_lead : (at : Lines) → at ≡ from_notes height lines → NoneBefore lines (location_of (faults.Tag tags.Notepad)) → Leads lines (λ (x : List ℕ). Unit {0}) (notes_at at)
   notes_lead at same none =
       notes_lead_from at none (λ other. there (λ w h. HasOther (name_of tags.Notepad) (from_notes h lines)) (subst (HasOther (name_of tags.Notepad)) same other))
 

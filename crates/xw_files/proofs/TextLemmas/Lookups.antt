@@ -112,14 +112,14 @@ AreDistinct-filter p (c ∷ cs) distinct =
       | inr fails ↦ rw fails (AreDistinct-filter p cs distinct.1)
     ]
 
-places_apart : (grid : Grid) (j k : ℕ) → j < k → same_cell (cell_at grid j) (cell_at grid k) ≡ false
-places_apart grid j k lt = false_from_ne_true _ (λ same.
+cells_apart : (grid : Grid) (j k : ℕ) → j < k → same_cell (cell_at grid j) (cell_at grid k) ≡ false
+cells_apart grid j k lt = false_from_ne_true _ (λ same.
     let e : j ≡ k = sym (index_of-cell_at grid j) ∙ ap (index_of grid) (cells_same (cell_at grid j) (cell_at grid k) same) ∙ index_of-cell_at grid k in
     absurd (omega arith))
 
 NotIn-range : (grid : Grid) (j a n : ℕ) → j < a → NotIn (cell_at grid j) (map (cell_at grid) (range_with_len a n))
 NotIn-range grid j a zero lt = tt
-NotIn-range grid j a (suc n) lt = (places_apart grid j a lt, NotIn-range grid j (a + 1) n (omega arith))
+NotIn-range grid j a (suc n) lt = (cells_apart grid j a lt, NotIn-range grid j (a + 1) n (omega arith))
 
 AreDistinct-range : (grid : Grid) (a n : ℕ) → AreDistinct (map (cell_at grid) (range_with_len a n))
 AreDistinct-range grid a zero = tt

@@ -65,9 +65,9 @@ pub chosen : {A : Type 0} (b : Bool) (d : ReadFault) (r : Result A ReadFault) (y
 chosen true d r y e = (refl, e)
 chosen false d r y e = absurd cc
 
-squares_length : (row : ℕ) (place : Option ℕ) (line : List ℕ) (squares : List Square) → squares_in row place line ≡ Ok squares → length squares ≡ length line
+squares_length : (row : ℕ) (index : Option ℕ) (line : List ℕ) (squares : List Square) → squares_in row index line ≡ Ok squares → length squares ≡ length line
 squares_length row None line squares e = ap length (sym (ok_is _ _ e)) ∙ length-map line square_of
-squares_length row (Some place) line squares e = absurd cc
+squares_length row (Some index) line squares e = absurd cc
 
 -- a row has as many squares as the grid is wide
 row_is_wide : (width row : ℕ) (line : Option (List ℕ)) (after rest : Lines) (squares : List Square) → cells_at width row line after ≡ Ok (squares, rest) → length squares ≡ width

@@ -63,18 +63,18 @@ unfolding sides_of
 sides_line line width height e =
     elim (cases_option (position is_times line)) [
       | inl found ↦
-          let place = found.0 in
-          let there = position-Some is_times line place 0 found.1 in
-          let next : suc place ≡ place + 1 = omega arith in
+          let index = found.0 in
+          let there = position-Some is_times line index 0 found.1 in
+          let next : suc index ≡ index + 1 = omega arith in
           let two = both_are _ _ width height (rw found.1 at e) in
           record {
-            left = take place line;
-            times = get_or line place 0;
-            right = drop (place + 1) line;
-            parts = sym (take-append-drop place line) ∙ ap (λ (t : List ℕ). take place line ++ t) (drop-cons line place 0 there.0 ∙ ap (λ (n : ℕ). get_or line place 0 ∷ drop n line) next);
+            left = take index line;
+            times = get_or line index 0;
+            right = drop (index + 1) line;
+            parts = sym (take-append-drop index line) ∙ ap (λ (t : List ℕ). take index line ++ t) (drop-cons line index 0 there.0 ∙ ap (λ (n : ℕ). get_or line index 0 ∷ drop n line) next);
             is_times = there.1;
-            width_there = side_digits (trimmed (take place line)) width two.0;
-            height_there = side_digits (trimmed (drop (place + 1) line)) height two.1;
+            width_there = side_digits (trimmed (take index line)) width two.0;
+            height_there = side_digits (trimmed (drop (index + 1) line)) height two.1;
           }
       | inr none ↦ absurd (no_sides line (width, height) (rw none at e))
     ]
@@ -129,14 +129,14 @@ unfolding sides_of
 sides_parted left right times width height is wide high =
     let line = left ++ times ∷ right in
     let none = front_no_times left (back_no_times (trim_front left) (digits_no_times (trimmed left) wide.each)) in
-    let place : position is_times line ≡ Some (length left) =
+    let index : position is_times line ≡ Some (length left) =
     position_is_some is_times line (length left) 0 (omega (arith, length-append left (times ∷ right)))
     (λ k lt. ap is_times (left_at left (times ∷ right) k lt) ∙ all_at (λ byte. is_times byte ≡ false) left none k 0 lt)
     (ap is_times (middle_is left times right) ∙ is) in
     let back : drop (length left + 1) line ≡ right = ap (drop (length left + 1)) (sym (append_assoc left (times ∷ []) right)) ∙ drop_at (left ++ times ∷ []) right (length left + 1) (length-append left (times ∷ [])) in
     let one : side_of (trimmed (take (length left) line)) ≡ Some width = ap (λ (t : List ℕ). side_of (trimmed t)) (take_at left (times ∷ right) (length left) refl) ∙ digits_side (trimmed left) width wide in
     let two : side_of (trimmed (drop (length left + 1) line)) ≡ Some height = ap (λ (t : List ℕ). side_of (trimmed t)) back ∙ digits_side (trimmed right) height high in
-    ap (sides_around line) place ∙ ap (λ (w : Option ℕ). both w (side_of (trimmed (drop (length left + 1) line)))) one ∙ ap (both (Some width)) two
+    ap (sides_around line) index ∙ ap (λ (w : Option ℕ). both w (side_of (trimmed (drop (length left + 1) line)))) one ∙ ap (both (Some width)) two
 
 pub line_sides : (line : List ℕ) (width height : ℕ) → IsSizeLine width height line → sides_of line ≡ Some (width, height)
 line_sides line width height is = ap sides_of is.parts ∙ sides_parted is.left is.right is.times width height is.is_times is.width_there is.height_there

@@ -54,27 +54,27 @@ square_good byte good =
       ]
     ] good
 
--- the first `place` bytes are valid, and their squares are appended to `front`
-pub record SquaresTo (line : List ℕ) (place : ℕ) (front squares : List Square) : Type 0 where
-  pub so_far : squares ≡ front ++ map square_of (take place line)
-  pub good : (k : ℕ) → k < place → is_bad_square (get_or line k 0) ≡ false
+-- the first `index` bytes are valid, and their squares are appended to `front`
+pub record SquaresTo (line : List ℕ) (index : ℕ) (front squares : List Square) : Type 0 where
+  pub so_far : squares ≡ front ++ map square_of (take index line)
+  pub good : (k : ℕ) → k < index → is_bad_square (get_or line k 0) ≡ false
 
-pub squares_go_on : (line : List ℕ) (place : ℕ) (front old new : List Square) (square : Square) → place < length line → SquaresTo line place front old → Stands (get_or line place 0) square → new ≡ old ++ square ∷ [] → SquaresTo line (place + 1) front new
-squares_go_on line place front old new square lt so_far stands pushed = record {
+pub squares_go_on : (line : List ℕ) (index : ℕ) (front old new : List Square) (square : Square) → index < length line → SquaresTo line index front old → Stands (get_or line index 0) square → new ≡ old ++ square ∷ [] → SquaresTo line (index + 1) front new
+squares_go_on line index front old new square lt so_far stands pushed = record {
   so_far =
-      let more : map square_of (take (place + 1) line) ≡ map square_of (take place line) ++ square ∷ [] =
-      ap (map square_of) (take_more line place 0 lt) ∙ map_push square_of (take place line) (get_or line place 0) ∙ ap (λ (s : Square). map square_of (take place line) ++ s ∷ []) stands.meaning in
-      pushed ∙ ap (λ (s : List Square). s ++ square ∷ []) so_far.so_far ∙ append_assoc front (map square_of (take place line)) (square ∷ []) ∙ ap (λ (s : List Square). front ++ s) (sym more);
-  good = below_more (λ (k : ℕ). is_bad_square (get_or line k 0) ≡ false) place so_far.good stands.good;
+      let more : map square_of (take (index + 1) line) ≡ map square_of (take index line) ++ square ∷ [] =
+      ap (map square_of) (take_more line index 0 lt) ∙ map_push square_of (take index line) (get_or line index 0) ∙ ap (λ (s : Square). map square_of (take index line) ++ s ∷ []) stands.meaning in
+      pushed ∙ ap (λ (s : List Square). s ++ square ∷ []) so_far.so_far ∙ append_assoc front (map square_of (take index line)) (square ∷ []) ∙ ap (λ (s : List Square). front ++ s) (sym more);
+  good = below_more (λ (k : ℕ). is_bad_square (get_or line k 0) ≡ false) index so_far.good stands.good;
 }
 
-pub squares_done : (line : List ℕ) (place row : ℕ) (front squares : List Square) → length line ≤ place → SquaresTo line place front squares → squares_after front (row_squares row line) ≡ Ok squares
-squares_done line place row front squares le so_far =
+pub squares_done : (line : List ℕ) (index row : ℕ) (front squares : List Square) → length line ≤ index → SquaresTo line index front squares → squares_after front (row_squares row line) ≡ Ok squares
+squares_done line index row front squares le so_far =
     let none : position is_bad_square line ≡ None = position_is_none is_bad_square line 0 (λ k lt. so_far.good k (omega arith)) in
-    rw none (ap (λ (s : List Square). Ok s) (ap (λ (t : List ℕ). front ++ map square_of t) (sym (take_all place line le)) ∙ sym so_far.so_far))
+    rw none (ap (λ (s : List Square). Ok s) (ap (λ (t : List ℕ). front ++ map square_of t) (sym (take_all index line le)) ∙ sym so_far.so_far))
 
-pub squares_fail : (line : List ℕ) (place row : ℕ) (front squares : List Square) → place < length line → SquaresTo line place front squares → is_bad_square (get_or line place 0) ≡ true
-    → squares_after front (row_squares row line) ≡ Err (faults.BadCell (record { row = row; col = place + 1 }))
-squares_fail line place row front squares lt so_far bad =
-    let some : position is_bad_square line ≡ Some place = position_is_some is_bad_square line place 0 lt so_far.good bad in
+pub squares_fail : (line : List ℕ) (index row : ℕ) (front squares : List Square) → index < length line → SquaresTo line index front squares → is_bad_square (get_or line index 0) ≡ true
+    → squares_after front (row_squares row line) ≡ Err (faults.BadCell (record { row = row; col = index + 1 }))
+squares_fail line index row front squares lt so_far bad =
+    let some : position is_bad_square line ≡ Some index = position_is_some is_bad_square line index 0 lt so_far.good bad in
     rw some refl

@@ -78,9 +78,9 @@ size_takes lines rest size e =
       | inr none ↦ absurd (no_size (plain_at lines).1 (size, rest) (rw none at e))
     ]
 
-squares_are : (row : ℕ) (place : Option ℕ) (line : List ℕ) (squares : List Square) → squares_in row place line ≡ Ok squares → (place ≡ None) × (map square_of line ≡ squares)
+squares_are : (row : ℕ) (index : Option ℕ) (line : List ℕ) (squares : List Square) → squares_in row index line ≡ Ok squares → (index ≡ None) × (map square_of line ≡ squares)
 squares_are row None line squares e = (refl, ok_is _ squares e)
-squares_are row (Some place) line squares e = absurd cc
+squares_are row (Some index) line squares e = absurd cc
 
 row_is : (width row : ℕ) (line : List ℕ) (after rest : Lines) (squares : List Square) → IsPlain line → cells_at width row (Some line) after ≡ Ok (squares, rest) → IsRow width line × (map square_of line ≡ squares) × (after ≡ rest)
 row_is width row line after rest squares plain e =

@@ -51,9 +51,9 @@ good_field : (b : Bool) (field : TextName) (rest : Option TextName) → cond (no
 good_field true field rest e = (refl, e)
 good_field false field rest e = absurd cc
 
-good_clue : (place : Option ℕ) (rest : Option TextName) → named_clue place rest ≡ None → (place ≡ None) × (rest ≡ None)
+good_clue : (index : Option ℕ) (rest : Option TextName) → named_clue index rest ≡ None → (index ≡ None) × (rest ≡ None)
 good_clue None rest e = (refl, e)
-good_clue (Some place) rest e = absurd cc
+good_clue (Some index) rest e = absurd cc
 
 good_notes : (b : Bool) → cond b None (Some fields.Notes) ≡ None → b ≡ true
 good_notes true e = refl

@@ -26,13 +26,13 @@ abbrev pub square_of : ℕ → Option Square
 square_of byte = if byte == 46 then Some Block else if byte == 45 then Some (Open None) else option_map (λ letter. Open (Some letter)) (letter_of byte)
 
 abbrev pub square_or_fault : ℕ → ℕ → Option Square → Result Square ReadFault
-square_or_fault width place (Some square) = Ok square
-square_or_fault width place None = Err (BadCell (cell_in width place))
+square_or_fault width index (Some square) = Ok square
+square_or_fault width index None = Err (BadCell (cell_in width index))
 
--- the squares of bytes, the first of them at index `place`; BadCell for the first byte that is not a square
+-- the squares of bytes, the first of them at index `index`; BadCell for the first byte that is not a square
 abbrev pub squares_at : ℕ → ℕ → List ℕ → Result (List Square) ReadFault
-squares_at width place [] = Ok []
-squares_at width place (byte ∷ bytes) = square_or_fault width place (square_of byte) >>= λ square. (squares_at width (place + 1) bytes >>= λ others. Ok (square ∷ others))
+squares_at width index [] = Ok []
+squares_at width index (byte ∷ bytes) = square_or_fault width index (square_of byte) >>= λ square. (squares_at width (index + 1) bytes >>= λ others. Ok (square ∷ others))
 
 -- the grid of a solution board
 abbrev pub board_grid : Header → List ℕ → Result Grid ReadFault

@@ -81,7 +81,7 @@ HasFault bytes Size = (width_in bytes ≡ 0) ⊎ (height_in bytes ≡ 0)
 HasFault bytes (Short part.Boards) = length bytes < 52 + 2 * cells_in bytes
 HasFault bytes (NoNul text) = LacksNul (clue_count_in bytes) (nuls_in bytes) text
 HasFault bytes (BadSum sum) = (fields : Fields) × AreFields bytes fields × IsWrong fields sum
-HasFault bytes (BadCell cell) = (place : ℕ) × (place < cells_in bytes) × (cell ≡ cell_in (width_in bytes) place) × (square_of (slice_index (solution_in bytes) place) ≡ None)
+HasFault bytes (BadCell cell) = (index : ℕ) × (index < cells_in bytes) × (cell ≡ cell_in (width_in bytes) index) × (square_of (slice_index (solution_in bytes) index) ≡ None)
 HasFault bytes ClueCount =
     (squares : List Square) × (map square_of (solution_in bytes) ≡ map (λ square. Some square) squares) × (clue_count_in bytes ≢ length (lights_of (grid_of (width_in bytes) (height_in bytes) squares)))
 HasFault bytes GextSize = (section : Section) × IsGext bytes section × (length section.body ≢ cells_in bytes)
@@ -106,27 +106,27 @@ rank GextSize = 11
 rank GextSum = 12
 rank other = 13
 
-abbrev pub text_place : TextName → ℕ × ℕ
-text_place Title = (1, 0)
-text_place Author = (2, 0)
-text_place Copyright = (3, 0)
-text_place (Clue k) = (4, k)
-text_place Notes = (5, 0)
+abbrev pub text_location : TextName → ℕ × ℕ
+text_location Title = (1, 0)
+text_location Author = (2, 0)
+text_location Copyright = (3, 0)
+text_location (Clue k) = (4, k)
+text_location Notes = (5, 0)
 
-abbrev pub sum_place : SumName → ℕ × ℕ
-sum_place Cib = (1, 0)
-sum_place File = (2, 0)
-sum_place (Masked k) = (3, k)
+abbrev pub sum_location : SumName → ℕ × ℕ
+sum_location Cib = (1, 0)
+sum_location File = (2, 0)
+sum_location (Masked k) = (3, k)
 
--- Among faults of one rank, the one at a lower place comes first.
-abbrev pub place : ReadFault → ℕ × ℕ
-place (NoNul text) = text_place text
-place (BadSum sum) = sum_place sum
-place (BadCell cell) = (cell.row, cell.col)
-place other = (0, 0)
+-- Among faults of one rank, the one at a lower location comes first.
+abbrev pub location : ReadFault → ℕ × ℕ
+location (NoNul text) = text_location text
+location (BadSum sum) = sum_location sum
+location (BadCell cell) = (cell.row, cell.col)
+location other = (0, 0)
 
 abbrev pub ComesBefore : ReadFault → ReadFault → Type 0
-ComesBefore earlier fault = (rank earlier < rank fault) ⊎ ((rank earlier ≡ rank fault) × IsLess (place earlier) (place fault))
+ComesBefore earlier fault = (rank earlier < rank fault) ⊎ ((rank earlier ≡ rank fault) × IsLess (location earlier) (location fault))
 
 -- This fault holds, and no fault that comes before it does.
 abbrev pub IsFirstFault : List ℕ → ReadFault → Type 0

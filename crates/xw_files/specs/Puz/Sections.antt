@@ -48,7 +48,7 @@ pub record HasNoGext (bytes : List ℕ) : Type 0 where
 -- ---- sections at the front of bytes
 
 abbrev pub AreBytes : List ℕ → Type 0
-AreBytes bytes = (place : ℕ) → slice_index bytes place < 2 ^ 8
+AreBytes bytes = (index : ℕ) → slice_index bytes index < 2 ^ 8
 
 -- a section with `size` bytes of data at the front, and the bytes after it
 unfoldable pub section_in : ℕ → List ℕ → Section × List ℕ
@@ -91,10 +91,10 @@ marked_cells grid marks = filter (λ cell. is_open grid cell && is_marked (slice
 abbrev pub with_mark : Grid → List Cell → Cell → ℕ → List Cell
 with_mark grid circles cell byte = if is_marked byte && is_open grid cell then with_circle circles cell true else circles
 
--- the circles after all these bytes, the first of them for the cell at index `place`
+-- the circles after all these bytes, the first of them for the cell at index `index`
 abbrev pub with_marks : Grid → List Cell → ℕ → List ℕ → List Cell
-with_marks grid circles place [] = circles
-with_marks grid circles place (byte ∷ bytes) = with_marks grid (with_mark grid circles (cell_at grid place) byte) (place + 1) bytes
+with_marks grid circles index [] = circles
+with_marks grid circles index (byte ∷ bytes) = with_marks grid (with_mark grid circles (cell_at grid index) byte) (index + 1) bytes
 
 abbrev pub circles_by : Grid → Option Section → Result (List Cell) ReadFault
 circles_by grid None = Ok []

@@ -15,7 +15,7 @@ use Rattle.xw_files.specs.Text.Starts.{starts}
 use Rattle.xw_files.specs.Text.Shape.{Lines, is_plain, is_bad_square, square_of}
 use Rattle.xw_files.specs.Text.Relation.{IsPlain, IsSizeLine}
 
--- ---- the parts of a file: the lines from the place of each tag line on, whether or not the tag line is right
+-- ---- the parts of a file: the lines from the location of each tag line on, whether or not the tag line is right
 
 -- the lines after the first one
 abbrev pub below : Lines → Lines
@@ -137,34 +137,34 @@ HasFault bytes fault = LinesHave (text_lines bytes) fault
 -- ---- their order
 
 -- the tests in their order: NULs, then the parts of the file from the top
-abbrev pub place_of : ReadFault → ℕ
-place_of (faults.NulByte offset) = 0
-place_of faults.Header = 1
-place_of (faults.Tag tags.Title) = 2
-place_of (faults.Tag tags.Author) = 3
-place_of (faults.Tag tags.Copyright) = 4
-place_of (faults.Tag tags.Size) = 5
-place_of faults.SizeLine = 6
-place_of (faults.Tag tags.Grid) = 7
-place_of (faults.GridLine row) = 8
-place_of (faults.BadCell cell) = 8
-place_of (faults.Tag tags.Across) = 9
-place_of faults.AcrossCount = 10
-place_of (faults.Tag tags.Down) = 11
-place_of faults.DownCount = 12
-place_of (faults.Tag tags.Notepad) = 13
-place_of fault = 14
+abbrev pub location_of : ReadFault → ℕ
+location_of (faults.NulByte offset) = 0
+location_of faults.Header = 1
+location_of (faults.Tag tags.Title) = 2
+location_of (faults.Tag tags.Author) = 3
+location_of (faults.Tag tags.Copyright) = 4
+location_of (faults.Tag tags.Size) = 5
+location_of faults.SizeLine = 6
+location_of (faults.Tag tags.Grid) = 7
+location_of (faults.GridLine row) = 8
+location_of (faults.BadCell cell) = 8
+location_of (faults.Tag tags.Across) = 9
+location_of faults.AcrossCount = 10
+location_of (faults.Tag tags.Down) = 11
+location_of faults.DownCount = 12
+location_of (faults.Tag tags.Notepad) = 13
+location_of fault = 14
 
 -- among NULs the offset; in the grid the row, and 0 for its line or the column of a cell
-abbrev pub within_place : ReadFault → ℕ × ℕ
-within_place (faults.NulByte offset) = (offset, 0)
-within_place (faults.GridLine row) = (row, 0)
-within_place (faults.BadCell cell) = (cell.row, cell.col)
-within_place fault = (0, 0)
+abbrev pub within_location : ReadFault → ℕ × ℕ
+within_location (faults.NulByte offset) = (offset, 0)
+within_location (faults.GridLine row) = (row, 0)
+within_location (faults.BadCell cell) = (cell.row, cell.col)
+within_location fault = (0, 0)
 
 -- one fault is tested before another
 abbrev pub ComesBefore : ReadFault → ReadFault → Type 0
-ComesBefore one other = (place_of one < place_of other) ⊎ ((place_of one ≡ place_of other) × IsLess (within_place one) (within_place other))
+ComesBefore one other = (location_of one < location_of other) ⊎ ((location_of one ≡ location_of other) × IsLess (within_location one) (within_location other))
 
 -- a text file has the fault, and none that comes before it
 abbrev pub IsFirstFault : List ℕ → ReadFault → Type 0

@@ -112,7 +112,7 @@ square_of byte = if byte == 46 then Block else if byte == 45 then Open None else
 
 abbrev pub squares_in : ℕ → Option ℕ → List ℕ → Result (List Square) ReadFault
 squares_in row None line = Ok (map square_of line)
-squares_in row (Some place) line = Err (faults.BadCell (record { row = row; col = place + 1 }))
+squares_in row (Some index) line = Err (faults.BadCell (record { row = row; col = index + 1 }))
 
 -- the squares of a line, or BadCell for the first byte that is not a square
 abbrev pub row_squares : ℕ → List ℕ → Result (List Square) ReadFault

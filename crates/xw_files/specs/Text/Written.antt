@@ -56,12 +56,12 @@ abbrev pub bad_clue : Direction → ClueMap → List Light → Option ℕ
 bad_clue direction clues lights = position (is_bad_clue direction clues) lights
 
 -- how many lights begin at a cell before the one of this direction
-abbrev pub place_at : Grid → Direction → Cell → ℕ
-place_at grid Across cell = 0
-place_at grid Down cell = if begins grid Across cell then 1 else 0
+abbrev pub index_at : Grid → Direction → Cell → ℕ
+index_at grid Across cell = 0
+index_at grid Down cell = if begins grid Across cell then 1 else 0
 
 abbrev pub named_clue : Option ℕ → Option TextName → Option TextName
-named_clue (Some place) other = Some (fields.Clue (place + 1))
+named_clue (Some index) other = Some (fields.Clue (index + 1))
 named_clue None other = other
 
 -- the first text that cannot be written

@@ -59,45 +59,45 @@ fn has_nul(text: &[u8]) -> bool
 fn clue_with_nul(grid: &Grid, clues: &Clues) -> Option<TextName>
     ensures { result ≡ clue_with_nul 1 (map (clue_of clues.now) (lights_of grid.now)) }
 {
-    let mut place = 1;
+    let mut number = 1;
     for index in 0..grid.size() {
-        match pass_cell(grid, clues, grid.cell_at(index), place) {
-            Ok(next) => place = next,
+        match pass_cell(grid, clues, grid.cell_at(index), number) {
+            Ok(next) => number = next,
             Err(text) => return Some(text),
         }
     }
     None
 }
 
-/// Returns the position after the lights that begin at a cell, or the first of their clues with a NUL.
-fn pass_cell(grid: &Grid, clues: &Clues, cell: Cell, place: usize) -> Result<usize, TextName>
-    requires { place ≤ 131072 }
-    ensures passed { IfOk result (λ next. PassesClues clues.now (lights_at grid.now cell) place next) }
-    ensures stopped { IfErr result (λ text. StopsAtClue clues.now (lights_at grid.now cell) place text) }
-    ensures small { IfOk result (λ next. next ≤ place + 2) }
+/// Returns the clue number after the lights that begin at a cell, or the first of their clues with a NUL.
+fn pass_cell(grid: &Grid, clues: &Clues, cell: Cell, number: usize) -> Result<usize, TextName>
+    requires { number ≤ 131072 }
+    ensures passed { IfOk result (λ next. PassesClues clues.now (lights_at grid.now cell) number next) }
+    ensures stopped { IfErr result (λ text. StopsAtClue clues.now (lights_at grid.now cell) number text) }
+    ensures small { IfOk result (λ next. next ≤ number + 2) }
 {
-    let place = pass_light(grid, clues, Direction::Across, cell, place)?;
-    pass_light(grid, clues, Direction::Down, cell, place)
+    let number = pass_light(grid, clues, Direction::Across, cell, number)?;
+    pass_light(grid, clues, Direction::Down, cell, number)
 }
 
-/// Returns the position after the light of a direction that begins at a cell, if any, or its clue if that has a NUL.
+/// Returns the clue number after the light of a direction that begins at a cell, if any, or its clue if that has a NUL.
 fn pass_light(
     grid: &Grid,
     clues: &Clues,
     direction: Direction,
     cell: Cell,
-    place: usize,
+    number: usize,
 ) -> Result<usize, TextName>
-    requires { place ≤ 131073 }
-    ensures passed { IfOk result (λ next. PassesClues clues.now (light_from grid.now cell direction) place next) }
-    ensures stopped { IfErr result (λ text. StopsAtClue clues.now (light_from grid.now cell direction) place text) }
-    ensures small { IfOk result (λ next. next ≤ place + 1) }
+    requires { number ≤ 131073 }
+    ensures passed { IfOk result (λ next. PassesClues clues.now (light_from grid.now cell direction) number next) }
+    ensures stopped { IfErr result (λ text. StopsAtClue clues.now (light_from grid.now cell direction) number text) }
+    ensures small { IfOk result (λ next. next ≤ number + 1) }
 {
     if !lights::begins(grid, direction, cell) {
-        return Ok(place);
+        return Ok(number);
     }
     if has_nul(clues.get(cell, direction)) {
-        return Err(TextName::Clue(place));
+        return Err(TextName::Clue(number));
     }
-    Ok(place + 1)
+    Ok(number + 1)
 }

@@ -7,7 +7,7 @@ ghost use Rattle.xw_grid.specs.Light.{begins as begins_light, lights_at, lights_
 ghost use Rattle.xw_grid.specs.Clue.{clue_at};
 ghost use Rattle.xw_grid.specs.Puzzle.{puzzle_view};
 ghost use Rattle.xw_files.specs.Part.{is_circled_open};
-ghost use Rattle.xw_files.specs.Text.Written.{is_line_end, is_blank_at as is_blank_there, is_spelled as is_spelled_text, is_clue as is_clue_text, are_notes as are_notes_text, pieces, place_at as place_at_cell, bad_clue as bad_clue_of, bad_field as bad_field_of, texted, written};
+ghost use Rattle.xw_files.specs.Text.Written.{is_line_end, is_blank_at as is_blank_there, is_spelled as is_spelled_text, is_clue as is_clue_text, are_notes as are_notes_text, pieces, index_at as index_at_cell, bad_clue as bad_clue_of, bad_field as bad_field_of, texted, written};
 
 use crate::fault::{TextName, WriteFault};
 use crate::finished::{empty_cell, has_bar, is_circled};
@@ -98,8 +98,8 @@ fn has_bad_clue(grid: &Grid, clues: &Clues, direction: Direction, cell: Cell) ->
 }
 
 /// Returns how many lights begin at a cell before the one of this direction.
-fn place_at(grid: &Grid, direction: Direction, cell: Cell) -> usize
-    ensures place { result ≡ place_at_cell grid.now direction cell }
+fn index_at(grid: &Grid, direction: Direction, cell: Cell) -> usize
+    ensures index { result ≡ index_at_cell grid.now direction cell }
     ensures few { result < 2 }
 {
     match direction {
@@ -110,14 +110,14 @@ fn place_at(grid: &Grid, direction: Direction, cell: Cell) -> usize
 
 /// Returns the index, in light order, of the first light of a direction whose clue cannot be written.
 fn bad_clue(grid: &Grid, clues: &Clues, direction: Direction) -> Option<usize>
-    ensures place { result ≡ bad_clue_of direction clues.now (lights_of grid.now) }
-    ensures small { IfSome result (λ place. place + 1 < 2 ^ 64) }
+    ensures index { result ≡ bad_clue_of direction clues.now (lights_of grid.now) }
+    ensures small { IfSome result (λ index. index + 1 < 2 ^ 64) }
 {
     let mut before = 0;
     for index in 0..grid.size() {
         let cell = grid.cell_at(index);
         if has_bad_clue(grid, clues, direction, cell) {
-            return Some(before + place_at(grid, direction, cell));
+            return Some(before + index_at(grid, direction, cell));
         }
         before += light_count(grid, cell);
     }
@@ -139,11 +139,11 @@ fn bad_field(puzzle: &Puzzle) -> Option<TextName>
     if !is_spelled(&texts.copyright) {
         return Some(TextName::Copyright);
     }
-    if let Some(place) = bad_clue(&puzzle.grid, &puzzle.clues, Direction::Across) {
-        return Some(TextName::Clue(place + 1));
+    if let Some(index) = bad_clue(&puzzle.grid, &puzzle.clues, Direction::Across) {
+        return Some(TextName::Clue(index + 1));
     }
-    if let Some(place) = bad_clue(&puzzle.grid, &puzzle.clues, Direction::Down) {
-        return Some(TextName::Clue(place + 1));
+    if let Some(index) = bad_clue(&puzzle.grid, &puzzle.clues, Direction::Down) {
+        return Some(TextName::Clue(index + 1));
     }
     if !are_notes(&texts.notes) {
         return Some(TextName::Notes);

@@ -128,8 +128,8 @@ fn side(digits: &[u8]) -> Option<u32>
 
 /// Returns the index of the first `x` or `X`.
 fn times(line: &[u8]) -> Option<usize>
-    ensures place { result ≡ position is_times line.now }
-    ensures within { IfSome result (λ place. place < length line.now) }
+    ensures index { result ≡ position is_times line.now }
+    ensures within { IfSome result (λ index. index < length line.now) }
 {
     line.iter().position(|byte| matches!(byte, b'x' | b'X'))
 }
@@ -139,9 +139,9 @@ fn sides(line: &[u8]) -> Option<(u32, u32)>
     ensures numbers { result ≡ sides_of line.now }
     ensures range { IfSome result AreSides }
 {
-    let place = times(line)?;
-    let width = side(trim(&line[..place]))?;
-    let height = side(trim(&line[place + 1..]))?;
+    let index = times(line)?;
+    let width = side(trim(&line[..index]))?;
+    let height = side(trim(&line[index + 1..]))?;
     Some((width, height))
 }
 
@@ -161,14 +161,14 @@ fn push_squares(squares: &mut Vec<Square>, row: u32, line: &[u8]) -> Result<(), 
     requires { length line.now ≤ 255 }
     ensures { GivesOrLacksMemory (λ _. squares.new.items) result (squares_after squares.old.items (row_squares row line.now)) }
 {
-    for (place, byte) in line.iter().enumerate() {
+    for (index, byte) in line.iter().enumerate() {
         let square = match *byte {
             b'.' => Square::Block,
             b'-' => Square::Open(None),
             byte => match Letter::of(byte) {
                 Some(letter) => Square::Open(Some(letter)),
                 None => {
-                    let col = place as u32 + 1;
+                    let col = index as u32 + 1;
                     return Err(ReadFault::BadCell(Cell { row, col }));
                 }
             },

@@ -156,8 +156,8 @@ fn put_all_clues(out: &mut Vec<u8>, puzzle: &Puzzle) -> Result<(), AllocError>
 }
 
 fn line_feed(bytes: &[u8]) -> Option<usize>
-    ensures place { result ≡ position is_line_feed bytes.now }
-    ensures within { IfSome result (λ place. place < length bytes.now) }
+    ensures index { result ≡ position is_line_feed bytes.now }
+    ensures within { IfSome result (λ index. index < length bytes.now) }
 {
     bytes.iter().position(|byte| *byte == b'\n')
 }

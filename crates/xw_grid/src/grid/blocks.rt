@@ -60,7 +60,7 @@ impl Grid {
 
 /// Turns the squares at several indices into blocks, or opens them.
 fn turn_each(squares: &mut [Square], indices: &[usize], blocked: bool)
-    requires places { All (λ index. index < length squares.old) indices.now }
+    requires within { All (λ index. index < length squares.old) indices.now }
     requires letters { All IsSquare squares.old }
     ensures turned { squares.new ≡ fold (turn_at blocked) squares.old indices.now }
     ensures letters { All IsSquare squares.new }

@@ -157,32 +157,32 @@ impl Beside {
     }
 
     fn strike(&mut self, word: &[u8]) -> Result<u64, Refusal> {
-        let place = strike_in(&mut self.bank, word)?;
-        let changed = (word.len(), place);
+        let index = strike_in(&mut self.bank, word)?;
+        let changed = (word.len(), index);
         Ok(settle_word(&mut self.net, &self.grid, &self.lights, &self.bank, changed))
     }
 
-    fn add_again(&mut self, word: &[u8], place: usize) -> Result<u64, Refusal>
-        requires { add_answer self.old.bank.words word.now ≡ Ok (Added.Returned place) }
+    fn add_again(&mut self, word: &[u8], index: usize) -> Result<u64, Refusal>
+        requires { add_answer self.old.bank.words word.now ≡ Ok (Added.Returned index) }
     {
         return_in(&mut self.bank, word)?;
-        let changed = (word.len(), place);
+        let changed = (word.len(), index);
         Ok(settle_word(&mut self.net, &self.grid, &self.lights, &self.bank, changed))
     }
 
-    fn add_new(&mut self, word: &[u8], place: usize) -> Result<u64, Refusal>
-        requires { add_answer self.old.bank.words word.now ≡ Ok (Added.New place) }
+    fn add_new(&mut self, word: &[u8], index: usize) -> Result<u64, Refusal>
+        requires { add_answer self.old.bank.words word.now ≡ Ok (Added.New index) }
     {
         make_room(&mut self.net, &mut self.bank, &self.lights, word)?;
         add_in(&mut self.bank, word);
-        let changed = (word.len(), place);
+        let changed = (word.len(), index);
         Ok(settle_word(&mut self.net, &self.grid, &self.lights, &self.bank, changed))
     }
 
     fn add(&mut self, word: &[u8]) -> Result<u64, Refusal> {
         match self.bank.judge_add(word)? {
-            Added::New(place) => self.add_new(word, place),
-            Added::Returned(place) => self.add_again(word, place),
+            Added::New(index) => self.add_new(word, index),
+            Added::Returned(index) => self.add_again(word, index),
         }
     }
 

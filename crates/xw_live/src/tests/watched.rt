@@ -22,7 +22,7 @@ pub struct Watched {
 /// Where an edit is in a case, for failure messages: the index in a list, and what the list's items
 /// are called.
 #[derive(Clone, Copy)]
-pub struct Place {
+pub struct Item {
     pub name: &'static str,
     pub list: &'static str,
     pub at: usize,
@@ -74,14 +74,8 @@ fn is_recounted(watched: &mut Watched, edit: &Edit<'_>, spent: u64, wanted: Want
 }
 
 /// Applies an edit, and checks the cells it reports, its ticks, and the sizes after it.
-pub fn watch(
-    rt: &impl Abort,
-    watched: &mut Watched,
-    edit: &Edit<'_>,
-    wanted: Wanted,
-    place: Place,
-) {
-    let Place { name, list, at } = place;
+pub fn watch(rt: &impl Abort, watched: &mut Watched, edit: &Edit<'_>, wanted: Wanted, item: Item) {
+    let Item { name, list, at } = item;
     let spent = watched.engine.spent();
     let sizes = sizes_of(&watched.engine);
     assert!(rt;

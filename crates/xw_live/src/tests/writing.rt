@@ -1,7 +1,7 @@
 //! Checks that writing a list of cells gives the same answers as writing the cells one by one in a
 //! second engine.
 use crate::live::Live;
-use crate::tests::watched::{ANYTHING, Place, Wanted, Watched, watch};
+use crate::tests::watched::{ANYTHING, Item, Wanted, Watched, watch};
 use crate::tests::{Do, SQUARE, Step, at, begin, pass};
 use std::alloc::Global;
 use std::process::Abort;
@@ -78,7 +78,7 @@ fn write_twice(
     one: &mut Watched,
     other: &mut Live,
     listed: Listed,
-    place: Place,
+    item: Item,
 ) -> Result<bool, Refusal> {
     let (spelled, wanted) = match listed {
         Listed::Written(spelled) => (spelled, ANYTHING),
@@ -89,15 +89,15 @@ fn write_twice(
         }
     };
     let list = list_of(rt.alloc(), spelled)?;
-    watch(rt, one, &Edit::Write(list.as_slice()), wanted, place);
+    watch(rt, one, &Edit::Write(list.as_slice()), wanted, item);
     write_in_turn(other, list.as_slice())?;
     Ok(true)
 }
 
 /// Whether two engines have the same entries and the same feasible letters.
 fn have_same_cells(one: &Live, other: &Live) -> bool {
-    for place in 0..one.grid().size() {
-        let cell = one.grid().cell_at(place);
+    for index in 0..one.grid().size() {
+        let cell = one.grid().cell_at(index);
         if one.grid().entry(cell) != other.grid().entry(cell)
             || one.letters(cell) != other.letters(cell)
         {
@@ -110,8 +110,8 @@ fn have_same_cells(one: &Live, other: &Live) -> bool {
 /// Whether two engines have, for each light, the same number of feasible words and the same first
 /// one.
 fn have_same_words(one: &Live, other: &Live) -> bool {
-    for place in 0..one.lights().len() {
-        if let Some(light) = one.lights().get(place) {
+    for index in 0..one.lights().len() {
+        if let Some(light) = one.lights().get(index) {
             if one.word_count(light.name) != other.word_count(light.name)
                 || one.next_word(light.name, 0) != other.next_word(light.name, 0)
             {
@@ -137,9 +137,9 @@ fn compare(rt: &impl Abort, one: &Live, other: &Live, name: &str, at: usize) {
 fn pass_lists(rt: &(impl Abort + AllocGlobal), one: &mut Watched, other: &mut Live, case: &Case) {
     let (name, list) = (case.name, "list");
     for (at, listed) in case.lists.iter().enumerate() {
-        let place = Place { name, list, at };
+        let item = Item { name, list, at };
         assert!(rt;
-            write_twice(rt, one, other, *listed, place) == Ok(true),
+            write_twice(rt, one, other, *listed, item) == Ok(true),
             "{name}: list {at} failed"
         );
         compare(rt, &one.engine, other, name, at);

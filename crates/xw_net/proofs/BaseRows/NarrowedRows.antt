@@ -32,31 +32,31 @@ common_narrowed word word_len bits base long = record {
   ]
 
 -- a row with one chunk intersected with that of the base row
-pub chunk_narrowed : (word_len place : ℕ) (bits base bits' : List Bool) → length bits' ≡ length bits
-    → ((k : ℕ) → k / 64 ≡ place / 64 → get_or bits' k false ≡ (get_or bits k false && get_or base k false))
-    → ((k : ℕ) → (k / 64 ≡ place / 64 → ⊥) → get_or bits' k false ≡ get_or bits k false)
-    → IsNarrowedRow (Some (word_len, place)) word_len bits base bits'
-chunk_narrowed word_len place bits base bits' len inside others = record {
+pub chunk_narrowed : (word_len index : ℕ) (bits base bits' : List Bool) → length bits' ≡ length bits
+    → ((k : ℕ) → k / 64 ≡ index / 64 → get_or bits' k false ≡ (get_or bits k false && get_or base k false))
+    → ((k : ℕ) → (k / 64 ≡ index / 64 → ⊥) → get_or bits' k false ≡ get_or bits k false)
+    → IsNarrowedRow (Some (word_len, index)) word_len bits base bits'
+chunk_narrowed word_len index bits base bits' len inside others = record {
   len = len;
-  from = λ k is. elim (cases_eq (k / 64) (place / 64)) [
+  from = λ k is. elim (cases_eq (k / 64) (index / 64)) [
     | inl here ↦ (and_parts (get_or bits k false) (get_or base k false) (sym (inside k here) ∙ is)).0
     | inr elsewhere ↦ sym (others k elsewhere) ∙ is
   ];
-  stays = λ k stood is. elim (cases_eq (k / 64) (place / 64)) [
+  stays = λ k stood is. elim (cases_eq (k / 64) (index / 64)) [
     | inl here ↦ inside k here ∙ and_from (get_or bits k false) (get_or base k false) stood is
     | inr elsewhere ↦ others k elsewhere ∙ stood
   ];
   goes = λ k changed none.
-      let here : place ≡ k = ap (λ (o : Option (ℕ × ℕ)). place_of o) (changed (eq-eqb word_len word_len refl)) in
+      let here : index ≡ k = ap (λ (o : Option (ℕ × ℕ)). index_in o) (changed (eq-eqb word_len word_len refl)) in
       inside k (ap (λ n. n / 64) (sym here)) ∙ ap (λ b. get_or bits k false && b) none ∙ and_none (get_or bits k false);
 } where
-  place_of : Option (ℕ × ℕ) → ℕ
-  place_of None = 0
-  place_of (Some word) = word.1
+  index_in : Option (ℕ × ℕ) → ℕ
+  index_in None = 0
+  index_in (Some word) = word.1
 
 -- if each word, except perhaps the changed one, is a base word, the result is the intersection
 pub narrowed_common : (word : Option (ℕ × ℕ)) (word_len : ℕ) (bits base bits' : List Bool) → length bits ≡ length base → IsNarrowedRow word word_len bits base bits'
-    → ((place : ℕ) → word ≡ Some (word_len, place) → (k : ℕ) → (k ≡ place → ⊥) → get_or bits k false ≡ true → get_or base k false ≡ true)
+    → ((index : ℕ) → word ≡ Some (word_len, index) → (k : ℕ) → (k ≡ index → ⊥) → get_or bits k false ≡ true → get_or base k false ≡ true)
     → bits' ≡ common_bits bits base
 narrowed_common word word_len bits base bits' long is still =
     same_lists bits' (common_bits bits base) (is.len ∙ sym (length-zip2 (λ x y. x && y) bits base long)) (λ k d lt.

@@ -11,7 +11,7 @@ use Rattle.xw_net.specs.Sums.{sum_below}
 use Rattle.xw_net.specs.Due.{sum_to, strip_cost, set_cost}
 use Rattle.xw_net.specs.Brought.{base_cost}
 use Rattle.xw_net.specs.Cost.{light_revival_cost, revival_cost, light_stripping_cost, stripping_cost}
-use Rattle.xw_net.proofs.Costs.CostsByLight.{cost-places, sum-places}
+use Rattle.xw_net.proofs.Costs.CostsByLight.{cost-indices, sum-indices}
 
 sum_to-is : (f : ℕ → ℕ) (n : ℕ) → sum_below f n ≡ sum_to f n
 unfolding sum_to
@@ -21,13 +21,13 @@ sum_to-is f (suc n) = omega (arith, sum_to-is f n)
 pub revival-is : (state : State) (member : List ℕ → Bool) → revival_cost state member ≡ base_cost (board_of state.grid) (row state.words) (λ light. member (light_at (board_of state.grid) light))
 unfolding base_cost
 revival-is state member =
-    sum-places state (light_revival_cost state.words) member
+    sum-indices state (light_revival_cost state.words) member
     ∙ sum_to-is (λ light. cond (member (light_at (board_of state.grid) light)) (light_revival_cost state.words (light_at (board_of state.grid) light)) 0) (length (board_of state.grid).lights)
 
 pub stripping-is : (state : State) (member : List ℕ → Bool) → stripping_cost state member ≡ set_cost (board_of state.grid) state.words (λ light. member (light_at (board_of state.grid) light))
 unfolding set_cost
 stripping-is state member =
-    sum-places state (light_stripping_cost state.words) member
+    sum-indices state (light_stripping_cost state.words) member
     ∙ sum_to-is (λ light. cond (member (light_at (board_of state.grid) light)) (light_stripping_cost state.words (light_at (board_of state.grid) light)) 0) (length (board_of state.grid).lights)
 
 sums-le : (f g h : ℕ → ℕ) (n : ℕ) → ((k : ℕ) → k < n → f k + g k ≤ h k) → sum_to f n + sum_to g n ≤ sum_below h n
@@ -49,7 +49,7 @@ unfolding base_cost set_cost
 settled_cost state member laid_out =
     omega (
       arith,
-      cost-places state member,
+      cost-indices state member,
       revival-is state member,
       stripping-is state member,
       sums-le

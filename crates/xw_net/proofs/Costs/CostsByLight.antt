@@ -29,13 +29,13 @@ pub sum_below-first : (f : ℕ → ℕ) (n : ℕ) → sum_below f (suc n) ≡ f 
 sum_below-first f zero = omega arith
 sum_below-first f (suc n) = omega (arith, sum_below-first f n)
 
-pub sum_by-places : {X : Type 0} (f : X → ℕ) (xs : List X) (d : X) → sum_by f xs ≡ sum_below (λ k. f (get_or xs k d)) (length xs)
-sum_by-places f [] d = refl
-sum_by-places f (x ∷ xs) d = sum_by-cons f x xs ∙ ap (λ n. f x + n) (sum_by-places f xs d) ∙ sym (sum_below-first (λ k. f (get_or (x ∷ xs) k d)) (length xs))
+pub sum_by-indices : {X : Type 0} (f : X → ℕ) (xs : List X) (d : X) → sum_by f xs ≡ sum_below (λ k. f (get_or xs k d)) (length xs)
+sum_by-indices f [] d = refl
+sum_by-indices f (x ∷ xs) d = sum_by-cons f x xs ∙ ap (λ n. f x + n) (sum_by-indices f xs d) ∙ sym (sum_below-first (λ k. f (get_or (x ∷ xs) k d)) (length xs))
 
-pub sum-places : (state : State) (f : List ℕ → ℕ) (member : List ℕ → Bool)
+pub sum-indices : (state : State) (f : List ℕ → ℕ) (member : List ℕ → Bool)
     → sum_by f (filter member (board_of state.grid).lights) ≡ sum_below (λ light. cond (member (light_at (board_of state.grid) light)) (f (light_at (board_of state.grid) light)) 0) (length (board_of state.grid).lights)
-sum-places state f member = sum_by-filter f member (board_of state.grid).lights ∙ sum_by-places (λ light. cond (member light) (f light) 0) (board_of state.grid).lights []
+sum-indices state f member = sum_by-filter f member (board_of state.grid).lights ∙ sum_by-indices (λ light. cond (member light) (f light) 0) (board_of state.grid).lights []
 
-pub cost-places : (state : State) (member : List ℕ → Bool) → cost state member ≡ sum_below (λ light. cond (member (light_at (board_of state.grid) light)) (light_cost state.words (light_at (board_of state.grid) light)) 0) (length (board_of state.grid).lights)
-cost-places state member = sum-places state (light_cost state.words) member
+pub cost-indices : (state : State) (member : List ℕ → Bool) → cost state member ≡ sum_below (λ light. cond (member (light_at (board_of state.grid) light)) (light_cost state.words (light_at (board_of state.grid) light)) 0) (length (board_of state.grid).lights)
+cost-indices state member = sum-indices state (light_cost state.words) member

@@ -4,8 +4,8 @@ use Rattle.std.proofs.lemmas.Bool.{cond-true, cond-false, cases_Bool, cases_lt, 
 use Rattle.xw_words.specs.Dictionary.{Dictionary}
 use Rattle.xw_feas.specs.Board.{Board, light_at}
 use Rattle.xw_net.specs.Region.{chunks_of}
-use Rattle.xw_net.specs.Marks.{Marks, IsPlace, cell_at, slot_at, known, puts, letter_of}
-use Rattle.xw_net.specs.Due.{count_from, ahead_of, due_of, chunks, due_letter, due_place, due_light, due, strip_cost, set_cost}
+use Rattle.xw_net.specs.Marks.{Marks, IsPositionIn, cell_at, slot_at, known, puts, letter_of}
+use Rattle.xw_net.specs.Due.{count_from, ahead_of, due_of, chunks, due_letter, due_position, due_light, due, strip_cost, set_cost}
 use Rattle.xw_net.proofs.Costs.SumsBelow.{sum_to-le, sum_to-falls, sum_to-bound, sum_to-add, counts-le, count_from-later, search_found, search_first}
 
 -- ---- one letter
@@ -80,9 +80,9 @@ ahead-bound has n h again =
       | inl is ↦ omega (arith, ahead-again has n h again is)
       | inr never ↦ elim (cases_lt h n) [
         | inl lt ↦
-            let place : 0 + h ≡ h = omega arith in
+            let start : 0 + h ≡ h = omega arith in
             let many : h + (n - h) ≡ n = omega arith in
-            omega (arith, ahead-read has n h again lt never, count_from-later has 0 (n - h) h, ap (λ k. count_from has k (n - h)) place, ap (count_from has 0) many)
+            omega (arith, ahead-read has n h again lt never, count_from-later has 0 (n - h) h, ap (λ k. count_from has k (n - h)) start, ap (count_from has 0) many)
         | inr le ↦ omega (arith, ahead-past has n h again le)
       ]
     ]
@@ -135,14 +135,14 @@ due-moves has n h word from spent stands stands' again again' pending pending' w
 -- ---- the lights of a set
 
 module _ (board : Board) (dictionary : Dictionary) (member : ℕ → Bool) (marks new : Marks)
-    (each : (j r k : ℕ) → IsPlace board j r → k < 26 → due_letter board dictionary new j r (65 + k) ≤ due_letter board dictionary marks j r (65 + k)) where
-  place-le : (j r : ℕ) → IsPlace board j r → due_place board dictionary new j r ≤ due_place board dictionary marks j r
-  unfolding due_place
-  place-le j r here = sum_to-le (λ k. due_letter board dictionary new j r (65 + k)) (λ k. due_letter board dictionary marks j r (65 + k)) 26 (λ k lt. each j r k here lt)
+    (each : (j r k : ℕ) → IsPositionIn board j r → k < 26 → due_letter board dictionary new j r (65 + k) ≤ due_letter board dictionary marks j r (65 + k)) where
+  position-le : (j r : ℕ) → IsPositionIn board j r → due_position board dictionary new j r ≤ due_position board dictionary marks j r
+  unfolding due_position
+  position-le j r here = sum_to-le (λ k. due_letter board dictionary new j r (65 + k)) (λ k. due_letter board dictionary marks j r (65 + k)) 26 (λ k lt. each j r k here lt)
 
   light-le : (j : ℕ) → j < length board.lights → due_light board dictionary new j ≤ due_light board dictionary marks j
   unfolding due_light
-  light-le j lt = sum_to-le (λ r. due_place board dictionary new j r) (λ r. due_place board dictionary marks j r) (length (light_at board j)) (λ r within. place-le j r (lt, within))
+  light-le j lt = sum_to-le (λ r. due_position board dictionary new j r) (λ r. due_position board dictionary marks j r) (length (light_at board j)) (λ r within. position-le j r (lt, within))
 
   member-le : (j : ℕ) → j < length board.lights → cond (member j) (due_light board dictionary new j) 0 ≤ cond (member j) (due_light board dictionary marks j) 0
   member-le j lt =
@@ -156,30 +156,30 @@ module _ (board : Board) (dictionary : Dictionary) (member : ℕ → Bool) (mark
   due-le = sum_to-le (λ j. cond (member j) (due_light board dictionary new j) 0) (λ j. cond (member j) (due_light board dictionary marks j) 0) (length board.lights) member-le
 
   -- one position of a light in the set decreases by t
-  module _ (i q t : ℕ) (is_place : IsPlace board i q) (in_set : member i ≡ true) (falls : due_place board dictionary new i q + t ≤ due_place board dictionary marks i q) where
+  module _ (i q t : ℕ) (is_position : IsPositionIn board i q) (in_set : member i ≡ true) (falls : due_position board dictionary new i q + t ≤ due_position board dictionary marks i q) where
     light-falls : due_light board dictionary new i + t ≤ due_light board dictionary marks i
     unfolding due_light
     light-falls =
-        sum_to-falls (λ r. due_place board dictionary new i r) (λ r. due_place board dictionary marks i r) (length (light_at board i)) q t is_place.1 (λ r within. place-le i r (is_place.0, within)) falls
+        sum_to-falls (λ r. due_position board dictionary new i r) (λ r. due_position board dictionary marks i r) (length (light_at board i)) q t is_position.1 (λ r within. position-le i r (is_position.0, within)) falls
 
     member-falls : cond (member i) (due_light board dictionary new i) 0 + t ≤ cond (member i) (due_light board dictionary marks i) 0
     member-falls = omega (arith, light-falls, cond-true (member i) (due_light board dictionary new i) 0 in_set, cond-true (member i) (due_light board dictionary marks i) 0 in_set)
 
     pub due-falls : due board dictionary member new + t ≤ due board dictionary member marks
     unfolding due
-    due-falls = sum_to-falls (λ j. cond (member j) (due_light board dictionary new j) 0) (λ j. cond (member j) (due_light board dictionary marks j) 0) (length board.lights) i t is_place.0 member-le member-falls
+    due-falls = sum_to-falls (λ j. cond (member j) (due_light board dictionary new j) 0) (λ j. cond (member j) (due_light board dictionary marks j) 0) (length board.lights) i t is_position.0 member-le member-falls
 
   -- one letter of a position decreases by t
-  pub place-falls : (i q k t : ℕ) → IsPlace board i q → k < 26 → due_letter board dictionary new i q (65 + k) + t ≤ due_letter board dictionary marks i q (65 + k) → due_place board dictionary new i q + t ≤ due_place board dictionary marks i q
-  unfolding due_place
-  place-falls i q k t is_place small falls = sum_to-falls (λ k. due_letter board dictionary new i q (65 + k)) (λ k. due_letter board dictionary marks i q (65 + k)) 26 k t small (λ k lt. each i q k is_place lt) falls
+  pub position-falls : (i q k t : ℕ) → IsPositionIn board i q → k < 26 → due_letter board dictionary new i q (65 + k) + t ≤ due_letter board dictionary marks i q (65 + k) → due_position board dictionary new i q + t ≤ due_position board dictionary marks i q
+  unfolding due_position
+  position-falls i q k t is_position small falls = sum_to-falls (λ k. due_letter board dictionary new i q (65 + k)) (λ k. due_letter board dictionary marks i q (65 + k)) 26 k t small (λ k lt. each i q k is_position lt) falls
 
 -- ---- the start of stripping
 
 module _ (board : Board) (dictionary : Dictionary) (marks : Marks) where
-  place-bound : (i q : ℕ) → due_place board dictionary marks i q ≤ 78 * chunks board dictionary i + known board dictionary i
-  unfolding due_place due_letter
-  place-bound i q =
+  position-bound : (i q : ℕ) → due_position board dictionary marks i q ≤ 78 * chunks board dictionary i + known board dictionary i
+  unfolding due_position due_letter
+  position-bound i q =
       let c = chunks board dictionary i in
       let n = known board dictionary i in
       let counted = λ (k : ℕ). count_from (puts board dictionary i q (65 + k)) 0 n in
@@ -203,7 +203,7 @@ module _ (board : Board) (dictionary : Dictionary) (marks : Marks) where
       let n = known board dictionary i in
       omega (
         arith,
-        sum_to-bound (λ q. due_place board dictionary marks i q) (length (light_at board i)) (78 * c + n) (λ q lt. place-bound i q),
+        sum_to-bound (λ q. due_position board dictionary marks i q) (length (light_at board i)) (78 * c + n) (λ q lt. position-bound i q),
         product-le (length (light_at board i)) (78 * c + n) (100 * c + 4 * n + 1) (omega arith),
       )
 

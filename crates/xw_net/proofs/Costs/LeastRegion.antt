@@ -10,7 +10,7 @@ use Rattle.xw_feas.specs.Choices.{IsExact}
 use Rattle.xw_feas.specs.State.{State, Action}
 use Rattle.xw_net.specs.Region.{edited_cells, changes_words, IsSettled, StandsIn, StandsInEither, IsRegion, cost, light_cost, IsWithinCost}
 use Rattle.xw_net.specs.Sums.{sum_below}
-use Rattle.xw_net.proofs.Costs.CostsByLight.{sum_below-le, cost-places}
+use Rattle.xw_net.proofs.Costs.CostsByLight.{sum_below-le, cost-indices}
 use Rattle.xw_net.proofs.Edits.KeptByEdits.{contains_first, contains_later, contains_filtered, contains_mapped}
 use Rattle.std.proofs.lemmas.Slice.Eq.{bytes_eq-Decides}
 
@@ -265,4 +265,4 @@ module _ (before now : State) (action : Action) (words letters words' letters' :
     costs_less member closed =
         let terms : sum_below (part_of region) (length lights_now) ≤ sum_below (part_of member) (length lights_now) = sum_below-le (part_of region) (part_of member) (length lights_now) (λ light below.
         fewer (region (light_at (board_of now.grid) light)) (member (light_at (board_of now.grid) light)) (light_cost now.words (light_at (board_of now.grid) light)) (region_is_least member closed (light_at (board_of now.grid) light))) in
-        omega (arith, terms, cost-places now region, cost-places now member)
+        omega (arith, terms, cost-indices now region, cost-indices now member)

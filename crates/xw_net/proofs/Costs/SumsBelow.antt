@@ -69,13 +69,13 @@ sum_to-one p (suc n) only =
 pub count_from-later : (f : ℕ → Bool) (from n k : ℕ) → count_from f (from + k) n ≤ count_from f from (k + n)
 unfolding count_from
 count_from-later f from n zero =
-    let place : from + 0 ≡ from = omega arith in
+    let start : from + 0 ≡ from = omega arith in
     let many : 0 + n ≡ n = omega arith in
-    omega (arith, ap (λ k. count_from f k n) place, ap (count_from f from) many)
+    omega (arith, ap (λ k. count_from f k n) start, ap (count_from f from) many)
 count_from-later f from n (suc k) =
-    let place : from + suc k ≡ from + 1 + k = omega arith in
+    let start : from + suc k ≡ from + 1 + k = omega arith in
     let many : suc k + n ≡ suc (k + n) = omega arith in
-    omega (arith, ap (λ j. count_from f j n) place, ap (count_from f from) many, count_from-later f (from + 1) n k)
+    omega (arith, ap (λ j. count_from f j n) start, ap (count_from f from) many, count_from-later f (from + 1) n k)
 
 -- each index is counted for at most one number
 pub counts-le : (p : ℕ → ℕ → Bool) (n from m : ℕ) → ((w j k : ℕ) → p j w ≡ true → p k w ≡ true → j ≡ k) → sum_to (λ b. count_from (p b) from m) n ≤ m
@@ -88,14 +88,14 @@ later_count : (f : ℕ → Bool) (n held word : ℕ) → held < n → word < n �
 unfolding count_from
 later_count f n held word lt within hit later =
     let many : n - held ≡ suc (n - held - 1) = omega arith in
-    let place : held + 1 + (word - held - 1) ≡ word = omega arith in
+    let start : held + 1 + (word - held - 1) ≡ word = omega arith in
     let rest : word - held - 1 + (n - word) ≡ n - held - 1 = omega arith in
     omega (
       arith,
       ap (count_from f held) many,
       ap {B = ℕ} (λ t. cond t 1 0) hit,
       count_from-later f (held + 1) (n - word) (word - held - 1),
-      ap (λ k. count_from f k (n - word)) place,
+      ap (λ k. count_from f k (n - word)) start,
       ap (count_from f (held + 1)) rest,
     )
 
@@ -108,9 +108,9 @@ search_found f n held word spent lt within hit later cost = omega (arith, cost, 
 pub search_first : (f : ℕ → Bool) (n word spent : ℕ) → word < n → spent ≤ word / 64 + 1
     → (chunks_of n - word / 64) + count_from f word (n - word) + spent ≤ 2 * chunks_of n + count_from f 0 n
 search_first f n word spent within cost =
-    let place : 0 + word ≡ word = omega arith in
+    let start : 0 + word ≡ word = omega arith in
     let many : word + (n - word) ≡ n = omega arith in
-    omega (arith, cost, count_from-later f 0 (n - word) word, ap (λ k. count_from f k (n - word)) place, ap (count_from f 0) many)
+    omega (arith, cost, count_from-later f 0 (n - word) word, ap (λ k. count_from f k (n - word)) start, ap (count_from f 0) many)
 
 -- ---- the letters of a set
 

@@ -15,19 +15,19 @@ use Rattle.xw_grid.specs.Light.{lights_of}
 use Rattle.xw_feas.specs.State.{State, Action, after, grid_after, letter_set, cell_cleared, word_placed, list_written, block_toggled, bar_toggled, symmetry_chosen, word_added, word_struck, answered, add_word, strike_word}
 use Rattle.xw_feas.specs.WellFormed.{IsWellFormed}
 use Rattle.xw_feas.proofs.AdditionLemmas.{new_word}
-use Rattle.xw_net.specs.Change.{Fields, IsChange, IsPlaceOf, with_entry_of, entries_written, places_listed, place_added, place_struck, word_changed}
+use Rattle.xw_net.specs.Change.{Fields, IsChange, IsIndexOf, with_entry_of, entries_written, indices_listed, index_added, index_struck, word_changed}
 use Rattle.xw_net.specs.Region.{cells_written, edited_cells}
 use Rattle.xw_net.proofs.Edits.KeptByEdits.{IsWrittenAt, grid_of_after, written_after, with_grid-Ok, with_words-Ok}
 
 -- ---- the listed cells
 
-listed_places : (grid : Grid) (cells : List Cell) → places_listed grid (map (with_entry_of grid) cells) ≡ map (index_of grid) cells
-listed_places grid [] = refl
-listed_places grid (cell ∷ cells) = ap (λ places. index_of grid cell ∷ places) (listed_places grid cells)
+listed_indices : (grid : Grid) (cells : List Cell) → indices_listed grid (map (with_entry_of grid) cells) ≡ map (index_of grid) cells
+listed_indices grid [] = refl
+listed_indices grid (cell ∷ cells) = ap (λ indices. index_of grid cell ∷ indices) (listed_indices grid cells)
 
 -- the cells that an edit writes are its edited cells
-pub written_places : (grid : Grid) (action : Action) → places_listed grid (entries_written grid action) ≡ edited_cells grid action
-written_places grid action = listed_places grid (cells_written grid action)
+pub written_indices : (grid : Grid) (action : Action) → indices_listed grid (entries_written grid action) ≡ edited_cells grid action
+written_indices grid action = listed_indices grid (cells_written grid action)
 
 -- the grid keeps its size
 pub size_kept : (grid new : Grid) (action : Action) → IsGrid grid → grid_after grid action ≡ Ok new → IsWrittenAt grid new (edited_cells grid action)
@@ -52,7 +52,7 @@ row_set P words len entries word_len there here moved = elim (cases_eq word_len 
 
 -- the words of a length agree except at one index
 abbrev AgreeBut : ℕ → List Entry → List Entry → Type 0
-AgreeBut place old new = (k : ℕ) → (k ≡ place → ⊥) → slice_get new k ≡ slice_get old k
+AgreeBut index old new = (k : ℕ) → (k ≡ index → ⊥) → slice_get new k ≡ slice_get old k
 
 -- every earlier word keeps its letters
 abbrev AreSpelledAlike : List Entry → List Entry → Type 0
@@ -64,65 +64,65 @@ push_agrees [] entry (suc k) apart = refl
 push_agrees (first ∷ entries) entry zero apart = refl
 push_agrees (first ∷ entries) entry (suc k) apart = push_agrees entries entry k (λ e. apart (ap suc e))
 
-set_agrees : (entries : List Entry) (place : ℕ) (entry : Entry) → AgreeBut place entries (set entries place entry)
-set_agrees [] place entry k apart = refl
+set_agrees : (entries : List Entry) (index : ℕ) (entry : Entry) → AgreeBut index entries (set entries index entry)
+set_agrees [] index entry k apart = refl
 set_agrees (first ∷ entries) zero entry zero apart = absurd (apart refl)
 set_agrees (first ∷ entries) zero entry (suc k) apart = refl
-set_agrees (first ∷ entries) (suc place) entry zero apart = refl
-set_agrees (first ∷ entries) (suc place) entry (suc k) apart = set_agrees entries place entry k (λ e. apart (ap suc e))
+set_agrees (first ∷ entries) (suc index) entry zero apart = refl
+set_agrees (first ∷ entries) (suc index) entry (suc k) apart = set_agrees entries index entry k (λ e. apart (ap suc e))
 
 -- both facts, for a word given by its length and index
 record AreWordsBut (old new : Dictionary) (word : Option (ℕ × ℕ)) : Type 0 where
-  agree : (word_len place : ℕ) → ¬ IsPlaceOf word word_len place → slice_get (row new word_len) place ≡ slice_get (row old word_len) place
+  agree : (word_len index : ℕ) → ¬ IsIndexOf word word_len index → slice_get (row new word_len) index ≡ slice_get (row old word_len) index
   alike : (word_len : ℕ) → AreSpelledAlike (row old word_len) (row new word_len)
 
 same_words : (old new : Dictionary) (word : Option (ℕ × ℕ)) → new ≡ old → AreWordsBut old new word
 same_words old new word same = record {
-  agree = λ word_len place apart. ap (λ (d : Dictionary). slice_get (row d word_len) place) same;
+  agree = λ word_len index apart. ap (λ (d : Dictionary). slice_get (row d word_len) index) same;
   alike = λ word_len k below. ap (λ (d : Dictionary). (entry_at (row d word_len) k).word) same;
 }
 
-words_but : (old : Dictionary) (len place : ℕ) (entries : List Entry) → AgreeBut place (row old len) entries → AreSpelledAlike (row old len) entries → AreWordsBut old (set old len entries) (Some (len, place))
-words_but old len place entries agree alike = record {
+words_but : (old : Dictionary) (len index : ℕ) (entries : List Entry) → AgreeBut index (row old len) entries → AreSpelledAlike (row old len) entries → AreWordsBut old (set old len entries) (Some (len, index))
+words_but old len index entries agree alike = record {
   agree = λ word_len k apart.
-      row_set (λ n es. ¬ ((len ≡ n) × (place ≡ k)) → slice_get es k ≡ slice_get (row old n) k) old len entries word_len
-      (λ apart'. agree k (λ e. apart' (refl, sym e))) (λ _. refl) (λ e there apart'. subst (λ n. ¬ ((len ≡ n) × (place ≡ k)) → slice_get entries k ≡ slice_get (row old n) k) (sym e) there apart') apart;
+      row_set (λ n es. ¬ ((len ≡ n) × (index ≡ k)) → slice_get es k ≡ slice_get (row old n) k) old len entries word_len
+      (λ apart'. agree k (λ e. apart' (refl, sym e))) (λ _. refl) (λ e there apart'. subst (λ n. ¬ ((len ≡ n) × (index ≡ k)) → slice_get entries k ≡ slice_get (row old n) k) (sym e) there apart') apart;
   alike = λ word_len.
       row_set (λ n es. AreSpelledAlike (row old n) es) old len entries word_len alike (λ k below. refl) (λ e there. subst (λ n. AreSpelledAlike (row old n) entries) (sym e) there);
 }
 
-added_but : (old new : Dictionary) (word : List ℕ) (answer : Result Added WordFault) → add_answer old word ≡ answer → answered (after_add old (map folded word)) answer ≡ Ok new → AreWordsBut old new (place_added (length word) answer)
+added_but : (old new : Dictionary) (word : List ℕ) (answer : Result Added WordFault) → add_answer old word ≡ answer → answered (after_add old (map folded word)) answer ≡ Ok new → AreWordsBut old new (index_added (length word) answer)
 added_but old new word (Err fault) is h = cc
-added_but old new word (Ok (Returned place)) is h =
-    let made : after_add old (map folded word) (Returned place) ≡ new = cc in
+added_but old new word (Ok (Returned index)) is h =
+    let made : after_add old (map folded word) (Returned index) ≡ new = cc in
     let len : length (map folded word) ≡ length word = length-map word folded in
-    subst (λ (d : Dictionary). AreWordsBut old d (Some (length word, place))) made
-    (subst (λ n. AreWordsBut old (after_add old (map folded word) (Returned place)) (Some (n, place))) len
-    (words_but old (length (map folded word)) place (marked (row old (length (map folded word))) place true)
-    (set_agrees (row old (length (map folded word))) place _)
-    (λ k below. word-marked (row old (length (map folded word))) place true k no_entry)))
-added_but old new word (Ok (New place)) is h =
-    let made : after_add old (map folded word) (New place) ≡ new = cc in
+    subst (λ (d : Dictionary). AreWordsBut old d (Some (length word, index))) made
+    (subst (λ n. AreWordsBut old (after_add old (map folded word) (Returned index)) (Some (n, index))) len
+    (words_but old (length (map folded word)) index (marked (row old (length (map folded word))) index true)
+    (set_agrees (row old (length (map folded word))) index _)
+    (λ k below. word-marked (row old (length (map folded word))) index true k no_entry)))
+added_but old new word (Ok (New index)) is h =
+    let made : after_add old (map folded word) (New index) ≡ new = cc in
     let len : length (map folded word) ≡ length word = length-map word folded in
     let fresh = new_word old word (subst Rattle.xw_words.specs.Dictionary.IsNew (sym is) tt) in
-    let last : place ≡ length (row old (length word)) = let answer = fresh.answer in cc in
-    let last' : length (row old (length (map folded word))) ≡ place = ap (λ n. length (row old n)) len ∙ sym last in
-    subst (λ (d : Dictionary). AreWordsBut old d (Some (length word, place))) made
-    (subst (λ n. AreWordsBut old (after_add old (map folded word) (New place)) (Some (n, place))) len
-    (words_but old (length (map folded word)) place (row old (length (map folded word)) ++ record { word = map folded word; active = true } ∷ [])
+    let last : index ≡ length (row old (length word)) = let answer = fresh.answer in cc in
+    let last' : length (row old (length (map folded word))) ≡ index = ap (λ n. length (row old n)) len ∙ sym last in
+    subst (λ (d : Dictionary). AreWordsBut old d (Some (length word, index))) made
+    (subst (λ n. AreWordsBut old (after_add old (map folded word) (New index)) (Some (n, index))) len
+    (words_but old (length (map folded word)) index (row old (length (map folded word)) ++ record { word = map folded word; active = true } ∷ [])
     (subst (λ p. AgreeBut p (row old (length (map folded word))) (row old (length (map folded word)) ++ record { word = map folded word; active = true } ∷ [])) last' (push_agrees (row old (length (map folded word))) _))
     (λ k below. ap (λ (e : Entry). e.word) (get_or_append_left (row old (length (map folded word))) (record { word = map folded word; active = true } ∷ []) no_entry k below))))
 
-struck_but : (old new : Dictionary) (word : List ℕ) (answer : Result ℕ WordFault) → answered (after_strike old (map folded word)) answer ≡ Ok new → AreWordsBut old new (place_struck (length word) answer)
+struck_but : (old new : Dictionary) (word : List ℕ) (answer : Result ℕ WordFault) → answered (after_strike old (map folded word)) answer ≡ Ok new → AreWordsBut old new (index_struck (length word) answer)
 struck_but old new word (Err fault) h = cc
-struck_but old new word (Ok place) h =
-    let made : after_strike old (map folded word) place ≡ new = cc in
+struck_but old new word (Ok index) h =
+    let made : after_strike old (map folded word) index ≡ new = cc in
     let len : length (map folded word) ≡ length word = length-map word folded in
-    subst (λ (d : Dictionary). AreWordsBut old d (Some (length word, place))) made
-    (subst (λ n. AreWordsBut old (after_strike old (map folded word) place) (Some (n, place))) len
-    (words_but old (length (map folded word)) place (marked (row old (length (map folded word))) place false)
-    (set_agrees (row old (length (map folded word))) place _)
-    (λ k below. word-marked (row old (length (map folded word))) place false k no_entry)))
+    subst (λ (d : Dictionary). AreWordsBut old d (Some (length word, index))) made
+    (subst (λ n. AreWordsBut old (after_strike old (map folded word) index) (Some (n, index))) len
+    (words_but old (length (map folded word)) index (marked (row old (length (map folded word))) index false)
+    (set_agrees (row old (length (map folded word))) index _)
+    (λ k below. word-marked (row old (length (map folded word))) index false k no_entry)))
 
 words_after : (before now : State) (action : Action) → after before action ≡ Ok now → AreWordsBut before.words now.words (word_changed before.words action)
 words_after before now (letter_set cell letter) made = same_words before.words now.words None (with_grid-Ok before now (grid_after before.grid (letter_set cell letter)) made).1
@@ -141,7 +141,7 @@ pub change_made : (before now : State) (action : Action) (change : Fields) → a
     → change.cells ≡ entries_written before.grid action → change.before ≡ lights_of before.grid → change.word ≡ word_changed before.words action → IsChange before now action change
 change_made before now action change made formed_before formed_now cells lights word =
     let written = written_after before.grid now.grid action formed_before.grid (grid_of_after before now action made) in
-    let places : places_listed before.grid change.cells ≡ edited_cells before.grid action = ap (places_listed before.grid) cells ∙ written_places before.grid action in
+    let indices : indices_listed before.grid change.cells ≡ edited_cells before.grid action = ap (indices_listed before.grid) cells ∙ written_indices before.grid action in
     let words = words_after before now action made in
     record {
       made = made;
@@ -152,7 +152,7 @@ change_made before now action change made formed_before formed_now cells lights 
       word = word;
       width = written.width;
       height = written.height;
-      squares = λ place outside. written.squares place (λ edited. outside (subst (λ ps. Contains ps place) (sym places) edited));
-      entries = λ word_len place apart. words.agree word_len place (λ at. apart (subst (λ w. IsPlaceOf w word_len place) (sym word) at));
-      spelling = λ word_len place below. words.alike word_len place below;
+      squares = λ index outside. written.squares index (λ edited. outside (subst (λ ps. Contains ps index) (sym indices) edited));
+      entries = λ word_len index apart. words.agree word_len index (λ at. apart (subst (λ w. IsIndexOf w word_len index) (sym word) at));
+      spelling = λ word_len index below. words.alike word_len index below;
     }

@@ -20,17 +20,17 @@ use Rattle.xw_words.specs.declared.fault.WordFault.{WordFault}
 use Rattle.xw_words.specs.declared.bank.Added.{Added}
 use Rattle.xw_words.specs.declared.bank.Added.TheVariants.{New, Returned}
 use Rattle.xw_feas.proofs.BoardLemmas.{entry-square}
-use Rattle.xw_net.specs.Change.{Fields, IsChange, with_entry_of, places_listed, IsPlaceOf, word_changed, place_added, place_struck}
+use Rattle.xw_net.specs.Change.{Fields, IsChange, with_entry_of, indices_listed, IsIndexOf, word_changed, index_added, index_struck}
 use Rattle.xw_net.specs.Base.{base_bits, is_base_word}
-use Rattle.xw_net.specs.Spread.{bits_in, IsSpread, HasAll, no_places}
+use Rattle.xw_net.specs.Spread.{bits_in, IsSpread, HasAll, no_positions}
 use Rattle.xw_net.specs.Brought.{IsBase}
 use Rattle.xw_net.specs.Revival.{same_light, StandsOn}
 use Rattle.xw_net.specs.Region.{IsRegion, cells_written, edited_cells, changes_words}
-use Rattle.xw_net.specs.Marks.{Marks, IsPlace, cell_at, slot_at, known, puts}
+use Rattle.xw_net.specs.Marks.{Marks, IsPositionIn, cell_at, slot_at, known, puts}
 use Rattle.xw_net.specs.Begin.{IsEdited, is_long, is_read, may_have, is_seed, is_fill, IsStarted}
 use Rattle.xw_net.proofs.BaseRows.NarrowedRows.{common_bits}
 use Rattle.xw_net.proofs.Edits.ExactFamilies.{exact_may}
-use Rattle.xw_net.proofs.Edits.ChangeFacts.{written_places}
+use Rattle.xw_net.proofs.Edits.ChangeFacts.{written_indices}
 use Rattle.xw_net.proofs.Costs.RegionIsClosed.{light_stands}
 use Rattle.xw_net.proofs.Edits.UntouchedLights.{matched}
 use Rattle.xw_net.proofs.Edits.KeptBaseWords.{HaveSameEntries, entered_same}
@@ -76,8 +76,8 @@ module _ (before now : State) (action : Action) (change : Fields) (is : IsChange
   abbrev new_board : Board
   new_board = board_of now.grid
 
-  entry_off : (cell : ℕ) → ¬ Contains (places_listed before.grid change.cells) cell → entry new_board cell ≡ entry old_board cell
-  entry_off cell outside = entry_after before.grid now.grid (places_listed before.grid change.cells) cell (record { width = is.width; height = is.height; squares = is.squares }) outside
+  entry_off : (cell : ℕ) → ¬ Contains (indices_listed before.grid change.cells) cell → entry new_board cell ≡ entry old_board cell
+  entry_off cell outside = entry_after before.grid now.grid (indices_listed before.grid change.cells) cell (record { width = is.width; height = is.height; squares = is.squares }) outside
 
   -- the cell is listed
   record IsListed (cell : ℕ) : Type 0 where
@@ -86,7 +86,7 @@ module _ (before now : State) (action : Action) (change : Fields) (is : IsChange
     pub at : index_of now.grid listed.0 ≡ cell
     pub old : listed.1 ≡ entry old_board cell
 
-  listed_at : (cell : ℕ) → Contains (places_listed before.grid change.cells) cell → IsListed cell
+  listed_at : (cell : ℕ) → Contains (indices_listed before.grid change.cells) cell → IsListed cell
   listed_at cell (k, below, at) =
       let found = unmap (λ (listed : Cell × Option ℕ). index_of before.grid listed.0) change.cells k cell below at in
       let written : Contains (map (with_entry_of before.grid) (cells_written before.grid action)) found.0 = subst (λ ls. Contains ls found.0) is.cells found.1 in
@@ -114,10 +114,10 @@ module _ (before now : State) (action : Action) (change : Fields) (is : IsChange
   -- if no word of its length has changed, a light has the same known words as before
   pub changed_words_same : (light : ℕ) → is_long change.word (length (light_at new_board light)) ≡ false → row now.words (length (light_at new_board light)) ≡ row before.words (length (light_at new_board light))
   changed_words_same light short = same_elements _ _ (λ k. is.entries (length (light_at new_board light)) k (not_there k change.word refl)) where
-    not_there : (k : ℕ) (word : Option (ℕ × ℕ)) → change.word ≡ word → ¬ IsPlaceOf change.word (length (light_at new_board light)) k
-    not_there k None none found = subst (λ w. IsPlaceOf w (length (light_at new_board light)) k) none found
+    not_there : (k : ℕ) (word : Option (ℕ × ℕ)) → change.word ≡ word → ¬ IsIndexOf change.word (length (light_at new_board light)) k
+    not_there k None none found = subst (λ w. IsIndexOf w (length (light_at new_board light)) k) none found
     not_there k (Some word) some found =
-        let there = subst (λ w. IsPlaceOf w (length (light_at new_board light)) k) some found in
+        let there = subst (λ w. IsIndexOf w (length (light_at new_board light)) k) some found in
         both_ways _ short (ap (λ w. is_long w (length (light_at new_board light))) some ∙ eq-eqb word.0 (length (light_at new_board light)) there.0)
 
   module _ (calm : (light : ℕ) → light < length new_board.lights → queued light ≡ false → may_have change.word (length (light_at new_board light)) (base_bits new_board (light_at new_board light) (row now.words (length (light_at new_board light)))) ≡ false)
@@ -127,10 +127,10 @@ module _ (before now : State) (action : Action) (change : Fields) (is : IsChange
 
     -- two rows of known words differ in one word, whose base flag is clear
     record IsRowBut (cells : List ℕ) : Type 0 where
-      pub place : ℕ
-      pub inner : place + 1 < length (row now.words (length cells))
-      pub off : get_or (base_bits new_board cells (row now.words (length cells))) place false ≡ false
-      pub others : (k : ℕ) → (k ≡ place → ⊥) → slice_get (row now.words (length cells)) k ≡ slice_get (row before.words (length cells)) k
+      pub index : ℕ
+      pub inner : index + 1 < length (row now.words (length cells))
+      pub off : get_or (base_bits new_board cells (row now.words (length cells))) index false ≡ false
+      pub others : (k : ℕ) → (k ≡ index → ⊥) → slice_get (row now.words (length cells)) k ≡ slice_get (row before.words (length cells)) k
 
     -- the changed word is not a base word of a light that is not a seed
     pub changed_has_not : (light : ℕ) → light < length new_board.lights → seed light ≡ false → may_have change.word (length (light_at new_board light)) (base_bits new_board (light_at new_board light) (row now.words (length (light_at new_board light)))) ≡ false
@@ -151,7 +151,7 @@ module _ (before now : State) (action : Action) (change : Fields) (is : IsChange
         | inl e ↦
             let no : may_have (Some word) (length (light_at new_board light)) bits ≡ true → ⊥ = λ h. both_ways _ (changed_has_not light in_board no_seed) (ap (λ w. may_have w (length (light_at new_board light)) bits) some ∙ h) in
             inr (record {
-              place = word.1;
+              index = word.1;
               inner = elim (cases_Bool (leb (length bits) (word.1 + 1))) [
                 | inl last ↦ absurd (no (and_from _ _ e (or_left _ _ last)))
                 | inr not_last ↦ subst (λ n. word.1 + 1 < n) (length-base_bits new_board (light_at new_board light) (row now.words (length (light_at new_board light)))) (leb-false (length bits) (word.1 + 1) not_last)
@@ -160,13 +160,13 @@ module _ (before now : State) (action : Action) (change : Fields) (is : IsChange
                 | inl on ↦ absurd (no (and_from _ _ e (or_right (leb (length bits) (word.1 + 1)) _ on)))
                 | inr is_off ↦ is_off
               ];
-              others = λ k apart. is.entries (length (light_at new_board light)) k (λ found. apart (sym (subst (λ w. IsPlaceOf w (length (light_at new_board light)) k) some found).1));
+              others = λ k apart. is.entries (length (light_at new_board light)) k (λ found. apart (sym (subst (λ w. IsIndexOf w (length (light_at new_board light)) k) some found).1));
             })
       ]
 
     -- the number of known words stays
-    at_least : (xs ys : List Entry) (place : ℕ) → place < length ys → ((k : ℕ) → (k ≡ place → ⊥) → slice_get xs k ≡ slice_get ys k) → length xs ≤ length ys
-    at_least xs ys place below same = elim (cases_lt (length ys) (length xs)) [
+    at_least : (xs ys : List Entry) (index : ℕ) → index < length ys → ((k : ℕ) → (k ≡ index → ⊥) → slice_get xs k ≡ slice_get ys k) → length xs ≤ length ys
+    at_least xs ys index below same = elim (cases_lt (length ys) (length xs)) [
       | inr done ↦ done
       | inl more ↦
           let within = slice_get_within ys (length ys) (get_or xs (length ys) no_entry) (sym (same (length ys) (λ e. absurd (omega arith))) ∙ slice_get-get_or xs (length ys) no_entry more) in
@@ -179,9 +179,9 @@ module _ (before now : State) (action : Action) (change : Fields) (is : IsChange
       | inr but ↦
           let new_row = row now.words (length (light_at new_board light)) in
           let old_row = row before.words (length (light_at new_board light)) in
-          let within = slice_get_within old_row (but.place + 1) (get_or new_row (but.place + 1) no_entry) (sym (but.others (but.place + 1) (λ e. absurd (omega arith))) ∙ slice_get-get_or new_row (but.place + 1) no_entry but.inner) in
-          let most = at_least new_row old_row but.place (omega arith) but.others in
-          let least = at_least old_row new_row but.place (omega (arith, but.inner)) (λ k apart. sym (but.others k apart)) in
+          let within = slice_get_within old_row (but.index + 1) (get_or new_row (but.index + 1) no_entry) (sym (but.others (but.index + 1) (λ e. absurd (omega arith))) ∙ slice_get-get_or new_row (but.index + 1) no_entry but.inner) in
+          let most = at_least new_row old_row but.index (omega arith) but.others in
+          let least = at_least old_row new_row but.index (omega (arith, but.inner)) (λ k apart. sym (but.others k apart)) in
           let long_new = length-map new_row (λ (word : Entry). word.word) in
           let long_old = length-map old_row (λ (word : Entry). word.word) in
           ext_get_or [] (map (λ (word : Entry). word.word) new_row) (map (λ (word : Entry). word.word) old_row) (omega arith)
@@ -193,7 +193,7 @@ module _ (before now : State) (action : Action) (change : Fields) (is : IsChange
     pub changed_active : (light choice : ℕ) → light < length new_board.lights → seed light ≡ false → is_base_at new_board now.words light choice ≡ true → get_or (actives now.words (length (light_at new_board light))) choice false ≡ true → get_or (actives before.words (length (light_at new_board light))) choice false ≡ true
     changed_active light choice in_board no_seed base act = elim (row_cases light in_board no_seed) [
       | inl same ↦ ap (λ (r : List Entry). get_or (map (λ (word : Entry). word.active) r) choice false) (sym same) ∙ act
-      | inr but ↦ elim (cases_eq choice but.place) [
+      | inr but ↦ elim (cases_eq choice but.index) [
         | inl e ↦
             let bits = base_bits new_board (light_at new_board light) (row now.words (length (light_at new_board light))) in
             let below : choice < length bits = omega (arith, e, but.inner, length-base_bits new_board (light_at new_board light) (row now.words (length (light_at new_board light)))) in
@@ -254,11 +254,11 @@ module _ (before now : State) (action : Action) (change : Fields) (is : IsChange
 
   -- ---- letters
 
-  may_same : (cell letter : ℕ) → ¬ Contains (places_listed before.grid change.cells) cell → may_stand (board_of now.grid) cell letter ≡ may_stand (board_of before.grid) cell letter
+  may_same : (cell letter : ℕ) → ¬ Contains (indices_listed before.grid change.cells) cell → may_stand (board_of now.grid) cell letter ≡ may_stand (board_of before.grid) cell letter
   may_same cell letter outside =
-      let written : IsWrittenAt before.grid now.grid (places_listed before.grid change.cells) = record { width = is.width; height = is.height; squares = is.squares } in
-      ap (λ o. (o && is_capital letter) && allows (entry (board_of now.grid) cell) letter) (open_after before.grid now.grid (places_listed before.grid change.cells) cell written outside)
-      ∙ ap (λ e. (is_open (board_of before.grid) cell && is_capital letter) && allows e letter) (entry_after before.grid now.grid (places_listed before.grid change.cells) cell written outside)
+      let written : IsWrittenAt before.grid now.grid (indices_listed before.grid change.cells) = record { width = is.width; height = is.height; squares = is.squares } in
+      ap (λ o. (o && is_capital letter) && allows (entry (board_of now.grid) cell) letter) (open_after before.grid now.grid (indices_listed before.grid change.cells) cell written outside)
+      ∙ ap (λ e. (is_open (board_of before.grid) cell && is_capital letter) && allows e letter) (entry_after before.grid now.grid (indices_listed before.grid change.cells) cell written outside)
 
   -- each letter in the net is allowed, if it was allowed before
   pub changed_letters_may : (settled : ℕ → ℕ → Bool) → ((cell letter : ℕ) → settled cell letter ≡ true → may_stand (board_of before.grid) cell letter ≡ true)
@@ -299,28 +299,28 @@ mapped f [] x k below at = absurd (omega arith)
 mapped f (y ∷ xs) x zero below at = (0, omega arith, ap f at)
 mapped f (y ∷ xs) x (suc k) below at = let rest = mapped f xs x k (omega arith) at in (suc rest.0, omega (arith, rest.1), rest.2)
 
-first_of : (len place word_len at : ℕ) → ◌≡◌ {A = Option (ℕ × ℕ)} (Some (len, place)) (Some (word_len, at)) → len ≡ word_len
-first_of len place word_len at h = ap (λ (o : Option (ℕ × ℕ)). (unwrap_or o (len, place)).0) h
+first_of : (len index word_len at : ℕ) → ◌≡◌ {A = Option (ℕ × ℕ)} (Some (len, index)) (Some (word_len, at)) → len ≡ word_len
+first_of len index word_len at h = ap (λ (o : Option (ℕ × ℕ)). (unwrap_or o (len, index)).0) h
 
-added_len : (len word_len place : ℕ) (answer : Result Added WordFault) → place_added len answer ≡ Some (word_len, place) → eqb len word_len ≡ true
-added_len len word_len place (Ok (New at)) h = eq-eqb len word_len (first_of len at word_len place h)
-added_len len word_len place (Ok (Returned at)) h = eq-eqb len word_len (first_of len at word_len place h)
-added_len len word_len place (Err fault) h = cc
+added_len : (len word_len index : ℕ) (answer : Result Added WordFault) → index_added len answer ≡ Some (word_len, index) → eqb len word_len ≡ true
+added_len len word_len index (Ok (New at)) h = eq-eqb len word_len (first_of len at word_len index h)
+added_len len word_len index (Ok (Returned at)) h = eq-eqb len word_len (first_of len at word_len index h)
+added_len len word_len index (Err fault) h = cc
 
-struck_len : (len word_len place : ℕ) (answer : Result ℕ WordFault) → place_struck len answer ≡ Some (word_len, place) → eqb len word_len ≡ true
-struck_len len word_len place (Ok at) h = eq-eqb len word_len (first_of len at word_len place h)
-struck_len len word_len place (Err fault) h = cc
+struck_len : (len word_len index : ℕ) (answer : Result ℕ WordFault) → index_struck len answer ≡ Some (word_len, index) → eqb len word_len ≡ true
+struck_len len word_len index (Ok at) h = eq-eqb len word_len (first_of len at word_len index h)
+struck_len len word_len index (Err fault) h = cc
 
-changed_len : (words : Dictionary) (action : Action) (word_len place : ℕ) → word_changed words action ≡ Some (word_len, place) → changes_words action word_len ≡ true
-changed_len words (word_added word) word_len place h = added_len (length word) word_len place (add_answer words word) h
-changed_len words (word_struck word) word_len place h = struck_len (length word) word_len place (strike_answer words word) h
-changed_len words (letter_set cell letter) word_len place h = cc
-changed_len words (cell_cleared cell) word_len place h = cc
-changed_len words (word_placed name word) word_len place h = cc
-changed_len words (list_written list) word_len place h = cc
-changed_len words (block_toggled cell) word_len place h = cc
-changed_len words (bar_toggled cell side) word_len place h = cc
-changed_len words (symmetry_chosen kind) word_len place h = cc
+changed_len : (words : Dictionary) (action : Action) (word_len index : ℕ) → word_changed words action ≡ Some (word_len, index) → changes_words action word_len ≡ true
+changed_len words (word_added word) word_len index h = added_len (length word) word_len index (add_answer words word) h
+changed_len words (word_struck word) word_len index h = struck_len (length word) word_len index (strike_answer words word) h
+changed_len words (letter_set cell letter) word_len index h = cc
+changed_len words (cell_cleared cell) word_len index h = cc
+changed_len words (word_placed name word) word_len index h = cc
+changed_len words (list_written list) word_len index h = cc
+changed_len words (block_toggled cell) word_len index h = cc
+changed_len words (bar_toggled cell side) word_len index h = cc
+changed_len words (symmetry_chosen kind) word_len index h = cc
 
 module _ (before now : State) (action : Action) (change : Fields) (is : IsChange before now action change) (member : List ℕ → Bool) (region : IsRegion before now action member) where
   -- the new lights, those through edited cells, and those with the length of the changed word are
@@ -331,18 +331,18 @@ module _ (before now : State) (action : Action) (change : Fields) (is : IsChange
       let never : None ≡ Some found.0 = sym at ∙ found.2 in
       cc)
 
-  pub edited_within : (listed : Cell × Option ℕ) (light place : ℕ) → Contains change.cells listed → IsPlace (board_of now.grid) light place → cell_at (board_of now.grid) light place ≡ index_of now.grid listed.0 → member (light_at (board_of now.grid) light) ≡ true
-  edited_within listed light place has here at =
+  pub edited_within : (listed : Cell × Option ℕ) (light position : ℕ) → Contains change.cells listed → IsPositionIn (board_of now.grid) light position → cell_at (board_of now.grid) light position ≡ index_of now.grid listed.0 → member (light_at (board_of now.grid) light) ≡ true
+  edited_within listed light position has here at =
       let among = mapped (λ (l : Cell × Option ℕ). index_of before.grid l.0) change.cells listed has.0 has.1 has.2 in
-      let cells : places_listed before.grid change.cells ≡ edited_cells before.grid action = ap (places_listed before.grid) is.cells ∙ written_places before.grid action in
-      let cell : cell_at (board_of now.grid) light place ≡ index_of before.grid listed.0 = at ∙ ap (λ w. (listed.0.row - 1) * w + (listed.0.col - 1)) is.width in
-      region.edited (light_at (board_of now.grid) light) (cell_at (board_of now.grid) light place) (inr (light_stands now light here.0)) (Contains-get_or (light_at (board_of now.grid) light) place 0 here.1)
+      let cells : indices_listed before.grid change.cells ≡ edited_cells before.grid action = ap (indices_listed before.grid) is.cells ∙ written_indices before.grid action in
+      let cell : cell_at (board_of now.grid) light position ≡ index_of before.grid listed.0 = at ∙ ap (λ w. (listed.0.row - 1) * w + (listed.0.col - 1)) is.width in
+      region.edited (light_at (board_of now.grid) light) (cell_at (board_of now.grid) light position) (inr (light_stands now light here.0)) (Contains-get_or (light_at (board_of now.grid) light) position 0 here.1)
       (subst (Contains (edited_cells before.grid action)) (sym cell) (subst (λ ps. Contains ps (index_of before.grid listed.0)) cells among))
 
-  pub long_within : (word_len place light : ℕ) → change.word ≡ Some (word_len, place) → light < length (board_of now.grid).lights → length (light_at (board_of now.grid) light) ≡ word_len → member (light_at (board_of now.grid) light) ≡ true
-  long_within word_len place light some in_board long =
+  pub long_within : (word_len index light : ℕ) → change.word ≡ Some (word_len, index) → light < length (board_of now.grid).lights → length (light_at (board_of now.grid) light) ≡ word_len → member (light_at (board_of now.grid) light) ≡ true
+  long_within word_len index light some in_board long =
       region.long (light_at (board_of now.grid) light) (inr (light_stands now light in_board))
-      (ap (changes_words action) long ∙ changed_len before.words action word_len place (sym is.word ∙ some))
+      (ap (changes_words action) long ∙ changed_len before.words action word_len index (sym is.word ∙ some))
 
 -- ---- the state at which a revival starts
 
@@ -354,17 +354,17 @@ module _ (before now : State) (action : Action) (change : Fields) (is : IsChange
     (new_seeds : (light : ℕ) → light < length (board_of now.grid).lights → same_light before.grid now.grid light ≡ None → seed light ≡ true)
     (calm : (light : ℕ) → light < length (board_of now.grid).lights → start.queued light ≡ false → may_have change.word (length (light_at (board_of now.grid) light)) (base_bits (board_of now.grid) (light_at (board_of now.grid) light) (row now.words (length (light_at (board_of now.grid) light)))) ≡ false)
     (seeds : (light : ℕ) → light < length (board_of now.grid).lights → start.queued light ≡ true → is_seed (board_of now.grid) change.word (light_at (board_of now.grid) light) (base_bits (board_of now.grid) (light_at (board_of now.grid) light) (row now.words (length (light_at (board_of now.grid) light)))) ≡ true → seed light ≡ true)
-    (spread : IsSpread (board_of now.grid) settled.letters start.letters seed waiting no_places)
+    (spread : IsSpread (board_of now.grid) settled.letters start.letters seed waiting no_positions)
     (opened : (listed : Cell × Option ℕ) → Contains change.cells listed → is_fill (board_of now.grid) (index_of now.grid listed.0) listed.1 ≡ true → is_open (board_of before.grid) (index_of now.grid listed.0) ≡ true)
     (lights : (light choice : ℕ) → start.words light choice ≡ true → light < length (board_of now.grid).lights)
     (words_on : (light other choice : ℕ) → light < length (board_of now.grid).lights → seed light ≡ false → start.queued light ≡ true → same_light before.grid now.grid light ≡ Some other → start.words light choice ≡ (settled.words other choice && is_base_at (board_of now.grid) now.words light choice))
     (words_off : (light other choice : ℕ) → light < length (board_of now.grid).lights → seed light ≡ false → start.queued light ≡ false → same_light before.grid now.grid light ≡ Some other → start.words light choice ≡ settled.words other choice)
     (words_calm : (light other choice : ℕ) → light < length (board_of now.grid).lights → start.queued light ≡ false → seed light ≡ false → same_light before.grid now.grid light ≡ Some other → settled.words other choice ≡ true → is_base_at (board_of now.grid) now.words light choice ≡ true)
     (freed : (other k : ℕ) → other < length (board_of before.grid).lights → ¬ StandsOn (board_of now.grid) (same_light before.grid now.grid) other → k < length (light_at (board_of before.grid) other) → HasAll (board_of now.grid) start.letters (slice_index (light_at (board_of before.grid) other) k))
-    (held : (light place letter : ℕ) → IsPlace (board_of now.grid) light place → is_capital letter ≡ true → seed light ≡ false → start.held (slot_at (board_of now.grid) light place) letter ≡ settled.held (slot_at (board_of now.grid) light place) letter)
+    (held : (light position letter : ℕ) → IsPositionIn (board_of now.grid) light position → is_capital letter ≡ true → seed light ≡ false → start.held (slot_at (board_of now.grid) light position) letter ≡ settled.held (slot_at (board_of now.grid) light position) letter)
     (restart : (slot letter : ℕ) → start.restart slot letter ≡ settled.restart slot letter)
-    (pending : (light place letter : ℕ) → IsPlace (board_of now.grid) light place → start.pending (slot_at (board_of now.grid) light place) letter ≡ false)
-    (hits : (light place letter : ℕ) → IsPlace (board_of now.grid) light place → is_capital letter ≡ true → start.held (slot_at (board_of now.grid) light place) letter < known (board_of now.grid) now.words light → puts (board_of now.grid) now.words light place letter (start.held (slot_at (board_of now.grid) light place) letter) ≡ true) where
+    (pending : (light position letter : ℕ) → IsPositionIn (board_of now.grid) light position → start.pending (slot_at (board_of now.grid) light position) letter ≡ false)
+    (hits : (light position letter : ℕ) → IsPositionIn (board_of now.grid) light position → is_capital letter ≡ true → start.held (slot_at (board_of now.grid) light position) letter < known (board_of now.grid) now.words light → puts (board_of now.grid) now.words light position letter (start.held (slot_at (board_of now.grid) light position) letter) ≡ true) where
   pub changed_started : IsStarted (board_of before.grid) (board_of now.grid) before.words now.words (same_light before.grid now.grid) settled start seed
   changed_started = record {
     matched = λ light in_board no_seed. by_match light in_board no_seed (same_light before.grid now.grid light) refl;
@@ -381,9 +381,9 @@ module _ (before now : State) (action : Action) (change : Fields) (is : IsChange
         (exact_may (board_of before.grid) before.words settled.words settled.letters exact) spread.from cell letter stands;
     letters_stay = spread.stay;
     letters_come = λ cell letter may might_not. changed_letters_come before now action change is start.letters start.queued seed inside edited new opened cell letter may might_not;
-    letters_reach = λ light place letter here stands stood_not. elim (cases_Bool (settled.letters (cell_at (board_of now.grid) light place) letter)) [
+    letters_reach = λ light position letter here stands stood_not. elim (cases_Bool (settled.letters (cell_at (board_of now.grid) light position) letter)) [
       | inl stood ↦ absurd (stood_not stood)
-      | inr none ↦ spread.reaches light place letter here stands none
+      | inr none ↦ spread.reaches light position letter here stands none
     ];
     freed = freed;
     held = held;

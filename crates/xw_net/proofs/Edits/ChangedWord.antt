@@ -4,7 +4,7 @@ use Rattle.std.specs.Prelude.{Option}
 use Rattle.std.proofs.lemmas.Bool.{and_parts, or_cases, eqb-true}
 use Rattle.xw_net.specs.Begin.{is_long, may_have, has_changed}
 
-pub long_word : (word : Option (ℕ × ℕ)) (len : ℕ) → is_long word len ≡ true → (place : ℕ) × (word ≡ Some (len, place))
+pub long_word : (word : Option (ℕ × ℕ)) (len : ℕ) → is_long word len ≡ true → (index : ℕ) × (word ≡ Some (len, index))
 long_word None len long = cc
 long_word (Some word) len long = (word.1, ap (λ n. Some (n, word.1)) (eqb-true word.0 len long))
 

@@ -9,7 +9,7 @@ use Rattle.xw_grid.specs.declared.cell.Square.{Square}
 use Rattle.xw_grid.specs.declared.cell.Square.TheVariants.{Block, Open}
 use Rattle.xw_grid.specs.declared.fault.GridFault.TheVariants as grids
 use Rattle.xw_grid.specs.Grid.{Grid, IsGrid, is_inside, is_block, index_of, is_open_square, is_block_square, letter_in}
-use Rattle.xw_grid.specs.Light.{lights_of, place_named, no_light}
+use Rattle.xw_grid.specs.Light.{lights_of, index_named, no_light}
 use Rattle.xw_grid.specs.Orbit.{is_in_orbit}
 use Rattle.xw_grid.specs.Edit.{set_entry, toggle_block, turned, square_of, with_entry}
 use Rattle.xw_grid.proofs.GridLemmas.{index_of-lt}
@@ -19,12 +19,12 @@ use Rattle.xw_feas.specs.State.{State, Action, grid_after, write_list, letter_se
 use Rattle.xw_feas.specs.WellFormed.{IsLaidOut}
 use Rattle.xw_feas.proofs.BoardLemmas.{is_open-square, entry-square, length-lights, light_at-board}
 use Rattle.xw_feas.proofs.WordsLemmas.{named_within}
-use Rattle.xw_net.specs.Change.{Fields, IsChange, places_listed}
+use Rattle.xw_net.specs.Change.{Fields, IsChange, indices_listed}
 use Rattle.xw_net.specs.Begin.{is_fill}
 use Rattle.xw_net.specs.Region.{cells_named, edited_cells}
 use Rattle.xw_net.proofs.Edits.WrittenCells.{list_open}
 use Rattle.xw_net.proofs.Edits.KeptByEdits.{by_fault-Ok, contains_mapped, grid_of_after}
-use Rattle.xw_net.proofs.Edits.ChangeFacts.{written_places}
+use Rattle.xw_net.proofs.Edits.ChangeFacts.{written_indices}
 
 -- the square of a cell of a grid
 square_there : (grid : Grid) (cell : Cell) → IsGrid grid → is_inside grid cell ≡ true → slice_get grid.squares (index_of grid cell) ≡ Some (square_of grid cell)
@@ -54,12 +54,12 @@ turned_open Block true false h = absurd (false≢true h)
 turned_open Block false blocked h = absurd (false≢true h)
 turned_open (Open entered) painted blocked h = refl
 
-only_one : (place cell : ℕ) → Contains (cell ∷ []) place → cell ≡ place
-only_one place cell (zero, below, at) = at
-only_one place cell (suc k, below, at) = absurd (omega (arith, below))
+only_one : (index cell : ℕ) → Contains (cell ∷ []) index → cell ≡ index
+only_one index cell (zero, below, at) = at
+only_one index cell (suc k, below, at) = absurd (omega (arith, below))
 
-in_none : (cells : List ℕ) (place : ℕ) → length cells ≡ 0 → Contains cells place → ⊥
-in_none cells place none (k, below, at) = omega (arith, below, none)
+in_none : (cells : List ℕ) (index : ℕ) → length cells ≡ 0 → Contains cells index → ⊥
+in_none cells index none (k, below, at) = omega (arith, below, none)
 
 module _ (grid new : Grid) (other : Cell) (is : IsGrid grid) (laid_out : IsLaidOut (board_of grid)) (inside : is_inside grid other ≡ true) where
   open_at : (light : ℕ) → Contains (light_at (board_of grid) light) (index_of grid other) → is_open (board_of grid) (index_of grid other) ≡ true
@@ -67,7 +67,7 @@ module _ (grid new : Grid) (other : Cell) (is : IsGrid grid) (laid_out : IsLaidO
 
   open_found : (found : Option ℕ) → ((light : ℕ) → found ≡ Some light → light < length (lights_of grid)) → Contains (map (index_of grid) (cells_named grid found)) (index_of grid other) → is_open (board_of grid) (index_of grid other) ≡ true
   open_found None within among = absurd (in_none [] (index_of grid other) refl among)
-  open_found (Some light) within among = open_at light (subst (λ places. Contains places (index_of grid other)) (sym (light_at-board grid light no_light (within light refl))) among)
+  open_found (Some light) within among = open_at light (subst (λ indices. Contains indices (index_of grid other)) (sym (light_at-board grid light no_light (within light refl))) among)
 
   written_one : (cell : Cell) (letter : Option ℕ) → index_of grid cell ≡ index_of grid other → set_entry grid cell letter ≡ Ok new → is_open (board_of grid) (index_of grid other) ≡ true
   written_one cell letter same ok = by_inside (is_inside grid cell) refl where
@@ -89,7 +89,7 @@ module _ (grid new : Grid) (other : Cell) (is : IsGrid grid) (laid_out : IsLaidO
       → is_some (entry (board_of new) (index_of grid other)) ≡ true → is_open (board_of grid) (index_of grid other) ≡ true
   open_written (letter_set cell letter) ok same inside_new among has = written_one cell (Some letter) (only_one (index_of grid other) (index_of grid cell) among) (by_fault-Ok (set_entry grid cell (Some letter)) new ok)
   open_written (cell_cleared cell) ok same inside_new among has = written_one cell None (only_one (index_of grid other) (index_of grid cell) among) (by_fault-Ok (set_entry grid cell None) new ok)
-  open_written (word_placed name word) ok same inside_new among has = open_found (place_named (lights_of grid) name) (λ light found. omega (arith, named_within grid name light found, length-lights grid)) among
+  open_written (word_placed name word) ok same inside_new among has = open_found (index_named (lights_of grid) name) (λ light found. omega (arith, named_within grid name light found, length-lights grid)) among
   open_written (list_written list) ok same inside_new among has = list_open grid new list (index_of grid other) (by_fault-Ok (write_list list grid) new ok) has
   open_written (block_toggled cell) ok same inside_new among has = block_open cell (by_fault-Ok (toggle_block grid cell) new ok) same inside_new has
   open_written (bar_toggled cell side) ok same inside_new among has = absurd (in_none [] (index_of grid other) refl among)
@@ -105,7 +105,7 @@ filled_was_open before now action change is listed has inside inside_now fill =
     let same : index_of now.grid listed.0 ≡ index_of before.grid listed.0 = ap (λ w. (listed.0.row - 1) * w + (listed.0.col - 1)) is.width in
     let letter = (and_parts (is_none listed.1) (is_some (entry (board_of now.grid) (index_of now.grid listed.0))) fill).1 in
     let among : Contains (edited_cells before.grid action) (index_of before.grid listed.0) =
-    subst (λ ps. Contains ps (index_of before.grid listed.0)) (ap (places_listed before.grid) is.cells ∙ written_places before.grid action) (contains_mapped (λ (l : Cell × Option ℕ). index_of before.grid l.0) change.cells listed has) in
+    subst (λ ps. Contains ps (index_of before.grid listed.0)) (ap (indices_listed before.grid) is.cells ∙ written_indices before.grid action) (contains_mapped (λ (l : Cell × Option ℕ). index_of before.grid l.0) change.cells listed has) in
     subst (λ p. is_open (board_of before.grid) p ≡ true) (sym same)
     (open_written before.grid now.grid listed.0 is.formed_before.grid is.formed_before.board inside action (grid_of_after before now action is.made) same inside_now among
     (subst (λ p. is_some (entry (board_of now.grid) p) ≡ true) same letter))

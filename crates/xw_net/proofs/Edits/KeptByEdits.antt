@@ -21,7 +21,7 @@ use Rattle.xw_grid.specs.declared.cell.Symmetry.{Symmetry}
 use Rattle.xw_grid.specs.declared.fault.GridFault.{GridFault}
 use Rattle.xw_grid.specs.declared.fault.GridFault.TheVariants as grids
 use Rattle.xw_grid.specs.Grid.{Grid, IsGrid, is_inside, is_block, is_barred, is_open_square, letter_in, entry as entry_of, index_of, cells, cell_at}
-use Rattle.xw_grid.specs.Light.{lights_of, cells_of, place_named, no_light}
+use Rattle.xw_grid.specs.Light.{lights_of, cells_of, index_named, no_light}
 use Rattle.xw_grid.specs.Edit.{with_entry, set_entry, set_symmetry, toggle_block, toggle_bar, with_orbit, with_edges, turned, square_of}
 use Rattle.xw_grid.specs.Orbit.{is_in_orbit, orbit_of}
 use Rattle.xw_grid.proofs.GridLemmas.{index_of-cell_at, length-cells, cell_at-inside}
@@ -34,12 +34,12 @@ use Rattle.xw_net.specs.Region.{cells_named, same_entry, cells_changed, edited_c
 use Rattle.xw_net.proofs.Edits.WrittenCells.{StaysOrOpen, LeavesOpen, list_leaves}
 
 -- a write keeps the other elements
-slice_get-set_other : {X : Type 0} (xs : List X) (at place : ℕ) (x : X) → (place ≡ at → ⊥) → slice_get (set xs at x) place ≡ slice_get xs place
-slice_get-set_other [] at place x apart = refl
+slice_get-set_other : {X : Type 0} (xs : List X) (at index : ℕ) (x : X) → (index ≡ at → ⊥) → slice_get (set xs at x) index ≡ slice_get xs index
+slice_get-set_other [] at index x apart = refl
 slice_get-set_other (y ∷ ys) zero zero x apart = absurd (apart refl)
-slice_get-set_other (y ∷ ys) zero (suc place) x apart = refl
+slice_get-set_other (y ∷ ys) zero (suc index) x apart = refl
 slice_get-set_other (y ∷ ys) (suc at) zero x apart = refl
-slice_get-set_other (y ∷ ys) (suc at) (suc place) x apart = slice_get-set_other ys at place x (λ e. apart (omega (arith, e)))
+slice_get-set_other (y ∷ ys) (suc at) (suc index) x apart = slice_get-set_other ys at index x (λ e. apart (omega (arith, e)))
 
 pub contains_first : {X : Type 0} (x : X) (xs : List X) → Contains (x ∷ xs) x
 contains_first x xs = (0, omega arith, refl)
@@ -57,34 +57,34 @@ entry_written grid new cell letter ok = by_tests (not (is_inside grid cell)) (is
   by_tests false false h = cc
 
 -- the squares of all other cells and the size are unchanged
-pub record IsWrittenAt (old new : Grid) (places : List ℕ) : Type 0 where
+pub record IsWrittenAt (old new : Grid) (indices : List ℕ) : Type 0 where
   pub width : new.width ≡ old.width
   pub height : new.height ≡ old.height
-  pub squares : (place : ℕ) → ¬ Contains places place → slice_get new.squares place ≡ slice_get old.squares place
+  pub squares : (index : ℕ) → ¬ Contains indices index → slice_get new.squares index ≡ slice_get old.squares index
 
 entry_kept : (grid new : Grid) (cell : Cell) (letter : Option ℕ) → set_entry grid cell letter ≡ Ok new → IsWrittenAt grid new (index_of grid cell ∷ [])
 entry_kept grid new cell letter ok = subst (λ g. IsWrittenAt grid g (index_of grid cell ∷ [])) (entry_written grid new cell letter ok) (record {
   width = refl;
   height = refl;
-  squares = λ place outside. slice_get-set_other grid.squares (index_of grid cell) place (Open letter) (λ e. outside (subst (λ p. Contains (index_of grid cell ∷ []) p) (sym e) (contains_first (index_of grid cell) [])));
+  squares = λ index outside. slice_get-set_other grid.squares (index_of grid cell) index (Open letter) (λ e. outside (subst (λ p. Contains (index_of grid cell ∷ []) p) (sym e) (contains_first (index_of grid cell) [])));
 })
 
 -- placing a word writes the cells of its light only
 letters_kept : (grid : Grid) (light_cells : List Cell) (letters : List ℕ) → IsWrittenAt grid (with_letters grid light_cells letters) (map (index_of grid) light_cells)
-letters_kept grid [] letters = record { width = refl; height = refl; squares = λ place outside. refl }
-letters_kept grid (cell ∷ light_cells) [] = record { width = refl; height = refl; squares = λ place outside. refl }
+letters_kept grid [] letters = record { width = refl; height = refl; squares = λ index outside. refl }
+letters_kept grid (cell ∷ light_cells) [] = record { width = refl; height = refl; squares = λ index outside. refl }
 letters_kept grid (cell ∷ light_cells) (letter ∷ letters) =
     let rest = letters_kept (with_entry grid cell (Some letter)) light_cells letters in
     record {
       width = rest.width;
       height = rest.height;
-      squares = λ place outside.
-          rest.squares place (λ later. outside (contains_later place (index_of grid cell) (map (index_of grid) light_cells) later))
-          ∙ slice_get-set_other grid.squares (index_of grid cell) place (Open (Some letter)) (λ e. outside (subst (λ p. Contains (index_of grid cell ∷ map (index_of grid) light_cells) p) (sym e) (contains_first (index_of grid cell) (map (index_of grid) light_cells))));
+      squares = λ index outside.
+          rest.squares index (λ later. outside (contains_later index (index_of grid cell) (map (index_of grid) light_cells) later))
+          ∙ slice_get-set_other grid.squares (index_of grid cell) index (Open (Some letter)) (λ e. outside (subst (λ p. Contains (index_of grid cell ∷ map (index_of grid) light_cells) p) (sym e) (contains_first (index_of grid cell) (map (index_of grid) light_cells))));
     }
 
 word_kept : (grid new : Grid) (name : LightName) (bytes : List ℕ) → place_word grid name bytes ≡ Ok new → IsWrittenAt grid new (edited_cells grid (word_placed name bytes))
-word_kept grid new name bytes ok = by_place (place_named (lights_of grid) name) ok where
+word_kept grid new name bytes ok = by_index (index_named (lights_of grid) name) ok where
   by_size : (light : Light) (fits : Bool) → cond fits (Ok (with_letters grid (cells_of light) (map folded bytes))) (Err refusals.PlaceLength) ≡ Ok new → IsWrittenAt grid new (map (index_of grid) (cells_of light))
   by_size light false h = cc
   by_size light true h =
@@ -95,9 +95,9 @@ word_kept grid new name bytes ok = by_place (place_named (lights_of grid) name) 
   by_word light (Some at) h = cc
   by_word light None h = by_size light (eqb (length bytes) light.size) h
 
-  by_place : (found : Option ℕ) → placed_in grid found bytes ≡ Ok new → IsWrittenAt grid new (map (index_of grid) (cells_named grid found))
-  by_place None h = cc
-  by_place (Some place) h = by_word (get_or (lights_of grid) place no_light) (position is_bad_letter bytes) h
+  by_index : (found : Option ℕ) → placed_in grid found bytes ≡ Ok new → IsWrittenAt grid new (map (index_of grid) (cells_named grid found))
+  by_index None h = cc
+  by_index (Some index) h = by_word (get_or (lights_of grid) index no_light) (position is_bad_letter bytes) h
 
 -- an element that passes a filter is in the result
 pub contains_filtered : {X : Type 0} (test : X → Bool) (xs : List X) (x : X) → Contains xs x → test x ≡ true → Contains (filter test xs) x
@@ -118,21 +118,21 @@ block_kept grid new cell is ok = by_tests (is_inside grid cell) _ refl ok where
   value : Cell → Square
   value other = cond (is_in_orbit grid cell other) (turned (not (is_block grid cell)) (square_of grid other)) (square_of grid other)
 
-  kept_at : is_inside grid cell ≡ true → (place : ℕ) → ¬ Contains (map (index_of grid) (orbit_of grid cell)) place → slice_get (map value (cells grid)) place ≡ slice_get grid.squares place
-  kept_at inside place outside = elim (cases_lt place (length (cells grid))) [
-    | inr past ↦ slice_get_past (map value (cells grid)) place (omega (arith, length-map (cells grid) value)) ∙ sym (slice_get_past grid.squares place (omega (arith, length-cells grid, is.squares)))
+  kept_at : is_inside grid cell ≡ true → (index : ℕ) → ¬ Contains (map (index_of grid) (orbit_of grid cell)) index → slice_get (map value (cells grid)) index ≡ slice_get grid.squares index
+  kept_at inside index outside = elim (cases_lt index (length (cells grid))) [
+    | inr past ↦ slice_get_past (map value (cells grid)) index (omega (arith, length-map (cells grid) value)) ∙ sym (slice_get_past grid.squares index (omega (arith, length-cells grid, is.squares)))
     | inl below ↦
-        let here : get_or (cells grid) place (cell_at grid place) ≡ cell_at grid place = get_or-map-range_with_len (cell_at grid) 0 (grid.width * grid.height) place place (cell_at grid place) (omega (arith, length-cells grid)) (omega arith) in
-        let among : Contains (cells grid) (cell_at grid place) = subst (Contains (cells grid)) here (Contains-get_or (cells grid) place (cell_at grid place) below) in
-        let off : is_in_orbit grid cell (cell_at grid place) ≡ false = elim (cases_Bool (is_in_orbit grid cell (cell_at grid place))) [
+        let here : get_or (cells grid) index (cell_at grid index) ≡ cell_at grid index = get_or-map-range_with_len (cell_at grid) 0 (grid.width * grid.height) index index (cell_at grid index) (omega (arith, length-cells grid)) (omega arith) in
+        let among : Contains (cells grid) (cell_at grid index) = subst (Contains (cells grid)) here (Contains-get_or (cells grid) index (cell_at grid index) below) in
+        let off : is_in_orbit grid cell (cell_at grid index) ≡ false = elim (cases_Bool (is_in_orbit grid cell (cell_at grid index))) [
           | inr outside_orbit ↦ outside_orbit
-          | inl in_orbit ↦ absurd (outside (subst (Contains (map (index_of grid) (orbit_of grid cell))) (index_of-cell_at grid place)
-              (contains_mapped (index_of grid) (orbit_of grid cell) (cell_at grid place)
-              (rw inside (contains_filtered (is_in_orbit grid cell) (cells grid) (cell_at grid place) among in_orbit)))))
+          | inl in_orbit ↦ absurd (outside (subst (Contains (map (index_of grid) (orbit_of grid cell))) (index_of-cell_at grid index)
+              (contains_mapped (index_of grid) (orbit_of grid cell) (cell_at grid index)
+              (rw inside (contains_filtered (is_in_orbit grid cell) (cells grid) (cell_at grid index) among in_orbit)))))
         ] in
-        slice_get-get_or (map value (cells grid)) place Block (omega (arith, length-map (cells grid) value))
-        ∙ ap Some (get_or-map value (cells grid) place (cell_at grid place) Block below ∙ ap value here ∙ rw off (ap (λ p. get_or grid.squares p Block) (index_of-cell_at grid place)))
-        ∙ sym (slice_get-get_or grid.squares place Block (omega (arith, length-cells grid, is.squares)))
+        slice_get-get_or (map value (cells grid)) index Block (omega (arith, length-map (cells grid) value))
+        ∙ ap Some (get_or-map value (cells grid) index (cell_at grid index) Block below ∙ ap value here ∙ rw off (ap (λ p. get_or grid.squares p Block) (index_of-cell_at grid index)))
+        ∙ sym (slice_get-get_or grid.squares index Block (omega (arith, length-cells grid, is.squares)))
   ]
 
   by_tests : (inside occupied : Bool) → is_inside grid cell ≡ inside → cond (not inside) (Err grids.OutOfGrid) (cond occupied (Err grids.Occupied) (Ok (with_orbit grid cell (not (is_block grid cell))))) ≡ Ok new → IsWrittenAt grid new (map (index_of grid) (orbit_of grid cell))
@@ -142,8 +142,8 @@ block_kept grid new cell is ok = by_tests (is_inside grid cell) _ refl ok where
       let is_new : with_orbit grid cell (not (is_block grid cell)) ≡ new = cc in
       subst (λ g. IsWrittenAt grid g (map (index_of grid) (orbit_of grid cell))) is_new (record { width = refl; height = refl; squares = kept_at inside })
 
-same_squares : (grid : Grid) (places : List ℕ) → IsWrittenAt grid grid places
-same_squares grid places = record { width = refl; height = refl; squares = λ place outside. refl }
+same_squares : (grid : Grid) (indices : List ℕ) → IsWrittenAt grid grid indices
+same_squares grid indices = record { width = refl; height = refl; squares = λ index outside. refl }
 
 symmetry_kept : (grid new : Grid) (kind : Symmetry) → set_symmetry grid kind ≡ Ok new → IsWrittenAt grid new []
 symmetry_kept grid new kind ok = by_test _ ok where
@@ -151,7 +151,7 @@ symmetry_kept grid new kind ok = by_test _ ok where
   by_test true h = cc
   by_test false h =
       let is_new : record grid { symmetry = kind } ≡ new = cc in
-      subst (λ g. IsWrittenAt grid g []) is_new (record { width = refl; height = refl; squares = λ place outside. refl })
+      subst (λ g. IsWrittenAt grid g []) is_new (record { width = refl; height = refl; squares = λ index outside. refl })
 
 bar_kept : (grid new : Grid) (cell : Cell) (side : Side) → toggle_bar grid cell side ≡ Ok new → IsWrittenAt grid new []
 bar_kept grid new cell side ok = by_tests _ _ ok where
@@ -160,7 +160,7 @@ bar_kept grid new cell side ok = by_tests _ _ ok where
   by_tests false true h = cc
   by_tests false false h =
       let is_new : with_edges grid cell side (not (is_barred grid cell side)) ≡ new = cc in
-      subst (λ g. IsWrittenAt grid g []) is_new (record { width = refl; height = refl; squares = λ place outside. refl })
+      subst (λ g. IsWrittenAt grid g []) is_new (record { width = refl; height = refl; squares = λ index outside. refl })
 
 -- entries that compare as equal are equal
 same_entries : (one other : Option ℕ) → same_entry one other ≡ true → one ≡ other
@@ -174,7 +174,7 @@ list_kept : (grid new : Grid) (list : List (Cell × Option ℕ)) → IsGrid grid
 list_kept grid new list is ok = subst (λ r. IsWrittenAt grid new (map (index_of grid) (cells_changed grid (by_fault r)))) (sym ok) (record {
   width = ap (λ (g : Grid). g.width) leaves.alone;
   height = ap (λ (g : Grid). g.height) leaves.alone;
-  squares = λ place outside. kept_at place outside (leaves.squares place);
+  squares = λ index outside. kept_at index outside (leaves.squares index);
 }) where
   leaves : LeavesOpen grid new
   leaves = list_leaves list grid new ok
@@ -182,25 +182,25 @@ list_kept grid new list is ok = subst (λ r. IsWrittenAt grid new (map (index_of
   test : Cell → Bool
   test cell = not (same_entry (entry_of grid cell) (entry_of new cell))
 
-  kept_at : (place : ℕ) → ¬ Contains (map (index_of grid) (filter test (cells grid))) place → StaysOrOpen (slice_get grid.squares place) (slice_get new.squares place) → slice_get new.squares place ≡ slice_get grid.squares place
-  kept_at place outside (inl same) = same
-  kept_at place outside (inr (one, other, old, now)) = elim (cases_lt place (length (cells grid))) [
-    | inr past ↦ let none = slice_get_past grid.squares place (omega (arith, past, length-cells grid, is.squares)) in cc
+  kept_at : (index : ℕ) → ¬ Contains (map (index_of grid) (filter test (cells grid))) index → StaysOrOpen (slice_get grid.squares index) (slice_get new.squares index) → slice_get new.squares index ≡ slice_get grid.squares index
+  kept_at index outside (inl same) = same
+  kept_at index outside (inr (one, other, old, now)) = elim (cases_lt index (length (cells grid))) [
+    | inr past ↦ let none = slice_get_past grid.squares index (omega (arith, past, length-cells grid, is.squares)) in cc
     | inl below ↦
-        let cell = cell_at grid place in
-        let here : get_or (cells grid) place (cell_at grid place) ≡ cell_at grid place = get_or-map-range_with_len (cell_at grid) 0 (grid.width * grid.height) place place (cell_at grid place) (omega (arith, below, length-cells grid)) (omega arith) in
-        let among : Contains (cells grid) (cell_at grid place) = subst (Contains (cells grid)) here (Contains-get_or (cells grid) place (cell_at grid place) below) in
-        let inside : is_inside grid (cell_at grid place) ≡ true = cell_at-inside grid place is (omega (arith, below, length-cells grid)) in
-        let entry_old : entry_of grid (cell_at grid place) ≡ one =
-        ap (λ b. letter_in (cond b (slice_get grid.squares (index_of grid (cell_at grid place))) None)) inside ∙ ap (λ p. letter_in (slice_get grid.squares p)) (index_of-cell_at grid place) ∙ ap letter_in old in
-        let entry_new : entry_of new (cell_at grid place) ≡ other =
-        ap (λ (g : Grid). entry_of g (cell_at grid place)) leaves.alone
-        ∙ ap (λ b. letter_in (cond b (slice_get new.squares (index_of grid (cell_at grid place))) None)) inside ∙ ap (λ p. letter_in (slice_get new.squares p)) (index_of-cell_at grid place) ∙ ap letter_in now in
+        let cell = cell_at grid index in
+        let here : get_or (cells grid) index (cell_at grid index) ≡ cell_at grid index = get_or-map-range_with_len (cell_at grid) 0 (grid.width * grid.height) index index (cell_at grid index) (omega (arith, below, length-cells grid)) (omega arith) in
+        let among : Contains (cells grid) (cell_at grid index) = subst (Contains (cells grid)) here (Contains-get_or (cells grid) index (cell_at grid index) below) in
+        let inside : is_inside grid (cell_at grid index) ≡ true = cell_at-inside grid index is (omega (arith, below, length-cells grid)) in
+        let entry_old : entry_of grid (cell_at grid index) ≡ one =
+        ap (λ b. letter_in (cond b (slice_get grid.squares (index_of grid (cell_at grid index))) None)) inside ∙ ap (λ p. letter_in (slice_get grid.squares p)) (index_of-cell_at grid index) ∙ ap letter_in old in
+        let entry_new : entry_of new (cell_at grid index) ≡ other =
+        ap (λ (g : Grid). entry_of g (cell_at grid index)) leaves.alone
+        ∙ ap (λ b. letter_in (cond b (slice_get new.squares (index_of grid (cell_at grid index))) None)) inside ∙ ap (λ p. letter_in (slice_get new.squares p)) (index_of-cell_at grid index) ∙ ap letter_in now in
         let same : one ≡ other = elim (cases_Bool (same_entry one other)) [
           | inl alike ↦ same_entries one other alike
-          | inr apart ↦ absurd (outside (subst (Contains (map (index_of grid) (filter test (cells grid)))) (index_of-cell_at grid place)
-              (contains_mapped (index_of grid) (filter test (cells grid)) (cell_at grid place)
-              (contains_filtered test (cells grid) (cell_at grid place) among (ap (λ e. not (same_entry e (entry_of new (cell_at grid place)))) entry_old ∙ ap (λ e. not (same_entry one e)) entry_new ∙ ap not apart)))))
+          | inr apart ↦ absurd (outside (subst (Contains (map (index_of grid) (filter test (cells grid)))) (index_of-cell_at grid index)
+              (contains_mapped (index_of grid) (filter test (cells grid)) (cell_at grid index)
+              (contains_filtered test (cells grid) (cell_at grid index) among (ap (λ e. not (same_entry e (entry_of new (cell_at grid index)))) entry_old ∙ ap (λ e. not (same_entry one e)) entry_new ∙ ap not apart)))))
         ] in
         now ∙ ap (λ e. Some (Open e)) (sym same) ∙ sym old
   ]
@@ -248,8 +248,8 @@ grid_of_after state next (word_struck word) h = ap Ok (sym (with_words-Ok state 
 
 -- ---- the board
 
-pub entry_after : (grid new : Grid) (places : List ℕ) (place : ℕ) → IsWrittenAt grid new places → ¬ Contains places place → entry (board_of new) place ≡ entry (board_of grid) place
-entry_after grid new places place written outside = entry-square new place ∙ ap letter_in (written.squares place outside) ∙ sym (entry-square grid place)
+pub entry_after : (grid new : Grid) (indices : List ℕ) (index : ℕ) → IsWrittenAt grid new indices → ¬ Contains indices index → entry (board_of new) index ≡ entry (board_of grid) index
+entry_after grid new indices index written outside = entry-square new index ∙ ap letter_in (written.squares index outside) ∙ sym (entry-square grid index)
 
-pub open_after : (grid new : Grid) (places : List ℕ) (place : ℕ) → IsWrittenAt grid new places → ¬ Contains places place → is_open (board_of new) place ≡ is_open (board_of grid) place
-open_after grid new places place written outside = is_open-square new place ∙ ap is_open_square (written.squares place outside) ∙ sym (is_open-square grid place)
+pub open_after : (grid new : Grid) (indices : List ℕ) (index : ℕ) → IsWrittenAt grid new indices → ¬ Contains indices index → is_open (board_of new) index ≡ is_open (board_of grid) index
+open_after grid new indices index written outside = is_open-square new index ∙ ap is_open_square (written.squares index outside) ∙ sym (is_open-square grid index)

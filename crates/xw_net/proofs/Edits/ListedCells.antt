@@ -5,12 +5,12 @@ use Rattle.std.proofs.lemmas.List.FromFn.{get_or-map-range_with_len}
 use Rattle.xw_grid.specs.declared.cell.Cell.{Cell}
 use Rattle.xw_grid.specs.declared.fault.GridFault.TheVariants as grids
 use Rattle.xw_grid.specs.Grid.{Grid, IsGrid, is_inside, is_block, cells, cell_at, entry}
-use Rattle.xw_grid.specs.Light.{lights_of, place_named, no_light}
+use Rattle.xw_grid.specs.Light.{lights_of, index_named, no_light}
 use Rattle.xw_grid.specs.Orbit.{orbit_of, is_in_orbit}
 use Rattle.xw_grid.specs.Edit.{set_entry, with_entry}
 use Rattle.xw_grid.proofs.GridLemmas.{cell_at-inside, length-cells}
 use Rattle.xw_grid.proofs.LightLemmas.{length-line, get_or-line}
-use Rattle.xw_grid.proofs.PlaceLemmas.{light_inside}
+use Rattle.xw_grid.proofs.LightTableLemmas.{light_inside}
 use Rattle.xw_feas.specs.declared.edit.Refusal.{Refusal}
 use Rattle.xw_feas.specs.State.{State, Action, after, grid_after, letter_set, cell_cleared, word_placed, list_written, block_toggled, bar_toggled, symmetry_chosen, word_added, word_struck}
 use Rattle.xw_feas.proofs.BoardLemmas.{length-lights}
@@ -56,10 +56,10 @@ module _ (grid new : Grid) (is : IsGrid grid) where
 
   named_inside : (found : Option ℕ) → ((light : ℕ) → found ≡ Some light → light < length (lights_of grid)) → (cell : Cell) → Contains (cells_named grid found) cell → is_inside grid cell ≡ true
   named_inside None within cell (k, below, at) = absurd (omega (arith, below))
-  named_inside (Some place) within cell (k, below, at) =
-      let light = get_or (lights_of grid) place no_light in
+  named_inside (Some index) within cell (k, below, at) =
+      let light = get_or (lights_of grid) index no_light in
       let under : k < light.size = omega (arith, below, length-line light.name.direction light.start light.size) in
-      subst (λ c. is_inside grid c ≡ true) (sym (get_or-line light.name.direction light.start light.size k cell under) ∙ at) (light_inside grid place no_light (within place refl) k under)
+      subst (λ c. is_inside grid c ≡ true) (sym (get_or-line light.name.direction light.start light.size k cell under) ∙ at) (light_inside grid index no_light (within index refl) k under)
 
   orbit_inside : (cell other : Cell) → Contains (orbit_of grid cell) other → is_inside grid other ≡ true
   orbit_inside cell other (k, below, at) = split (is_inside grid cell) k below at where
@@ -80,7 +80,7 @@ module _ (grid new : Grid) (is : IsGrid grid) where
   written_inside : (action : Action) → grid_after grid action ≡ Ok new → (cell : Cell) → Contains (cells_written grid action) cell → is_inside grid cell ≡ true
   written_inside (letter_set at letter) ok cell among = subst (λ c. is_inside grid c ≡ true) (only_cell at cell among) (entry_inside at (Some letter) (by_fault-Ok (set_entry grid at (Some letter)) new ok))
   written_inside (cell_cleared at) ok cell among = subst (λ c. is_inside grid c ≡ true) (only_cell at cell among) (entry_inside at None (by_fault-Ok (set_entry grid at None) new ok))
-  written_inside (word_placed name word) ok cell among = named_inside (place_named (lights_of grid) name) (λ light found. omega (arith, named_within grid name light found, length-lights grid)) cell among
+  written_inside (word_placed name word) ok cell among = named_inside (index_named (lights_of grid) name) (λ light found. omega (arith, named_within grid name light found, length-lights grid)) cell among
   written_inside (list_written list) ok cell among = changed_inside (grid_after grid (list_written list)) cell among
   written_inside (block_toggled at) ok cell among = orbit_inside at cell among
   written_inside (bar_toggled at side) ok cell (k, below, here) = absurd (omega (arith, below))

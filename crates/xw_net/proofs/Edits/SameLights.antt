@@ -9,13 +9,13 @@ use Rattle.xw_text.proofs.Position.{position_is_some, position-None}
 use Rattle.xw_grid.specs.declared.cell.Cell.{Cell}
 use Rattle.xw_grid.specs.declared.lights.Light.{Light}
 use Rattle.xw_grid.specs.Grid.{Grid, is_inside, same_cell, index_of, cell_in}
-use Rattle.xw_grid.specs.Light.{cells_of, lights_of, no_light, have_same_cells, place_with_cells}
+use Rattle.xw_grid.specs.Light.{cells_of, lights_of, no_light, have_same_cells, index_with_cells}
 use Rattle.xw_grid.proofs.GridLemmas.{and-true, cells_same, same_cell_itself, cell_at-index_of}
 use Rattle.xw_grid.proofs.LightLemmas.{size_of_light, length-line, get_or-line}
-use Rattle.xw_grid.proofs.OrderLemmas.{same_place}
+use Rattle.xw_grid.proofs.OrderLemmas.{same_index}
 use Rattle.xw_grid.proofs.LookupLemmas.{alike}
-use Rattle.xw_grid.proofs.PlaceLemmas.{light_inside}
-use Rattle.xw_feas.specs.Board.{board_of, places_of, light_at}
+use Rattle.xw_grid.proofs.LightTableLemmas.{light_inside}
+use Rattle.xw_feas.specs.Board.{board_of, indices_of, light_at}
 use Rattle.xw_feas.proofs.BoardLemmas.{light_at-board, length-lights}
 use Rattle.xw_net.specs.Revival.{IsMatching, same_light}
 
@@ -32,15 +32,15 @@ cells_themselves [] = refl
 cells_themselves (x ∷ xs) = rw (same_cell_itself x) (cells_themselves xs)
 
 -- if the lights stay, each of them is found among those before
-pub none_new : (before after : List Light) → after ≡ before → (light : ℕ) → light < length after → option_and_then (place_with_cells before) (slice_get after light) ≡ None → ⊥
+pub none_new : (before after : List Light) → after ≡ before → (light : ℕ) → light < length after → option_and_then (index_with_cells before) (slice_get after light) ≡ None → ⊥
 none_new before after same light within none =
     let this = get_or after light no_light in
-    let nowhere : place_with_cells after this ≡ None = ap (option_and_then (place_with_cells after)) (sym (slice_get-get_or after light no_light within)) ∙ ap (λ lights. option_and_then (place_with_cells lights) (slice_get after light)) same ∙ none in
+    let nowhere : index_with_cells after this ≡ None = ap (option_and_then (index_with_cells after)) (sym (slice_get-get_or after light no_light within)) ∙ ap (λ lights. option_and_then (index_with_cells lights) (slice_get after light)) same ∙ none in
     both_ways (have_same_cells this this) (position-None (have_same_cells this) after nowhere light no_light within) (cells_themselves (cells_of this))
 
-pub some_old : (before after : List Light) → after ≡ before → (light : ℕ) → light < length after → true ≡ is_some (option_and_then (place_with_cells before) (slice_get after light))
-some_old before after same light within = split (option_and_then (place_with_cells before) (slice_get after light)) refl where
-  split : (o : Option ℕ) → option_and_then (place_with_cells before) (slice_get after light) ≡ o → true ≡ is_some o
+pub some_old : (before after : List Light) → after ≡ before → (light : ℕ) → light < length after → true ≡ is_some (option_and_then (index_with_cells before) (slice_get after light))
+some_old before after same light within = split (option_and_then (index_with_cells before) (slice_get after light)) refl where
+  split : (o : Option ℕ) → option_and_then (index_with_cells before) (slice_get after light) ≡ o → true ≡ is_some o
   split None none = absurd (none_new before after same light within none)
   split (Some other) at = refl
 
@@ -51,12 +51,12 @@ back grid (cell ∷ cells) inside =
     ap (λ c. c ∷ map (cell_in grid.width) (map (index_of grid) cells)) (cell_at-index_of grid cell (inside 0 (omega arith) cell))
     ∙ ap (λ cs. cell ∷ cs) (back grid cells (λ k below d. inside (suc k) (omega arith) d))
 
-light_back : (grid : Grid) (place : ℕ) → place < length (lights_of grid) → map (cell_in grid.width) (places_of grid (get_or (lights_of grid) place no_light)) ≡ cells_of (get_or (lights_of grid) place no_light)
-light_back grid place within =
-    let light = get_or (lights_of grid) place no_light in
+light_back : (grid : Grid) (index : ℕ) → index < length (lights_of grid) → map (cell_in grid.width) (indices_of grid (get_or (lights_of grid) index no_light)) ≡ cells_of (get_or (lights_of grid) index no_light)
+light_back grid index within =
+    let light = get_or (lights_of grid) index no_light in
     back grid (cells_of light) (λ k below d.
     let under : k < light.size = omega (arith, length-line light.name.direction light.start light.size) in
-    ap (is_inside grid) (get_or-line light.name.direction light.start light.size k d under) ∙ light_inside grid place no_light within k under)
+    ap (is_inside grid) (get_or-line light.name.direction light.start light.size k d under) ∙ light_inside grid index no_light within k under)
 
 module _ (before after : Grid) (wide : after.width ≡ before.width) where
   -- the light that matches another
@@ -65,7 +65,7 @@ module _ (before after : Grid) (wide : after.width ≡ before.width) where
 
   found : (light other : ℕ) → same_light before after light ≡ Some other → IsFound light other
   found light other h = split (slice_get (lights_of after) light) refl h where
-    split : (o : Option Light) → slice_get (lights_of after) light ≡ o → option_and_then (place_with_cells (lights_of before)) o ≡ Some other → IsFound light other
+    split : (o : Option Light) → slice_get (lights_of after) light ≡ o → option_and_then (index_with_cells (lights_of before)) o ≡ Some other → IsFound light other
     split None at g = cc
     split (Some this) at g =
         let first = position-Some (have_same_cells this) (lights_of before) other no_light g in
@@ -92,16 +92,16 @@ module _ (before after : Grid) (wide : after.width ≡ before.width) where
       let cells : cells_of this ≡ cells_of that =
       sym (light_back after light within)
       ∙ ap (map (cell_in after.width)) (sym (light_at-board after light no_light within) ∙ same ∙ light_at-board before other no_light within')
-      ∙ ap (λ w. map (cell_in w) (places_of before that)) wide
+      ∙ ap (λ w. map (cell_in w) (indices_of before that)) wide
       ∙ light_back before other within' in
       let several = size_of_light after light no_light within in
       let fits : have_same_cells this that ≡ true = ap (pointwise same_cell (cells_of this)) (sym cells) ∙ cells_themselves (cells_of this) in
       let kind = alike this that several fits in
-      ap (option_and_then (place_with_cells (lights_of before))) (slice_get-get_or (lights_of after) light no_light within)
+      ap (option_and_then (index_with_cells (lights_of before))) (slice_get-get_or (lights_of after) light no_light within)
       ∙ position_is_some (have_same_cells this) (lights_of before) other no_light within' (λ k before_it. elim (cases_Bool (have_same_cells this (get_or (lights_of before) k no_light))) [
         | inr differs ↦ differs
         | inl fits' ↦
             let kind' = alike this (get_or (lights_of before) k no_light) several fits' in
-            let place : k ≡ other = same_place before k other no_light (omega arith) within' (sym kind'.0 ∙ kind.0) (sym kind'.1 ∙ kind.1) in
+            let index : k ≡ other = same_index before k other no_light (omega arith) within' (sym kind'.0 ∙ kind.0) (sym kind'.1 ∙ kind.1) in
             absurd (omega arith)
       ]) fits

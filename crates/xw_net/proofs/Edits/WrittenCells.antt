@@ -23,18 +23,18 @@ stays_then first second third (inl a) (inr (one, other, old, new)) = inr (one, o
 stays_then first second third (inr (one, other, old, new)) (inl b) = inr (one, other, old, b ∙ new)
 stays_then first second third (inr (one, other, old, new)) (inr (one', other', old', new')) = inr (one, other', old, new')
 
-write_stays : (squares : List Square) (at place : ℕ) (letter : Option ℕ) → is_block_square (slice_get squares at) ≡ false → StaysOrOpen (slice_get squares place) (slice_get (set squares at (Open letter)) place)
-write_stays [] at place letter h = inl refl
+write_stays : (squares : List Square) (at index : ℕ) (letter : Option ℕ) → is_block_square (slice_get squares at) ≡ false → StaysOrOpen (slice_get squares index) (slice_get (set squares at (Open letter)) index)
+write_stays [] at index letter h = inl refl
 write_stays (Open entered ∷ squares) zero zero letter h = inr (entered, letter, refl, refl)
 write_stays (Block ∷ squares) zero zero letter h = absurd (false≢true (sym h))
-write_stays (square ∷ squares) zero (suc place) letter h = inl refl
+write_stays (square ∷ squares) zero (suc index) letter h = inl refl
 write_stays (square ∷ squares) (suc at) zero letter h = inl refl
-write_stays (square ∷ squares) (suc at) (suc place) letter h = write_stays squares at place letter h
+write_stays (square ∷ squares) (suc at) (suc index) letter h = write_stays squares at index letter h
 
 -- only squares change, and those are open before and after
 pub record LeavesOpen (old new : Grid) : Type 0 where
   pub alone : new ≡ record old { squares = new.squares }
-  pub squares : (place : ℕ) → StaysOrOpen (slice_get old.squares place) (slice_get new.squares place)
+  pub squares : (index : ℕ) → StaysOrOpen (slice_get old.squares index) (slice_get new.squares index)
 
 entry_leaves : (grid new : Grid) (cell : Cell) (letter : Option ℕ) → set_entry grid cell letter ≡ Ok new → LeavesOpen grid new
 entry_leaves grid new cell letter ok = by_tests (is_inside grid cell) (is_block grid cell) refl refl ok where
@@ -45,13 +45,13 @@ entry_leaves grid new cell letter ok = by_tests (is_inside grid cell) (is_block 
       let made : with_entry grid cell letter ≡ new = cc in
       subst (LeavesOpen grid) made (record {
         alone = refl;
-        squares = λ place. write_stays grid.squares (index_of grid cell) place letter (ap (λ b. is_block_square (cond b (slice_get grid.squares (index_of grid cell)) None)) (sym inside) ∙ block);
+        squares = λ index. write_stays grid.squares (index_of grid cell) index letter (ap (λ b. is_block_square (cond b (slice_get grid.squares (index_of grid cell)) None)) (sym inside) ∙ block);
       })
 
 pub list_leaves : (list : List (Cell × Option ℕ)) (grid new : Grid) → write_list list grid ≡ Ok new → LeavesOpen grid new
 list_leaves [] grid new h =
     let same : grid ≡ new = cc in
-    subst (LeavesOpen grid) same (record { alone = refl; squares = λ place. inl refl })
+    subst (LeavesOpen grid) same (record { alone = refl; squares = λ index. inl refl })
 list_leaves (written ∷ list) grid new h = by_first (set_entry grid written.0 written.1) refl (λ next. list_leaves list next new) h where
   by_first : (first : Result Grid GridFault) → set_entry grid written.0 written.1 ≡ first → ((next : Grid) → write_list list next ≡ Ok new → LeavesOpen next new) → then_write (write_list list) first ≡ Ok new → LeavesOpen grid new
   by_first (Ok next) is later h =
@@ -59,7 +59,7 @@ list_leaves (written ∷ list) grid new h = by_first (set_entry grid written.0 w
       let rest = later next h in
       record {
         alone = rest.alone ∙ ap (λ (g : Grid). record g { squares = new.squares }) first.alone;
-        squares = λ place. stays_then _ _ _ (first.squares place) (rest.squares place);
+        squares = λ index. stays_then _ _ _ (first.squares index) (rest.squares index);
       }
   by_first (Err fault) is later h = cc
 
@@ -69,8 +69,8 @@ lettered_is_open (Some Block) h = absurd (false≢true h)
 lettered_is_open None h = absurd (false≢true h)
 
 -- a cell that has a letter afterwards was open
-pub list_open : (grid new : Grid) (list : List (Cell × Option ℕ)) (place : ℕ) → write_list list grid ≡ Ok new → is_some (entry (board_of new) place) ≡ true → is_open (board_of grid) place ≡ true
-list_open grid new list place ok has = is_open-square grid place ∙ by_square ((list_leaves list grid new ok).squares place) where
-  by_square : StaysOrOpen (slice_get grid.squares place) (slice_get new.squares place) → is_open_square (slice_get grid.squares place) ≡ true
-  by_square (inl same) = lettered_is_open (slice_get grid.squares place) (ap (λ s. is_some (letter_in s)) (sym same) ∙ ap is_some (sym (entry-square new place)) ∙ has)
+pub list_open : (grid new : Grid) (list : List (Cell × Option ℕ)) (index : ℕ) → write_list list grid ≡ Ok new → is_some (entry (board_of new) index) ≡ true → is_open (board_of grid) index ≡ true
+list_open grid new list index ok has = is_open-square grid index ∙ by_square ((list_leaves list grid new ok).squares index) where
+  by_square : StaysOrOpen (slice_get grid.squares index) (slice_get new.squares index) → is_open_square (slice_get grid.squares index) ≡ true
+  by_square (inl same) = lettered_is_open (slice_get grid.squares index) (ap (λ s. is_some (letter_in s)) (sym same) ∙ ap is_some (sym (entry-square new index)) ∙ has)
   by_square (inr (one, other, old, now)) = ap is_open_square old

@@ -15,7 +15,7 @@ use Rattle.xw_grid.specs.Light.{lights_of}
 use Rattle.xw_feas.specs.Board.{board_of, light_at}
 use Rattle.xw_feas.proofs.BoardLemmas.{length-open_cells, length-lights, light_in_board}
 use Rattle.xw_feas.proofs.FormedLemmas.{length-light_at}
-use Rattle.xw_net.specs.Marks.{IsPlace, cell_at, slot_at}
+use Rattle.xw_net.specs.Marks.{IsPositionIn, cell_at, slot_at}
 use Rattle.xw_net.specs.Room.{counts_of, size_at, no_row, AreFalse, HaveRoom, HasRoom}
 use Rattle.xw_net.specs.Blank.{IsBlank}
 use Rattle.xw_net.specs.Nets.{bits_for, word_stands, held_in, pending_in, queued_in}
@@ -73,15 +73,15 @@ module _ (grid : Grid) (is_grid : IsGrid grid) (dictionary : Dictionary) (is_dic
       ∙ ap (λ (b : List Bool). get_or b choice false) (replicate_more bits.0 false)
       ∙ all_false (bits.0 + 1) choice
 
-  far : (light place letter : ℕ) → IsPlace (board_of grid) light place → is_capital letter ≡ true → most_words ≤ held_in net (slot_at (board_of grid) light place) letter
+  far : (light position letter : ℕ) → IsPositionIn (board_of grid) light position → is_capital letter ≡ true → most_words ≤ held_in net (slot_at (board_of grid) light position) letter
   unfolding held_in
-  far light place letter here capital =
-      let cell : cell_at (board_of grid) light place < length (board_of grid).open_cells = All-get_or (λ cell. cell < length (board_of grid).open_cells) (light_at (board_of grid) light) place 0 here.1 (light_in_board grid light is_grid (in_lights light here.0)) in
+  far light position letter here capital =
+      let cell : cell_at (board_of grid) light position < length (board_of grid).open_cells = All-get_or (λ cell. cell < length (board_of grid).open_cells) (light_at (board_of grid) light) position 0 here.1 (light_in_board grid light is_grid (in_lights light here.0)) in
       let is = capital_is_letter letter capital in
-      let within : 26 * slot_at (board_of grid) light place + (letter - 65) < 52 * length grid.squares = omega (arith, cell, length-open_cells grid, side_small (light_at (board_of grid) light), is.0, is.1) in
-      let held : get_or net.held.items (26 * slot_at (board_of grid) light place + (letter - 65)) 0 ≡ far_on =
-      ap (λ (places : List ℕ). get_or places (26 * slot_at (board_of grid) light place + (letter - 65)) 0) blank.held
-      ∙ get_or-replicate (52 * length grid.squares) (26 * slot_at (board_of grid) light place + (letter - 65)) far_on none within in
+      let within : 26 * slot_at (board_of grid) light position + (letter - 65) < 52 * length grid.squares = omega (arith, cell, length-open_cells grid, side_small (light_at (board_of grid) light), is.0, is.1) in
+      let held : get_or net.held.items (26 * slot_at (board_of grid) light position + (letter - 65)) 0 ≡ far_on =
+      ap (λ (indices : List ℕ). get_or indices (26 * slot_at (board_of grid) light position + (letter - 65)) 0) blank.held
+      ∙ get_or-replicate (52 * length grid.squares) (26 * slot_at (board_of grid) light position + (letter - 65)) far_on none within in
       omega (arith, held)
 
   not_pending : (slot letter : ℕ) → pending_in net slot letter ≡ false

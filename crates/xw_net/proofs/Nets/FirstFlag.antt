@@ -20,12 +20,12 @@ pub record IsFirstFrom (flags : List Bool) (from choice : ℕ) : Type 0 where
 
 pub first-Some : (flags : List Bool) (from choice : ℕ) → first_from flags from ≡ Some choice → IsFirstFrom flags from choice
 first-Some flags from choice h = split (position (λ flag. flag) (drop from flags)) refl h where
-  split : (found : Option ℕ) → position (λ flag. flag) (drop from flags) ≡ found → option_map (λ place. from + place) found ≡ Some choice → IsFirstFrom flags from choice
+  split : (found : Option ℕ) → position (λ flag. flag) (drop from flags) ≡ found → option_map (λ index. from + index) found ≡ Some choice → IsFirstFrom flags from choice
   split None is g = cc
-  split (Some place) is g =
-      let at : from + place ≡ choice = cc in
-      let found = position-Some (λ flag. flag) (drop from flags) place false is in
-      let here : get_or flags choice false ≡ true = ap (λ k. get_or flags k false) (sym at) ∙ sym (get_or-drop from flags place false) ∙ found.1 in
+  split (Some index) is g =
+      let at : from + index ≡ choice = cc in
+      let found = position-Some (λ flag. flag) (drop from flags) index false is in
+      let here : get_or flags choice false ≡ true = ap (λ k. get_or flags k false) (sym at) ∙ sym (get_or-drop from flags index false) ∙ found.1 in
       record {
         later = omega arith;
         within = elim (cases_lt choice (length flags)) [
@@ -40,8 +40,8 @@ first-Some flags from choice h = split (position (λ flag. flag) (drop from flag
 
 pub first-None : (flags : List Bool) (from : ℕ) → first_from flags from ≡ None → (k : ℕ) → from ≤ k → get_or flags k false ≡ false
 first-None flags from h k low = split (position (λ flag. flag) (drop from flags)) refl h where
-  split : (found : Option ℕ) → position (λ flag. flag) (drop from flags) ≡ found → option_map (λ place. from + place) found ≡ None → get_or flags k false ≡ false
-  split (Some place) is g = cc
+  split : (found : Option ℕ) → position (λ flag. flag) (drop from flags) ≡ found → option_map (λ index. from + index) found ≡ None → get_or flags k false ≡ false
+  split (Some index) is g = cc
   split None is g =
       let shift : from + (k - from) ≡ k = omega arith in
       ap (λ j. get_or flags j false) (sym shift) ∙ sym (get_or-drop from flags (k - from) false) ∙ elim (cases_lt (k - from) (length (drop from flags))) [
@@ -50,17 +50,17 @@ first-None flags from h k low = split (position (λ flag. flag) (drop from flags
       ]
 
 -- the first set flag is unique
-first_is : (flags : List Bool) (from place : ℕ) → from ≤ place → get_or flags place false ≡ true → ((k : ℕ) → from ≤ k → k < place → get_or flags k false ≡ false) → first_from flags from ≡ Some place
-first_is flags from place later stands first = split (first_from flags from) refl where
-  split : (found : Option ℕ) → first_from flags from ≡ found → found ≡ Some place
-  split None is = absurd (both_ways (get_or flags place false) (first-None flags from is place later) stands)
+first_is : (flags : List Bool) (from index : ℕ) → from ≤ index → get_or flags index false ≡ true → ((k : ℕ) → from ≤ k → k < index → get_or flags k false ≡ false) → first_from flags from ≡ Some index
+first_is flags from index later stands first = split (first_from flags from) refl where
+  split : (found : Option ℕ) → first_from flags from ≡ found → found ≡ Some index
+  split None is = absurd (both_ways (get_or flags index false) (first-None flags from is index later) stands)
   split (Some choice) is =
       let at = first-Some flags from choice is in
-      elim (cases_lt choice place) [
+      elim (cases_lt choice index) [
         | inl before ↦ absurd (both_ways (get_or flags choice false) (first choice at.later before) at.stands)
-        | inr le ↦ elim (cases_lt place choice) [
-          | inl before ↦ absurd (both_ways (get_or flags place false) (at.first place later before) stands)
-          | inr ge ↦ let e : choice ≡ place = omega (arith, le, ge) in ap (λ (k : ℕ). Some k) e
+        | inr le ↦ elim (cases_lt index choice) [
+          | inl before ↦ absurd (both_ways (get_or flags index false) (at.first index later before) stands)
+          | inr ge ↦ let e : choice ≡ index = omega (arith, le, ge) in ap (λ (k : ℕ). Some k) e
         ]
       ]
 
@@ -84,10 +84,10 @@ module _ (lights : List Light) (net : Net) (light : ℕ) (lt : light < length li
   over : (result : Option ℕ) → first_from (row_flags net light) from ≡ result → first_from (flags_at lights net light) from ≡ result
   over result is = ap (λ (flags : List Bool). first_from flags from) (flags_are lights net light lt) ∙ is
 
-  pub first_listed : (place : ℕ) → place < length (bits_for net light) → from ≤ place → get_or (bits_for net light) place false ≡ true
-      → ((k : ℕ) → from ≤ k → k < place → get_or (bits_for net light) k false ≡ false) → first_from (flags_at lights net light) from ≡ Some place
-  first_listed place below later stands first =
-      over (Some place) (first_is (row_flags net light) from place later (in_bits (bits_for net light) (get_or net.entered.items light false) place below ∙ stands)
+  pub first_listed : (index : ℕ) → index < length (bits_for net light) → from ≤ index → get_or (bits_for net light) index false ≡ true
+      → ((k : ℕ) → from ≤ k → k < index → get_or (bits_for net light) k false ≡ false) → first_from (flags_at lights net light) from ≡ Some index
+  first_listed index below later stands first =
+      over (Some index) (first_is (row_flags net light) from index later (in_bits (bits_for net light) (get_or net.entered.items light false) index below ∙ stands)
       (λ k low high. in_bits (bits_for net light) (get_or net.entered.items light false) k (omega arith) ∙ first k low high))
 
   pub first_entered : from ≤ length (bits_for net light) → get_or net.entered.items light false ≡ true

@@ -34,17 +34,17 @@ fitted_full known bits full = split (ltb (length bits) known) refl where
   split false is = refl
   split true is = let below = ltb-true (length bits) known is in absurd (omega (arith, below, full))
 
-get_or_past_one : (bits : List Bool) (place : ℕ) → get_or (bits ++ false ∷ []) place false ≡ get_or bits place false
+get_or_past_one : (bits : List Bool) (index : ℕ) → get_or (bits ++ false ∷ []) index false ≡ get_or bits index false
 get_or_past_one [] zero = refl
-get_or_past_one [] (suc place) = refl
+get_or_past_one [] (suc index) = refl
 get_or_past_one (b ∷ bits) zero = refl
-get_or_past_one (b ∷ bits) (suc place) = get_or_past_one bits place
+get_or_past_one (b ∷ bits) (suc index) = get_or_past_one bits index
 
-pub fitted_bit : (known : ℕ) (bits : List Bool) (place : ℕ) → get_or (fitted known bits) place false ≡ get_or bits place false
-fitted_bit known bits place = split (ltb (length bits) known) where
-  split : (b : Bool) → get_or (cond b (bits ++ false ∷ []) bits) place false ≡ get_or bits place false
+pub fitted_bit : (known : ℕ) (bits : List Bool) (index : ℕ) → get_or (fitted known bits) index false ≡ get_or bits index false
+fitted_bit known bits index = split (ltb (length bits) known) where
+  split : (b : Bool) → get_or (cond b (bits ++ false ∷ []) bits) index false ≡ get_or bits index false
   split false = refl
-  split true = get_or_past_one bits place
+  split true = get_or_past_one bits index
 
 module _ (was now : State) (cells : ℕ) (old mid new : Net) (turned : IsTurned (lights_of was.grid) (lights_of now.grid) old mid)
     (rows : AreFitted (lights_of now.grid) (counts_of (row now.words)) mid.rows.items new.rows.items)
@@ -74,12 +74,12 @@ module _ (was now : State) (cells : ℕ) (old mid new : Net) (turned : IsTurned 
   -- an added bit is clear
   kept_bit : (all all-mid all-new : List RowOfBits) → AreFitted (lights_of now.grid) (counts_of (row now.words)) all-mid all-new
       → ((light other : ℕ) → light < length (lights_of now.grid) → same_before (lights_of was.grid) (lights_of now.grid) light ≡ Some other → (row_at all-mid light).bits ≡ (row_at all other).bits)
-      → (light other place : ℕ) → light < length (board_of now.grid).lights → same_light was.grid now.grid light ≡ Some other → get_or (bits_in all-new light) place false ≡ get_or (bits_in all other) place false
-  kept_bit all all-mid all-new fits turns light other place in_board at =
+      → (light other index : ℕ) → light < length (board_of now.grid).lights → same_light was.grid now.grid light ≡ Some other → get_or (bits_in all-new light) index false ≡ get_or (bits_in all other) index false
+  kept_bit all all-mid all-new fits turns light other index in_board at =
       let lt = in_lights light in_board in
-      ap (λ bits. get_or bits place false) (row_bits all-new light ∙ fits light lt ∙ ap (fitted (length (row now.words (size_at (lights_of now.grid) light)))) (turns light other lt at))
-      ∙ fitted_bit (length (row now.words (size_at (lights_of now.grid) light))) (row_at all other).bits place
-      ∙ ap (λ bits. get_or bits place false) (sym (row_bits all other))
+      ap (λ bits. get_or bits index false) (row_bits all-new light ∙ fits light lt ∙ ap (fitted (length (row now.words (size_at (lights_of now.grid) light)))) (turns light other lt at))
+      ∙ fitted_bit (length (row now.words (size_at (lights_of now.grid) light))) (row_at all other).bits index
+      ∙ ap (λ bits. get_or bits index false) (sym (row_bits all other))
 
   same_rest : new ≡ record old { rows = new.rows; base = new.base; entered = mid.entered; queue = mid.queue; chain = mid.chain; spare = None }
   same_rest = rest ∙ ap (λ (n : Net). record n { rows = new.rows; base = new.base }) turned.rest

@@ -5,9 +5,9 @@ use Rattle.std.proofs.lemmas.List.Quantifiers.{position-Some}
 use Rattle.std.proofs.lemmas.Option.{get_or_from_slice_get, slice_get_within}
 use Rattle.xw_grid.specs.declared.lights.Light.{Light}
 use Rattle.xw_grid.specs.Grid.{Grid}
-use Rattle.xw_grid.specs.Light.{lights_of, no_light, have_same_cells, place_with_cells}
+use Rattle.xw_grid.specs.Light.{lights_of, no_light, have_same_cells, index_with_cells}
 use Rattle.xw_grid.proofs.LightLemmas.{size_of_light}
-use Rattle.xw_grid.proofs.OrderLemmas.{same_place}
+use Rattle.xw_grid.proofs.OrderLemmas.{same_index}
 use Rattle.xw_grid.proofs.LookupLemmas.{alike}
 use Rattle.std.proofs.lemmas.Bool.{cases_eq}
 use Rattle.std.proofs.lemmas.List.{length-replicate}
@@ -25,7 +25,7 @@ pub record IsFound (before after : List Light) (light other : ℕ) : Type 0 wher
 
 pub found_before : (before after : List Light) (light other : ℕ) → same_before before after light ≡ Some other → IsFound before after light other
 found_before before after light other h = split (slice_get after light) refl h where
-  split : (o : Option Light) → slice_get after light ≡ o → option_and_then (place_with_cells before) o ≡ Some other → IsFound before after light other
+  split : (o : Option Light) → slice_get after light ≡ o → option_and_then (index_with_cells before) o ≡ Some other → IsFound before after light other
   split None at g = cc
   split (Some this) at g =
       let first = position-Some (have_same_cells this) before other no_light g in
@@ -47,7 +47,7 @@ same_once before after are i j other hi hj = once are.grid after are.are hi hj w
       let fj = found_before before (lights_of grid) j other (subst (λ ys. same_before before ys j ≡ Some other) e gj) in
       let ai = alike (get_or (lights_of grid) i no_light) (get_or before other no_light) (size_of_light grid i no_light fi.in_after) fi.fits in
       let aj = alike (get_or (lights_of grid) j no_light) (get_or before other no_light) (size_of_light grid j no_light fj.in_after) fj.fits in
-      same_place grid i j no_light fi.in_after fj.in_after (ai.0 ∙ sym aj.0) (ai.1 ∙ sym aj.1)
+      same_index grid i j no_light fi.in_after fj.in_after (ai.0 ∙ sym aj.0) (ai.1 ∙ sym aj.1)
 
 pub ruleset moving_steps = (other_there, same_once)
 

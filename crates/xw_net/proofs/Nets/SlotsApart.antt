@@ -11,7 +11,7 @@ use Rattle.xw_grid.proofs.OrderLemmas.{lights_are_apart}
 use Rattle.xw_feas.specs.Board.{board_of, light_at}
 use Rattle.xw_feas.specs.Fits.{stride_of}
 use Rattle.xw_feas.proofs.BoardLemmas.{first_step, index_of-step}
-use Rattle.xw_feas.proofs.FormedLemmas.{light_in, length-light_at, within_lights, place_is, inside_at, same_cell_in, steps_apart}
+use Rattle.xw_feas.proofs.FormedLemmas.{light_in, length-light_at, within_lights, index_is, inside_at, same_cell_in, steps_apart}
 use Rattle.xw_net.specs.Marks.{side_of, cell_at, AreSlotsApart}
 
 abbrev towards : Grid → ℕ → Direction
@@ -20,15 +20,15 @@ towards grid light = (light_in grid light).name.direction
 pub side_small : (cells : List ℕ) → side_of cells ≤ 1
 side_small cells = elim (eqb (get_or cells 1 0) (get_or cells 0 0 + 1)) as (λ b. cond b 0 1 ≤ 1) [ true ↦ omega arith | false ↦ omega arith ]
 
-module _ (grid : Grid) (light place : ℕ) (below : place < length (light_at (board_of grid) light)) where
+module _ (grid : Grid) (light position : ℕ) (below : position < length (light_at (board_of grid) light)) where
   within : light < length (lights_of grid)
-  within = within_lights grid light place below
+  within = within_lights grid light position below
 
   long : 2 ≤ length (light_at (board_of grid) light)
   long = omega (arith, size_of_light grid light no_light within, length-light_at grid light within)
 
   first_cell : get_or (light_at (board_of grid) light) 0 0 ≡ index_of grid (light_in grid light).start
-  first_cell = place_is grid light 0 (omega (arith, long)) ∙ ap (index_of grid) (first_step (towards grid light) (light_in grid light).start)
+  first_cell = index_is grid light 0 (omega (arith, long)) ∙ ap (index_of grid) (first_step (towards grid light) (light_in grid light).start)
 
   start_inside : is_inside grid (light_in grid light).start ≡ true
   start_inside = ap (is_inside grid) (sym (first_step (towards grid light) (light_in grid light).start)) ∙ inside_at grid light 0 (omega (arith, long))
@@ -37,7 +37,7 @@ module _ (grid : Grid) (light place : ℕ) (below : place < length (light_at (bo
   second_cell : get_or (light_at (board_of grid) light) 1 0 ≡ get_or (light_at (board_of grid) light) 0 0 + stride_of grid (towards grid light)
   second_cell =
       let e : 1 * stride_of grid (towards grid light) ≡ stride_of grid (towards grid light) = omega arith in
-      omega (arith, place_is grid light 1 (omega (arith, long)), index_of-step grid (towards grid light) (light_in grid light).start 1 start_inside, first_cell, e)
+      omega (arith, index_is grid light 1 (omega (arith, long)), index_of-step grid (towards grid light) (light_in grid light).start 1 start_inside, first_cell, e)
 
   side_by : (stride : ℕ) → stride_of grid (towards grid light) ≡ stride → side_of (light_at (board_of grid) light) ≡ cond (eqb stride 1) 0 1
   side_by stride is =
@@ -65,29 +65,29 @@ module _ (grid : Grid) (light place : ℕ) (below : place < length (light_at (bo
   side_down wide is = side_by grid.width (ap (stride_of grid) is) ∙ ap (λ b. cond b 0 1) (ne_eqb grid.width 1 (λ e. omega (arith, wide, e)))
 
 -- lights through a cell with the same side have the same direction
-same_towards : (grid : Grid) (light place other other_place : ℕ) (below : place < length (light_at (board_of grid) light)) (below' : other_place < length (light_at (board_of grid) other))
+same_towards : (grid : Grid) (light position other other_position : ℕ) (below : position < length (light_at (board_of grid) light)) (below' : other_position < length (light_at (board_of grid) other))
     → side_of (light_at (board_of grid) light) ≡ side_of (light_at (board_of grid) other) → towards grid light ≡ towards grid other
-same_towards grid light place other other_place below below' sides = by_directions (towards grid light) (towards grid other) refl refl where
+same_towards grid light position other other_position below below' sides = by_directions (towards grid light) (towards grid other) refl refl where
   by_directions : (a b : Direction) → towards grid light ≡ a → towards grid other ≡ b → towards grid light ≡ towards grid other
   by_directions Across Across first second = first ∙ sym second
   by_directions Down Down first second = first ∙ sym second
   by_directions Across Down first second =
-      absurd (omega (arith, sides, side_across grid light place below first, side_down grid other other_place below' (across_wide grid light place below first) second))
+      absurd (omega (arith, sides, side_across grid light position below first, side_down grid other other_position below' (across_wide grid light position below first) second))
   by_directions Down Across first second =
-      absurd (omega (arith, sides, side_across grid other other_place below' second, side_down grid light place below (across_wide grid other other_place below' second) first))
+      absurd (omega (arith, sides, side_across grid other other_position below' second, side_down grid light position below (across_wide grid other other_position below' second) first))
 
 pub slots_apart : (grid : Grid) → AreSlotsApart (board_of grid)
-slots_apart grid light place other other_place here there same =
+slots_apart grid light position other other_position here there same =
     let board = board_of grid in
     let small = side_small (light_at board light) in
     let small' = side_small (light_at board other) in
-    let cells : cell_at board light place ≡ cell_at board other other_place = omega (arith, same, small, small') in
+    let cells : cell_at board light position ≡ cell_at board other other_position = omega (arith, same, small, small') in
     let sides : side_of (light_at board light) ≡ side_of (light_at board other) = omega (arith, same, cells) in
-    let direction = same_towards grid light place other other_place here.1 there.1 sides in
-    let within = within_lights grid light place here.1 in
-    let within' = within_lights grid other other_place there.1 in
-    let lights : light ≡ other = lights_are_apart grid light other no_light place other_place within within' direction
-    (omega (arith, here.1, length-light_at grid light within)) (omega (arith, there.1, length-light_at grid other within')) (same_cell_in grid light other place other_place here.1 there.1 cells) in
-    let place_there : other_place < length (light_at (board_of grid) light) = subst (λ n. other_place < length (light_at (board_of grid) n)) (sym lights) there.1 in
-    let cells_here : get_or (light_at (board_of grid) light) place 0 ≡ get_or (light_at (board_of grid) light) other_place 0 = cells ∙ ap (λ n. cell_at board n other_place) (sym lights) in
-    (lights, steps_apart (towards grid light) (light_in grid light).start place other_place (same_cell_in grid light light place other_place here.1 place_there cells_here))
+    let direction = same_towards grid light position other other_position here.1 there.1 sides in
+    let within = within_lights grid light position here.1 in
+    let within' = within_lights grid other other_position there.1 in
+    let lights : light ≡ other = lights_are_apart grid light other no_light position other_position within within' direction
+    (omega (arith, here.1, length-light_at grid light within)) (omega (arith, there.1, length-light_at grid other within')) (same_cell_in grid light other position other_position here.1 there.1 cells) in
+    let position_there : other_position < length (light_at (board_of grid) light) = subst (λ n. other_position < length (light_at (board_of grid) n)) (sym lights) there.1 in
+    let cells_here : get_or (light_at (board_of grid) light) position 0 ≡ get_or (light_at (board_of grid) light) other_position 0 = cells ∙ ap (λ n. cell_at board n other_position) (sym lights) in
+    (lights, steps_apart (towards grid light) (light_in grid light).start position other_position (same_cell_in grid light light position other_position here.1 position_there cells_here))

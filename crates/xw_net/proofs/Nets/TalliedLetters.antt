@@ -104,7 +104,7 @@ next_flag : (flags : List Bool) (k : ℕ) → get_or (drop 1 flags) k false ≡ 
 next_flag [] k = refl
 next_flag (flag ∷ flags) k = refl
 
--- the items whose flag is set, counted by their places
+-- the items whose flag is set, counted by their indices
 count_items : {X : Type 0} (test : X → Bool) (d : X) (flags : List Bool) (xs : List X) → count_by test (items_where flags xs) ≡ sum_below (λ k. cond (get_or flags k false && test (get_or xs k d)) 1 0) (length xs)
 count_items test d flags [] = refl
 count_items {X} test d flags (x ∷ xs) =

@@ -9,7 +9,7 @@ use Rattle.xw_grid.specs.declared.lights.Light.{Light}
 use Rattle.xw_grid.specs.Grid.{Grid}
 use Rattle.xw_grid.specs.Light.{lights_of, no_light}
 use Rattle.xw_grid.proofs.LightLemmas.{size_of_light}
-use Rattle.xw_grid.proofs.OrderLemmas.{same_place}
+use Rattle.xw_grid.proofs.OrderLemmas.{same_index}
 use Rattle.xw_grid.proofs.LookupLemmas.{alike}
 use Rattle.xw_net.specs.Room.{size_at, row_at, HasRoom}
 use Rattle.xw_net.specs.Renumber.{AreLights, same_before, bits_from, flag_from, AreRowsMoved, AreFlagsMoved, IsRenumbered}
@@ -26,7 +26,7 @@ same_self lights are light other h = itself are.grid lights are.are h where
   itself grid ls e g =
       let found = found_before (lights_of grid) (lights_of grid) light other (subst (λ ys. same_before ys ys light ≡ Some other) e g) in
       let like = alike (get_or (lights_of grid) light no_light) (get_or (lights_of grid) other no_light) (size_of_light grid light no_light found.in_after) found.fits in
-      sym (same_place grid light other no_light found.in_after found.in_before like.0 like.1)
+      sym (same_index grid light other no_light found.in_after found.in_before like.0 like.1)
 
 only_false : (choice : ℕ) → get_or ([] ++ false ∷ []) choice false ≡ false
 only_false zero = refl

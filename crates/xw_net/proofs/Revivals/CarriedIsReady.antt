@@ -8,7 +8,7 @@ use Rattle.xw_letters.specs.Letter.{is_capital}
 use Rattle.xw_feas.specs.Board.{Board}
 use Rattle.xw_feas.specs.WellFormed.{IsLaidOut}
 use Rattle.xw_net.specs.Revival.{IsMatching}
-use Rattle.xw_net.specs.Marks.{Marks, IsPlace, cell_at, slot_at, side_of, letter_of, known, IsSettledNet}
+use Rattle.xw_net.specs.Marks.{Marks, IsPositionIn, cell_at, slot_at, side_of, letter_of, known, IsSettledNet}
 use Rattle.xw_net.specs.Brought.{IsBegun, IsReadyBut, IsCarried}
 use Rattle.xw_net.proofs.Revivals.RevivalCovers.{was-gives, was-from}
 use Rattle.xw_net.proofs.BaseRows.BaseLetters.{base_letter_may}
@@ -22,18 +22,18 @@ module _ (before after : Board) (old new : Dictionary) (same : ℕ → Option �
     (begun : IsBegun before after old new same settled.words settled.letters start.words start.letters seed)
     (carried : IsCarried before after old new same settled start seed) where
   -- the position in the matched light
-  record IsMatched (light place other : ℕ) : Type 0 where
-    pub here : IsPlace before other place
-    pub cell : cell_at before other place ≡ cell_at after light place
-    pub slot : slot_at before other place ≡ slot_at after light place
+  record IsMatched (light position other : ℕ) : Type 0 where
+    pub here : IsPositionIn before other position
+    pub cell : cell_at before other position ≡ cell_at after light position
+    pub slot : slot_at before other position ≡ slot_at after light position
 
-  match_place : (light place other : ℕ) → IsPlace after light place → same light ≡ Some other → IsMatched light place other
-  match_place light place other here at =
+  match_position : (light position other : ℕ) → IsPositionIn after light position → same light ≡ Some other → IsMatched light position other
+  match_position light position other here at =
       let cells = matching.cells light other here.0 at in
       record {
-        here = (matching.lights light other here.0 at, subst (λ cs. place < length cs) cells here.1);
-        cell = ap (λ cs. slice_index cs place) (sym cells);
-        slot = ap (λ cs. 2 * slice_index cs place + side_of cs) (sym cells);
+        here = (matching.lights light other here.0 at, subst (λ cs. position < length cs) cells here.1);
+        cell = ap (λ cs. slice_index cs position) (sym cells);
+        slot = ap (λ cs. 2 * slice_index cs position + side_of cs) (sym cells);
       }
 
   -- each word was there before, with the same letters
@@ -43,14 +43,14 @@ module _ (before after : Board) (old new : Dictionary) (same : ℕ → Option �
       subst (λ o. settled.words o choice ≡ true) (one_number found.0 other (sym found.1 ∙ at)) found.2
 
   -- each letter was there before
-  letter_stood : (light place letter : ℕ) → IsPlace after light place → seed light ≡ false → start.letters (cell_at after light place) letter ≡ true → settled.letters (cell_at after light place) letter ≡ true
-  letter_stood light place letter here no_seed stands = elim (cases_Bool (settled.letters (cell_at after light place) letter)) [
+  letter_stood : (light position letter : ℕ) → IsPositionIn after light position → seed light ≡ false → start.letters (cell_at after light position) letter ≡ true → settled.letters (cell_at after light position) letter ≡ true
+  letter_stood light position letter here no_seed stands = elim (cases_Bool (settled.letters (cell_at after light position) letter)) [
     | inl stood ↦ stood
-    | inr came ↦ absurd (both_ways (seed light) no_seed (begun.seeds light place letter here stands (λ h. both_ways (settled.letters (cell_at after light place) letter) came h)))
+    | inr came ↦ absurd (both_ways (seed light) no_seed (begun.seeds light position letter here stands (λ h. both_ways (settled.letters (cell_at after light position) letter) came h)))
   ]
 
-  same_letter : (light other choice place : ℕ) → light < length after.lights → seed light ≡ false → same light ≡ Some other → settled.words other choice ≡ true → letter_of before old other choice place ≡ letter_of after new light choice place
-  same_letter light other choice place in_board no_seed at stood = ap (λ w. slice_index w place) (carried.choices light other choice in_board no_seed at stood)
+  same_letter : (light other choice position : ℕ) → light < length after.lights → seed light ≡ false → same light ≡ Some other → settled.words other choice ≡ true → letter_of before old other choice position ≡ letter_of after new light choice position
+  same_letter light other choice position in_board no_seed at stood = ap (λ w. slice_index w position) (carried.choices light other choice in_board no_seed at stood)
 
   -- a word of a light that is not queued stays
   word_stays : (light other choice : ℕ) → light < length after.lights → seed light ≡ false → same light ≡ Some other → start.queued light ≡ false → settled.words other choice ≡ true → start.words light choice ≡ true
@@ -66,46 +66,46 @@ module _ (before after : Board) (old new : Dictionary) (same : ℕ → Option �
     lights = carried.lights;
     words = λ light choice no_seed stands. ((begun.words_kept light choice (carried.lights light choice stands) no_seed).0 stands).0;
     letters = carried.letters;
-    spelled = λ light place choice here no_seed stands.
+    spelled = λ light position choice here no_seed stands.
         let other = (carried.matched light here.0 no_seed).0 in
         let at = (carried.matched light here.0 no_seed).1 in
-        let there = match_place light place other here at in
+        let there = match_position light position other here at in
         let stood = word_stood light other choice here.0 no_seed at stands in
         let base = ((begun.words_kept light choice here.0 no_seed).0 stands).0 in
-        let may = base_letter_may after new laid_out are_words light choice place here.1 base in
-        let had : settled.letters (cell_at before other place) (letter_of before old other choice place) ≡ true =
-        elim (or_cases (settled.letters (cell_at before other place) (letter_of before old other choice place)) (settled.pending (slot_at before other place) (letter_of before old other choice place)) (net.ready.sound.spelled other place choice there.here stood)) [
+        let may = base_letter_may after new laid_out are_words light choice position here.1 base in
+        let had : settled.letters (cell_at before other position) (letter_of before old other choice position) ≡ true =
+        elim (or_cases (settled.letters (cell_at before other position) (letter_of before old other choice position)) (settled.pending (slot_at before other position) (letter_of before old other choice position)) (net.ready.sound.spelled other position choice there.here stood)) [
           | inl is ↦ is
-          | inr pends ↦ absurd (both_ways (settled.pending (slot_at before other place) (letter_of before old other choice place)) (net.none_pending other place (letter_of before old other choice place) there.here) pends)
+          | inr pends ↦ absurd (both_ways (settled.pending (slot_at before other position) (letter_of before old other choice position)) (net.none_pending other position (letter_of before old other choice position) there.here) pends)
         ] in
-        let had_here : settled.letters (cell_at after light place) (letter_of after new light choice place) ≡ true =
-        subst (λ l. settled.letters (cell_at after light place) l ≡ true) (same_letter light other choice place here.0 no_seed at stood)
-        (subst (λ c. settled.letters c (letter_of before old other choice place) ≡ true) there.cell had) in
-        begun.letters_kept (cell_at after light place) (letter_of after new light choice place) may had_here;
+        let had_here : settled.letters (cell_at after light position) (letter_of after new light choice position) ≡ true =
+        subst (λ l. settled.letters (cell_at after light position) l ≡ true) (same_letter light other choice position here.0 no_seed at stood)
+        (subst (λ c. settled.letters c (letter_of before old other choice position) ≡ true) there.cell had) in
+        begun.letters_kept (cell_at after light position) (letter_of after new light choice position) may had_here;
     pending = carried.pending;
     hits = carried.hits;
-    first = λ light place letter choice here no_seed stands below restarts lt had puts_it.
+    first = λ light position letter choice here no_seed stands below restarts lt had puts_it.
         let other = (carried.matched light here.0 no_seed).0 in
         let at = (carried.matched light here.0 no_seed).1 in
-        let there = match_place light place other here at in
+        let there = match_position light position other here at in
         let is_known = carried.as_many light other here.0 no_seed at in
-        let is_held : settled.held (slot_at before other place) letter ≡ start.held (slot_at after light place) letter = ap (λ s. settled.held s letter) there.slot ∙ sym (carried.held light place letter here (capital (cell_at after light place) letter stands) no_seed) in
-        let stood : settled.letters (cell_at before other place) letter ≡ true = ap (λ c. settled.letters c letter) there.cell ∙ letter_stood light place letter here no_seed stands in
-        let calm : settled.restart (slot_at before other place) letter ≡ false = ap (λ s. settled.restart s letter) there.slot ∙ sym (carried.restart light place letter here no_seed) ∙ restarts in
+        let is_held : settled.held (slot_at before other position) letter ≡ start.held (slot_at after light position) letter = ap (λ s. settled.held s letter) there.slot ∙ sym (carried.held light position letter here (capital (cell_at after light position) letter stands) no_seed) in
+        let stood : settled.letters (cell_at before other position) letter ≡ true = ap (λ c. settled.letters c letter) there.cell ∙ letter_stood light position letter here no_seed stands in
+        let calm : settled.restart (slot_at before other position) letter ≡ false = ap (λ s. settled.restart s letter) there.slot ∙ sym (carried.restart light position letter here no_seed) ∙ restarts in
         subst (λ n. n ≤ choice) is_held
-        (net.ready.sound.first other place letter choice there.here stood (omega (arith, is_held, is_known, below)) calm (omega (arith, is_known, lt))
-        (word_stood light other choice here.0 no_seed at had) (ap (λ l. eqb l letter) (same_letter light other choice place here.0 no_seed at (word_stood light other choice here.0 no_seed at had)) ∙ puts_it));
-    held = λ light place letter here no_seed calm stands.
+        (net.ready.sound.first other position letter choice there.here stood (omega (arith, is_held, is_known, below)) calm (omega (arith, is_known, lt))
+        (word_stood light other choice here.0 no_seed at had) (ap (λ l. eqb l letter) (same_letter light other choice position here.0 no_seed at (word_stood light other choice here.0 no_seed at had)) ∙ puts_it));
+    held = λ light position letter here no_seed calm stands.
         let other = (carried.matched light here.0 no_seed).0 in
         let at = (carried.matched light here.0 no_seed).1 in
-        let there = match_place light place other here at in
+        let there = match_position light position other here at in
         let is_known = carried.as_many light other here.0 no_seed at in
-        let is_held : settled.held (slot_at before other place) letter ≡ start.held (slot_at after light place) letter = ap (λ s. settled.held s letter) there.slot ∙ sym (carried.held light place letter here (capital (cell_at after light place) letter stands) no_seed) in
-        let stood : settled.letters (cell_at before other place) letter ≡ true = ap (λ c. settled.letters c letter) there.cell ∙ letter_stood light place letter here no_seed stands in
-        elim (net.ready.held other place letter there.here (net.none_queued other there.here.0) stood) [
+        let is_held : settled.held (slot_at before other position) letter ≡ start.held (slot_at after light position) letter = ap (λ s. settled.held s letter) there.slot ∙ sym (carried.held light position letter here (capital (cell_at after light position) letter stands) no_seed) in
+        let stood : settled.letters (cell_at before other position) letter ≡ true = ap (λ c. settled.letters c letter) there.cell ∙ letter_stood light position letter here no_seed stands in
+        elim (net.ready.held other position letter there.here (net.none_queued other there.here.0) stood) [
           | inl known_word ↦ inl (
             omega (arith, is_held, is_known, known_word.0),
-            subst (λ n. start.words light n ≡ true) is_held (word_stays light other (settled.held (slot_at before other place) letter) here.0 no_seed at calm known_word.1),
+            subst (λ n. start.words light n ≡ true) is_held (word_stays light other (settled.held (slot_at before other position) letter) here.0 no_seed at calm known_word.1),
           )
           | inr entered ↦ inr (subst (λ n. start.words light n ≡ true) (sym is_known) (word_stays light other (known before old other) here.0 no_seed at calm entered))
         ];

@@ -13,7 +13,7 @@ use Rattle.xw_feas.specs.WellFormed.{IsLaidOut}
 use Rattle.xw_words.specs.Dictionary.{IsDictionary}
 use Rattle.xw_net.specs.Revival.{IsMatching, IsRevived}
 use Rattle.xw_net.specs.Region.{IsRegion}
-use Rattle.xw_net.specs.Marks.{Marks, IsPlace, cell_at, slot_at, letter_of, known, puts, AreSlotsApart, IsSound, IsReady}
+use Rattle.xw_net.specs.Marks.{Marks, IsPositionIn, cell_at, slot_at, letter_of, known, puts, AreSlotsApart, IsSound, IsReady}
 use Rattle.xw_net.specs.Spread.{IsReachClosed}
 use Rattle.xw_net.specs.Brought.{IsBrought, IsBegun, IsReadyBut}
 use Rattle.xw_net.proofs.Revivals.RevivalCovers.{revival_covers}
@@ -80,9 +80,9 @@ pub region_reach_closed : (before after : State) (action : Action) (member : Lis
     → (words letters : ℕ → ℕ → Bool) → IsExact (board_of before.grid) before.words words letters
     → (start : ℕ → ℕ → Bool) → ((cell letter : ℕ) → IsTrue (may_stand (board_of after.grid) cell letter) → IsTrue (letters cell letter) → IsTrue (start cell letter))
     → IsReachClosed (board_of after.grid) start (λ light. member (light_at (board_of after.grid) light))
-region_reach_closed before after action member region words letters exact start kept light place other other_place here there meets lacks has =
-    region_spreads before after action member region light place other other_place here.0 here.1 there.0 there.1 meets
-    (λ settled. lacks (λ letter may. kept (cell_at (board_of after.grid) light place) letter may (settled_stood before after words letters exact (cell_at (board_of after.grid) light place) letter settled may)))
+region_reach_closed before after action member region words letters exact start kept light position other other_position here there meets lacks has =
+    region_spreads before after action member region light position other other_position here.0 here.1 there.0 there.1 meets
+    (λ settled. lacks (λ letter may. kept (cell_at (board_of after.grid) light position) letter may (settled_stood before after words letters exact (cell_at (board_of after.grid) light position) letter settled may)))
     has
 
 -- ---- ready for stripping
@@ -110,16 +110,16 @@ module _ (board : Board) (dictionary : Dictionary) (laid_out : IsLaidOut board) 
       (and_parts (is_open board cell) (is_capital letter) (and_parts (is_open board cell && is_capital letter) (allows (entry board cell) letter) (may_now cell letter stands)).0).1
 
   -- at a light off the chain, each letter was there before
-  stood_off : (light place letter : ℕ) → IsPlace board light place → chain light ≡ false → now.letters (cell_at board light place) letter ≡ true → start.letters (cell_at board light place) letter ≡ true
-  stood_off light place letter here off stands = elim (cases_Bool (start.letters (cell_at board light place) letter)) [
+  stood_off : (light position letter : ℕ) → IsPositionIn board light position → chain light ≡ false → now.letters (cell_at board light position) letter ≡ true → start.letters (cell_at board light position) letter ≡ true
+  stood_off light position letter here off stands = elim (cases_Bool (start.letters (cell_at board light position) letter)) [
     | inl stood ↦ stood
-    | inr came ↦ absurd (both_ways (chain light) off (brought.letters_off light place letter here stands came))
+    | inr came ↦ absurd (both_ways (chain light) off (brought.letters_off light position letter here stands came))
   ]
 
   -- at a light off the chain, the slots are unchanged
-  restart_off : (light place letter : ℕ) → IsPlace board light place → chain light ≡ false → now.restart (slot_at board light place) letter ≡ start.restart (slot_at board light place) letter
-  restart_off light place letter here off =
-      brought.restart_off (slot_at board light place) letter (λ other other_place there meets. ap chain (apart other other_place light place there here meets).0 ∙ off)
+  restart_off : (light position letter : ℕ) → IsPositionIn board light position → chain light ≡ false → now.restart (slot_at board light position) letter ≡ start.restart (slot_at board light position) letter
+  restart_off light position letter here off =
+      brought.restart_off (slot_at board light position) letter (λ other other_position there meets. ap chain (apart other other_position light position there here meets).0 ∙ off)
 
   sound : CoversSupported board dictionary now.words now.letters → IsSound board dictionary now
   sound covers = record {
@@ -132,46 +132,46 @@ module _ (board : Board) (dictionary : Dictionary) (laid_out : IsLaidOut board) 
       letters = may_now;
     };
     covers = covers;
-    spelled = λ light place choice here stands.
-        let letter = letter_of board dictionary light choice place in
-        let cell = cell_at board light place in
-        let may = base_letter_may board dictionary laid_out are_words light choice place here.1 (base_now light choice stands) in
-        or_left (now.letters cell letter) (now.pending (slot_at board light place) letter)
+    spelled = λ light position choice here stands.
+        let letter = letter_of board dictionary light choice position in
+        let cell = cell_at board light position in
+        let may = base_letter_may board dictionary laid_out are_words light choice position here.1 (base_now light choice stands) in
+        or_left (now.letters cell letter) (now.pending (slot_at board light position) letter)
         (elim (cases_Bool (chain light)) [
-          | inl on ↦ brought.letters_on light place here on letter may
-          | inr off ↦ brought.letters_stay cell letter may (was_ready.spelled light place choice here (off_seed light off) (sym (brought.words_off light choice off) ∙ stands))
+          | inl on ↦ brought.letters_on light position here on letter may
+          | inr off ↦ brought.letters_stay cell letter may (was_ready.spelled light position choice here (off_seed light off) (sym (brought.words_off light choice off) ∙ stands))
         ]);
-    pending_gone = λ light place letter here pends. absurd (none_pending light place letter here pends);
-    pending_queued = λ light place letter here pends. absurd (none_pending light place letter here pends);
-    hits = λ light place letter here stands below.
-        let is = brought.held (slot_at board light place) letter in
-        subst (λ n. puts board dictionary light place letter n ≡ true) (sym is)
-        (was_ready.hits light place letter here (capital_now (cell_at board light place) letter stands) (subst (λ n. n < known board dictionary light) is below));
-    first = λ light place letter choice here stands below restarts lt had puts_it.
-        let is = brought.held (slot_at board light place) letter in
+    pending_gone = λ light position letter here pends. absurd (none_pending light position letter here pends);
+    pending_queued = λ light position letter here pends. absurd (none_pending light position letter here pends);
+    hits = λ light position letter here stands below.
+        let is = brought.held (slot_at board light position) letter in
+        subst (λ n. puts board dictionary light position letter n ≡ true) (sym is)
+        (was_ready.hits light position letter here (capital_now (cell_at board light position) letter stands) (subst (λ n. n < known board dictionary light) is below));
+    first = λ light position letter choice here stands below restarts lt had puts_it.
+        let is = brought.held (slot_at board light position) letter in
         elim (cases_Bool (chain light)) [
-          | inl on ↦ absurd (both_ways (now.restart (slot_at board light place) letter) restarts (brought.restart_on light place letter here on (capital_now (cell_at board light place) letter stands)))
+          | inl on ↦ absurd (both_ways (now.restart (slot_at board light position) letter) restarts (brought.restart_on light position letter here on (capital_now (cell_at board light position) letter stands)))
           | inr off ↦
               subst (λ n. n ≤ choice) (sym is)
-              (was_ready.first light place letter choice here (off_seed light off) (stood_off light place letter here off stands)
-              (subst (λ n. n < known board dictionary light) is below) (sym (restart_off light place letter here off) ∙ restarts) lt (sym (brought.words_off light choice off) ∙ had) puts_it)
+              (was_ready.first light position letter choice here (off_seed light off) (stood_off light position letter here off stands)
+              (subst (λ n. n < known board dictionary light) is below) (sym (restart_off light position letter here off) ∙ restarts) lt (sym (brought.words_off light choice off) ∙ had) puts_it)
         ];
   }
     where
-      none_pending : (light place letter : ℕ) → IsPlace board light place → now.pending (slot_at board light place) letter ≡ true → ⊥
-      none_pending light place letter here pends = both_ways (now.pending (slot_at board light place) letter) (brought.pending (slot_at board light place) letter ∙ was_ready.pending light place letter here) pends
+      none_pending : (light position letter : ℕ) → IsPositionIn board light position → now.pending (slot_at board light position) letter ≡ true → ⊥
+      none_pending light position letter here pends = both_ways (now.pending (slot_at board light position) letter) (brought.pending (slot_at board light position) letter ∙ was_ready.pending light position letter here) pends
 
   pub brought_ready : CoversSupported board dictionary now.words now.letters → IsReady board dictionary now
   brought_ready covers = record {
     sound = sound covers;
-    held = λ light place letter here calm stands. elim (cases_Bool (chain light)) [
+    held = λ light position letter here calm stands. elim (cases_Bool (chain light)) [
       | inl on ↦ absurd (both_ways (now.queued light) calm (brought.queued_on light on))
       | inr off ↦
-          let is = brought.held (slot_at board light place) letter in
-          elim (was_ready.held light place letter here (off_seed light off) (sym (brought.queued_off light off) ∙ calm) (stood_off light place letter here off stands)) [
+          let is = brought.held (slot_at board light position) letter in
+          elim (was_ready.held light position letter here (off_seed light off) (sym (brought.queued_off light off) ∙ calm) (stood_off light position letter here off stands)) [
             | inl known_word ↦ inl (
               subst (λ n. n < known board dictionary light) (sym is) known_word.0,
-              brought.words_off light (now.held (slot_at board light place) letter) off ∙ ap (start.words light) is ∙ known_word.1,
+              brought.words_off light (now.held (slot_at board light position) letter) off ∙ ap (start.words light) is ∙ known_word.1,
             )
             | inr entered ↦ inr (brought.words_off light (known board dictionary light) off ∙ entered)
           ]

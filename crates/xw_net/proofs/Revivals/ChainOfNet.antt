@@ -10,7 +10,7 @@ use Rattle.xw_feas.specs.Flags.{set_has}
 use Rattle.xw_net.specs.declared.net.Net.{Net}
 use Rattle.xw_net.specs.Base.{base_bits}
 use Rattle.xw_net.specs.Nets.{marks_of, word_stands, letter_stands, held_in, restart_in, pending_in, queued_in}
-use Rattle.xw_net.specs.Spread.{none_waits, no_places, bits_in, Lit, lit, IsLit, IsSpread}
+use Rattle.xw_net.specs.Spread.{none_waits, no_positions, bits_in, Lit, lit, IsLit, IsSpread}
 use Rattle.xw_net.specs.Worklist.{ListOfLights}
 use Rattle.xw_net.specs.Brought.{IsBase, IsBrought}
 
@@ -25,7 +25,7 @@ lit_same rows rows' entered entered' restart restart' queue a b c = cc
 module _ (board : Board) (dictionary : Dictionary) (base : List RowOfBits) (old new : Net) (chain : ℕ → Bool)
     (is_base : IsBase board dictionary base) (in_board : (light : ℕ) → chain light ≡ true → light < length board.lights)
     (lit : IsLit board base (lit_of old) (lit_of new) chain none_waits)
-    (spread : IsSpread board (set_has old.letters.items) (set_has new.letters.items) chain none_waits no_places)
+    (spread : IsSpread board (set_has old.letters.items) (set_has new.letters.items) chain none_waits no_positions)
     (held : new.held.items ≡ old.held.items) (pending : new.pending.items ≡ old.pending.items) where
   pub brought_from : IsBrought board dictionary (marks_of old) (marks_of new) chain
   unfolding word_stands letter_stands held_in restart_in pending_in queued_in
@@ -37,12 +37,12 @@ module _ (board : Board) (dictionary : Dictionary) (base : List RowOfBits) (old 
     words_off = λ light choice off.
         ap (λ bs. get_or (bs ++ get_or new.entered.items light false ∷ []) choice false) (lit.rows_off light off)
         ∙ ap (λ e. get_or (bits_in old.rows.items light ++ e ∷ []) choice false) (lit.entered_off light off);
-    letters_on = λ light place here on. spread.on light place here on refl refl;
+    letters_on = λ light position here on. spread.on light position here on refl refl;
     letters_off = spread.reaches;
     letters_from = λ cell letter stands. or_cases (set_has old.letters.items cell letter) (may_stand board cell letter) (spread.from cell letter stands);
     letters_stay = spread.stay;
     held = λ slot letter. ap (λ hs. get_or hs (26 * slot + (letter - 65)) 0) held;
-    restart_on = λ light place letter here on capital. lit.restart_on light place letter here on refl capital;
+    restart_on = λ light position letter here on capital. lit.restart_on light position letter here on refl capital;
     restart_off = λ slot letter none. ap (λ s. has s letter) (lit.restart_off slot none);
     pending = λ slot letter. ap (λ ps. set_has ps slot letter) pending;
     queued_on = λ light on. lit.queued_on light (in_board light on) on refl;

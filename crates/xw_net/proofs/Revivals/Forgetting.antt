@@ -39,7 +39,7 @@ pub forgets_nothing : (board : Board) (first : ℕ → ℕ) (held pending : List
 forgets_nothing board first held pending none = record {
   held_len = refl;
   pending_len = refl;
-  cuts = λ light place letter here capital. let at = get_or held (26 * slot_at board light place + (letter - 65)) 0 in sym (ap (λ from. lose from at) (none light here.0) ∙ lose_none at);
+  cuts = λ light position letter here capital. let at = get_or held (26 * slot_at board light position + (letter - 65)) 0 in sym (ap (λ from. lose from at) (none light here.0) ∙ lose_none at);
   less = λ slot letter has. has;
-  cleared = λ light place letter here below. absurd (omega (arith, none light here.0, below));
+  cleared = λ light position letter here below. absurd (omega (arith, none light here.0, below));
 }

@@ -57,15 +57,15 @@ module _ (board : Board) where
 -- ---- one more position or light
 
 pub among_more : (grid : Grid) (light : Light) (count cell : ℕ) → IsAmong grid light count cell → IsAmong grid light (count + 1) cell
-among_more grid light count cell is = record { place = is.place; below = omega (arith, is.below); along = is.along }
+among_more grid light count cell is = record { position = is.position; below = omega (arith, is.below); along = is.along }
 
 pub among_last : (grid : Grid) (light : Light) (count cell : ℕ) → IsAlong grid light count cell → IsAmong grid light (count + 1) cell
-among_last grid light count cell is = record { place = count; below = omega arith; along = is }
+among_last grid light count cell is = record { position = count; below = omega arith; along = is }
 
 pub among_split : (grid : Grid) (light : Light) (count cell : ℕ) → IsAmong grid light (count + 1) cell → IsAmong grid light count cell ⊎ IsAlong grid light count cell
-among_split grid light count cell is = elim (cases_eq is.place count) [
+among_split grid light count cell is = elim (cases_eq is.position count) [
   | inl e ↦ inr (subst (λ p. IsAlong grid light p cell) e is.along)
-  | inr apart ↦ inl (record { place = is.place; below = omega (arith, is.below, apart); along = is.along })
+  | inr apart ↦ inl (record { position = is.position; below = omega (arith, is.below, apart); along = is.along })
 ]
 
 pub freed_more : (grid : Grid) (before after : List Light) (count cell : ℕ) → IsFreed grid before after count cell → IsFreed grid before after (count + 1) cell

@@ -9,8 +9,8 @@ use Rattle.xw_letters.specs.LetterSet.{has, letters_in}
 use Rattle.xw_feas.specs.Board.{Board}
 use Rattle.xw_feas.specs.Feasible.{may_stand}
 use Rattle.xw_feas.specs.Flags.{set_has}
-use Rattle.xw_net.specs.Marks.{IsPlace, cell_at}
-use Rattle.xw_net.specs.Spread.{HasAll, IsSpread, places_from, no_places, none_waits}
+use Rattle.xw_net.specs.Marks.{IsPositionIn, cell_at}
+use Rattle.xw_net.specs.Spread.{HasAll, IsSpread, positions_from, no_positions, none_waits}
 use Rattle.xw_net.specs.Worklist.{ListOfLights, is_marked, is_waiting, Grows}
 use Rattle.xw_net.proofs.Lists.ListsOfLights.{quiet_pop}
 
@@ -46,7 +46,7 @@ module _ (board : Board) (old : ℕ → ℕ → Bool) where
   -- a cell gets all letters that it allows, and the lights through it are marked
   pub spread_raise : (letters : List ℕ) (cell may : ℕ) (marked waiting : ℕ → Bool) (coming : ℕ → ℕ → Bool) → cell < length letters
       → ((letter : ℕ) → has may letter ≡ may_stand board cell letter)
-      → ((light place : ℕ) → IsPlace board light place → cell_at board light place ≡ cell → marked light ≡ true)
+      → ((light position : ℕ) → IsPositionIn board light position → cell_at board light position ≡ cell → marked light ≡ true)
       → IsSpread board old (set_has letters) marked waiting coming → IsSpread board old (set_has (set letters cell may)) marked waiting coming
   spread_raise letters cell may marked waiting coming lt is through spread = record {
     on = λ i q here m quiet later l may_here. keeps (cell_at board i q) l may_here (spread.on i q here m quiet later l may_here);
@@ -75,11 +75,11 @@ module _ (board : Board) (old : ℕ → ℕ → Bool) where
 
   -- a light is popped: all its positions are still to come
   pub spread_taken : (new : ℕ → ℕ → Bool) (marked : ℕ → Bool) (taken taken' : List ℕ) (o : ℕ) → taken ≡ taken' ++ o ∷ []
-      → IsSpread board old new marked (is_waiting taken) no_places → IsSpread board old new marked (is_waiting taken') (places_from o 0)
+      → IsSpread board old new marked (is_waiting taken) no_positions → IsSpread board old new marked (is_waiting taken') (positions_from o 0)
   spread_taken new marked taken taken' o is spread = record {
     on = λ i q here m quiet later.
         elim (cases_eq i o) [
-          | inl e ↦ absurd (both_ways (places_from o 0 i q) later (and_from (eqb i o) (leb 0 q) (eq-eqb i o e) (le-leb 0 q (omega arith))))
+          | inl e ↦ absurd (both_ways (positions_from o 0 i q) later (and_from (eqb i o) (leb 0 q) (eq-eqb i o e) (le-leb 0 q (omega arith))))
           | inr n ↦ spread.on i q here m (quiet_pop taken taken' o i is n quiet) refl
         ];
     reaches = spread.reaches;
@@ -88,11 +88,11 @@ module _ (board : Board) (old : ℕ → ℕ → Bool) where
   }
 
   -- one position is done
-  pub spread_place : (new : ℕ → ℕ → Bool) (marked waiting : ℕ → Bool) (o p : ℕ) → HasAll board new (cell_at board o p)
-      → IsSpread board old new marked waiting (places_from o p) → IsSpread board old new marked waiting (places_from o (p + 1))
-  spread_place new marked waiting o p done spread = record {
+  pub spread_position : (new : ℕ → ℕ → Bool) (marked waiting : ℕ → Bool) (o p : ℕ) → HasAll board new (cell_at board o p)
+      → IsSpread board old new marked waiting (positions_from o p) → IsSpread board old new marked waiting (positions_from o (p + 1))
+  spread_position new marked waiting o p done spread = record {
     on = λ i q here m quiet later.
-        elim (cases_Bool (places_from o p i q)) [
+        elim (cases_Bool (positions_from o p i q)) [
           | inr before ↦ spread.on i q here m quiet before
           | inl now ↦
               let both = and_parts (eqb i o) (leb p q) now in
@@ -101,7 +101,7 @@ module _ (board : Board) (old : ℕ → ℕ → Bool) where
                 | inl e ↦
                     let cell : cell_at board o p ≡ cell_at board i q = ap (λ n. cell_at board n p) (sym light) ∙ ap (cell_at board i) (sym e) in
                     subst (HasAll board new) cell done
-                | inr n ↦ absurd (both_ways (places_from o (p + 1) i q) later (and_from (eqb i o) (leb (p + 1) q) both.0 (le-leb (p + 1) q (omega (arith, leb-true p q both.1, n)))))
+                | inr n ↦ absurd (both_ways (positions_from o (p + 1) i q) later (and_from (eqb i o) (leb (p + 1) q) both.0 (le-leb (p + 1) q (omega (arith, leb-true p q both.1, n)))))
               ]
         ];
     reaches = spread.reaches;
@@ -110,15 +110,15 @@ module _ (board : Board) (old : ℕ → ℕ → Bool) where
   }
 
   -- after the last position of the light nothing is to come
-  pub spread_light : (new : ℕ → ℕ → Bool) (marked waiting : ℕ → Bool) (o p : ℕ) → ((q : ℕ) → IsPlace board o q → q < p)
-      → IsSpread board old new marked waiting (places_from o p) → IsSpread board old new marked waiting no_places
+  pub spread_light : (new : ℕ → ℕ → Bool) (marked waiting : ℕ → Bool) (o p : ℕ) → ((q : ℕ) → IsPositionIn board o q → q < p)
+      → IsSpread board old new marked waiting (positions_from o p) → IsSpread board old new marked waiting no_positions
   spread_light new marked waiting o p short spread = record {
     on = λ i q here m quiet later.
         spread.on i q here m quiet
-        (false_from_ne_true (places_from o p i q) (λ h.
+        (false_from_ne_true (positions_from o p i q) (λ h.
         let both = and_parts (eqb i o) (leb p q) h in
-        let Place : ℕ → Type 0 = λ n. IsPlace board n q in
-        let lt = short q (subst Place (eqb-true i o both.0) here) in
+        let Position : ℕ → Type 0 = λ n. IsPositionIn board n q in
+        let lt = short q (subst Position (eqb-true i o both.0) here) in
         absurd (omega (arith, lt, leb-true p q both.1))));
     reaches = spread.reaches;
     from = spread.from;
@@ -134,7 +134,7 @@ module _ (board : Board) (old : ℕ → ℕ → Bool) where
 
 module _ (board : Board) where
   -- at the start the marked lights are on the list
-  pub spread_start : (letters : ℕ → ℕ → Bool) (marked waiting : ℕ → Bool) → ((light : ℕ) → marked light ≡ waiting light) → IsSpread board letters letters marked waiting no_places
+  pub spread_start : (letters : ℕ → ℕ → Bool) (marked waiting : ℕ → Bool) → ((light : ℕ) → marked light ≡ waiting light) → IsSpread board letters letters marked waiting no_positions
   spread_start letters marked waiting seeds = record {
     on = λ i q here m quiet later. absurd (both_ways (waiting i) quiet (sym (seeds i) ∙ m));
     reaches = λ i q l here now not_old. absurd (both_ways (letters (cell_at board i q) l) not_old now);
@@ -144,7 +144,7 @@ module _ (board : Board) where
 
   -- at the end no light is on the list
   pub spread_end : (old new : ℕ → ℕ → Bool) (marked waiting : ℕ → Bool) → ((light : ℕ) → waiting light ≡ false)
-      → IsSpread board old new marked waiting no_places → IsSpread board old new marked none_waits no_places
+      → IsSpread board old new marked waiting no_positions → IsSpread board old new marked none_waits no_positions
   spread_end old new marked waiting none spread = record {
     on = λ i q here m quiet later. spread.on i q here m (none i) later;
     reaches = spread.reaches;

@@ -9,7 +9,7 @@ use Rattle.xw_grid.specs.Grid.{is_inside, index_of}
 use Rattle.xw_grid.specs.declared.lights.Light.{Light}
 use Rattle.xw_grid.specs.Light.{lights_of, no_light, step}
 use Rattle.xw_feas.proofs.BoardLemmas.{length-lights}
-use Rattle.xw_feas.proofs.FormedLemmas.{light_in, length-light_at, place_is}
+use Rattle.xw_feas.proofs.FormedLemmas.{light_in, length-light_at, index_is}
 use Rattle.xw_net.proofs.Edits.UntouchedLights.{freed_letter_within}
 use Rattle.xw_feas.specs.Board.{board_of, light_at}
 use Rattle.xw_feas.specs.Feasible.{may_stand}
@@ -19,7 +19,7 @@ use Rattle.xw_net.specs.declared.net.Net.{Net}
 use Rattle.xw_net.specs.Change.{Fields, IsChange}
 use Rattle.xw_net.specs.Revival.{IsMatching, same_light, StandsOn}
 use Rattle.xw_net.specs.Region.{IsRegion}
-use Rattle.xw_net.specs.Marks.{IsPlace, cell_at}
+use Rattle.xw_net.specs.Marks.{IsPositionIn, cell_at}
 use Rattle.xw_net.specs.Nets.{marks_of, word_stands, letter_stands, restart_in, queued_in}
 use Rattle.xw_net.specs.Filled.{IsFilled}
 use Rattle.xw_net.specs.Renumber.{same_before}
@@ -70,7 +70,7 @@ module _ (before now : State) (action : Action) (change : Fields) (is : IsChange
       (new_queued before now action change is settled net opened filled moved opening entered_kept inside)
       (new_seeds before now action change is settled net opened filled moved opening entered_kept inside)
       prepared.calm prepared.seeds
-      (subst (λ ls. Rattle.xw_net.specs.Spread.IsSpread (board_of now.grid) (set_has ls) (set_has opened.letters.items) (is_marked opened.chain.marks) (is_waiting opened.chain.lights) Rattle.xw_net.specs.Spread.no_places) moved.letters opening.spread)
+      (subst (λ ls. Rattle.xw_net.specs.Spread.IsSpread (board_of now.grid) (set_has ls) (set_has opened.letters.items) (is_marked opened.chain.marks) (is_waiting opened.chain.lights) Rattle.xw_net.specs.Spread.no_positions) moved.letters opening.spread)
       (λ listed has fill. filled_was_open before now action change is listed has (inside_before listed has) (inside listed has) fill)
       (opened_lights before now action change is settled net opened filled moved opening entered_kept inside)
       (opened_words_on before now action change is settled net opened filled moved opening entered_kept inside)
@@ -94,15 +94,15 @@ module _ (before now : State) (action : Action) (change : Fields) (is : IsChange
   none_marked member light on = absurd (both_ways (is_marked net.chain.marks light) (moved.is_marked light) on)
 
   -- each light through a freed cell where a letter is missing is in the region
-  freed_within : (member : List ℕ → Bool) → IsRegion before now action member → (cell light place : ℕ) → IsFreed now.grid change.before (lights_of now.grid) (length change.before) cell
-      → ¬ HasAll (board_of now.grid) (set_has net.letters.items) cell → IsPlace (board_of now.grid) light place → cell_at (board_of now.grid) light place ≡ cell → member (light_at (board_of now.grid) light) ≡ true
+  freed_within : (member : List ℕ → Bool) → IsRegion before now action member → (cell light position : ℕ) → IsFreed now.grid change.before (lights_of now.grid) (length change.before) cell
+      → ¬ HasAll (board_of now.grid) (set_has net.letters.items) cell → IsPositionIn (board_of now.grid) light position → cell_at (board_of now.grid) light position ≡ cell → member (light_at (board_of now.grid) light) ≡ true
   unfolding letter_stands
-  freed_within member region cell light place freed lacks here at = elim (cases_Bool (member (light_at (board_of now.grid) light))) [
+  freed_within member region cell light position freed lacks here at = elim (cases_Bool (member (light_at (board_of now.grid) light))) [
     | inl has ↦ has
     | inr off ↦ absurd (lacks (λ letter may. elim (cases_Bool (set_has net.letters.items cell letter)) [
       | inl stood ↦ stood
       | inr not_stood ↦ absurd (both_ways _ off (freed_letter_within before now action is.formed_before.grid is.made member region (word_stands settled) (letter_stands settled) filled.exact
-          freed.other freed.among.place light place letter in_before gone below here.0 here.1 (at ∙ is_cell)
+          freed.other freed.among.position light position letter in_before gone below here.0 here.1 (at ∙ is_cell)
           (subst (λ p. may_stand (board_of now.grid) p letter ≡ true) is_cell may)
           (λ stands. both_ways _ not_stood (ap (λ ls. set_has ls cell letter) moved.letters ∙ ap (λ p. set_has settled.letters.items p letter) is_cell ∙ stands))))
     ]))
@@ -116,15 +116,15 @@ module _ (before now : State) (action : Action) (change : Fields) (is : IsChange
     light_is : light_in before.grid freed.other ≡ freed.light
     light_is = get_or_from_slice_get (lights_of before.grid) freed.other freed.light no_light (sym (ap (λ ls. slice_get ls freed.other) is.lights) ∙ freed.gone.at)
 
-    below : freed.among.place < length (light_at (board_of before.grid) freed.other)
+    below : freed.among.position < length (light_at (board_of before.grid) freed.other)
     below = omega (arith, freed.among.below, length-light_at before.grid freed.other in_lights, ap (λ (l : Light). l.size) light_is)
 
-    is_cell : cell ≡ slice_index (light_at (board_of before.grid) freed.other) freed.among.place
+    is_cell : cell ≡ slice_index (light_at (board_of before.grid) freed.other) freed.among.position
     is_cell =
         sym freed.among.along.is
-        ∙ ap (λ (l : Light). index_of now.grid (step l.name.direction l.start freed.among.place)) (sym light_is)
-        ∙ ap (λ w. ((step (light_in before.grid freed.other).name.direction (light_in before.grid freed.other).start freed.among.place).row - 1) * w + ((step (light_in before.grid freed.other).name.direction (light_in before.grid freed.other).start freed.among.place).col - 1)) is.width
-        ∙ sym (place_is before.grid freed.other freed.among.place below)
+        ∙ ap (λ (l : Light). index_of now.grid (step l.name.direction l.start freed.among.position)) (sym light_is)
+        ∙ ap (λ w. ((step (light_in before.grid freed.other).name.direction (light_in before.grid freed.other).start freed.among.position).row - 1) * w + ((step (light_in before.grid freed.other).name.direction (light_in before.grid freed.other).start freed.among.position).col - 1)) is.width
+        ∙ sym (index_is before.grid freed.other freed.among.position below)
 
     gone : ¬ StandsOn (board_of now.grid) (same_light before.grid now.grid) freed.other
     gone (light', in_after, at') =

@@ -14,9 +14,9 @@ use Rattle.xw_feas.specs.Flags.{set_has}
 use Rattle.xw_feas.specs.State.{State, Action, after, letter_set, cell_cleared, word_placed, list_written, block_toggled, bar_toggled, symmetry_chosen, word_added, word_struck, add_word, strike_word}
 use Rattle.xw_feas.proofs.ChoicesLemmas.{base_flag_entered}
 use Rattle.xw_feas.proofs.Support.{set_flag_within}
-use Rattle.xw_feas.proofs.FormedLemmas.{light_in, length-light_at, within_lights, place_is, inside_at}
+use Rattle.xw_feas.proofs.FormedLemmas.{light_in, length-light_at, within_lights, index_is, inside_at}
 use Rattle.xw_net.specs.declared.net.Net.{Net}
-use Rattle.xw_net.specs.Change.{Fields, IsChange, IsPlaceOf, word_changed}
+use Rattle.xw_net.specs.Change.{Fields, IsChange, IsIndexOf, word_changed}
 use Rattle.xw_net.specs.Base.{base_bits, is_base_word}
 use Rattle.xw_net.specs.Revival.{IsMatching, same_light, StandsOn}
 use Rattle.xw_net.specs.Marks.{known}
@@ -52,8 +52,8 @@ word_keeps_grid before now (block_toggled cell) word made some = let never : Non
 word_keeps_grid before now (bar_toggled cell side) word made some = let never : None ≡ Some word = some in cc
 word_keeps_grid before now (symmetry_chosen kind) word made some = let never : None ≡ Some word = some in cc
 
-same_entry : (old new : List Entry) (place : ℕ) → slice_get old place ≡ slice_get new place → entry_at old place ≡ entry_at new place
-same_entry old new place same = sym (unwrap_or-slice_get old place no_entry) ∙ ap (λ o. unwrap_or o no_entry) same ∙ unwrap_or-slice_get new place no_entry
+same_entry : (old new : List Entry) (index : ℕ) → slice_get old index ≡ slice_get new index → entry_at old index ≡ entry_at new index
+same_entry old new index same = sym (unwrap_or-slice_get old index no_entry) ∙ ap (λ o. unwrap_or o no_entry) same ∙ unwrap_or-slice_get new index no_entry
 
 -- a flag of two rows of the same length that agree there and in the last flag
 same_flag : (xs ys : List Bool) (last : Bool) (k : ℕ) → length xs ≡ length ys → get_or xs k false ≡ get_or ys k false → get_or (xs ++ last ∷ []) k false ≡ get_or (ys ++ last ∷ []) k false
@@ -100,11 +100,11 @@ module _ (before now : State) (action : Action) (change : Fields) (is : IsChange
 
   -- an edit of a word keeps the grid, and the base words of each light except perhaps that word
   base_but : AreBaseBut (board_of now.grid) (row now.words) change.word net.base.items
-  base_but light in_board place some k apart =
-      let grid = word_keeps_grid before now action (length (light_at (board_of now.grid) light), place) is.made (sym is.word ∙ some) in
+  base_but light in_board index some k apart =
+      let grid = word_keeps_grid before now action (length (light_at (board_of now.grid) light), index) is.made (sym is.word ∙ some) in
       let in_before : light < length (board_of before.grid).lights = subst (λ g. light < length (board_of g).lights) grid in_board in
       let at = same_is_whole before.grid now.grid is.width light light in_board in_before (ap (λ g. light_at (board_of g) light) grid) in
-      let kept = is.entries (length (light_at (board_of now.grid) light)) k (λ found. let there = subst (λ w. IsPlaceOf w (length (light_at (board_of now.grid) light)) k) some found in apart (sym there.1)) in
+      let kept = is.entries (length (light_at (board_of now.grid) light)) k (λ found. let there = subst (λ w. IsIndexOf w (length (light_at (board_of now.grid) light)) k) some found in apart (sym there.1)) in
       moved.base_at light light k in_board at
       ∙ ap (λ bits. get_or bits k false) (filled.is_base light in_before)
       ∙ sym (base_bit (board_of before.grid) (light_at (board_of before.grid) light) (row before.words (length (light_at (board_of before.grid) light))) k)
@@ -188,10 +188,10 @@ module _ (before now : State) (action : Action) (change : Fields) (is : IsChange
         rows : bits_in net.rows.items light ≡ bits_in settled.rows.items other
         rows = moved.rows light other in_board at (kept_known light other in_board no_seed at)
 
-        not_there : (word : Option (ℕ × ℕ)) → change.word ≡ word → ¬ IsPlaceOf change.word (length (light_at (board_of now.grid) light)) choice
-        not_there None none found = subst (λ w. IsPlaceOf w (length (light_at (board_of now.grid) light)) choice) none found
+        not_there : (word : Option (ℕ × ℕ)) → change.word ≡ word → ¬ IsIndexOf change.word (length (light_at (board_of now.grid) light)) choice
+        not_there None none found = subst (λ w. IsIndexOf w (length (light_at (board_of now.grid) light)) choice) none found
         not_there (Some word) some found =
-            let there = subst (λ w. IsPlaceOf w (length (light_at (board_of now.grid) light)) choice) some found in
+            let there = subst (λ w. IsIndexOf w (length (light_at (board_of now.grid) light)) choice) some found in
             let has_not : may_have (Some word) (length (light_at (board_of now.grid) light)) (bits_in net.rows.items light) ≡ false =
             ap (λ w. may_have w (length (light_at (board_of now.grid) light)) (bits_in net.rows.items light)) (sym some) ∙ opened_prepared.stood_not light in_board calm in
             elim (and_cases (eqb word.0 (length (light_at (board_of now.grid) light))) (leb (length (bits_in net.rows.items light)) (word.1 + 1) || get_or (bits_in net.rows.items light) word.1 false) has_not) [
@@ -224,17 +224,17 @@ module _ (before now : State) (action : Action) (change : Fields) (is : IsChange
 
   -- after an edit of a word, each other word that was in the net is still a base word
   still_base : (light other : ℕ) → light < length (board_of now.grid).lights → same_light before.grid now.grid light ≡ Some other
-      → (place : ℕ) → change.word ≡ Some (length (light_at (board_of now.grid) light), place) → (k : ℕ) → (k ≡ place → ⊥) → get_or (bits_in settled.rows.items other) k false ≡ true
+      → (index : ℕ) → change.word ≡ Some (length (light_at (board_of now.grid) light), index) → (k : ℕ) → (k ≡ index → ⊥) → get_or (bits_in settled.rows.items other) k false ≡ true
       → get_or (base_bits (board_of now.grid) (light_at (board_of now.grid) light) (row now.words (length (light_at (board_of now.grid) light)))) k false ≡ true
   unfolding word_stands
-  still_base light other in_board at place some k apart stood =
+  still_base light other in_board at index some k apart stood =
       let in_before = matching.lights light other in_board at in
       let cells = light_at (board_of before.grid) other in
       let below : k < length (bits_in settled.rows.items other) = set_flag_within (bits_in settled.rows.items other) k stood in
       let many = filled.whole.bits other in_before ∙ sym (length-base_bits (board_of before.grid) (light_at (board_of before.grid) other) (row before.words (length (light_at (board_of before.grid) other)))) in
       let stands = get_or_append_left (bits_in settled.rows.items other) (get_or settled.entered.items other false ∷ []) false k below ∙ stood in
       sym (base_bit (board_of now.grid) (light_at (board_of now.grid) light) (row now.words (length (light_at (board_of now.grid) light))) k)
-      ∙ sym (base_but light in_board place some k apart) ∙ moved.base_at light other k in_board at ∙ ap (λ bits. get_or bits k false) (filled.is_base other in_before)
+      ∙ sym (base_but light in_board index some k apart) ∙ moved.base_at light other k in_board at ∙ ap (λ bits. get_or bits k false) (filled.is_base other in_before)
       ∙ sym (get_or_append_left (base_bits (board_of before.grid) (light_at (board_of before.grid) other) (row before.words (length (light_at (board_of before.grid) other)))) (is_wholly_entered (board_of before.grid) (light_at (board_of before.grid) other) ∷ []) false k (omega (arith, below, many)))
       ∙ exact_base (board_of before.grid) before.words _ _ filled.exact other k in_before stands
 
@@ -254,7 +254,7 @@ module _ (before now : State) (action : Action) (change : Fields) (is : IsChange
       narrowed_common change.word (length cells) (bits_in settled.rows.items other) base (bits_in opened.rows.items light) long
       (subst (λ b. IsNarrowedRow change.word (length (light_at (board_of now.grid) light)) b (base_bits (board_of now.grid) (light_at (board_of now.grid) light) (row now.words (length (light_at (board_of now.grid) light)))) (bits_in opened.rows.items light))
       (moved.rows light other in_board at many) (opened_prepared.rows_on light in_board on))
-      (λ place some k apart stood. still_base light other in_board at place some k apart stood) in
+      (λ index some k apart stood. still_base light other in_board at index some k apart stood) in
       let last : get_or settled.entered.items other false ≡ (get_or settled.entered.items other false && is_wholly_entered (board_of now.grid) (light_at (board_of now.grid) light)) = elim (cases_Bool (get_or settled.entered.items other false)) [
         | inl stood ↦ stood ∙ sym (and_from _ _ stood (entered_whole light other in_board no_seed at stood))
         | inr none ↦ none ∙ sym (ap (λ b. b && is_wholly_entered (board_of now.grid) (light_at (board_of now.grid) light)) none)
@@ -293,11 +293,11 @@ module _ (before now : State) (action : Action) (change : Fields) (is : IsChange
           none = ap (λ ls. same_before (lights_of now.grid) ls other) is.lights ∙ is_gone other in_before gone;
         };
         among = record {
-          place = k;
+          position = k;
           below = omega (arith, below, length-light_at before.grid other within);
           along = record {
             inside = inside_now (step (light_in before.grid other).name.direction (light_in before.grid other).start k) (inside_at before.grid other k below);
-            is = ap (λ w. ((step (light_in before.grid other).name.direction (light_in before.grid other).start k).row - 1) * w + ((step (light_in before.grid other).name.direction (light_in before.grid other).start k).col - 1)) is.width ∙ sym (place_is before.grid other k below);
+            is = ap (λ w. ((step (light_in before.grid other).name.direction (light_in before.grid other).start k).row - 1) * w + ((step (light_in before.grid other).name.direction (light_in before.grid other).start k).col - 1)) is.width ∙ sym (index_is before.grid other k below);
           };
         };
       })

@@ -11,10 +11,10 @@ use Rattle.xw_feas.specs.Board.{board_of, light_at, spelled}
 use Rattle.xw_feas.specs.Choices.{choices}
 use Rattle.xw_feas.specs.State.{State, Action}
 use Rattle.xw_net.specs.declared.net.Net.{Net}
-use Rattle.xw_net.specs.Change.{Fields, IsChange, IsPlaceOf}
+use Rattle.xw_net.specs.Change.{Fields, IsChange, IsIndexOf}
 use Rattle.xw_net.specs.Base.{base_bits}
 use Rattle.xw_net.specs.Revival.{IsMatching, same_light}
-use Rattle.xw_net.specs.Marks.{IsPlace, slot_at, side_of, known, puts, IsSettledNet}
+use Rattle.xw_net.specs.Marks.{IsPositionIn, slot_at, side_of, known, puts, IsSettledNet}
 use Rattle.xw_net.specs.Nets.{marks_of, held_in, pending_in}
 use Rattle.xw_net.specs.Renumber.{same_before}
 use Rattle.xw_feas.proofs.BoardLemmas.{length-lights}
@@ -63,18 +63,18 @@ module _ (before now : State) (action : Action) (change : Fields) (is : IsChange
   matching : IsMatching (board_of before.grid) (board_of now.grid) (same_light before.grid now.grid)
   matching = same_is_matching before.grid now.grid is.width
 
-  same_slot : (light other place : ℕ) → light < length (board_of now.grid).lights → same_light before.grid now.grid light ≡ Some other → slot_at (board_of now.grid) light place ≡ slot_at (board_of before.grid) other place
-  same_slot light other place in_board at = ap (λ cs. 2 * get_or cs place 0 + side_of cs) (matching.cells light other in_board at)
+  same_slot : (light other position : ℕ) → light < length (board_of now.grid).lights → same_light before.grid now.grid light ≡ Some other → slot_at (board_of now.grid) light position ≡ slot_at (board_of before.grid) other position
+  same_slot light other position in_board at = ap (λ cs. 2 * get_or cs position 0 + side_of cs) (matching.cells light other in_board at)
 
-  same_place : (light other place : ℕ) → IsPlace (board_of now.grid) light place → same_light before.grid now.grid light ≡ Some other → IsPlace (board_of before.grid) other place
-  same_place light other place here at = (matching.lights light other here.0 at, subst (λ cs. place < length cs) (matching.cells light other here.0 at) here.1)
+  same_position : (light other position : ℕ) → IsPositionIn (board_of now.grid) light position → same_light before.grid now.grid light ≡ Some other → IsPositionIn (board_of before.grid) other position
+  same_position light other position here at = (matching.lights light other here.0 at, subst (λ cs. position < length cs) (matching.cells light other here.0 at) here.1)
 
-  held_now : (light place letter : ℕ) → IsPlace (board_of now.grid) light place → is_capital letter ≡ true → held_in opened (slot_at (board_of now.grid) light place) letter ≡ lose (lost light) (held_in settled (slot_at (board_of now.grid) light place) letter)
+  held_now : (light position letter : ℕ) → IsPositionIn (board_of now.grid) light position → is_capital letter ≡ true → held_in opened (slot_at (board_of now.grid) light position) letter ≡ lose (lost light) (held_in settled (slot_at (board_of now.grid) light position) letter)
   unfolding held_in
-  held_now light place letter here capital =
-      forgets.cuts light place letter here capital
-      ∙ ap (λ f. lose f (get_or net.held.items (26 * slot_at (board_of now.grid) light place + (letter - 65)) 0)) (lost_is light)
-      ∙ ap (λ hs. lose (lost light) (get_or hs (26 * slot_at (board_of now.grid) light place + (letter - 65)) 0)) moved.held
+  held_now light position letter here capital =
+      forgets.cuts light position letter here capital
+      ∙ ap (λ f. lose f (get_or net.held.items (26 * slot_at (board_of now.grid) light position + (letter - 65)) 0)) (lost_is light)
+      ∙ ap (λ hs. lose (lost light) (get_or hs (26 * slot_at (board_of now.grid) light position + (letter - 65)) 0)) moved.held
 
   -- ---- lights that are not seeds
 
@@ -98,23 +98,23 @@ module _ (before now : State) (action : Action) (change : Fields) (is : IsChange
       by_cases : (word : Option (ℕ × ℕ)) → change.word ≡ word → lost_from change.word (Some other) (length (light_at (board_of now.grid) light)) (known (board_of now.grid) now.words light) ≡ nowhere
       by_cases word e = ap (λ w. lost_from w (Some other) (length (light_at (board_of now.grid) light)) (known (board_of now.grid) now.words light)) e ∙ by_word other word e
 
-  pub opened_held : (light place letter : ℕ) → IsPlace (board_of now.grid) light place → is_capital letter ≡ true → seed light ≡ false → held_in opened (slot_at (board_of now.grid) light place) letter ≡ held_in settled (slot_at (board_of now.grid) light place) letter
-  opened_held light place letter here capital no_seed =
-      held_now light place letter here capital ∙ ap (λ f. lose f (held_in settled (slot_at (board_of now.grid) light place) letter)) (none_lost light here.0 no_seed)
+  pub opened_held : (light position letter : ℕ) → IsPositionIn (board_of now.grid) light position → is_capital letter ≡ true → seed light ≡ false → held_in opened (slot_at (board_of now.grid) light position) letter ≡ held_in settled (slot_at (board_of now.grid) light position) letter
+  opened_held light position letter here capital no_seed =
+      held_now light position letter here capital ∙ ap (λ f. lose f (held_in settled (slot_at (board_of now.grid) light position) letter)) (none_lost light here.0 no_seed)
 
   -- ---- pending letters
 
-  pub opened_pending : (light place letter : ℕ) → IsPlace (board_of now.grid) light place → pending_in opened (slot_at (board_of now.grid) light place) letter ≡ false
+  pub opened_pending : (light position letter : ℕ) → IsPositionIn (board_of now.grid) light position → pending_in opened (slot_at (board_of now.grid) light position) letter ≡ false
   unfolding pending_in
-  opened_pending light place letter here = by_match (same_light before.grid now.grid light) refl where
-    by_match : (o : Option ℕ) → same_light before.grid now.grid light ≡ o → pending_in opened (slot_at (board_of now.grid) light place) letter ≡ false
-    by_match None at = forgets.cleared light place letter here (subst (λ n. n < nowhere) (sym (lost_is light ∙ ap (λ o. lost_from change.word o (length (light_at (board_of now.grid) light)) (known (board_of now.grid) now.words light)) at ∙ new_loses change.word (length (light_at (board_of now.grid) light)) (known (board_of now.grid) now.words light))) (lit< tt))
-    by_match (Some other) at = elim (cases_Bool (pending_in opened (slot_at (board_of now.grid) light place) letter)) [
+  opened_pending light position letter here = by_match (same_light before.grid now.grid light) refl where
+    by_match : (o : Option ℕ) → same_light before.grid now.grid light ≡ o → pending_in opened (slot_at (board_of now.grid) light position) letter ≡ false
+    by_match None at = forgets.cleared light position letter here (subst (λ n. n < nowhere) (sym (lost_is light ∙ ap (λ o. lost_from change.word o (length (light_at (board_of now.grid) light)) (known (board_of now.grid) now.words light)) at ∙ new_loses change.word (length (light_at (board_of now.grid) light)) (known (board_of now.grid) now.words light))) (lit< tt))
+    by_match (Some other) at = elim (cases_Bool (pending_in opened (slot_at (board_of now.grid) light position) letter)) [
       | inr none ↦ none
       | inl pends ↦
-          let had = forgets.less (slot_at (board_of now.grid) light place) letter pends in
-          absurd (both_ways _ (is_settled.none_pending other place letter (same_place light other place here at))
-          (ap (λ s. pending_in settled s letter) (sym (same_slot light other place here.0 at)) ∙ ap (λ ps. Rattle.xw_feas.specs.Flags.set_has ps (slot_at (board_of now.grid) light place) letter) (sym moved.pending) ∙ had))
+          let had = forgets.less (slot_at (board_of now.grid) light position) letter pends in
+          absurd (both_ways _ (is_settled.none_pending other position letter (same_position light other position here at))
+          (ap (λ s. pending_in settled s letter) (sym (same_slot light other position here.0 at)) ∙ ap (λ ps. Rattle.xw_feas.specs.Flags.set_has ps (slot_at (board_of now.grid) light position) letter) (sym moved.pending) ∙ had))
     ]
 
   -- ---- words that are still held
@@ -124,22 +124,22 @@ module _ (before now : State) (action : Action) (change : Fields) (is : IsChange
       → ((word : ℕ × ℕ) → change.word ≡ Some word → word.0 ≡ length (light_at (board_of now.grid) light) → known (board_of now.grid) now.words light ≤ word.1 + 1 → held ≡ word.1 → ⊥)
       → held < length (row before.words (length (light_at (board_of now.grid) light)))
   was_known light held below apart = by_word change.word refl where
-    stood : (k : ℕ) → k < known (board_of now.grid) now.words light → ¬ IsPlaceOf change.word (length (light_at (board_of now.grid) light)) k → k < length (row before.words (length (light_at (board_of now.grid) light)))
+    stood : (k : ℕ) → k < known (board_of now.grid) now.words light → ¬ IsIndexOf change.word (length (light_at (board_of now.grid) light)) k → k < length (row before.words (length (light_at (board_of now.grid) light)))
     stood k lt off =
         slice_get_within (row before.words (length (light_at (board_of now.grid) light))) k (get_or (row now.words (length (light_at (board_of now.grid) light))) k no_entry)
         (sym (is.entries (length (light_at (board_of now.grid) light)) k off) ∙ slice_get-get_or (row now.words (length (light_at (board_of now.grid) light))) k no_entry lt)
 
     by_word : (word : Option (ℕ × ℕ)) → change.word ≡ word → held < length (row before.words (length (light_at (board_of now.grid) light)))
-    by_word None none = stood held below (λ found. subst (λ w. IsPlaceOf w (length (light_at (board_of now.grid) light)) held) none found)
+    by_word None none = stood held below (λ found. subst (λ w. IsIndexOf w (length (light_at (board_of now.grid) light)) held) none found)
     by_word (Some word) some = elim (cases_eq held word.1) [
-      | inr differs ↦ stood held below (λ found. differs (sym (subst (λ w. IsPlaceOf w (length (light_at (board_of now.grid) light)) held) some found).1))
+      | inr differs ↦ stood held below (λ found. differs (sym (subst (λ w. IsIndexOf w (length (light_at (board_of now.grid) light)) held) some found).1))
       | inl e ↦ elim (cases_eq word.0 (length (light_at (board_of now.grid) light))) [
-        | inr other_size ↦ stood held below (λ found. other_size (subst (λ w. IsPlaceOf w (length (light_at (board_of now.grid) light)) held) some found).0)
+        | inr other_size ↦ stood held below (λ found. other_size (subst (λ w. IsIndexOf w (length (light_at (board_of now.grid) light)) held) some found).0)
         | inl long ↦ elim (cases_lt (word.1 + 1) (known (board_of now.grid) now.words light)) [
           | inr last ↦ absurd (apart word some long last e)
           | inl more ↦
               let next : held + 1 < length (row before.words (length (light_at (board_of now.grid) light))) =
-              stood (held + 1) (omega (arith, more, e)) (λ found. let there = subst (λ w. IsPlaceOf w (length (light_at (board_of now.grid) light)) (held + 1)) some found in absurd (omega (arith, there.1, e))) in
+              stood (held + 1) (omega (arith, more, e)) (λ found. let there = subst (λ w. IsIndexOf w (length (light_at (board_of now.grid) light)) (held + 1)) some found in absurd (omega (arith, there.1, e))) in
               omega (arith, next)
         ]
       ]
@@ -158,36 +158,36 @@ module _ (before now : State) (action : Action) (change : Fields) (is : IsChange
       (omega (arith, had, length-map (row before.words (length (light_at (board_of now.grid) light))) (λ (word : Entry). word.word))))
       ∙ ap (λ cs. get_or (choices (board_of before.grid) before.words cs) held []) (matching.cells light other in_board at)
 
-  pub opened_hits : (light place letter : ℕ) → IsPlace (board_of now.grid) light place → is_capital letter ≡ true → held_in opened (slot_at (board_of now.grid) light place) letter < known (board_of now.grid) now.words light
-      → puts (board_of now.grid) now.words light place letter (held_in opened (slot_at (board_of now.grid) light place) letter) ≡ true
-  opened_hits light place letter here capital below = by_match (same_light before.grid now.grid light) refl where
+  pub opened_hits : (light position letter : ℕ) → IsPositionIn (board_of now.grid) light position → is_capital letter ≡ true → held_in opened (slot_at (board_of now.grid) light position) letter < known (board_of now.grid) now.words light
+      → puts (board_of now.grid) now.words light position letter (held_in opened (slot_at (board_of now.grid) light position) letter) ≡ true
+  opened_hits light position letter here capital below = by_match (same_light before.grid now.grid light) refl where
     few : known (board_of now.grid) now.words light ≤ nowhere
     few = let most : 1048576 ≤ nowhere = lit≤ tt in omega (arith, most, known_few now.words (length (light_at (board_of now.grid) light)) is.formed_now.dictionary)
 
-    still : (lose (lost light) (held_in settled (slot_at (board_of now.grid) light place) letter) ≡ held_in settled (slot_at (board_of now.grid) light place) letter) × (held_in settled (slot_at (board_of now.grid) light place) letter < lost light)
-    still = lose_below (lost light) (held_in settled (slot_at (board_of now.grid) light place) letter) (known (board_of now.grid) now.words light) few (subst (λ n. n < known (board_of now.grid) now.words light) (held_now light place letter here capital) below)
+    still : (lose (lost light) (held_in settled (slot_at (board_of now.grid) light position) letter) ≡ held_in settled (slot_at (board_of now.grid) light position) letter) × (held_in settled (slot_at (board_of now.grid) light position) letter < lost light)
+    still = lose_below (lost light) (held_in settled (slot_at (board_of now.grid) light position) letter) (known (board_of now.grid) now.words light) few (subst (λ n. n < known (board_of now.grid) now.words light) (held_now light position letter here capital) below)
 
-    is_held : held_in opened (slot_at (board_of now.grid) light place) letter ≡ held_in settled (slot_at (board_of now.grid) light place) letter
-    is_held = held_now light place letter here capital ∙ still.0
+    is_held : held_in opened (slot_at (board_of now.grid) light position) letter ≡ held_in settled (slot_at (board_of now.grid) light position) letter
+    is_held = held_now light position letter here capital ∙ still.0
 
-    below_now : held_in settled (slot_at (board_of now.grid) light place) letter < known (board_of now.grid) now.words light
+    below_now : held_in settled (slot_at (board_of now.grid) light position) letter < known (board_of now.grid) now.words light
     below_now = subst (λ n. n < known (board_of now.grid) now.words light) is_held below
 
-    by_match : (o : Option ℕ) → same_light before.grid now.grid light ≡ o → puts (board_of now.grid) now.words light place letter (held_in opened (slot_at (board_of now.grid) light place) letter) ≡ true
+    by_match : (o : Option ℕ) → same_light before.grid now.grid light ≡ o → puts (board_of now.grid) now.words light position letter (held_in opened (slot_at (board_of now.grid) light position) letter) ≡ true
     by_match None at =
         let none : lost light ≡ 0 = ap (λ o. lost_from change.word o (length (light_at (board_of now.grid) light)) (known (board_of now.grid) now.words light)) at ∙ new_loses change.word (length (light_at (board_of now.grid) light)) (known (board_of now.grid) now.words light) in
         absurd (omega (arith, none, still.1))
     by_match (Some other) at =
-        let had = was_known light (held_in settled (slot_at (board_of now.grid) light place) letter) below_now (λ word some long last e.
+        let had = was_known light (held_in settled (slot_at (board_of now.grid) light position) letter) below_now (λ word some long last e.
         let first : lost light ≡ word.1 =
         ap (λ o. lost_from change.word o (length (light_at (board_of now.grid) light)) (known (board_of now.grid) now.words light)) at
         ∙ ap (λ w. lost_from w (Some other) (length (light_at (board_of now.grid) light)) (known (board_of now.grid) now.words light)) some
         ∙ ap (λ b. cond b word.1 nowhere) (and_from _ _ (eq-eqb word.0 (length (light_at (board_of now.grid) light)) long) (le-leb (known (board_of now.grid) now.words light) (word.1 + 1) last)) in
         absurd (omega (arith, first, still.1, e))) in
-        let slot = same_slot light other place here.0 at in
+        let slot = same_slot light other position here.0 at in
         let count : length (row before.words (length (light_at (board_of now.grid) light))) ≡ known (board_of before.grid) before.words other = ap (λ cs. length (row before.words (length cs))) (matching.cells light other here.0 at) in
-        let there : held_in settled (slot_at (board_of now.grid) light place) letter ≡ held_in settled (slot_at (board_of before.grid) other place) letter = ap (λ s. held_in settled s letter) slot in
-        ap (puts (board_of now.grid) now.words light place letter) is_held
-        ∙ ap (λ w. eqb (get_or w place 0) letter) (same_word light other (held_in settled (slot_at (board_of now.grid) light place) letter) here.0 at below_now had)
-        ∙ ap (puts (board_of before.grid) before.words other place letter) there
-        ∙ holding other place letter (same_place light other place here at) capital (omega (arith, had, count, there))
+        let there : held_in settled (slot_at (board_of now.grid) light position) letter ≡ held_in settled (slot_at (board_of before.grid) other position) letter = ap (λ s. held_in settled s letter) slot in
+        ap (puts (board_of now.grid) now.words light position letter) is_held
+        ∙ ap (λ w. eqb (get_or w position 0) letter) (same_word light other (held_in settled (slot_at (board_of now.grid) light position) letter) here.0 at below_now had)
+        ∙ ap (puts (board_of before.grid) before.words other position letter) there
+        ∙ holding other position letter (same_position light other position here at) capital (omega (arith, had, count, there))

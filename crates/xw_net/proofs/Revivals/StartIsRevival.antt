@@ -209,7 +209,7 @@ module _ (before after : Board) (old new : Dictionary) (same : ℕ → Option �
         started.words_calm light found.0 choice in_board calm no_seed found.1 found.2;
     letters = started.letters_from;
     held = started.held;
-    restart = λ light place letter here no_seed. started.restart (slot_at after light place) letter;
+    restart = λ light position letter here no_seed. started.restart (slot_at after light position) letter;
     pending = started.pending;
     hits = started.hits;
   }

@@ -61,8 +61,8 @@ module _ (board : Board) (base : List RowOfBits) (start : Lit) where
       → length rows ≡ length now.rows → length (bits_in now.rows o) ≡ length (bits_in base o)
       → bits_in rows o ≡ bits_in base o → ((i : ℕ) → (i ≡ o → ⊥) → bits_in rows i ≡ bits_in now.rows i)
       → length restart ≡ length now.restart
-      → ((place letter : ℕ) → place < length (light_at board o) → is_capital letter ≡ true → set_has restart (slot_at board o place) letter ≡ true)
-      → ((slot : ℕ) → ((place : ℕ) → place < length (light_at board o) → slot_at board o place ≡ slot → ⊥) → get_or restart slot 0 ≡ get_or now.restart slot 0)
+      → ((position letter : ℕ) → position < length (light_at board o) → is_capital letter ≡ true → set_has restart (slot_at board o position) letter ≡ true)
+      → ((slot : ℕ) → ((position : ℕ) → position < length (light_at board o) → slot_at board o position ≡ slot → ⊥) → get_or restart slot 0 ≡ get_or now.restart slot 0)
       → ((slot letter : ℕ) → is_capital letter ≡ true → set_has now.restart slot letter ≡ true → set_has restart slot letter ≡ true)
       → IsLit board base start now marked waiting
       → IsLit board base start (record { rows = rows; entered = set now.entered o (is_wholly_entered board (light_at board o)); restart = restart; queued = set now.queued o true }) marked left

@@ -4,7 +4,7 @@ use Rattle.std.proofs.lemmas.Bool.{cases_Bool, cases_lt, cases_eq, both_ways, fa
 use Rattle.xw_letters.specs.Letter.{IsLetter}
 use Rattle.xw_words.specs.Dictionary.{Dictionary}
 use Rattle.xw_feas.specs.Board.{Board}
-use Rattle.xw_net.specs.Marks.{Marks, IsPlace, cell_at, slot_at, known, AreSlotsApart, Drops}
+use Rattle.xw_net.specs.Marks.{Marks, IsPositionIn, cell_at, slot_at, known, AreSlotsApart, Drops}
 use Rattle.xw_net.specs.Due.{Measure, IsUnderway, and_light}
 use Rattle.xw_net.proofs.Costs.DueTicks.{IsFrom}
 use Rattle.xw_net.proofs.Stripping.StepsKeepInvariant.{IsDropped, same_stays, drops_sound, drops_paid}
@@ -84,7 +84,7 @@ any_from f (suc n) k below is = elim (cases_lt k n) [
       or_right (any f n) (f n) (ap f (sym same) ∙ is)
 ]
 
-module _ (board : Board) (dictionary : Dictionary) (apart : AreSlotsApart board) (i q : ℕ) (place : IsPlace board i q) (old : Marks)
+module _ (board : Board) (dictionary : Dictionary) (apart : AreSlotsApart board) (i q : ℕ) (position : IsPositionIn board i q) (old : Marks)
     (slot it : ℕ → Bool)
     (make : (b : ℕ) (from to : Marks) → ((y d : ℕ) → to.letters y d ≡ (from.letters y d && not (eqb y (cell_at board i q) && eqb d b)))
     → ((s d : ℕ) → to.pending s d ≡ (from.pending s d || (slot s && eqb d b))) → ((j : ℕ) → to.queued j ≡ (from.queued j || it j)) → Drops board i q b from to)
@@ -163,12 +163,12 @@ module _ (board : Board) (dictionary : Dictionary) (apart : AreSlotsApart board)
         } in
         record {
           kept = record {
-            sound = drops_sound board dictionary apart (stage k) (stage (suc k)) i q k place letter from dropped under.kept.sound;
+            sound = drops_sound board dictionary apart (stage k) (stage (suc k)) i q k position letter from dropped under.kept.sound;
             held = λ j r d here off alive.
                 let before : (stage k).letters (cell_at board j r) d ≡ true = (and_parts ((stage k).letters (cell_at board j r) d) (not (eqb (cell_at board j r) (cell_at board i q) && eqb d k)) (sym (drops.letters (cell_at board j r) d) ∙ alive)).0 in
                 same_stays board dictionary apart (stage k) (stage (suc k)) (λ a b. refl) (λ a b. refl) j r d (under.kept.held j r d here (free_before j off) before);
           };
-          paid = drops_paid board dictionary apart (stage k) (stage (suc k)) i q k place letter from dropped measure ticks ticks under.kept.sound under.paid in_set (omega arith);
+          paid = drops_paid board dictionary apart (stage k) (stage (suc k)) i q k position letter from dropped measure ticks ticks under.kept.sound under.paid in_set (omega arith);
         } where
           free_before : (j : ℕ) → and_light (stage (suc k)).queued i j ≡ false → and_light (stage k).queued i j ≡ false
           free_before j off = false_from_ne_true (and_light (stage k).queued i j) (λ h.

@@ -4,7 +4,7 @@ use Rattle.std.proofs.lemmas.Bool.{and_parts, or_cases, eqb-true}
 use Rattle.xw_letters.specs.Letter.{IsLetter}
 use Rattle.xw_words.specs.Dictionary.{Dictionary, Entry}
 use Rattle.xw_feas.specs.Board.{Board, light_at}
-use Rattle.xw_net.specs.Marks.{Marks, side_of, IsPlace, IsSlot, IsPosition, IsHeld, IsHolding, LeavesPending, cell_at}
+use Rattle.xw_net.specs.Marks.{Marks, side_of, IsPositionIn, IsSlot, IsSetting, IsHeld, IsHolding, LeavesPending, cell_at}
 use Rattle.xw_net.specs.Marks.LeavesPending.{crossed, alone}
 use Rattle.xw_net.specs.Due.{Measure, IsUnderway, and_light}
 use Rattle.xw_net.specs.Nets.{marks_of, bits_for, word_stands, letter_stands, held_in, restart_in, pending_in, queued_in}
@@ -30,7 +30,7 @@ pub no_words : (net : Net) (light : ℕ) → get_or net.entered.items light fals
 unfolding word_stands
 no_words net light unentered clear choice = ap (λ flag. get_or (bits_for net light ++ flag ∷ []) choice false) unentered ∙ all_clear (bits_for net light) clear choice
 
-module _ (board : Board) (entries : ℕ → List Entry) (dictionary : Dictionary) (position : IsPosition board entries dictionary) (old new : Net) (i q : ℕ) (place : IsPlace board i q)
+module _ (board : Board) (entries : ℕ → List Entry) (dictionary : Dictionary) (setting : IsSetting board entries dictionary) (old new : Net) (i q : ℕ) (position : IsPositionIn board i q)
     (same : new ≡ record old { letters = new.letters; pending = new.pending; queue = new.queue })
     (letters : (cell letter : ℕ) → letter_stands new cell letter ≡ (letter_stands old cell letter && not (eqb cell (cell_at board i q))))
     (leaves : LeavesPending board i q (letter_stands old (cell_at board i q)) (marks_of old) (marks_of new)) where
@@ -51,7 +51,7 @@ module _ (board : Board) (entries : ℕ → List Entry) (dictionary : Dictionary
   are_letters y d h = set_letter (get_or old.letters.items y 0) d h
 
   pub still_held : (j r d : ℕ) → IsHeld board dictionary (marks_of old) j r d → IsHeld board dictionary (marks_of new) j r d
-  still_held j r d = same_stays board dictionary position.apart (marks_of old) (marks_of new) words held j r d
+  still_held j r d = same_stays board dictionary setting.apart (marks_of old) (marks_of new) words held j r d
 
   pub alive_before : (cell letter : ℕ) → letter_stands new cell letter ≡ true → letter_stands old cell letter ≡ true
   alive_before cell letter alive = (and_parts (letter_stands old cell letter) (not (eqb cell (cell_at board i q))) (sym (letters cell letter) ∙ alive)).0
@@ -64,14 +64,14 @@ module _ (board : Board) (entries : ℕ → List Entry) (dictionary : Dictionary
   still_under none first stood measure ticks in_set under = go leaves where
     go : LeavesPending board i q (letter_stands old (cell_at board i q)) (marks_of old) (marks_of new) → IsUnderway board dictionary measure (marks_of new) (and_light (queued_in new) i) ticks
     go (crossed other crossing only pending queued) =
-        emptied_under board dictionary position.apart i q place (marks_of old)
+        emptied_under board dictionary setting.apart i q position (marks_of old)
         (λ s. eqb s (2 * cell_at board i q + side_of (light_at board other))) (λ j. eqb j other)
-        (λ b from to ls ps qs. crossed_drops board i q b place from to ls other crossing only ps qs)
+        (λ b from to ls ps qs. crossed_drops board i q b position from to ls other crossing only ps qs)
         none are_letters measure ticks in_set (marks_of new) words held restart letters pending queued first stood under
     go (alone none_crosses pending queued) =
-        emptied_under board dictionary position.apart i q place (marks_of old)
+        emptied_under board dictionary setting.apart i q position (marks_of old)
         (λ s. false) (λ j. false)
-        (λ b from to ls ps qs. alone_drops board i q b place from to ls none_crosses (λ s d. ps s d ∙ or_none (from.pending s d)) (λ j. qs j ∙ or_none (from.queued j)))
+        (λ b from to ls ps qs. alone_drops board i q b position from to ls none_crosses (λ s d. ps s d ∙ or_none (from.pending s d)) (λ j. qs j ∙ or_none (from.queued j)))
         none are_letters measure ticks in_set (marks_of new) words held restart letters
         (λ s d. pending s d ∙ sym (or_none (pending_in old s d))) (λ j. queued j ∙ sym (or_none (queued_in old j))) first stood under
 
@@ -82,6 +82,6 @@ pends_at board old new i q gone (crossed other crossing only pending queued) slo
       | inl before ↦ inl before
       | inr both ↦
           let is = eqb-true slot (2 * cell_at board i q + side_of (light_at board other)) (and_parts (eqb slot (2 * cell_at board i q + side_of (light_at board other))) (gone letter) both).0 in
-          inr (other, crossing.place, (crossing.in_board, crossing.below), ap (λ n. 2 * n + side_of (light_at board other)) crossing.meets ∙ sym is)
+          inr (other, crossing.position, (crossing.in_board, crossing.below), ap (λ n. 2 * n + side_of (light_at board other)) crossing.meets ∙ sym is)
     ]
 pends_at board old new i q gone (alone none pending queued) slot letter pends = inl (sym (pending slot letter) ∙ pends)

@@ -9,7 +9,7 @@ use Rattle.xw_words.specs.Dictionary.{Dictionary, Entry, row}
 use Rattle.xw_feas.specs.Board.{Board, light_at, entry, is_open, allows, agrees, is_wholly_entered}
 use Rattle.xw_feas.specs.Choices.{SupportsItself, IsExact}
 use Rattle.xw_feas.proofs.Support.{exact_when_none_unsupported}
-use Rattle.xw_net.specs.Marks.{Marks, IsPlace, cell_at, slot_at, IsPosition, known, letter_of, IsHeld, IsSound, IsReady, IsSettledNet}
+use Rattle.xw_net.specs.Marks.{Marks, IsPositionIn, cell_at, slot_at, IsSetting, known, letter_of, IsHeld, IsSound, IsReady, IsSettledNet}
 use Rattle.xw_net.specs.Due.{due_letter, Measure, IsUnderway, and_light}
 use Rattle.xw_net.proofs.Costs.DueTicks.{due-le}
 use Rattle.xw_net.proofs.Stripping.WordsByNumber.{letter_entered}
@@ -35,7 +35,7 @@ module _ (board : Board) (dictionary : Dictionary) (marks : Marks) (queued : ℕ
         | inr n ↦ or_left (queued j) (eqb j i) (still_queued j n h)
       ]))
 
-  taken_sound : ((place letter : ℕ) → IsPlace board i place → marks.pending (slot_at board i place) letter ≡ false) → IsSound board dictionary marks → IsSound board dictionary taken
+  taken_sound : ((position letter : ℕ) → IsPositionIn board i position → marks.pending (slot_at board i position) letter ≡ false) → IsSound board dictionary marks → IsSound board dictionary taken
   taken_sound cleared sound = record {
     within = sound.within;
     covers = sound.covers;
@@ -43,14 +43,14 @@ module _ (board : Board) (dictionary : Dictionary) (marks : Marks) (queued : ℕ
     pending_gone = sound.pending_gone;
     pending_queued = λ j r d here h.
         elim (cases_eq j i) [
-          | inl e ↦ absurd (both_ways (marks.pending (slot_at board j r) d) (subst (λ n. IsPlace board n r → marks.pending (slot_at board n r) d ≡ false) (sym e) (cleared r d) here) h)
+          | inl e ↦ absurd (both_ways (marks.pending (slot_at board j r) d) (subst (λ n. IsPositionIn board n r → marks.pending (slot_at board n r) d ≡ false) (sym e) (cleared r d) here) h)
           | inr n ↦ still_queued j n (sound.pending_queued j r d here h)
         ];
     hits = sound.hits;
     first = sound.first;
   }
 
-  pub taken_under : (measure : Measure) (spent : ℕ) → ((place letter : ℕ) → IsPlace board i place → marks.pending (slot_at board i place) letter ≡ false)
+  pub taken_under : (measure : Measure) (spent : ℕ) → ((position letter : ℕ) → IsPositionIn board i position → marks.pending (slot_at board i position) letter ≡ false)
       → IsUnderway board dictionary measure marks marks.queued spent → IsUnderway board dictionary measure taken (and_light queued i) spent
   unfolding due_letter
   taken_under measure spent cleared under = record {
@@ -68,14 +68,14 @@ module _ (board : Board) (dictionary : Dictionary) (marks : Marks) (queued : ℕ
 
 -- a light whose letters all have support joins the lights that are done
 pub kept_all : (board : Board) (dictionary : Dictionary) (measure : Measure) (marks : Marks) (i spent : ℕ)
-    → ((place letter : ℕ) → IsPlace board i place → marks.letters (cell_at board i place) letter ≡ true → IsHeld board dictionary marks i place letter)
+    → ((position letter : ℕ) → IsPositionIn board i position → marks.letters (cell_at board i position) letter ≡ true → IsHeld board dictionary marks i position letter)
     → IsUnderway board dictionary measure marks (and_light marks.queued i) spent → IsUnderway board dictionary measure marks marks.queued spent
 kept_all board dictionary measure marks i spent all under = record {
   kept = record {
     sound = under.kept.sound;
     held = λ j r d here off alive.
         elim (cases_eq j i) [
-          | inl e ↦ subst (λ n. IsPlace board n r → marks.letters (cell_at board n r) d ≡ true → IsHeld board dictionary marks n r d) (sym e) (all r d) here alive
+          | inl e ↦ subst (λ n. IsPositionIn board n r → marks.letters (cell_at board n r) d ≡ true → IsHeld board dictionary marks n r d) (sym e) (all r d) here alive
           | inr n ↦
               under.kept.held j r d here
               (false_from_ne_true (and_light marks.queued i j) (λ h.
@@ -94,15 +94,15 @@ pub settled_net : (board : Board) (dictionary : Dictionary) (marks : Marks) → 
 settled_net board dictionary marks ready none = record {
   ready = ready;
   none_queued = none;
-  none_pending = λ light place letter here.
-      false_from_ne_true (marks.pending (slot_at board light place) letter) (λ h. both_ways (marks.queued light) (none light here.0) (ready.sound.pending_queued light place letter here h));
+  none_pending = λ light position letter here.
+      false_from_ne_true (marks.pending (slot_at board light position) letter) (λ h. both_ways (marks.queued light) (none light here.0) (ready.sound.pending_queued light position letter here h));
 }
 
 pub some_is : (o : Option ℕ) → is_some o ≡ true → o ≡ Some (unwrap_or o 65)
 some_is (Some letter) h = refl
 some_is None h = absurd (false≢true h)
 
-module _ (board : Board) (entries : ℕ → List Entry) (dictionary : Dictionary) (position : IsPosition board entries dictionary) (marks : Marks) (settled : IsSettledNet board dictionary marks) where
+module _ (board : Board) (entries : ℕ → List Entry) (dictionary : Dictionary) (setting : IsSetting board entries dictionary) (marks : Marks) (settled : IsSettledNet board dictionary marks) where
   -- a light with its entered word in the net is filled
   wholly_entered : (light : ℕ) → marks.words light (known board dictionary light) ≡ true → is_wholly_entered board (light_at board light) ≡ true
   wholly_entered light stands =
@@ -112,20 +112,20 @@ module _ (board : Board) (entries : ℕ → List Entry) (dictionary : Dictionary
       ∙ settled.ready.sound.within.words light (known board dictionary light) stands
 
   -- the entered word has each letter in the net at its cells
-  entered_has : (light place letter : ℕ) → IsPlace board light place → marks.words light (known board dictionary light) ≡ true → marks.letters (cell_at board light place) letter ≡ true
-      → letter_of board dictionary light (known board dictionary light) place ≡ letter
-  entered_has light place letter here stands alive =
-      let cell = cell_at board light place in
-      let filled : is_some (entry board (cell_at board light place)) ≡ true =
-      elim (cases_Bool (is_some (entry board (cell_at board light place)))) [
+  entered_has : (light position letter : ℕ) → IsPositionIn board light position → marks.words light (known board dictionary light) ≡ true → marks.letters (cell_at board light position) letter ≡ true
+      → letter_of board dictionary light (known board dictionary light) position ≡ letter
+  entered_has light position letter here stands alive =
+      let cell = cell_at board light position in
+      let filled : is_some (entry board (cell_at board light position)) ≡ true =
+      elim (cases_Bool (is_some (entry board (cell_at board light position)))) [
         | inl yes_it_is ↦ yes_it_is
         | inr empty ↦
-            absurd (both_ways (is_wholly_entered board (light_at board light)) (list_all_at (λ cell. is_some (entry board cell)) (light_at board light) place 0 here.1 empty) (wholly_entered light stands))
+            absurd (both_ways (is_wholly_entered board (light_at board light)) (list_all_at (λ cell. is_some (entry board cell)) (light_at board light) position 0 here.1 empty) (wholly_entered light stands))
       ] in
       let holds = some_is (entry board cell) filled in
       let may = settled.ready.sound.within.letters cell letter alive in
-      let allowed : allows (entry board (cell_at board light place)) letter ≡ true = (and_parts (is_open board cell && is_capital letter) (allows (entry board cell) letter) may).1 in
-      letter_entered board entries dictionary position light place here ∙ eqb-true (unwrap_or (entry board cell) 65) letter (sym (ap (λ o. allows o letter) holds) ∙ allowed)
+      let allowed : allows (entry board (cell_at board light position)) letter ≡ true = (and_parts (is_open board cell && is_capital letter) (allows (entry board cell) letter) may).1 in
+      letter_entered board entries dictionary setting light position here ∙ eqb-true (unwrap_or (entry board cell) 65) letter (sym (ap (λ o. allows o letter) holds) ∙ allowed)
 
   supports_itself : SupportsItself board dictionary marks.words marks.letters
   supports_itself light lt = record {

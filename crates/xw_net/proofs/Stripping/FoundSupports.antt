@@ -7,9 +7,9 @@ use Rattle.xw_words.specs.Dictionary.{Dictionary, Entry}
 use Rattle.xw_words.specs.Columns.{has_letter}
 use Rattle.xw_feas.specs.Board.{Board, light_at}
 use Rattle.xw_feas.specs.Flags.{set_has}
-use Rattle.xw_net.specs.Marks.{IsPlace, cell_at, slot_at, IsPosition, known, puts, IsHeld, IsHolding, IsSound, Drops}
+use Rattle.xw_net.specs.Marks.{IsPositionIn, cell_at, slot_at, IsSetting, known, puts, IsHeld, IsHolding, IsSound, Drops}
 use Rattle.xw_net.specs.Due.{Measure, IsUnderway, and_light}
-use Rattle.xw_net.specs.Support.{Held, place_for, search_from, supports, Finds}
+use Rattle.xw_net.specs.Support.{Held, index_for, search_from, supports, Finds}
 use Rattle.xw_net.specs.Support.Finds.{stands, moves, nowhere}
 use Rattle.xw_net.specs.Nets.{bits_for, word_stands, letter_stands, held_in, restart_in, pending_in, queued_in, marks_of, HasBits}
 use Rattle.xw_net.specs.declared.net.Net.{Net}
@@ -20,15 +20,15 @@ use Rattle.xw_net.proofs.Stripping.HeldWords.{hung_holding, same_holding}
 use Rattle.xw_net.proofs.Stripping.WordsByNumber.{listed_is, word_cases, bits_known, letter_listed}
 use Rattle.xw_net.proofs.Stripping.WordsByNumber.WordOf.{listed, spelled_one}
 
-from_cases : (held : Held) (slot letter n : ℕ) → IsFrom n (place_for held slot letter) (set_has held.restart slot letter) (search_from held slot letter n)
+from_cases : (held : Held) (slot letter n : ℕ) → IsFrom n (index_for held slot letter) (set_has held.restart slot letter) (search_from held slot letter n)
 from_cases held slot letter n =
-    let h = place_for held slot letter in
+    let h = index_for held slot letter in
     let again = set_has held.restart slot letter in (
-      (λ lt never. ap (λ b. cond (b && not (set_has held.restart slot letter)) (place_for held slot letter / 64) 0) (lt-ltb h n lt) ∙ ap (λ b. cond (true && not b) (place_for held slot letter / 64) 0) never),
-      (λ le. ap (λ b. cond (b && not (set_has held.restart slot letter)) (place_for held slot letter / 64) 0) (le-ltb h n le)),
-      (λ is. ap (λ b. cond (ltb (place_for held slot letter) n && not b) (place_for held slot letter / 64) 0) is ∙ off (ltb h n)),
+      (λ lt never. ap (λ b. cond (b && not (set_has held.restart slot letter)) (index_for held slot letter / 64) 0) (lt-ltb h n lt) ∙ ap (λ b. cond (true && not b) (index_for held slot letter / 64) 0) never),
+      (λ le. ap (λ b. cond (b && not (set_has held.restart slot letter)) (index_for held slot letter / 64) 0) (le-ltb h n le)),
+      (λ is. ap (λ b. cond (ltb (index_for held slot letter) n && not b) (index_for held slot letter / 64) 0) is ∙ off (ltb h n)),
     ) where
-      off : (b : Bool) → cond (b && false) (place_for held slot letter / 64) 0 ≡ 0
+      off : (b : Bool) → cond (b && false) (index_for held slot letter / 64) 0 ≡ 0
       off true = refl
       off false = refl
 
@@ -40,9 +40,9 @@ supports-from : (row : List Bool) (words : List Entry) (position letter k : ℕ)
 unfolding supports
 supports-from row words position letter k in_row has = and_from (get_or row k false) (has_letter words position letter k) in_row has
 
--- different slots and letters have different places in the list of held words
-apart_places : (s slot d b : ℕ) → IsLetter d → IsLetter b → ((s ≡ slot) × (d ≡ b) → ⊥) → 26 * s + (d - 65) ≢ 26 * slot + (b - 65)
-apart_places s slot d b is_d is_b n e =
+-- different slots and letters have different indices in the list of held words
+apart_indices : (s slot d b : ℕ) → IsLetter d → IsLetter b → ((s ≡ slot) × (d ≡ b) → ⊥) → 26 * s + (d - 65) ≢ 26 * slot + (b - 65)
+apart_indices s slot d b is_d is_b n e =
     let slots : s ≡ slot = omega (arith, e, is_d.0, is_d.1, is_b.0, is_b.1) in
     let letters : d ≡ b = omega (arith, e, slots, is_d.0, is_b.0) in
     n (slots, letters)
@@ -57,7 +57,7 @@ finds_at row row' words words' q b slot slot' spent found old old' new new' rows
     (subst (λ h. Finds row words q slot b h new' found spent) olds
     (subst (λ h. Finds row words q slot b old h found spent) news finds))))
 
-module _ (board : Board) (entries : ℕ → List Entry) (dictionary : Dictionary) (position : IsPosition board entries dictionary) (old new : Net) (bits : HasBits board entries old) (i q b : ℕ) (place : IsPlace board i q) (letter : IsLetter b)
+module _ (board : Board) (entries : ℕ → List Entry) (dictionary : Dictionary) (setting : IsSetting board entries dictionary) (old new : Net) (bits : HasBits board entries old) (i q b : ℕ) (position : IsPositionIn board i q) (letter : IsLetter b)
     (words_same : (j k : ℕ) → word_stands new j k ≡ word_stands old j k) (letters_same : (x d : ℕ) → letter_stands new x d ≡ letter_stands old x d)
     (pending_same : (s d : ℕ) → pending_in new s d ≡ pending_in old s d) (queued_same : (j : ℕ) → queued_in new j ≡ queued_in old j)
     (in_held : 26 * slot_at board i q + (b - 65) < length old.held.items) (spent : ℕ) (found : Bool)
@@ -66,10 +66,10 @@ module _ (board : Board) (entries : ℕ → List Entry) (dictionary : Dictionary
   slot = slot_at board i q
 
   abbrev before : Held
-  before = record { places = old.held.items; restart = old.restart.items }
+  before = record { indices = old.held.items; restart = old.restart.items }
 
   abbrev after : Held
-  after = record { places = new.held.items; restart = new.restart.items }
+  after = record { indices = new.held.items; restart = new.restart.items }
 
   abbrev row : List Bool
   row = bits_for old i
@@ -78,7 +78,7 @@ module _ (board : Board) (entries : ℕ → List Entry) (dictionary : Dictionary
   words = entries (length (light_at board i))
 
   size : length (bits_for old i) ≡ known board dictionary i
-  size = bits_known board entries dictionary position old bits i place.0
+  size = bits_known board entries dictionary setting old bits i position.0
 
   abbrev IsOutcome : Type 0
   IsOutcome = Finds (bits_for old i) (entries (length (light_at board i))) q (slot_at board i q) b before after found spent
@@ -101,7 +101,7 @@ module _ (board : Board) (entries : ℕ → List Entry) (dictionary : Dictionary
         | inl again ↦ omega (arith, from.2 again)
         | inr never ↦ elim (cases_lt (held_in old (slot_at board i q) b) (known board dictionary i)) [
           | inl lt ↦
-              let most = sound.first i q b k place stood lt never known_one.0 stands_there has in
+              let most = sound.first i q b k position stood lt never known_one.0 stands_there has in
               omega (arith, from.0 (omega (arith, size, lt)) never, most)
           | inr le ↦ omega (arith, from.1 (omega (arith, size, le)))
         ]
@@ -110,25 +110,25 @@ module _ (board : Board) (entries : ℕ → List Entry) (dictionary : Dictionary
   supported : (k : ℕ) → word_stands old i k ≡ true → puts board dictionary i q b k ≡ true → supports (bits_for old i) (entries (length (light_at board i))) q b k ≡ true
   supported k stands_there has =
       let known_one = in_row k stands_there in
-      supports-from (bits_for old i) (entries (length (light_at board i))) q b k known_one.1 (letter_listed board entries dictionary position i q k b place known_one.0 ∙ has)
+      supports-from (bits_for old i) (entries (length (light_at board i))) q b k known_one.1 (letter_listed board entries dictionary setting i q k b position known_one.0 ∙ has)
 
   hung : (word : ℕ) → supports (bits_for old i) (entries (length (light_at board i))) q b word ≡ true → new.held.items ≡ set old.held.items (26 * slot_at board i q + (b - 65)) word → IsHung board dictionary (marks_of old) (marks_of new) i q b word
   unfolding held_in
-  hung word sup places =
+  hung word sup indices =
       let parts = supports-parts (bits_for old i) (entries (length (light_at board i))) q b word sup in
       let lt : word < length (bits_for old i) = elim (cases_lt word (length (bits_for old i))) [ inl lt ↦ lt | inr le ↦ absurd (both_ways (get_or (bits_for old i) word false) (get_or_past (bits_for old i) word false le) parts.0) ] in
       record {
         words = words_same;
-        held_here = ap (λ l. get_or l (26 * slot_at board i q + (b - 65)) 0) places ∙ get_or-set_same old.held.items (26 * slot_at board i q + (b - 65)) word 0 in_held;
+        held_here = ap (λ l. get_or l (26 * slot_at board i q + (b - 65)) 0) indices ∙ get_or-set_same old.held.items (26 * slot_at board i q + (b - 65)) word 0 in_held;
         held_rest = λ s d is_d n.
-            ap (λ l. get_or l (26 * s + (d - 65)) 0) places ∙ get_or-set_other old.held.items (26 * slot_at board i q + (b - 65)) (26 * s + (d - 65)) word 0 (apart_places s (slot_at board i q) d b is_d letter n);
+            ap (λ l. get_or l (26 * s + (d - 65)) 0) indices ∙ get_or-set_other old.held.items (26 * slot_at board i q + (b - 65)) (26 * s + (d - 65)) word 0 (apart_indices s (slot_at board i q) d b is_d letter n);
         within = omega (arith, lt, size);
         stands = listed_is old i word lt ∙ parts.0;
       }
 
   same_held : after ≡ before → (s d : ℕ) → held_in new s d ≡ held_in old s d
   unfolding held_in
-  same_held e s d = ap (λ (h : Held). get_or h.places (26 * s + (d - 65)) 0) e
+  same_held e s d = ap (λ (h : Held). get_or h.indices (26 * s + (d - 65)) 0) e
 
   same_restart : after ≡ before → (s d : ℕ) → restart_in new s d ≡ restart_in old s d
   unfolding restart_in
@@ -150,28 +150,28 @@ module _ (board : Board) (entries : ℕ → List Entry) (dictionary : Dictionary
       let at = held_in old (slot_at board i q) b in
       let here = same_held same (slot_at board i q) b in
       inl (omega (arith, here, lt, size), ap (word_stands new i) here ∙ words_same i at ∙ listed_is old i at lt ∙ bit)
-  found_held (moves word has_word gone low sup none places long again cost) is = hung_held board dictionary position.apart (marks_of old) (marks_of new) i q b place letter word (hung word sup places)
+  found_held (moves word has_word gone low sup none indices long again cost) is = hung_held board dictionary setting.apart (marks_of old) (marks_of new) i q b position letter word (hung word sup indices)
   found_held (nowhere lacks gone none same cost) is = absurd (both_ways found lacks is)
 
-  pub found_stays : IsOutcome → found ≡ true → (j r d : ℕ) → IsPlace board j r → IsLetter d → IsHeld board dictionary (marks_of old) j r d → IsHeld board dictionary (marks_of new) j r d
-  found_stays (stands has_word lt bit same none) is j r d here is_d held = same_stays board dictionary position.apart (marks_of old) (marks_of new) words_same (same_held same) j r d held
-  found_stays (moves word has_word gone low sup none places long again cost) is j r d here is_d held = hung_stays board dictionary position.apart (marks_of old) (marks_of new) i q b place letter word (hung word sup places) j r d here is_d held
+  pub found_stays : IsOutcome → found ≡ true → (j r d : ℕ) → IsPositionIn board j r → IsLetter d → IsHeld board dictionary (marks_of old) j r d → IsHeld board dictionary (marks_of new) j r d
+  found_stays (stands has_word lt bit same none) is j r d here is_d held = same_stays board dictionary setting.apart (marks_of old) (marks_of new) words_same (same_held same) j r d held
+  found_stays (moves word has_word gone low sup none indices long again cost) is j r d here is_d held = hung_stays board dictionary setting.apart (marks_of old) (marks_of new) i q b position letter word (hung word sup indices) j r d here is_d held
   found_stays (nowhere lacks gone none same cost) is j r d here is_d held = absurd (both_ways found lacks is)
 
   -- if it finds none, the other letters keep their supports
   pub none_stays : IsOutcome → found ≡ false → (last : Net) → ((j k : ℕ) → word_stands last j k ≡ word_stands new j k) → ((s d : ℕ) → held_in last s d ≡ held_in new s d) → (j r d : ℕ) → IsHeld board dictionary (marks_of old) j r d → IsHeld board dictionary (marks_of last) j r d
   none_stays (stands has_word lt bit same none) is last words_are held_are j r d held = absurd (both_ways found is has_word)
-  none_stays (moves word has_word gone low sup none places long again cost) is last words_are held_are j r d held = absurd (both_ways found is has_word)
+  none_stays (moves word has_word gone low sup none indices long again cost) is last words_are held_are j r d held = absurd (both_ways found is has_word)
   none_stays (nowhere lacks gone none same cost) is last words_are held_are j r d held =
-      same_stays board dictionary position.apart (marks_of old) (marks_of last) (λ j k. words_are j k ∙ words_same j k) (λ s d. held_are s d ∙ same_held same s d) j r d held
+      same_stays board dictionary setting.apart (marks_of old) (marks_of last) (λ j k. words_are j k ∙ words_same j k) (λ s d. held_are s d ∙ same_held same s d) j r d held
 
   -- each held known word still has its letter
   pub found_holding : IsOutcome → IsHolding board dictionary (marks_of old) → IsHolding board dictionary (marks_of new)
   found_holding (stands has_word lt bit same none) = same_holding board dictionary (marks_of old) (marks_of new) (same_held same)
-  found_holding (moves word has_word gone low sup none places long again cost) =
-      let is_hung = hung word sup places in
+  found_holding (moves word has_word gone low sup none indices long again cost) =
+      let is_hung = hung word sup indices in
       let parts = supports-parts (bits_for old i) (entries (length (light_at board i))) q b word sup in
-      hung_holding board dictionary (marks_of old) (marks_of new) position.apart i q b word place is_hung (sym (letter_listed board entries dictionary position i q word b place is_hung.within) ∙ parts.1)
+      hung_holding board dictionary (marks_of old) (marks_of new) setting.apart i q b word position is_hung (sym (letter_listed board entries dictionary setting i q word b position is_hung.within) ∙ parts.1)
   found_holding (nowhere lacks gone none same cost) = same_holding board dictionary (marks_of old) (marks_of new) (same_held same)
 
   -- whether a light is left out
@@ -204,10 +204,10 @@ module _ (board : Board) (entries : ℕ → List Entry) (dictionary : Dictionary
         → ((s d : ℕ) → set_has new.restart.items s d ≡ (set_has old.restart.items s d && not (eqb s (slot_at board i q) && eqb d b)))
         → IsMoved board dictionary (marks_of old) (marks_of new) i q b word (search_from before (slot_at board i q) b (length (bits_for old i)))
     unfolding held_in restart_in
-    moved word gone sup none places again =
+    moved word gone sup none indices again =
         let sound = under.kept.sound in
         let parts = supports-parts (bits_for old i) (entries (length (light_at board i))) q b word sup in
-        let is_hung = hung word sup places in
+        let is_hung = hung word sup indices in
         let s = slot_at board i q in
         record {
           hung = is_hung;
@@ -223,7 +223,7 @@ module _ (board : Board) (entries : ℕ → List Entry) (dictionary : Dictionary
               let two = and_parts (eqb u (slot_at board i q)) (eqb d b) both in n (eqb-true u (slot_at board i q) two.0, eqb-true d b two.1)))
               ∙ and_true (set_has old.restart.items u d);
           stood = stood;
-          has = sym (letter_listed board entries dictionary position i q word b place is_hung.within) ∙ parts.1;
+          has = sym (letter_listed board entries dictionary setting i q word b position is_hung.within) ∙ parts.1;
           none_before = λ k lt stands_there has.
               both_ways (supports (bits_for old i) (entries (length (light_at board i))) q b k) (none k (not_before sound stood k stands_there has) lt) (supported k stands_there has);
           from_is = from_held;
@@ -242,18 +242,18 @@ module _ (board : Board) (entries : ℕ → List Entry) (dictionary : Dictionary
           kept = under.kept;
           paid = record { closed = under.paid.closed; within = omega (arith, under.paid.within, none, spent_is); queued = under.paid.queued; fewer = under.paid.fewer };
         }
-    found_kept (moves word has_word gone low sup none places long again cost) is =
-        let is_moved = moved word gone sup none places again in
+    found_kept (moves word has_word gone low sup none indices long again cost) is =
+        let is_moved = moved word gone sup none indices again in
         let from = search_from before (slot_at board i q) b (length (bits_for old i)) in
         record {
           kept = record {
-            sound = moves_sound board dictionary position.apart (marks_of old) (marks_of new) i q b place letter word from is_moved under.kept.sound;
+            sound = moves_sound board dictionary setting.apart (marks_of old) (marks_of new) i q b position letter word from is_moved under.kept.sound;
             held = λ j r d here off alive.
                 let alive_before : letter_stands old (cell_at board j r) d ≡ true = sym (letters_same (cell_at board j r) d) ∙ alive in
-                hung_stays board dictionary position.apart (marks_of old) (marks_of new) i q b place letter word is_moved.hung j r d here (stands_letter (cell_at board j r) d alive_before)
+                hung_stays board dictionary setting.apart (marks_of old) (marks_of new) i q b position letter word is_moved.hung j r d here (stands_letter (cell_at board j r) d alive_before)
                 (under.kept.held j r d here (free_less (queued_in new) (queued_in old) (λ n h. queued_same n ∙ h) j off) alive_before);
           };
-          paid = moves_paid board dictionary position.apart (marks_of old) (marks_of new) i q b place letter word from is_moved measure ticks ticks' under.kept.sound under.paid in_set (omega (arith, cost, spent_is));
+          paid = moves_paid board dictionary setting.apart (marks_of old) (marks_of new) i q b position letter word from is_moved measure ticks ticks' under.kept.sound under.paid in_set (omega (arith, cost, spent_is));
         }
     found_kept (nowhere lacks gone none same cost) is = absurd (both_ways found lacks is)
 
@@ -262,7 +262,7 @@ module _ (board : Board) (entries : ℕ → List Entry) (dictionary : Dictionary
     pub none_kept : IsOutcome → found ≡ false → (last : Net) → ((j k : ℕ) → word_stands last j k ≡ word_stands new j k) → ((s d : ℕ) → held_in last s d ≡ held_in new s d) → ((s d : ℕ) → restart_in last s d ≡ restart_in new s d)
         → Drops board i q b (marks_of new) (marks_of last) → IsUnderway board dictionary measure (marks_of last) (and_light (queued_in last) i) ticks'
     none_kept (stands has_word lt bit same none) is last words held restart drops = absurd (both_ways found is has_word)
-    none_kept (moves word has_word gone low sup none places long again cost) is last words held restart drops = absurd (both_ways found is has_word)
+    none_kept (moves word has_word gone low sup none indices long again cost) is last words held restart drops = absurd (both_ways found is has_word)
     none_kept (nowhere lacks gone none same cost) is last words held restart drops =
         let sound = under.kept.sound in
         let from = search_from before (slot_at board i q) b (length (bits_for old i)) in
@@ -281,11 +281,11 @@ module _ (board : Board) (entries : ℕ → List Entry) (dictionary : Dictionary
         } in
         record {
           kept = record {
-            sound = drops_sound board dictionary position.apart (marks_of old) (marks_of last) i q b place letter from dropped sound;
+            sound = drops_sound board dictionary setting.apart (marks_of old) (marks_of last) i q b position letter from dropped sound;
             held = λ j r d here off alive.
                 let alive_before : letter_stands old (cell_at board j r) d ≡ true =
                 (and_parts (letter_stands old (cell_at board j r) d) (not (eqb (cell_at board j r) (cell_at board i q) && eqb d b)) (sym (all_drops.letters (cell_at board j r) d) ∙ alive)).0 in
-                same_stays board dictionary position.apart (marks_of old) (marks_of last) all_words all_held j r d (under.kept.held j r d here (free_less (queued_in last) (queued_in old) all_drops.queued_more j off) alive_before);
+                same_stays board dictionary setting.apart (marks_of old) (marks_of last) all_words all_held j r d (under.kept.held j r d here (free_less (queued_in last) (queued_in old) all_drops.queued_more j off) alive_before);
           };
-          paid = drops_paid board dictionary position.apart (marks_of old) (marks_of last) i q b place letter from dropped measure ticks ticks' sound under.paid in_set (omega (arith, cost, spent_is, size));
+          paid = drops_paid board dictionary setting.apart (marks_of old) (marks_of last) i q b position letter from dropped measure ticks ticks' sound under.paid in_set (omega (arith, cost, spent_is, size));
         }

@@ -11,10 +11,10 @@ use Rattle.xw_feas.specs.Board.{Board, light_at, is_open, entry, allows}
 use Rattle.xw_feas.specs.Feasible.{Family, IsSupported, may_stand}
 use Rattle.xw_feas.specs.Choices.{choice_at, Covers}
 use Rattle.xw_feas.proofs.Support.{number_of_base, base_words_here}
-use Rattle.xw_net.specs.Marks.{Marks, side_of, Drops, IsPlace, cell_at, slot_at, AreSlotsApart, known, letter_of, puts, IsHeld, IsSound, IsKept}
-use Rattle.xw_net.specs.Due.{sum_letters, chunks, due_of, due_letter, due_place, Measure, IsPaid}
+use Rattle.xw_net.specs.Marks.{Marks, side_of, Drops, IsPositionIn, cell_at, slot_at, AreSlotsApart, known, letter_of, puts, IsHeld, IsSound, IsKept}
+use Rattle.xw_net.specs.Due.{sum_letters, chunks, due_of, due_letter, due_position, Measure, IsPaid}
 use Rattle.xw_net.proofs.Costs.SumsBelow.{sum_to-le, sum_to-add, sum_to-times}
-use Rattle.xw_net.proofs.Costs.DueTicks.{due-same, due-fewer, due-cleared, due-dies, due-alike, due-nowhere, due-moves, due-falls, place-falls, IsFrom}
+use Rattle.xw_net.proofs.Costs.DueTicks.{due-same, due-fewer, due-cleared, due-dies, due-alike, due-nowhere, due-moves, due-falls, position-falls, IsFrom}
 
 -- the words with a pending letter at a position were removed from the light
 pub record IsStruck (board : Board) (dictionary : Dictionary) (marks new : Marks) (i q : ℕ) : Type 0 where
@@ -67,14 +67,14 @@ may_letter board y d may = capital_is_letter d (and_parts (is_open board y) (is_
 
 module _ (board : Board) (dictionary : Dictionary) (apart : AreSlotsApart board) where
   -- positions with the same slot are the same
-  here_too : (P : ℕ → ℕ → Type 0) (i q j r : ℕ) → IsPlace board i q → IsPlace board j r → slot_at board j r ≡ slot_at board i q → P i q → P j r
-  here_too P i q j r place here same h =
-      let e = apart i q j r place here (sym same) in
+  here_too : (P : ℕ → ℕ → Type 0) (i q j r : ℕ) → IsPositionIn board i q → IsPositionIn board j r → slot_at board j r ≡ slot_at board i q → P i q → P j r
+  here_too P i q j r position here same h =
+      let e = apart i q j r position here (sym same) in
       subst (λ n. P j n) e.1 (subst (λ n. P n q) e.0 h)
 
   -- ---- words are removed from a light
 
-  module _ (marks new : Marks) (i q : ℕ) (place : IsPlace board i q) (queued : marks.queued i ≡ true) (is : IsStruck board dictionary marks new i q) where
+  module _ (marks new : Marks) (i q : ℕ) (position : IsPositionIn board i q) (queued : marks.queued i ≡ true) (is : IsStruck board dictionary marks new i q) where
     in_old : (j k : ℕ) → new.words j k ≡ true → marks.words j k ≡ true
     in_old j k h =
         elim (cases_eq j i) [
@@ -97,13 +97,13 @@ module _ (board : Board) (dictionary : Dictionary) (apart : AreSlotsApart board)
             | inl e ↦
                 let at : IsTrue (family.words i (choice_at board dictionary i k)) = subst (λ n. IsTrue (family.words n (choice_at board dictionary n k))) e member in
                 ap (λ n. new.words n k) e
-                ∙ is.kept k (ap (λ n. marks.words n k) (sym e) ∙ stood) ((sound.covers family supported).letters (cell_at board i q) (letter_of board dictionary i k q) (supported.words_have_letters i (choice_at board dictionary i k) at q place.1))
+                ∙ is.kept k (ap (λ n. marks.words n k) (sym e) ∙ stood) ((sound.covers family supported).letters (cell_at board i q) (letter_of board dictionary i k q) (supported.words_have_letters i (choice_at board dictionary i k) at q position.1))
             | inr n ↦ is.rest j k n ∙ stood
           ];
       letters = λ x b h. is.letters x b ∙ (sound.covers family supported).letters x b h;
     }
 
-    strike_spelled : (sound : IsSound board dictionary marks) (j r k : ℕ) → IsPlace board j r → new.words j k ≡ true
+    strike_spelled : (sound : IsSound board dictionary marks) (j r k : ℕ) → IsPositionIn board j r → new.words j k ≡ true
         → (new.letters (cell_at board j r) (letter_of board dictionary j k r) || new.pending (slot_at board j r) (letter_of board dictionary j k r)) ≡ true
     strike_spelled sound j r k here h =
         let b = letter_of board dictionary j k r in
@@ -113,7 +113,7 @@ module _ (board : Board) (dictionary : Dictionary) (apart : AreSlotsApart board)
               elim (cases_eq (slot_at board j r) (slot_at board i q)) [
                 | inl e ↦
                     let P : ℕ → ℕ → Type 0 = λ j r. new.words j k ≡ true → marks.pending (slot_at board j r) (letter_of board dictionary j k r) ≡ false in
-                    absurd (both_ways (marks.pending (slot_at board j r) b) (here_too P i q j r place here e (is.struck k) h) waits)
+                    absurd (both_ways (marks.pending (slot_at board j r) b) (here_too P i q j r position here e (is.struck k) h) waits)
                 | inr n ↦ or_right (new.letters (cell_at board j r) b) (new.pending (slot_at board j r) b) (is.pending_rest (slot_at board j r) b n ∙ waits)
               ]
         ]
@@ -152,10 +152,10 @@ module _ (board : Board) (dictionary : Dictionary) (apart : AreSlotsApart board)
 
     pub strike_paid : (measure : Measure) (spent spent' : ℕ) → IsSound board dictionary marks → IsPaid board dictionary measure marks spent → measure.member i ≡ true
         → spent' ≤ spent + chunks board dictionary i * sum_letters (λ b. cond (marks.pending (slot_at board i q) b) 1 0) → IsPaid board dictionary measure new spent'
-    unfolding due_place due_letter
+    unfolding due_position due_letter
     strike_paid measure spent spent' sound paid in_set cost =
         let c = chunks board dictionary i in
-        let each : (j r k : ℕ) → IsPlace board j r → k < 26 → due_letter board dictionary new j r (65 + k) ≤ due_letter board dictionary marks j r (65 + k) = λ j r k here lt.
+        let each : (j r k : ℕ) → IsPositionIn board j r → k < 26 → due_letter board dictionary new j r (65 + k) ≤ due_letter board dictionary marks j r (65 + k) = λ j r k here lt.
         let s = slot_at board j r in
         due-fewer (puts board dictionary j r (65 + k)) (known board dictionary j) (marks.held s (65 + k)) (new.held s (65 + k)) (marks.letters (cell_at board j r) (65 + k)) (new.letters (cell_at board j r) (65 + k))
         (marks.restart s (65 + k)) (new.restart s (65 + k)) (marks.pending s (65 + k)) (new.pending s (65 + k))
@@ -164,9 +164,9 @@ module _ (board : Board) (dictionary : Dictionary) (apart : AreSlotsApart board)
         let s = slot_at board i q in
         due-cleared (puts board dictionary i q (65 + k)) (known board dictionary i) (marks.held s (65 + k)) (new.held s (65 + k)) (marks.letters (cell_at board i q) (65 + k)) (new.letters (cell_at board i q) (65 + k))
         (marks.restart s (65 + k)) (new.restart s (65 + k)) (marks.pending s (65 + k)) (new.pending s (65 + k))
-        (is.held s (65 + k)) (is.letters (cell_at board i q) (65 + k)) (is.restart s (65 + k)) (is.cleared (65 + k)) (sound.pending_gone i q (65 + k) place) in
+        (is.held s (65 + k)) (is.letters (cell_at board i q) (65 + k)) (is.restart s (65 + k)) (is.cleared (65 + k)) (sound.pending_gone i q (65 + k) position) in
         let gone = sum_letters (λ b. cond (marks.pending (slot_at board i q) b) 1 0) in
-        let falls : due_place board dictionary new i q + chunks board dictionary i * sum_letters (λ b. cond (marks.pending (slot_at board i q) b) 1 0) ≤ due_place board dictionary marks i q =
+        let falls : due_position board dictionary new i q + chunks board dictionary i * sum_letters (λ b. cond (marks.pending (slot_at board i q) b) 1 0) ≤ due_position board dictionary marks i q =
         omega (
           arith,
           sum_to-add (λ k. due_letter board dictionary new i q (65 + k)) (λ k. c * cond (marks.pending (slot_at board i q) (65 + k)) 1 0) 26,
@@ -175,7 +175,7 @@ module _ (board : Board) (dictionary : Dictionary) (apart : AreSlotsApart board)
         ) in
         record {
           closed = paid.closed;
-          within = omega (arith, paid.within, cost, due-falls board dictionary measure.member marks new each i q (c * gone) place in_set falls);
+          within = omega (arith, paid.within, cost, due-falls board dictionary measure.member marks new each i q (c * gone) position in_set falls);
           queued = λ j lt h. paid.queued j lt (sym (is.queued j) ∙ h);
           fewer = λ x b h. paid.fewer x b (sym (is.letters x b) ∙ h);
         }
@@ -190,7 +190,7 @@ module _ (board : Board) (dictionary : Dictionary) (apart : AreSlotsApart board)
         | inr entered ↦ inr (words_same j (known board dictionary j) ∙ entered)
       ]
 
-  module _ (marks new : Marks) (i q b : ℕ) (place : IsPlace board i q) (letter : IsLetter b) where
+  module _ (marks new : Marks) (i q b : ℕ) (position : IsPositionIn board i q) (letter : IsLetter b) where
     -- whether it is this letter at this slot
     data ThisLetter (s d : ℕ) : Type 0 where
       this : (s ≡ slot_at board i q) × (d ≡ b) → ThisLetter s d
@@ -203,8 +203,8 @@ module _ (board : Board) (dictionary : Dictionary) (apart : AreSlotsApart board)
           | inr n ↦ another (λ both. n both.0)
         ]
 
-    at_this : (P : ℕ → ℕ → ℕ → Type 0) (j r d : ℕ) → IsPlace board j r → (slot_at board j r ≡ slot_at board i q) × (d ≡ b) → P i q b → P j r d
-    at_this P j r d here e h = here_too (λ j r. P j r d) i q j r place here e.0 (subst (P i q) (sym e.1) h)
+    at_this : (P : ℕ → ℕ → ℕ → Type 0) (j r d : ℕ) → IsPositionIn board j r → (slot_at board j r ≡ slot_at board i q) × (d ≡ b) → P i q b → P j r d
+    at_this P j r d here e h = here_too (λ j r. P j r d) i q j r position here e.0 (subst (P i q) (sym e.1) h)
 
     alive_letter : IsSound board dictionary marks → (y d : ℕ) → marks.letters y d ≡ true → IsLetter d
     alive_letter sound y d h = may_letter board y d (sound.within.letters y d h)
@@ -213,7 +213,7 @@ module _ (board : Board) (dictionary : Dictionary) (apart : AreSlotsApart board)
       pub hung_held : IsHeld board dictionary new i q b
       hung_held = inl (omega (arith, hung.held_here, hung.within), ap (new.words i) hung.held_here ∙ hung.words i word ∙ hung.stands)
 
-      pub hung_stays : (j r d : ℕ) → IsPlace board j r → IsLetter d → IsHeld board dictionary marks j r d → IsHeld board dictionary new j r d
+      pub hung_stays : (j r d : ℕ) → IsPositionIn board j r → IsLetter d → IsHeld board dictionary marks j r d → IsHeld board dictionary new j r d
       hung_stays j r d here is_letter held =
           elim (letter_cases (slot_at board j r) d) [
             | this e ↦ at_this (λ j r d. IsHeld board dictionary new j r d) j r d here e hung_held
@@ -226,7 +226,7 @@ module _ (board : Board) (dictionary : Dictionary) (apart : AreSlotsApart board)
           ]
 
     module _ (word from : ℕ) (is : IsMoved board dictionary marks new i q b word from) where
-      moves_hits : IsSound board dictionary marks → (j r d : ℕ) → IsPlace board j r → new.letters (cell_at board j r) d ≡ true → new.held (slot_at board j r) d < known board dictionary j
+      moves_hits : IsSound board dictionary marks → (j r d : ℕ) → IsPositionIn board j r → new.letters (cell_at board j r) d ≡ true → new.held (slot_at board j r) d < known board dictionary j
           → puts board dictionary j r d (new.held (slot_at board j r) d) ≡ true
       moves_hits sound j r d here alive lt =
           elim (letter_cases (slot_at board j r) d) [
@@ -236,7 +236,7 @@ module _ (board : Board) (dictionary : Dictionary) (apart : AreSlotsApart board)
                 ap (puts board dictionary j r d) same ∙ sound.hits j r d here (sym (is.letters (cell_at board j r) d) ∙ alive) (omega (arith, same, lt))
           ]
 
-      moves_first : IsSound board dictionary marks → (j r d k : ℕ) → IsPlace board j r → new.letters (cell_at board j r) d ≡ true → new.held (slot_at board j r) d < known board dictionary j
+      moves_first : IsSound board dictionary marks → (j r d k : ℕ) → IsPositionIn board j r → new.letters (cell_at board j r) d ≡ true → new.held (slot_at board j r) d < known board dictionary j
           → new.restart (slot_at board j r) d ≡ false → k < known board dictionary j → new.words j k ≡ true → puts board dictionary j r d k ≡ true → new.held (slot_at board j r) d ≤ k
       moves_first sound j r d k here alive lt never below stands has =
           elim (letter_cases (slot_at board j r) d) [
@@ -282,9 +282,9 @@ module _ (board : Board) (dictionary : Dictionary) (apart : AreSlotsApart board)
           let x = cell_at board i q in
           let h = marks.held s b in
           let later : marks.held (slot_at board i q) b < known board dictionary i → marks.restart (slot_at board i q) b ≡ false → (puts board dictionary i q b (marks.held (slot_at board i q) b) ≡ true) × (marks.held (slot_at board i q) b < word) = λ lt never.
-          let most = sound.first i q b word place is.stood lt never is.hung.within is.hung.stands is.has in
+          let most = sound.first i q b word position is.stood lt never is.hung.within is.hung.stands is.has in
           let differs : h ≢ word = λ e. both_ways (marks.words i h) (is.lost lt) (ap (marks.words i) e ∙ is.hung.stands) in
-          (sound.hits i q b place is.stood lt, omega (arith, most, differs)) in
+          (sound.hits i q b position is.stood lt, omega (arith, most, differs)) in
           let falls : due_letter board dictionary new i q b + (spent' - spent) ≤ due_letter board dictionary marks i q b =
           omega (
             arith,
@@ -292,7 +292,7 @@ module _ (board : Board) (dictionary : Dictionary) (apart : AreSlotsApart board)
             due-moves (puts board dictionary i q b) (known board dictionary i) h word from t (marks.letters x b) (new.letters x b) (marks.restart s b) (new.restart s b) (marks.pending s b) (new.pending s b)
                 is.stood (is.letters x b ∙ is.stood) is.restart_here is.hung.within is.from_is later cost,
           ) in
-          let each : (j r k : ℕ) → IsPlace board j r → k < 26 → due_letter board dictionary new j r (65 + k) ≤ due_letter board dictionary marks j r (65 + k) = λ j r k here lt.
+          let each : (j r k : ℕ) → IsPositionIn board j r → k < 26 → due_letter board dictionary new j r (65 + k) ≤ due_letter board dictionary marks j r (65 + k) = λ j r k here lt.
           elim (letter_cases (slot_at board j r) (65 + k)) [
             | this e ↦ at_this (λ j r d. due_letter board dictionary new j r d ≤ due_letter board dictionary marks j r d) j r (65 + k) here e (omega (arith, falls))
             | another n ↦
@@ -310,7 +310,7 @@ module _ (board : Board) (dictionary : Dictionary) (apart : AreSlotsApart board)
                 omega (
                   arith,
                   paid.within,
-                  due-falls board dictionary measure.member marks new each i q t place in_set (place-falls board dictionary measure.member marks new each i q (b - 65) t place (omega (arith, letter.1)) falls_at),
+                  due-falls board dictionary measure.member marks new each i q t position in_set (position-falls board dictionary measure.member marks new each i q (b - 65) t position (omega (arith, letter.1)) falls_at),
                 );
             queued = λ j lt h. paid.queued j lt (sym (is.queued j) ∙ h);
             fewer = λ x d h. paid.fewer x d (sym (is.letters x d) ∙ h);
@@ -351,10 +351,10 @@ module _ (board : Board) (dictionary : Dictionary) (apart : AreSlotsApart board)
       -- no supported family has the letter
       none_has : IsSound board dictionary marks → (family : Family) → IsSupported board dictionary family → IsTrue (family.letters (cell_at board i q) b) → ⊥
       none_has sound family supported has =
-          let found = supported.letters_have_words (cell_at board i q) b has i q place.0 place.1 refl in
-          let numbered = number_of_base board dictionary (light_at board i) found.0 (rw (← base_words_here board dictionary i place.0) (supported.words_are_base i found.0 found.1)) in
+          let found = supported.letters_have_words (cell_at board i q) b has i q position.0 position.1 refl in
+          let numbered = number_of_base board dictionary (light_at board i) found.0 (rw (← base_words_here board dictionary i position.0) (supported.words_are_base i found.0 found.1)) in
           let k = numbered.0 in
-          let stands = (sound.covers family supported).words i k place.0 numbered.1 (rw numbered.2 found.1) in
+          let stands = (sound.covers family supported).words i k position.0 numbered.1 (rw numbered.2 found.1) in
           is.no_word k stands (eq-eqb (letter_of board dictionary i k q) b (ap (λ word. get_or word q 0) numbered.2 ∙ found.2))
 
       drops_covers : IsSound board dictionary marks → (family : Family) → IsSupported board dictionary family → Covers board dictionary new.words new.letters family
@@ -367,7 +367,7 @@ module _ (board : Board) (dictionary : Dictionary) (apart : AreSlotsApart board)
             ];
       }
 
-      drops_spelled : IsSound board dictionary marks → (j r k : ℕ) → IsPlace board j r → new.words j k ≡ true
+      drops_spelled : IsSound board dictionary marks → (j r k : ℕ) → IsPositionIn board j r → new.words j k ≡ true
           → (new.letters (cell_at board j r) (letter_of board dictionary j k r) || new.pending (slot_at board j r) (letter_of board dictionary j k r)) ≡ true
       drops_spelled sound j r k here h =
           let y = cell_at board j r in
@@ -381,8 +381,8 @@ module _ (board : Board) (dictionary : Dictionary) (apart : AreSlotsApart board)
                       elim (cases_eq j i) [
                         | inl same ↦
                             let slots : slot_at board j r ≡ slot_at board i q = ap (λ n. 2 * n + side_of (light_at board j)) e ∙ ap (λ n. 2 * cell_at board i q + side_of (light_at board n)) same in
-                            absurd (here_too (λ j r. marks.words j k ≡ true → letter_of board dictionary j k r ≡ b → ⊥) i q j r place here slots (λ stands has. is.no_word k stands (eq-eqb (letter_of board dictionary i k q) b has)) stood f)
-                        | inr n ↦ or_right (new.letters y d) (new.pending s d) (ap (new.pending s) f ∙ is.drops.crossing j r (record { place_there = here; apart = n; meets = e }))
+                            absurd (here_too (λ j r. marks.words j k ≡ true → letter_of board dictionary j k r ≡ b → ⊥) i q j r position here slots (λ stands has. is.no_word k stands (eq-eqb (letter_of board dictionary i k q) b has)) stood f)
+                        | inr n ↦ or_right (new.letters y d) (new.pending s d) (ap (new.pending s) f ∙ is.drops.crossing j r (record { position_there = here; apart = n; meets = e }))
                       ]
                   | another_cell n ↦ or_left (new.letters y d) (new.pending s d) (kept_letters y d n alive)
                 ]
@@ -402,13 +402,13 @@ module _ (board : Board) (dictionary : Dictionary) (apart : AreSlotsApart board)
             elim (is.drops.pending_new (slot_at board j r) d h) [
               | inl before ↦ gone_letters (cell_at board j r) d (sound.pending_gone j r d here before)
               | inr (f, (other, t, at, same, waits)) ↦
-                  let e = apart other t j r at.place_there here same in
+                  let e = apart other t j r at.position_there here same in
                   gone_here (cell_at board j r) d (sym (ap (λ n. cell_at board n t) e.0 ∙ ap (cell_at board j) e.1) ∙ at.meets) f
             ];
         pending_queued = λ j r d here h.
             elim (is.drops.pending_new (slot_at board j r) d h) [
               | inl before ↦ is.drops.queued_more j (sound.pending_queued j r d here before)
-              | inr (f, (other, t, at, same, waits)) ↦ ap new.queued (sym (apart other t j r at.place_there here same).0) ∙ waits
+              | inr (f, (other, t, at, same, waits)) ↦ ap new.queued (sym (apart other t j r at.position_there here same).0) ∙ waits
             ];
         hits = λ j r d here alive lt.
             let same = is.held (slot_at board j r) d in
@@ -428,13 +428,13 @@ module _ (board : Board) (dictionary : Dictionary) (apart : AreSlotsApart board)
           let x = cell_at board i q in
           let not_pending : new.pending (slot_at board i q) b ≡ false = false_from_ne_true (new.pending (slot_at board i q) b) (λ h.
           elim (is.drops.pending_new (slot_at board i q) b h) [
-            | inl before ↦ both_ways (marks.letters (cell_at board i q) b) (sound.pending_gone i q b place before) is.stood
-            | inr (f, (other, r, at, same, waits)) ↦ at.apart (apart other r i q at.place_there place same).0
+            | inl before ↦ both_ways (marks.letters (cell_at board i q) b) (sound.pending_gone i q b position before) is.stood
+            | inr (f, (other, r, at, same, waits)) ↦ at.apart (apart other r i q at.position_there position same).0
           ]) in
           let falls : due_letter board dictionary new i q b + (spent' - spent) ≤ due_letter board dictionary marks i q b =
           due-nowhere (puts board dictionary i q b) (known board dictionary i) (marks.held s b) (new.held s b) from t (marks.letters x b) (new.letters x b) (marks.restart s b) (new.restart s b) (marks.pending s b) (new.pending s b)
           is.stood (gone_here x b refl refl) not_pending is.from_is cost in
-          let each : (j r k : ℕ) → IsPlace board j r → k < 26 → due_letter board dictionary new j r (65 + k) ≤ due_letter board dictionary marks j r (65 + k) = λ j r k here lt.
+          let each : (j r k : ℕ) → IsPositionIn board j r → k < 26 → due_letter board dictionary new j r (65 + k) ≤ due_letter board dictionary marks j r (65 + k) = λ j r k here lt.
           let d = 65 + k in
           let y = cell_at board j r in
           let u = slot_at board j r in
@@ -450,7 +450,7 @@ module _ (board : Board) (dictionary : Dictionary) (apart : AreSlotsApart board)
                 elim (is.drops.pending_new u d h) [
                   | inl before ↦ before
                   | inr (f, (other, r', at, same, waits)) ↦
-                      let e = apart other r' j r at.place_there here same in
+                      let e = apart other r' j r at.position_there here same in
                       let meets : cell_at board j r ≡ cell_at board i q = sym (ap (λ n. cell_at board n r') e.0 ∙ ap (cell_at board j) e.1) ∙ at.meets in
                       absurd (both_ways (marks.letters y d) gone (ap (λ n. marks.letters n d) meets ∙ ap (marks.letters (cell_at board i q)) f ∙ is.stood))
                 ])
@@ -464,13 +464,13 @@ module _ (board : Board) (dictionary : Dictionary) (apart : AreSlotsApart board)
                 omega (
                   arith,
                   paid.within,
-                  due-falls board dictionary measure.member marks new each i q t place in_set (place-falls board dictionary measure.member marks new each i q (b - 65) t place (omega (arith, letter.1)) falls_at),
+                  due-falls board dictionary measure.member marks new each i q t position in_set (position-falls board dictionary measure.member marks new each i q (b - 65) t position (omega (arith, letter.1)) falls_at),
                 );
             queued = λ j lt h.
                 elim (is.drops.queued_new j h) [
                   | inl before ↦ paid.queued j lt before
                   | inr (r, at) ↦
-                      paid.closed i q j r b place at.place_there at.meets (paid.fewer x b is.stood)
+                      paid.closed i q j r b position at.position_there at.meets (paid.fewer x b is.stood)
                       (λ feasible. both_ways (new.letters x b) (gone_here x b refl refl)
                       (∥∥₁_elim feasible (Bool-set _ _) (λ f. (drops_covers sound f.0 f.1).letters x b f.2)))
                       in_set

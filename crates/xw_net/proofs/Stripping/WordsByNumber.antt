@@ -12,7 +12,7 @@ use Rattle.xw_letters.proofs.LetterSetLemmas.{has-none}
 use Rattle.xw_feas.specs.Board.{Board, light_at, entry, spelled}
 use Rattle.xw_feas.specs.Choices.{choice_at}
 use Rattle.xw_feas.specs.Flags.{set_has}
-use Rattle.xw_net.specs.Marks.{IsPlace, cell_at, slot_at, IsPosition, known, letter_of, IsSound}
+use Rattle.xw_net.specs.Marks.{IsPositionIn, cell_at, slot_at, IsSetting, known, letter_of, IsSound}
 use Rattle.xw_net.specs.Support.{Strikes, AreApart}
 use Rattle.xw_net.specs.Nets.{bits_at, bits_for, word_stands, letter_stands, held_in, restart_in, pending_in, queued_in, marks_of, HasBits}
 use Rattle.xw_net.specs.declared.net.Net.{Net}
@@ -63,9 +63,9 @@ module _ (net : Net) (light : ℕ) where
 
 -- ---- the letters of words
 
-module _ (board : Board) (entries : ℕ → List Entry) (dictionary : Dictionary) (position : IsPosition board entries dictionary) where
+module _ (board : Board) (entries : ℕ → List Entry) (dictionary : Dictionary) (setting : IsSetting board entries dictionary) where
   pub bits_known : (net : Net) → HasBits board entries net → (i : ℕ) → i < length board.lights → length (bits_for net i) ≡ known board dictionary i
-  bits_known net bits i lt = bits i lt ∙ ap length (position.read (length (light_at board i)))
+  bits_known net bits i lt = bits i lt ∙ ap length (setting.read (length (light_at board i)))
 
   pub choice_listed : (i k : ℕ) → k < known board dictionary i → choice_at board dictionary i k ≡ (get_or (row dictionary (length (light_at board i))) k no_entry).word
   choice_listed i k lt =
@@ -76,28 +76,28 @@ module _ (board : Board) (entries : ℕ → List Entry) (dictionary : Dictionary
   is_letter : (o : Option ℕ) (a letter : ℕ) → o ≡ Some a → letter_is o letter ≡ eqb a letter
   is_letter o a letter is = ap (λ o. letter_is o letter) is
 
-  pub letter_listed : (i q k letter : ℕ) → IsPlace board i q → k < known board dictionary i → has_letter (entries (length (light_at board i))) q letter k ≡ eqb (letter_of board dictionary i k q) letter
-  letter_listed i q k letter place lt =
+  pub letter_listed : (i q k letter : ℕ) → IsPositionIn board i q → k < known board dictionary i → has_letter (entries (length (light_at board i))) q letter k ≡ eqb (letter_of board dictionary i k q) letter
+  letter_listed i q k letter position lt =
       let words = row dictionary (length (light_at board i)) in
       let word = (get_or words k no_entry).word in
-      let long : length word ≡ length (light_at board i) = (position.words.words (length (light_at board i))).long k no_entry lt in
-      ap (λ es. has_letter es q letter k) (position.read (length (light_at board i)))
-      ∙ is_letter (slice_get word q) (get_or word q 0) letter (slice_get-get_or word q 0 (omega (arith, long, place.1)))
+      let long : length word ≡ length (light_at board i) = (setting.words.words (length (light_at board i))).long k no_entry lt in
+      ap (λ es. has_letter es q letter k) (setting.read (length (light_at board i)))
+      ∙ is_letter (slice_get word q) (get_or word q 0) letter (slice_get-get_or word q 0 (omega (arith, long, position.1)))
       ∙ ap (λ w. eqb (get_or w q 0) letter) (sym (choice_listed i k lt))
 
-  pub letter_entered : (i q : ℕ) → IsPlace board i q → letter_of board dictionary i (known board dictionary i) q ≡ unwrap_or (entry board (cell_at board i q)) 65
-  letter_entered i q place =
+  pub letter_entered : (i q : ℕ) → IsPositionIn board i q → letter_of board dictionary i (known board dictionary i) q ≡ unwrap_or (entry board (cell_at board i q)) 65
+  letter_entered i q position =
       let words = row dictionary (length (light_at board i)) in
       ap (λ w. get_or w q 0) (get_or_push (map (λ (word : Entry). word.word) words) (spelled board (light_at board i)) [] (known board dictionary i) (length-map words (λ (word : Entry). word.word)))
-      ∙ get_or-map (λ cell. unwrap_or (entry board cell) 65) (light_at board i) q 0 0 place.1
+      ∙ get_or-map (λ cell. unwrap_or (entry board cell) 65) (light_at board i) q 0 0 position.1
 
   -- each letter of a known word in the net is in the net too, or pending
-  pub has_own : (i q k : ℕ) → IsPlace board i q → k < known board dictionary i → has_letter (entries (length (light_at board i))) q (letter_of board dictionary i k q) k ≡ true
-  has_own i q k place lt = letter_listed i q k (letter_of board dictionary i k q) place lt ∙ eq-eqb (letter_of board dictionary i k q) (letter_of board dictionary i k q) refl
+  pub has_own : (i q k : ℕ) → IsPositionIn board i q → k < known board dictionary i → has_letter (entries (length (light_at board i))) q (letter_of board dictionary i k q) k ≡ true
+  has_own i q k position lt = letter_listed i q k (letter_of board dictionary i k q) position lt ∙ eq-eqb (letter_of board dictionary i k q) (letter_of board dictionary i k q) refl
 
   -- ---- removing words from a row
 
-  module _ (old new : Net) (i q : ℕ) (place : IsPlace board i q) (bits : HasBits board entries old) (first second : RowOfBits) (pending alive : ℕ)
+  module _ (old new : Net) (i q : ℕ) (position : IsPositionIn board i q) (bits : HasBits board entries old) (first second : RowOfBits) (pending alive : ℕ)
       (row_is : slice_get old.rows.items i ≡ Some first) (rows_are : new.rows.items ≡ set old.rows.items i second) (long : length second.bits ≡ length first.bits)
       (in_entered : i < length old.entered.items)
       (entered_are : new.entered.items ≡ set old.entered.items i (get_or old.entered.items i false && not (has pending (unwrap_or (entry board (cell_at board i q)) 65))))
@@ -133,10 +133,10 @@ module _ (board : Board) (entries : ℕ → List Entry) (dictionary : Dictionary
     entered_now = ap (λ flags. get_or flags i false) entered_are ∙ get_or-set_same old.entered.items i (get_or old.entered.items i false && not (has pending (unwrap_or (entry board (cell_at board i q)) 65))) false in_entered
 
     size_now : length (bits_for new i) ≡ known board dictionary i
-    size_now = bits_known new still_bits i place.0
+    size_now = bits_known new still_bits i position.0
 
     size_then : length (bits_for old i) ≡ known board dictionary i
-    size_then = bits_known old bits i place.0
+    size_then = bits_known old bits i position.0
 
     module _ (apart : AreApart pending alive) where
       words_fewer : (k : ℕ) → word_stands new i k ≡ true → word_stands old i k ≡ true
@@ -156,10 +156,10 @@ module _ (board : Board) (entries : ℕ → List Entry) (dictionary : Dictionary
           elim (word_cases new i k h) [
             | listed lt bit ↦
                 both_ways (get_or (bits_for new i) k false)
-                (ap (λ bs. get_or bs k false) bits_now ∙ (strikes apart).struck k (letter_of board dictionary i k q) waits (has_own i q k place (omega (arith, size_now, lt)))) bit
+                (ap (λ bs. get_or bs k false) bits_now ∙ (strikes apart).struck k (letter_of board dictionary i k q) waits (has_own i q k position (omega (arith, size_now, lt)))) bit
             | spelled_one is flag ↦
                 let at : k ≡ known board dictionary i = is ∙ size_now in
-                let same : letter_of board dictionary i k q ≡ unwrap_or (entry board (cell_at board i q)) 65 = ap (λ n. letter_of board dictionary i n q) at ∙ letter_entered i q place in
+                let same : letter_of board dictionary i k q ≡ unwrap_or (entry board (cell_at board i q)) 65 = ap (λ n. letter_of board dictionary i n q) at ∙ letter_entered i q position in
                 both_ways (has pending (unwrap_or (entry board (cell_at board i q)) 65))
                 (not-true (has pending (unwrap_or (entry board (cell_at board i q)) 65)) (and_parts (get_or old.entered.items i false) (not (has pending (unwrap_or (entry board (cell_at board i q)) 65))) (sym entered_now ∙ flag)).1)
                 (ap (has pending) (sym same) ∙ waits)
@@ -171,10 +171,10 @@ module _ (board : Board) (entries : ℕ → List Entry) (dictionary : Dictionary
             | listed lt bit ↦
                 listed_is new i k (omega (arith, size_now, size_then, lt))
                 ∙ ap (λ bs. get_or bs k false) bits_now
-                ∙ (strikes apart).kept k (letter_of board dictionary i k q) stands (has_own i q k place (omega (arith, size_then, lt))) (sym (ap (λ bs. get_or bs k false) bits_then) ∙ bit)
+                ∙ (strikes apart).kept k (letter_of board dictionary i k q) stands (has_own i q k position (omega (arith, size_then, lt))) (sym (ap (λ bs. get_or bs k false) bits_then) ∙ bit)
             | spelled_one is flag ↦
                 let at : k ≡ known board dictionary i = is ∙ size_then in
-                let same : letter_of board dictionary i k q ≡ unwrap_or (entry board (cell_at board i q)) 65 = ap (λ n. letter_of board dictionary i n q) at ∙ letter_entered i q place in
+                let same : letter_of board dictionary i k q ≡ unwrap_or (entry board (cell_at board i q)) 65 = ap (λ n. letter_of board dictionary i n q) at ∙ letter_entered i q position in
                 entered_is new i k (omega (arith, size_now, at)) ∙ entered_now
                 ∙ and_from (get_or old.entered.items i false) (not (has pending (unwrap_or (entry board (cell_at board i q)) 65))) flag
                 (not_from_false (has pending (unwrap_or (entry board (cell_at board i q)) 65)) (false_from_ne_true (has pending (unwrap_or (entry board (cell_at board i q)) 65)) (λ waits.
@@ -191,7 +191,7 @@ module _ (board : Board) (entries : ℕ → List Entry) (dictionary : Dictionary
     sets_apart : IsSound board dictionary (marks_of old) → AreApart pending alive
     unfolding pending_in letter_stands
     sets_apart sound letter waits =
-        ap (λ s. has s letter) alive_is ∙ sound.pending_gone i q letter place (ap (λ s. has s letter) (sym pending_is) ∙ waits)
+        ap (λ s. has s letter) alive_is ∙ sound.pending_gone i q letter position (ap (λ s. has s letter) (sym pending_is) ∙ waits)
 
     pub net_struck : IsSound board dictionary (marks_of old) → IsStruck board dictionary (marks_of old) (marks_of new) i q
     unfolding letter_stands held_in restart_in queued_in pending_in

@@ -1,6 +1,6 @@
 //! Answers `autofill`.
 ghost use Rattle.std.specs.Prelude.{◌≡◌, true, false, IfOk, IfErr, OnErr, IfSome, IfNone, is_some};
-ghost use Rattle.xw_grid.specs.Light.{lights_of, place_named};
+ghost use Rattle.xw_grid.specs.Light.{lights_of, index_named};
 ghost use Rattle.xw_autofill.specs.NamedFill.{IsAutofilled, is_named, AreLights, IsRefusal};
 ghost use Rattle.xw_session.specs.Reply.{name_of_light};
 ghost use Rattle.xw_session.specs.Autofill.{names_of as names_of_lights};
@@ -23,8 +23,8 @@ use xw_lines::outcome::Step;
 
 /// Returns the name of a light that a command names, or `None` if the grid has no such light.
 fn known_name<E: Searchable>(engine: &E, named: LightArg) -> Option<LightName>
-    ensures some { IfSome result (λ name. (name ≡ name_of_light named) × (is_some (place_named (lights_of (E.state engine.now).grid) (name_of_light named)) ≡ true)) }
-    ensures none { IfNone result (is_some (place_named (lights_of (E.state engine.now).grid) (name_of_light named)) ≡ false) }
+    ensures some { IfSome result (λ name. (name ≡ name_of_light named) × (is_some (index_named (lights_of (E.state engine.now).grid) (name_of_light named)) ≡ true)) }
+    ensures none { IfNone result (is_some (index_named (lights_of (E.state engine.now).grid) (name_of_light named)) ≡ false) }
 {
     engine.grid().well_formed();
     let name = light_name(named)?;

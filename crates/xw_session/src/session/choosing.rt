@@ -1,6 +1,6 @@
 //! Answers `choices`.
 ghost use Rattle.std.specs.Prelude.{◌≡◌, ◌<◌, true, false, length, slice_index_or, [], ◌∷◌, ◌++◌, codes};
-ghost use Rattle.xw_grid.specs.Light.{lights_of, place_named};
+ghost use Rattle.xw_grid.specs.Light.{lights_of, index_named};
 ghost use Rattle.xw_fill.specs.Position.{position_of};
 ghost use Rattle.xw_fill.specs.Search.{light_count, is_entered as is_entered_light};
 ghost use Rattle.xw_fill.specs.Suggesting.{IsTriedAt};
@@ -20,7 +20,7 @@ use itoa::Buffer;
 use xw_commands::command::LightArg;
 use xw_feas::feasible::Feasible;
 use xw_fill::choices::{fewest_after, fewest_words};
-use xw_fill::scan::{is_entered, light_at, name_at, next_place, word_count};
+use xw_fill::scan::{is_entered, light_at, name_at, next_word_index, word_count};
 use xw_letters::Letter;
 use xw_lines::device::{self, Sink, WriteFailed};
 use xw_lines::outcome::Step;
@@ -57,13 +57,13 @@ fn write_choice<W: Sink>(
 }
 
 /// Returns the known word at an index among those of a light's length.
-fn known_word<E: Feasible>(engine: &E, light: usize, place: usize) -> &[Letter]
+fn known_word<E: Feasible>(engine: &E, light: usize, index: usize) -> &[Letter]
     requires light { light < light_count (position_of (E.state engine.now)) }
-    requires place { place < length (spellings_at (position_of (E.state engine.now)) light) }
-    ensures { result.now ≡ slice_index_or (spellings_at (position_of (E.state engine.now)) light) place [] }
+    requires index { index < length (spellings_at (position_of (E.state engine.now)) light) }
+    ensures { result.now ≡ slice_index_or (spellings_at (position_of (E.state engine.now)) light) index [] }
 {
     let size = light_at(engine, light).size as usize;
-    engine.bank().word(size, place)
+    engine.bank().word(size, index)
 }
 
 /// Writes a feasible word with what it leaves. The word is placed and taken back before anything is written.
@@ -71,14 +71,14 @@ fn write_choice_at<E: Feasible, W: Sink>(
     sink: &mut W,
     engine: &mut E,
     light: usize,
-    place: usize,
+    index: usize,
 ) -> Result<(), WriteFailed>
-    requires tried { IsTriedAt (position_of (E.state engine.old)) light place }
-    ensures sends { Sends W.transcript W.failures sink.old sink.new result (choice_line (E.state engine.old) light (slice_index_or (spellings_at (position_of (E.state engine.old)) light) place [])) }
+    requires tried { IsTriedAt (position_of (E.state engine.old)) light index }
+    ensures sends { Sends W.transcript W.failures sink.old sink.new result (choice_line (E.state engine.old) light (slice_index_or (spellings_at (position_of (E.state engine.old)) light) index [])) }
     ensures unchanged { E.state engine.new ≡ E.state engine.old }
 {
-    let fewest = fewest_after(engine, light, place);
-    write_choice(sink, known_word(engine, light, place), fewest)
+    let fewest = fewest_after(engine, light, index);
+    write_choice(sink, known_word(engine, light, index), fewest)
 }
 
 /// Writes the first feasible words, at most `most`, of a light that is not wholly entered. Leaves the engine's state as
@@ -97,11 +97,11 @@ fn write_choices<E: Feasible, W: Sink>(
     let mut from = 0;
     let mut left = most;
     while left > 0 {
-        let Some(place) = next_place(engine, light, from) else {
+        let Some(index) = next_word_index(engine, light, from) else {
             return Ok(());
         };
-        write_choice_at(sink, engine, light, place)?;
-        from = place + 1;
+        write_choice_at(sink, engine, light, index)?;
+        from = index + 1;
         left -= 1;
     }
     Ok(())
@@ -150,7 +150,7 @@ impl<E: Feasible> Session<E> {
 
     /// Returns the index of the light that a command names.
     fn light_index(&self, named: LightArg) -> Option<usize>
-        ensures { result ≡ place_named (lights_of self.now.position.grid) (name_of_light named) }
+        ensures { result ≡ index_named (lights_of self.now.position.grid) (name_of_light named) }
     {
         self.engine.grid().well_formed();
         match light_name(named) {

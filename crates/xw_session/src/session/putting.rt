@@ -1,7 +1,7 @@
 //! The commands `text` and `more`, which put a text with escapes into a field.
 ghost use Rattle.std.specs.Prelude.{◌≡◌, ℕ, ◌++◌, List, [], true, false, Some, IfOk, IfErr, IsOk, OnOk, OnErr, IsOkUnless};
 ghost use Rattle.xw_session.specs.Escape.{text_spelled};
-ghost use Rattle.xw_session.specs.Put.{place_of, has_place, text_at as text_at_place, with_text_at, with_piece};
+ghost use Rattle.xw_session.specs.Put.{target_of, has_target, text_at as text_at_target, with_text_at, with_piece};
 ghost use Rattle.xw_session.specs.Answer.{Edits};
 
 use crate::escape;
@@ -15,7 +15,7 @@ use xw_grid::{Cell, Direction, GridFault};
 
 /// A text that a field names: a text of the puzzle, or the clue at a cell and direction.
 #[derive(Clone, Copy)]
-pub enum Place {
+pub enum Target {
     Text(TextField),
     Clue(Cell, Direction),
 }
@@ -35,41 +35,41 @@ fn joined(alloc: Global, front: &[u8], spelling: &[u8]) -> Result<Vec<u8>, GridF
 impl<E: Feasible> Session<E> {
     ghost use Rattle.xw_commands.specs.declared.command.Command.TheVariants as commands;
 
-    fn field_place(&self, field: Field) -> Result<Place, Refusal>
-        ensures ok { IfOk result (λ place. (place ≡ place_of field) × (has_place self.now.position.grid (place_of field) ≡ true)) }
-        ensures refused { IfErr result (λ refusal. (refusal ≡ Refusal.Grid GridFault.OutOfGrid) × (has_place self.now.position.grid (place_of field) ≡ false)) }
+    fn field_target(&self, field: Field) -> Result<Target, Refusal>
+        ensures ok { IfOk result (λ target. (target ≡ target_of field) × (has_target self.now.position.grid (target_of field) ≡ true)) }
+        ensures refused { IfErr result (λ refusal. (refusal ≡ Refusal.Grid GridFault.OutOfGrid) × (has_target self.now.position.grid (target_of field) ≡ false)) }
     {
         match field {
-            Field::Text(name) => Ok(Place::Text(name)),
-            Field::Clue(spot, direction) => Ok(Place::Clue(self.cell(spot)?, direction)),
+            Field::Text(name) => Ok(Target::Text(name)),
+            Field::Clue(spot, direction) => Ok(Target::Clue(self.cell(spot)?, direction)),
         }
     }
 
-    pub(crate) fn text_at(&self, place: Place) -> &[u8]
-        ensures { result.now ≡ text_at_place self.now place }
+    pub(crate) fn text_at(&self, target: Target) -> &[u8]
+        ensures { result.now ≡ text_at_target self.now target }
     {
-        match place {
-            Place::Text(TextField::Title) => &self.texts.title,
-            Place::Text(TextField::Author) => &self.texts.author,
-            Place::Text(TextField::Copyright) => &self.texts.copyright,
-            Place::Text(TextField::Notes) => &self.texts.notes,
-            Place::Clue(cell, direction) => self.clues.get(cell, direction),
+        match target {
+            Target::Text(TextField::Title) => &self.texts.title,
+            Target::Text(TextField::Author) => &self.texts.author,
+            Target::Text(TextField::Copyright) => &self.texts.copyright,
+            Target::Text(TextField::Notes) => &self.texts.notes,
+            Target::Clue(cell, direction) => self.clues.get(cell, direction),
         }
     }
 
-    /// Stores a text in a place. If an allocation fails, the session is unchanged.
-    fn keep(&mut self, place: Place, text: Vec<u8>) -> Result<(), GridFault>
-        ensures ok { OnOk result (self.new ≡ with_text_at self.old place text.items) }
+    /// Stores a text at a target. If an allocation fails, the session is unchanged.
+    fn keep(&mut self, target: Target, text: Vec<u8>) -> Result<(), GridFault>
+        ensures ok { OnOk result (self.new ≡ with_text_at self.old target text.items) }
         ensures err { OnErr result (self.new ≡ self.old) }
         ensures memory { IsOkUnless result GridFault.Memory }
         ensures freed { text.items ≡ [] → IsOk result }
     {
-        match place {
-            Place::Text(field) => {
+        match target {
+            Target::Text(field) => {
                 self.keep_text(field, text);
                 Ok(())
             }
-            Place::Clue(cell, direction) => self.clues.set(cell, direction, &text),
+            Target::Clue(cell, direction) => self.clues.set(cell, direction, &text),
         }
     }
 
@@ -86,43 +86,43 @@ impl<E: Feasible> Session<E> {
         if !escape::is_spelling(spelling) {
             return Err(Refusal::Escape);
         }
-        let place = self.field_place(field)?;
+        let target = self.field_target(field)?;
         if has_nul(spelling) {
             return Err(Refusal::NulByte);
         }
-        self.put_text(putting, place, spelling)?;
+        self.put_text(putting, target, spelling)?;
         Ok(())
     }
 
     fn put_text(
         &mut self,
         putting: TextMode,
-        place: Place,
+        target: Target,
         spelling: &[u8],
     ) -> Result<(), GridFault>
-        ensures ok { OnOk result ((piece : List ℕ) → text_spelled spelling.now ≡ Some piece → self.new ≡ with_piece self.old putting place piece) }
+        ensures ok { OnOk result ((piece : List ℕ) → text_spelled spelling.now ≡ Some piece → self.new ≡ with_piece self.old putting target piece) }
         ensures err { OnErr result (self.new ≡ self.old) }
         ensures memory { IsOkUnless result GridFault.Memory }
         ensures freed { spelling.now ≡ [] → IsOk result }
     {
         match putting {
-            TextMode::Instead => self.put_instead(place, spelling),
-            TextMode::Behind => self.put_behind(place, spelling),
+            TextMode::Instead => self.put_instead(target, spelling),
+            TextMode::Behind => self.put_behind(target, spelling),
         }
     }
 
-    fn put_instead(&mut self, place: Place, spelling: &[u8]) -> Result<(), GridFault>
-        ensures ok { OnOk result ((piece : List ℕ) → text_spelled spelling.now ≡ Some piece → self.new ≡ with_piece self.old TextMode.Instead place piece) }
+    fn put_instead(&mut self, target: Target, spelling: &[u8]) -> Result<(), GridFault>
+        ensures ok { OnOk result ((piece : List ℕ) → text_spelled spelling.now ≡ Some piece → self.new ≡ with_piece self.old TextMode.Instead target piece) }
         ensures err { OnErr result (self.new ≡ self.old) }
         ensures memory { IsOkUnless result GridFault.Memory }
         ensures freed { spelling.now ≡ [] → IsOk result }
     {
         let text = joined(self.alloc, &[], spelling)?;
-        self.keep(place, text)
+        self.keep(target, text)
     }
 
-    fn put_behind(&mut self, place: Place, spelling: &[u8]) -> Result<(), GridFault>
-        ensures ok { OnOk result ((piece : List ℕ) → text_spelled spelling.now ≡ Some piece → self.new ≡ with_piece self.old TextMode.Behind place piece) }
+    fn put_behind(&mut self, target: Target, spelling: &[u8]) -> Result<(), GridFault>
+        ensures ok { OnOk result ((piece : List ℕ) → text_spelled spelling.now ≡ Some piece → self.new ≡ with_piece self.old TextMode.Behind target piece) }
         ensures err { OnErr result (self.new ≡ self.old) }
         ensures memory { IsOkUnless result GridFault.Memory }
         ensures freed { spelling.now ≡ [] → IsOk result }
@@ -130,7 +130,7 @@ impl<E: Feasible> Session<E> {
         if spelling.is_empty() {
             return Ok(());
         }
-        let text = joined(self.alloc, self.text_at(place), spelling)?;
-        self.keep(place, text)
+        let text = joined(self.alloc, self.text_at(target), spelling)?;
+        self.keep(target, text)
     }
 }

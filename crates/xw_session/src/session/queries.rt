@@ -2,7 +2,7 @@
 ghost use Rattle.std.specs.Prelude.{◌≡◌, ℕ, Err, ◌∷◌, [], length, IfOk, IfErr, IfSome, IfNone, Some, None, codes, decimal, ◌++◌};
 ghost use Rattle.xw_letters.specs.LetterSet.{letters_in};
 ghost use Rattle.xw_grid.specs.Grid.{index_of};
-ghost use Rattle.xw_grid.specs.Light.{lights_of, place_named};
+ghost use Rattle.xw_grid.specs.Light.{lights_of, index_named};
 ghost use Rattle.xw_fill.specs.Position.{position_of};
 ghost use Rattle.xw_fill.specs.FeasibleWords.{feasible_words};
 ghost use Rattle.xw_fill.specs.FeasibleLetters.{feasible_letters};
@@ -46,16 +46,16 @@ fn write_counted<E: Feasible, W: Sink>(
 }
 
 /// Returns the known word at an index among those of the light's length.
-fn word_at<E: Feasible>(engine: &E, name: LightName, place: usize) -> &[Letter]
-    ensures { result.now ≡ known_word_at (E.state engine.now) name place }
+fn word_at<E: Feasible>(engine: &E, name: LightName, index: usize) -> &[Letter]
+    ensures { result.now ≡ known_word_at (E.state engine.now) name index }
 {
     let size = match light_named(engine.lights(), name) {
         Some(light) => light.size as usize,
         None => 0,
     };
     let bank = engine.bank();
-    if place < bank.known(size) {
-        bank.word(size, place)
+    if index < bank.known(size) {
+        bank.word(size, index)
     } else {
         &[]
     }
@@ -158,10 +158,10 @@ impl<E: Feasible> Session<E> {
 
     /// Returns the feasible words of a light and their count.
     fn counted_by(&self, name: LightName) -> Option<(usize, WordIter<'_, E>)>
-        ensures some { IfSome result (λ found. (light : ℕ) × (place_named (lights_of self.now.position.grid) name ≡ Some light)
+        ensures some { IfSome result (λ found. (light : ℕ) × (index_named (lights_of self.now.position.grid) name ≡ Some light)
             × (found.0 ≡ length (feasible_words (position_of self.now.position) light))
             × (found.1 ≡ feasible_words (position_of self.now.position) light)) }
-        ensures none { IfNone result (place_named (lights_of self.now.position.grid) name ≡ None) }
+        ensures none { IfNone result (index_named (lights_of self.now.position.grid) name ≡ None) }
     {
         match (self.engine.word_count(name), words(&self.engine, name)) {
             (Ok(count), Ok(found)) => Some((count, found)),
@@ -171,10 +171,10 @@ impl<E: Feasible> Session<E> {
 
     /// Returns the feasible words, and their count, of the light named in a command.
     fn counted_words(&self, named: LightArg) -> Option<(usize, WordIter<'_, E>)>
-        ensures some { IfSome result (λ found. (light : ℕ) × (place_named (lights_of self.now.position.grid) (name_of_light named) ≡ Some light)
+        ensures some { IfSome result (λ found. (light : ℕ) × (index_named (lights_of self.now.position.grid) (name_of_light named) ≡ Some light)
             × (found.0 ≡ length (feasible_words (position_of self.now.position) light))
             × (found.1 ≡ feasible_words (position_of self.now.position) light)) }
-        ensures none { IfNone result (place_named (lights_of self.now.position.grid) (name_of_light named) ≡ None) }
+        ensures none { IfNone result (index_named (lights_of self.now.position.grid) (name_of_light named) ≡ None) }
     {
         self.engine.grid().well_formed();
         match light_name(named) {

@@ -32,11 +32,11 @@ fn write_entry<W: Sink>(sink: &mut W, cell: Cell, entry: Option<Letter>) -> Resu
 }
 
 /// Returns the entry at an index, or none past the end.
-fn entry_at(entries: &[Option<Letter>], place: usize) -> Option<Letter>
-    ensures { result ≡ entry_in entries.now place }
+fn entry_at(entries: &[Option<Letter>], index: usize) -> Option<Letter>
+    ensures { result ≡ entry_in entries.now index }
 {
-    if place < entries.len() {
-        entries[place]
+    if index < entries.len() {
+        entries[index]
     } else {
         None
     }
@@ -50,8 +50,8 @@ fn write_entries<W: Sink>(
 ) -> Result<(), WriteFailed>
     ensures { Sends W.transcript W.failures sink.old sink.new result (entry_lines grid.now entries.now) }
 {
-    for place in 0..grid.size() {
-        write_entry(sink, grid.cell_at(place), entry_at(entries, place))?;
+    for index in 0..grid.size() {
+        write_entry(sink, grid.cell_at(index), entry_at(entries, index))?;
     }
     Ok(())
 }

@@ -4,7 +4,7 @@ ghost use Rattle.xw_session.specs.Record.{command_lines, section_commands, recor
 
 use crate::record::{self, SECTIONS, Section};
 use crate::session::Session;
-use crate::session::putting::Place;
+use crate::session::putting::Target;
 use xw_commands::command::Field;
 use xw_feas::feasible::Feasible;
 use xw_lines::device::{Sink, WriteFailed};
@@ -23,7 +23,7 @@ impl<E: Feasible> Session<E> {
             }
             Section::Symmetry => record::write_symmetry(sink, grid.symmetry()),
             Section::Text(name) => {
-                record::write_text(sink, Field::Text(name), self.text_at(Place::Text(name)))
+                record::write_text(sink, Field::Text(name), self.text_at(Target::Text(name)))
             }
             Section::Watch => record::write_watch(sink, self.is_watched),
         }

@@ -1,7 +1,7 @@
 //! Answers `tally`.
 ghost use Rattle.std.specs.Prelude.{◌≡◌, Some, Err, IfOk, IfErr, flat_map, [], ◌∷◌};
 ghost use Rattle.xw_letters.specs.LetterSet.{letters_in};
-ghost use Rattle.xw_grid.specs.Light.{lights_of, place_through};
+ghost use Rattle.xw_grid.specs.Light.{lights_of, index_through};
 ghost use Rattle.xw_lines.specs.Sends.{Sends};
 ghost use Rattle.xw_session.specs.Text.{line_of};
 ghost use Rattle.xw_session.specs.Tally.{distance as distance_of, words_with as count_of_words_with, tally_at as tally_in, number_or_dash as number_or_a_dash, tally_line};
@@ -21,7 +21,7 @@ use xw_lines::outcome::Step;
 
 /// Returns the index of the light through a cell in a direction.
 pub(crate) fn light_through(lights: &Lights, direction: Direction, cell: Cell) -> Option<usize>
-    ensures { result ≡ place_through lights.now direction cell }
+    ensures { result ≡ index_through lights.now direction cell }
 {
     match direction {
         Direction::Across => lights.across_at(cell),
@@ -47,7 +47,7 @@ fn words_with<E: Searchable>(
     letter: Letter,
     light: usize,
 ) -> usize
-    requires { place_through (lights_of (E.state engine.now).grid) direction cell ≡ Some light }
+    requires { index_through (lights_of (E.state engine.now).grid) direction cell ≡ Some light }
     ensures { result ≡ count_of_words_with (E.state engine.now) direction cell letter light }
 {
     match engine.lights().get(light) {

@@ -37,8 +37,8 @@ fn write_cells<E: Feasible, W: Sink>(sink: &mut W, engine: &E) -> Result<(), Wri
     ensures { Sends W.transcript W.failures sink.old sink.new result (cell_lines (E.state engine.now)) }
 {
     let grid = engine.grid();
-    for place in 0..grid.size() {
-        write_cell_letters(sink, engine, grid.cell_at(place))?;
+    for index in 0..grid.size() {
+        write_cell_letters(sink, engine, grid.cell_at(index))?;
     }
     Ok(())
 }
@@ -47,23 +47,23 @@ fn write_cells<E: Feasible, W: Sink>(sink: &mut W, engine: &E) -> Result<(), Wri
 fn write_count_at<E: Feasible, W: Sink>(
     sink: &mut W,
     engine: &E,
-    place: usize,
+    index: usize,
 ) -> Result<(), WriteFailed>
-    requires { place < length (lights_of (E.state engine.now).grid) }
-    ensures { Sends W.transcript W.failures sink.old sink.new result (count_line (E.state engine.now) place) }
+    requires { index < length (lights_of (E.state engine.now).grid) }
+    ensures { Sends W.transcript W.failures sink.old sink.new result (count_line (E.state engine.now) index) }
 {
-    let Some(light) = engine.lights().get(place) else {
+    let Some(light) = engine.lights().get(index) else {
         return Ok(());
     };
-    text::write_numbered(sink, light.name, engine.word_count_at(place) as u64)
+    text::write_numbered(sink, light.name, engine.word_count_at(index) as u64)
 }
 
 /// Writes each light with its number of feasible words.
 fn write_counts<E: Feasible, W: Sink>(sink: &mut W, engine: &E) -> Result<(), WriteFailed>
     ensures { Sends W.transcript W.failures sink.old sink.new result (count_lines (E.state engine.now)) }
 {
-    for place in 0..engine.lights().len() {
-        write_count_at(sink, engine, place)?;
+    for index in 0..engine.lights().len() {
+        write_count_at(sink, engine, index)?;
     }
     Ok(())
 }

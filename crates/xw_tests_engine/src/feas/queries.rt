@@ -16,7 +16,7 @@ const LIGHTS: &[Step] = &[
     Light(3, ACROSS_3, 2, 1, 2),
 ];
 
-const PLACES: &[Step] = &[
+const INDICES: &[Step] = &[
     Next(ACROSS_1, 0, Some(Found::Listed(0))),
     Next(ACROSS_1, 1, Some(Found::Listed(1))),
     Next(ACROSS_1, 2, None),
@@ -45,9 +45,9 @@ const CASES: &[Case] = &[
         tables: &[LIGHTS, WHOLE_SQUARE],
     },
     Case {
-        name: "places_of_feasible_words",
+        name: "indices_of_feasible_words",
         start: SQUARE,
-        tables: &[PLACES],
+        tables: &[INDICES],
     },
     Case {
         name: "queries_of_what_is_not_there",

@@ -83,8 +83,8 @@ fn goes(
 
 /// Whether two engines have the same entries and the same feasible letters.
 fn have_same_cells(one: &Plain, other: &Plain) -> bool {
-    for place in 0..one.grid().size() {
-        let cell = one.grid().cell_at(place);
+    for index in 0..one.grid().size() {
+        let cell = one.grid().cell_at(index);
         if one.grid().entry(cell) != other.grid().entry(cell)
             || one.letters(cell) != other.letters(cell)
         {
@@ -97,8 +97,8 @@ fn have_same_cells(one: &Plain, other: &Plain) -> bool {
 /// Whether two engines have, for each light, the same number of feasible words and the same first
 /// one.
 fn have_same_words(one: &Plain, other: &Plain) -> bool {
-    for place in 0..one.lights().len() {
-        if let Some(light) = one.lights().get(place) {
+    for index in 0..one.lights().len() {
+        if let Some(light) = one.lights().get(index) {
             if one.word_count(light.name) != other.word_count(light.name)
                 || one.next_word(light.name, 0) != other.next_word(light.name, 0)
             {
@@ -109,26 +109,26 @@ fn have_same_words(one: &Plain, other: &Plain) -> bool {
     true
 }
 
-fn compare(rt: &impl Abort, one: &Plain, other: &Plain, name: &str, place: usize) {
+fn compare(rt: &impl Abort, one: &Plain, other: &Plain, name: &str, index: usize) {
     assert!(rt;
         have_same_cells(one, other),
-        "{name}: the engines have other letters after list {place}"
+        "{name}: the engines have other letters after list {index}"
     );
     assert!(rt;
         have_same_words(one, other),
-        "{name}: the engines have other words after list {place}"
+        "{name}: the engines have other words after list {index}"
     );
 }
 
 /// Writes each list of a case, and compares the engines after each.
 fn pass_lists(rt: &(impl Abort + AllocGlobal), one: &mut Plain, other: &mut Plain, case: &Case) {
     let name = case.name;
-    for (place, listed) in case.lists.iter().enumerate() {
+    for (index, listed) in case.lists.iter().enumerate() {
         assert!(rt;
             goes(rt.alloc(), one, other, *listed) == Ok(true),
-            "{name}: list {place} failed"
+            "{name}: list {index} failed"
         );
-        compare(rt, one, other, name, place);
+        compare(rt, one, other, name, index);
     }
 }
 

@@ -35,8 +35,8 @@ fn is_clued(clues: &mut Clues, clue: Clue) -> bool {
 }
 
 fn pass_clues(rt: &impl Abort, clues: &mut Clues, table: &[Clue]) {
-    for (place, clue) in table.iter().enumerate() {
-        assert!(rt; is_clued(clues, *clue), "wrong clue at step {place}");
+    for (index, clue) in table.iter().enumerate() {
+        assert!(rt; is_clued(clues, *clue), "wrong clue at step {index}");
     }
 }
 
@@ -73,10 +73,10 @@ fn is_circled(circles: &mut Circles, circle: Circle) -> bool {
 }
 
 fn pass_circles(rt: &impl Abort, circles: &mut Circles, table: &[Circle]) {
-    for (place, circle) in table.iter().enumerate() {
+    for (index, circle) in table.iter().enumerate() {
         assert!(rt;
             is_circled(circles, *circle),
-            "wrong circle at step {place}"
+            "wrong circle at step {index}"
         );
     }
 }

@@ -95,9 +95,9 @@ pub fn refuses_each(
 pub type Spans = &'static [(usize, Option<ReadFault>)];
 
 /// Returns the expected fault at an index: that of the first row that reaches it.
-pub fn fault_at(spans: Spans, place: usize) -> Option<ReadFault> {
+pub fn fault_at(spans: Spans, index: usize) -> Option<ReadFault> {
     for (last, fault) in spans {
-        if place <= *last {
+        if index <= *last {
             return *fault;
         }
     }
@@ -136,12 +136,12 @@ fn gives(alloc: Global, kind: Kind, puzzle: &Puzzle, wanted: Wanted) -> bool {
 fn writes(rt: &(impl Abort + AllocGlobal), kind: Kind, writing: &Writing) -> Result<(), Fail> {
     let name = writing.name;
     let mut puzzle = puzzle_with(rt.alloc(), PLAIN_PUZZLE)?;
-    for (place, row) in writing.rows.iter().enumerate() {
+    for (index, row) in writing.rows.iter().enumerate() {
         let (parts, wanted) = *row;
         put_all(rt.alloc(), &mut puzzle, parts)?;
         assert!(rt;
             gives(rt.alloc(), kind, &puzzle, wanted),
-            "in {name} at row {place}"
+            "in {name} at row {index}"
         );
     }
     Ok(())

@@ -91,13 +91,13 @@ fn letter(number: u32) -> u8 {
 }
 
 fn put_words(text: &mut Vec<u8>, count: u32) -> Result<(), AllocError> {
-    for place in 0..count {
+    for index in 0..count {
         let word = [
             b'A',
             b'B',
-            letter(place / 676),
-            letter(place / 26),
-            letter(place),
+            letter(index / 676),
+            letter(index / 26),
+            letter(index),
             b'\n',
         ];
         text.extend_from_slice(&word)?;

@@ -4,22 +4,22 @@ use Rattle.xw_letters.specs.LetterSet.{has}
 use Rattle.xw_fill.specs.Position.{position_of}
 use Rattle.xw_autofill.specs.Progress.{IsNextLetter, HasNoLetter}
 use Rattle.xw_autofill.proofs.PlanLemmas.{one_more}
-use Rattle.xw_autofill.proofs.ChoiceLemmas.{if_some, if_none, same_value, letters_by_place}
+use Rattle.xw_autofill.proofs.ChoiceLemmas.{if_some, if_none, same_value, letters_by_number}
 use Rattle.xw_autofill.proofs.choice.next_letter.Goals.{then-has+then-not-has+then-is_none, then-has+then-not-has+else-is_none+else-promise-most, else-has, else-has-via-then-has+else-not-has, else-has-via-else-has}
 use Rattle.xw_autofill.proofs.choice.next_letter.Goals as goal
 
-pub loop-place-init : goal.loop-place-init
-loop-place-init g c = record {
+pub loop-number-init : goal.loop-number-init
+loop-number-init g c = record {
   some = λ letter e. cc;
   none = λ e k below. absurd (omega arith);
 }
 
-pub loop-place-preserved : goal.loop-place-preserved
-loop-place-preserved g c =
+pub loop-number-preserved : goal.loop-number-preserved
+loop-number-preserved g c =
     let letters = c.letters_at-letters.result in
     let tried = c.args.tried in
     let letter = c.at-letter.result in
-    let before = c.loop-place.invariant in
+    let before = c.loop-number.invariant in
     elim c.if-has.branch [
       | then-has+then-not-has+then-is_none w ↦ record {
         some = λ other e.
@@ -33,7 +33,7 @@ loop-place-preserved g c =
       }
       | else-has w ↦ record {
         some = λ other e. before.some other (sym w.best-is ∙ e);
-        none = λ e. one_more (λ k. has letters (65 + k) ≡ true → has tried (65 + k) ≡ true) c.loop-place.place (before.none (sym w.best-is ∙ e)) (λ has_it. elim w.else-has.branch [
+        none = λ e. one_more (λ k. has letters (65 + k) ≡ true → has tried (65 + k) ≡ true) c.loop-number.number (before.none (sym w.best-is ∙ e)) (λ has_it. elim w.else-has.branch [
           | else-has-via-then-has+else-not-has w' ↦ ap (has tried) (sym c.at-letter.ensures) ∙ sym w'.has-then-has.ensures ∙ w'.if-not-has.false
           | else-has-via-else-has w' ↦ absurd (true≢false (sym has_it ∙ ap (has letters) (sym c.at-letter.ensures) ∙ sym c.has.ensures ∙ w'.if-has.false))
         ]);
@@ -43,14 +43,14 @@ loop-place-preserved g c =
 pub returns-clause-some : goal.returns-clause-some
 returns-clause-some g c =
     let position = position_of (g.E.Feasible.state c.args.engine.now) in
-    if_some (IsNextLetter position c.args.cell c.args.tried) c.loop-place.best (λ letter e.
-    let found = c.loop-place.invariant.some letter e in
+    if_some (IsNextLetter position c.args.cell c.args.tried) c.loop-number.best (λ letter e.
+    let found = c.loop-number.invariant.some letter e in
     (sym (c.letters_at-letters.ensures letter) ∙ found.0, found.1))
 
 pub returns-clause-none : goal.returns-clause-none
 returns-clause-none g c =
     let position = position_of (g.E.Feasible.state c.args.engine.now) in
-    if_none (HasNoLetter position c.args.cell c.args.tried) c.loop-place.best (λ e letter feasible.
-    letters_by_place (λ letter. has c.args.tried letter ≡ true) c.letters_at-letters.result
-    (λ place below has_it. c.loop-place.invariant.none e place (omega (arith, below, c.loop-place-test.false)) has_it)
+    if_none (HasNoLetter position c.args.cell c.args.tried) c.loop-number.best (λ e letter feasible.
+    letters_by_number (λ letter. has c.args.tried letter ≡ true) c.letters_at-letters.result
+    (λ number below has_it. c.loop-number.invariant.none e number (omega (arith, below, c.loop-number-test.false)) has_it)
     letter (c.letters_at-letters.ensures letter ∙ feasible))

@@ -12,13 +12,13 @@ cell_at-cell-requires g c =
 pub returns-clause-entries : goal.returns-clause-entries
 returns-clause-entries g c =
     let before = g.E.Feasible.state c.args.engine.now in
-    let place = c.cell_at-cell.ensures.cell ∙ ap (λ (grid : Grid). cell_at grid c.args.cell) c.grid.ensures in
+    let spot = c.cell_at-cell.ensures.cell ∙ ap (λ (grid : Grid). cell_at grid c.args.cell) c.grid.ensures in
     (entered before (g.E.Feasible.state c.edit.follows.lender-at-none) (g.E.Feasible.answers c.args.engine.now) (g.E.Feasible.answers c.edit.follows.lender-at-none) c.args.cell c.cell_at-cell.result (None) (cell_cleared c.cell_at-cell.result) c.edit.result
-    (g.met.E.Feasible.well_formed c.args.engine.now).grid c.requires place refl refl c.edit.follows.holds-at-none).0
+    (g.met.E.Feasible.well_formed c.args.engine.now).grid c.requires spot refl refl c.edit.follows.holds-at-none).0
 
 pub returns-clause-rest : goal.returns-clause-rest
 returns-clause-rest g c =
     let before = g.E.Feasible.state c.args.engine.now in
-    let place = c.cell_at-cell.ensures.cell ∙ ap (λ (grid : Grid). cell_at grid c.args.cell) c.grid.ensures in
+    let spot = c.cell_at-cell.ensures.cell ∙ ap (λ (grid : Grid). cell_at grid c.args.cell) c.grid.ensures in
     (entered before (g.E.Feasible.state c.edit.follows.lender-at-none) (g.E.Feasible.answers c.args.engine.now) (g.E.Feasible.answers c.edit.follows.lender-at-none) c.args.cell c.cell_at-cell.result (None) (cell_cleared c.cell_at-cell.result) c.edit.result
-    (g.met.E.Feasible.well_formed c.args.engine.now).grid c.requires place refl refl c.edit.follows.holds-at-none).1
+    (g.met.E.Feasible.well_formed c.args.engine.now).grid c.requires spot refl refl c.edit.follows.holds-at-none).1

@@ -4,7 +4,7 @@ use Rattle.std.proofs.lemmas.Bool.{false≢true}
 use Rattle.std.proofs.lemmas.List.{take_all}
 use Rattle.xw_grid.specs.declared.cell.LightName.{LightName}
 use Rattle.xw_grid.specs.declared.cell.Direction.TheVariants.{Across}
-use Rattle.xw_grid.specs.Light.{place_named}
+use Rattle.xw_grid.specs.Light.{index_named}
 use Rattle.xw_feas.proofs.WordsLemmas.{named_within}
 use Rattle.xw_autofill.specs.NamedFill.{AreFlagged}
 use Rattle.xw_autofill.proofs.Naming.{flagged_none, flagged_more}
@@ -21,7 +21,7 @@ pub bounds-named-light : goal.bounds-named-light
 bounds-named-light g c =
     let state = g.E.Feasible.state c.args.engine.now in
     let found = sym c.in-Some.ensures in
-    let below = named_within state.grid (get_or c.args.names.now c.loop-index.index nobody) c.in-Some.light (ap (λ lights. place_named lights (get_or c.args.names.now c.loop-index.index nobody)) (sym c.lights.ensures) ∙ found) in
+    let below = named_within state.grid (get_or c.args.names.now c.loop-index.index nobody) c.in-Some.light (ap (λ lights. index_named lights (get_or c.args.names.now c.loop-index.index nobody)) (sym c.lights.ensures) ∙ found) in
     omega (arith, c.requires, c.loop-index.auto.named, below)
 
 pub returns-in-None-clause-refused : goal.returns-in-None-clause-refused
@@ -29,14 +29,14 @@ returns-in-None-clause-refused g c = (
   refl,
   λ are.
       let there = are c.loop-index.index nobody c.loop-index-test.true in
-      let found = ap (λ lights. place_named lights (get_or c.args.names.now c.loop-index.index nobody)) (sym c.lights.ensures) ∙ sym c.in-None.ensures in
+      let found = ap (λ lights. index_named lights (get_or c.args.names.now c.loop-index.index nobody)) (sym c.lights.ensures) ∙ sym c.in-None.ensures in
       false≢true (sym (ap is_some found) ∙ there),
 )
 
 pub loop-index-preserved : goal.loop-index-preserved
 loop-index-preserved g c =
     let state = g.E.Feasible.state c.args.engine.now in
-    let found = ap (λ lights. place_named lights (get_or c.args.names.now c.loop-index.index nobody)) (sym c.lights.ensures) ∙ sym c.in-Some.ensures in
+    let found = ap (λ lights. index_named lights (get_or c.args.names.now c.loop-index.index nobody)) (sym c.lights.ensures) ∙ sym c.in-Some.ensures in
     let below = named_within state.grid (get_or c.args.names.now c.loop-index.index nobody) c.in-Some.light found in
     record { flagged = flagged_more state c.args.names.now c.loop-index.index c.in-Some.light c.args.named.now c.loop-index.named nobody c.loop-index-test.true (omega (arith, c.requires, c.loop-index.auto.named, below)) found c.loop-index.invariant.flagged }
 

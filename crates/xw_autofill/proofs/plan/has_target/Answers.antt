@@ -7,13 +7,13 @@ use Rattle.xw_autofill.specs.Progress.{is_target}
 use Rattle.xw_autofill.proofs.PlanLemmas.{any_none, one_more}
 use Rattle.xw_autofill.proofs.plan.has_target.Goals as goal
 
-pub loop-place-init : goal.loop-place-init
-loop-place-init g c k below = absurd (omega arith)
+pub loop-pos-init : goal.loop-pos-init
+loop-pos-init g c k below = absurd (omega arith)
 
-pub loop-place-preserved : goal.loop-place-preserved
-loop-place-preserved g c =
+pub loop-pos-preserved : goal.loop-pos-preserved
+loop-pos-preserved g c =
     let test = is_target (flags c.args.named.now) (position_of (g.E.Feasible.state c.args.engine.now)) in
-    one_more (λ k. test (get_or c.light-cells.result k 0) ≡ false) c.loop-place.place c.loop-place.invariant
+    one_more (λ k. test (get_or c.light-cells.result k 0) ≡ false) c.loop-pos.pos c.loop-pos.invariant
     (ap test (sym c.at.ensures) ∙ sym c.is_target.ensures ∙ c.if-is_target.false)
 
 pub returns : goal.returns
@@ -21,4 +21,4 @@ returns g c =
     let position = position_of (g.E.Feasible.state c.args.engine.now) in
     let test = is_target (flags c.args.named.now) position in
     let cells : c.light-cells.result ≡ light_at position.board c.args.light = c.light-cells.ensures.cells ∙ ap (λ board. light_at board c.args.light) c.board.ensures in
-    sym (ap (list_any test) (sym cells) ∙ any_none test c.light-cells.result c.loop-place.place (omega (arith, c.loop-place-test.false, c.len-place-end.ensures)) c.loop-place.invariant)
+    sym (ap (list_any test) (sym cells) ∙ any_none test c.light-cells.result c.loop-pos.pos (omega (arith, c.loop-pos-test.false, c.len-pos-end.ensures)) c.loop-pos.invariant)

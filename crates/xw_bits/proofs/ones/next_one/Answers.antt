@@ -1,6 +1,6 @@
 use Rattle.std.proofs.Common.{inl, inr, arith}
 use Rattle.std.proofs.lemmas.Bool.{cases_lt}
-use Rattle.xw_bits.proofs.PlaceLemmas.{rest_clear, lowest_here, below_lowest, within_row}
+use Rattle.xw_bits.proofs.SetBitLemmas.{rest_clear, lowest_here, below_lowest, within_row}
 use Rattle.xw_bits.proofs.ones.next_one.Goals as goal
 
 pub returns-then-word-ne0-clause-set : goal.returns-then-word-ne0-clause-set

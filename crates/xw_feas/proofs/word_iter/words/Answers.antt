@@ -1,5 +1,5 @@
 use Rattle.std.proofs.Common.{sym, ◌∙◌, ap}
-use Rattle.xw_grid.specs.Light.{place_named}
+use Rattle.xw_grid.specs.Light.{index_named}
 use Rattle.xw_feas.proofs.WordsLemmas.{words_named}
 use Rattle.xw_feas.proofs.word_iter.words.Goals as goal
 
@@ -7,4 +7,4 @@ pub returns-in-Some : goal.returns-in-Some
 returns-in-Some g c =
     let engine = c.args.engine.now in
     words_named (g.E.Feasible.state engine) (g.E.Feasible.answers engine) (g.met.E.Feasible.exact engine) c.args.name c.in-Some.light
-    (ap (λ lights. place_named lights c.args.name) (sym c.lights.ensures) ∙ sym c.index.ensures ∙ c.in-Some.is)
+    (ap (λ lights. index_named lights c.args.name) (sym c.lights.ensures) ∙ sym c.index.ensures ∙ c.in-Some.is)

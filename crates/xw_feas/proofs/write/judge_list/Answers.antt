@@ -4,6 +4,6 @@ use Rattle.xw_feas.proofs.write.judge_list.Goals as goal
 
 pub returns-in_err-judge-clause-refused : goal.returns-in_err-judge-clause-refused
 returns-in_err-judge-clause-refused c =
-    let item = c.index-list-place.result in
+    let item = c.index-list-index.result in
     let e = err_from_is_err_and c.from_residual.result c.from_residual.ensures.1 in
-    rw (e.1, e.2) (write_refused c.args.list.now c.args.grid.now c.loop-place.place _ item c.loop-place-test.true (λ k below. c.loop-place.invariant k item below) c.in_err-judge.ensures.refused)
+    rw (e.1, e.2) (write_refused c.args.list.now c.args.grid.now c.loop-index.index _ item c.loop-index-test.true (λ k below. c.loop-index.invariant k item below) c.in_err-judge.ensures.refused)

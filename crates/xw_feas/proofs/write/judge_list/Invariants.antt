@@ -5,5 +5,5 @@ use Rattle.xw_feas.specs.Shape.{fault_at}
 use Rattle.xw_feas.proofs.write.judge_list.Given as goal
 
 -- the cells so far can be written
-abbrev pub invariant-loop-place : goal.invariant-loop-place
-invariant-loop-place l = (k : ℕ) (d : Cell × Option ℕ) → k < l.place → fault_at l.grid (get_or l.list k d).0 ≡ None
+abbrev pub invariant-loop-index : goal.invariant-loop-index
+invariant-loop-index l = (k : ℕ) (d : Cell × Option ℕ) → k < l.index → fault_at l.grid (get_or l.list k d).0 ≡ None

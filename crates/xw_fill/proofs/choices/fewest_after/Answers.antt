@@ -18,7 +18,7 @@ returns-clause-unchanged g c =
     let tried = c.make_try-tried.result in
     let is = c.make_try-tried.ensures in
     let blanks : AreBlanks start.board (light_at start.board tried.light) tried.blanks = subst (λ light. AreBlanks start.board (light_at start.board light) tried.blanks) (sym is.light) is.blanks in
-    let word = get_or (spellings_at start c.args.light) c.args.place [] in
+    let word = get_or (spellings_at start c.args.light) c.args.index [] in
     let agree = feasible_agrees start c.args.light word c.requires.tried.light_in c.requires.tried.not_entered c.requires.tried.feasible in
     same_state before after (DiffersInEntries-then before (g.E.Feasible.state c.place_word.new.engine) after c.place_word.ensures.entries c.take_back.ensures.entries)
     (c.take_back.ensures.back ∙ ap (λ s. taken_back s tried) (c.place_word.ensures.placed ∙ ap (λ light. placed start light word) (sym is.light))
@@ -29,4 +29,4 @@ returns-clause-fewest g c =
     let before = g.E.Feasible.state c.args.engine.now in
     c.fewest_words-fewest.ensures
     ∙ ap fewest_words c.place_word.ensures.placed
-    ∙ sym (known_after before c.args.light c.args.place (g.met.E.Feasible.well_formed c.args.engine.now) c.requires.tried.light_in c.requires.tried.place_in)
+    ∙ sym (known_after before c.args.light c.args.index (g.met.E.Feasible.well_formed c.args.engine.now) c.requires.tried.light_in c.requires.tried.index_in)

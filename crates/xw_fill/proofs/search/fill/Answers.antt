@@ -10,7 +10,7 @@ use Rattle.xw_fill.specs.Tries.{AreBlanks}
 use Rattle.std.specs.Prelude.{is_ok}
 use Rattle.xw_fill.specs.declared.search.Filling.TheVariants.{Filled, NoFill}
 use Rattle.xw_fill.proofs.FeasibleWordsLemmas.{AreAnswers-along}
-use Rattle.xw_fill.proofs.Searching.{IsSearching, IsSound-formed, searching-start, searching-back, searching-spent, searching-open, searching-place, searching-room, searching-lights, searching-all_back, searching-done, searching-none, filling-fill, made, searching-popped, searching-empty, searching-alive, searching-count, outcome_filling, last-place, last-light, due-more}
+use Rattle.xw_fill.proofs.Searching.{IsSearching, IsSound-formed, searching-start, searching-back, searching-spent, searching-open, searching-placed, searching-room, searching-lights, searching-all_back, searching-done, searching-none, filling-fill, made, searching-popped, searching-empty, searching-alive, searching-count, outcome_filling, last-index, last-light, due-more}
 use Rattle.std.specs.Option.{option_to_list}
 use Rattle.xw_fill.specs.Noted.{noted, AreEntered, StayNoted}
 use Rattle.xw_fill.specs.Search.{light_count}
@@ -111,7 +111,7 @@ overflow_add-next g c =
     let now = g.E.Feasible.state c.search.engine in
     let current = position_of now in
     let sound = IsSound-formed before (g.met.E.Feasible.well_formed c.args.engine.now) in
-    let small = last-place start current c.pop.new.self.items c.in-Some.tried c.search.used sound (searching-popped start current c.search.tries.items c.pop.new.self.items c.pop.result c.in-Some.tried c.search.used c.search.next c.search.invariant.searching c.in-Spent.is c.pop.ensures.items c.in-Some.is) in
+    let small = last-index start current c.pop.new.self.items c.in-Some.tried c.search.used sound (searching-popped start current c.search.tries.items c.pop.new.self.items c.pop.result c.in-Some.tried c.search.used c.search.next c.search.invariant.searching c.in-Spent.is c.pop.ensures.items c.in-Some.is) in
     omega arith
 
 pub search-preserved-in-Some : goal.search-preserved-in-Some
@@ -144,8 +144,8 @@ take_all_back-requires g c =
     let current = position_of now in
     searching-lights start current c.search.tries.items c.search.used c.search.next c.search.invariant.searching
 
-pub next_place-requires-clause-light : goal.next_place-requires-clause-light
-next_place-requires-clause-light g c =
+pub next_word_index-requires-clause-light : goal.next_word_index-requires-clause-light
+next_word_index-requires-clause-light g c =
     let before = g.E.Feasible.state c.args.engine.now in
     let start = position_of before in
     let now = g.E.Feasible.state c.search.engine in
@@ -154,8 +154,8 @@ next_place-requires-clause-light g c =
     let is = searching-open start current c.search.tries.items c.search.used c.in-Words.light c.in-Words.from searching in
     is.0
 
-pub next_place-requires-clause-not_entered : goal.next_place-requires-clause-not_entered
-next_place-requires-clause-not_entered g c =
+pub next_word_index-requires-clause-not_entered : goal.next_word_index-requires-clause-not_entered
+next_word_index-requires-clause-not_entered g c =
     let before = g.E.Feasible.state c.args.engine.now in
     let start = position_of before in
     let now = g.E.Feasible.state c.search.engine in
@@ -182,7 +182,7 @@ try_word-next-requires-clause-tried g c =
     let current = position_of now in
     let searching = subst (IsSearching start c.search.tries.items c.search.used current) c.in-Words.is c.search.invariant.searching in
     let is = searching-open start current c.search.tries.items c.search.used c.in-Words.light c.in-Words.from searching in
-    record { light_in = is.0; not_entered = is.1; place_in = c.in-Some-next_place.ensures.within; feasible = c.in-Some-next_place.ensures.feasible }
+    record { light_in = is.0; not_entered = is.1; index_in = c.in-Some-next_word_index.ensures.within; feasible = c.in-Some-next_word_index.ensures.feasible }
 
 pub try_word-next-requires-clause-alive : goal.try_word-next-requires-clause-alive
 try_word-next-requires-clause-alive g c =
@@ -198,7 +198,7 @@ pub try_word-next-requires-clause-long : goal.try_word-next-requires-clause-long
 try_word-next-requires-clause-long g c =
     let start = position_of (g.E.Feasible.state c.args.engine.now) in
     let current = position_of (g.E.Feasible.state c.search.engine) in
-    ap length c.as_mut_slice-in-Some-next_place.ensures.value ∙ c.search.invariant.long ∙ sym (searching-count start current c.search.tries.items c.search.used c.search.next c.search.invariant.searching)
+    ap length c.as_mut_slice-in-Some-next_word_index.ensures.value ∙ c.search.invariant.long ∙ sym (searching-count start current c.search.tries.items c.search.used c.search.next c.search.invariant.searching)
 
 pub try_word-next-requires-clause-entered : goal.try_word-next-requires-clause-entered
 try_word-next-requires-clause-entered g c =
@@ -212,7 +212,7 @@ try_word-next-requires-clause-entered g c =
     let longer : length c.push.new.self.items ≡ length c.search.tries.items + 1 = ap length (c.push.ensures.items ∙ ap (λ b. cond b (c.search.tries.items ++ c.make_try.result ∷ []) c.search.tries.items) pushed) ∙ length-append c.search.tries.items (c.make_try.result ∷ []) in
     let ok_now = c.push.new.self.ok in
     let count : c.len.result ≡ suc (length c.search.tries.items + 0) = omega (arith, c.len.ensures, ok_now, longer) in
-    subst (λ since. AreEntered current (noted since c.len.result)) (sym c.as_mut_slice-in-Some-next_place.ensures.value) (subst (λ n. AreEntered current (noted c.search.since.items n)) (sym count) last)
+    subst (λ since. AreEntered current (noted since c.len.result)) (sym c.as_mut_slice-in-Some-next_word_index.ensures.value) (subst (λ n. AreEntered current (noted c.search.since.items n)) (sym count) last)
 
 pub returns-then-used-limit-clause-found : goal.returns-then-used-limit-clause-found
 returns-then-used-limit-clause-found g c =
@@ -225,11 +225,11 @@ returns-then-used-limit-clause-found g c =
     let sound = IsSound-formed before (g.met.E.Feasible.well_formed c.args.engine.now) in
     let after = g.E.Feasible.state c.take_all_back.new.engine in
     let back = c.take_all_back.ensures.back ∙ searching-all_back start current c.search.tries.items c.search.used c.search.next sound c.search.invariant.searching in
-    let more = due-more start current c.search.tries.items c.search.used c.in-Words.light c.in-Words.from c.in-Some-next_place.place sound searching c.in-Some-next_place.ensures in
+    let more = due-more start current c.search.tries.items c.search.used c.in-Words.light c.in-Words.from c.in-Some-next_word_index.index sound searching c.in-Some-next_word_index.ensures in
     (rw (← c.if-used-limit.true) more, same_state before after (DiffersInEntries-then before now after c.search.invariant.entries c.take_all_back.ensures.entries) back)
 
-pub search-preserved-in-None-next_place : goal.search-preserved-in-None-next_place
-search-preserved-in-None-next_place g c =
+pub search-preserved-in-None-next_word_index : goal.search-preserved-in-None-next_word_index
+search-preserved-in-None-next_word_index g c =
     let before = g.E.Feasible.state c.args.engine.now in
     let start = position_of before in
     let now = g.E.Feasible.state c.search.engine in
@@ -243,7 +243,7 @@ search-preserved-in-None-next_place g c =
       twins = c.search.invariant.twins;
       long = c.search.invariant.long;
       noted = c.search.invariant.noted;
-      searching = searching-spent start current c.search.tries.items c.search.used c.in-Words.light c.in-Words.from sound searching c.in-None-next_place.ensures;
+      searching = searching-spent start current c.search.tries.items c.search.used c.in-Words.light c.in-Words.from sound searching c.in-None-next_word_index.ensures;
       room = c.search.invariant.room;
       few = c.search.invariant.few;
     }
@@ -261,21 +261,21 @@ search-preserved g c =
     let made_of = c.make_try.ensures in
     let after = g.E.Feasible.state c.try_word-next.new.engine in
     let blanks : AreBlanks current.board (light_at current.board c.in-Words.light) tried.blanks = made_of.blanks in
-    let placed_now = searching-place start current c.search.tries.items c.search.used c.in-Words.light c.in-Words.from c.in-Some-next_place.place tried sound searching c.in-Some-next_place.ensures made_of.light made_of.place blanks in
+    let placed_now = searching-placed start current c.search.tries.items c.search.used c.in-Words.light c.in-Words.from c.in-Some-next_word_index.index tried sound searching c.in-Some-next_word_index.ensures made_of.light made_of.index blanks in
     let there : position_of after ≡ after_try current tried =
     c.try_word-next.ensures.placed
-    ∙ ap (λ light. placed current light (get_or (spellings_at current light) c.in-Some-next_place.place [])) (sym made_of.light)
-    ∙ ap (λ place. placed current tried.light (get_or (spellings_at current tried.light) place [])) (sym made_of.place) in
+    ∙ ap (λ light. placed current light (get_or (spellings_at current light) c.in-Some-next_word_index.index [])) (sym made_of.light)
+    ∙ ap (λ index. placed current tried.light (get_or (spellings_at current tried.light) index [])) (sym made_of.index) in
     let room = searching-room start current c.search.tries.items c.search.used c.in-Words.light c.in-Words.from searching in
     let ok = c.search.tries.ok in
     let pushed : is_ok c.push.result ≡ true = c.push.ensures.succeeds (omega (arith, ok, room, c.search.invariant.room)) in
     let items : c.push.new.self.items ≡ c.search.tries.items ++ tried ∷ [] = c.push.ensures.items ∙ ap (λ b. cond b (c.search.tries.items ++ tried ∷ []) c.search.tries.items) pushed in
     let ok_since = c.search.since.ok in
-    let value = ap length c.as_mut_slice-in-Some-next_place.ensures.value in
+    let value = ap length c.as_mut_slice-in-Some-next_word_index.ensures.value in
     let longer : length c.push.new.self.items ≡ length c.search.tries.items + 1 = ap length items ∙ length-append c.search.tries.items (tried ∷ []) in
     let ok_now = c.push.new.self.ok in
     let count : c.len.result ≡ suc (length c.search.tries.items + 0) = omega (arith, c.len.ensures, ok_now, longer) in
-    let stay = subst (λ n. StayNoted n c.search.since.items c.try_word-next.new.since) count (subst (λ old. StayNoted c.len.result old c.try_word-next.new.since) c.as_mut_slice-in-Some-next_place.ensures.value c.try_word-next.ensures.stay) in
+    let stay = subst (λ n. StayNoted n c.search.since.items c.try_word-next.new.since) count (subst (λ old. StayNoted c.len.result old c.try_word-next.new.since) c.as_mut_slice-in-Some-next_word_index.ensures.value c.try_word-next.ensures.stay) in
     let last = subst (λ n. AreEntered (after_try current tried) (noted c.try_word-next.new.since (suc n))) count (subst (λ position. AreEntered position (noted c.try_word-next.new.since (suc c.len.result))) there c.try_word-next.ensures.entered) in
     record {
       searching = rw (items, c.try_word-next.ensures.next, there) placed_now;

@@ -14,7 +14,7 @@ use Rattle.xw_fill.proofs.search.try_word.Goals as goal
 pub note_entered-requires-clause-before : goal.note_entered-requires-clause-before
 note_entered-requires-clause-before g c = λ light below noted_before.
     let start = position_of (g.E.Feasible.state c.args.engine.now) in
-    let word = get_or (spellings_at start c.args.light) c.args.place [] in
+    let word = get_or (spellings_at start c.args.light) c.args.index [] in
     let agree = feasible_agrees start c.args.light word c.requires.tried.light_in c.requires.tried.not_entered c.requires.tried.feasible in
     let below_then = subst (λ position. light < light_count position) c.place_word.ensures.placed below in
     ap (λ position. is_entered position light) c.place_word.ensures.placed
@@ -23,7 +23,7 @@ note_entered-requires-clause-before g c = λ light below noted_before.
 pub has_new_repeat-requires-clause-apart : goal.has_new_repeat-requires-clause-apart
 has_new_repeat-requires-clause-apart g c =
     let start = position_of (g.E.Feasible.state c.args.engine.now) in
-    let word = get_or (spellings_at start c.args.light) c.args.place [] in
+    let word = get_or (spellings_at start c.args.light) c.args.index [] in
     let agree = feasible_agrees start c.args.light word c.requires.tried.light_in c.requires.tried.not_entered c.requires.tried.feasible in
     apart-stay (position_of (g.E.Feasible.state c.place_word.new.engine)) c.args.placement c.args.since.now c.note_entered.new.since c.note_entered.ensures.stay
     (subst (λ position. SpellApart position (noted c.args.since.now c.args.placement)) (sym c.place_word.ensures.placed)

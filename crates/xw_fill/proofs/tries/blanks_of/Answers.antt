@@ -5,13 +5,13 @@ use Rattle.xw_feas.specs.Board.{entry}
 use Rattle.xw_fill.proofs.ScanLemmas.{none_is}
 use Rattle.xw_fill.proofs.tries.blanks_of.Goals as goal
 
-pub loop-place-preserved : goal.loop-place-preserved
-loop-place-preserved c =
-    let below : c.loop-place.place < length c.args.cells.now = omega (arith, c.loop-place-test.true, c.len-place-end.ensures) in
-    let within : c.loop-place.place < length c.loop-place.blanks = omega (arith, c.requires, below, c.loop-place.invariant.long) in
+pub loop-pos-preserved : goal.loop-pos-preserved
+loop-pos-preserved c =
+    let below : c.loop-pos.pos < length c.args.cells.now = omega (arith, c.loop-pos-test.true, c.len-pos-end.ensures) in
+    let within : c.loop-pos.pos < length c.loop-pos.blanks = omega (arith, c.requires, below, c.loop-pos.invariant.long) in
     record {
-      long = length-set c.loop-place.blanks c.loop-place.place c.is_none.result ∙ c.loop-place.invariant.long;
+      long = length-set c.loop-pos.blanks c.loop-pos.pos c.is_none.result ∙ c.loop-pos.invariant.long;
       each = below_more _ _
-          (λ k h. let ne : k ≢ c.loop-place.place = omega arith in rw get_or-set_other (c.loop-place.invariant.each k h))
+          (λ k h. let ne : k ≢ c.loop-pos.pos = omega arith in rw get_or-set_other (c.loop-pos.invariant.each k h))
           (rw get_or-set_same (none_is c.entry.result c.is_none.result c.is_none.ensures ∙ ap is_none (c.entry.ensures.entry ∙ ap (λ cell. entry c.args.board.now cell) c.at.ensures)));
     }

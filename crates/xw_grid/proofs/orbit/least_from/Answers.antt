@@ -8,6 +8,6 @@ use Rattle.xw_grid.proofs.orbit.least_from.Goals as goal
 pub returns : goal.returns
 returns c =
     let from = c.args.from in
-    let places = c.args.squares.now in
+    let indices = c.args.squares.now in
     let chain = c.nearer-3.ensures ∙ ap (nearer from _) (c.nearer-2.ensures ∙ ap (nearer from _) (c.nearer.ensures ∙ ap (nearer from _) c.nearer-last.ensures)) in
-    subst (IsLeastFrom from (λ place. list_any (nat_eq place) places)) (sym chain) (least_of_list from places (search rules))
+    subst (IsLeastFrom from (λ index. list_any (nat_eq index) indices)) (sym chain) (least_of_list from indices (search rules))

@@ -5,19 +5,19 @@ use Rattle.xw_grid.proofs.GridLemmas.{length-cells, take-cells}
 use Rattle.xw_net.specs.Change.{with_entry_of}
 use Rattle.xw_live.proofs.noted.note.Goals as goal
 
-pub loop-place-preserved : goal.loop-place-preserved
-loop-place-preserved c =
+pub loop-index-preserved : goal.loop-index-preserved
+loop-index-preserved c =
     let grid = c.args.grid.now in
-    let noted = c.loop-place.noted in
-    let k = c.loop-place.place in
+    let noted = c.loop-index.noted in
+    let k = c.loop-index.index in
     let cell = c.cell_at-cell.result in
-    let below : k < c.args.grid.now.width * c.args.grid.now.height = omega (arith, c.loop-place-test.true, c.size-place-end.ensures.size) in
-    let within : k < length c.loop-place.noted = omega (arith, below, c.loop-place.invariant.long, c.size-place-end.ensures.grid.squares) in
+    let below : k < c.args.grid.now.width * c.args.grid.now.height = omega (arith, c.loop-index-test.true, c.size-index-end.ensures.size) in
+    let within : k < length c.loop-index.noted = omega (arith, below, c.loop-index.invariant.long, c.size-index-end.ensures.grid.squares) in
     record {
-      long = length-set noted k (cell, c.entry.result) ∙ c.loop-place.invariant.long;
+      long = length-set noted k (cell, c.entry.result) ∙ c.loop-index.invariant.long;
       front =
           take_more_set noted k (cell, c.entry.result) within
-          ∙ ap (λ listed. listed ++ (cell, c.entry.result) ∷ []) c.loop-place.invariant.front
+          ∙ ap (λ listed. listed ++ (cell, c.entry.result) ∷ []) c.loop-index.invariant.front
           ∙ ap (λ letter. map (with_entry_of grid) (take k (cells grid)) ++ (cell, letter) ∷ []) c.entry.ensures.entry
           ∙ ap (λ other. map (with_entry_of grid) (take k (cells grid)) ++ with_entry_of grid other ∷ []) c.cell_at-cell.ensures.cell
           ∙ sym (ap (map (with_entry_of grid)) (take-cells grid k below) ∙ map_push (with_entry_of grid) (take k (cells grid)) (cell_at grid k));
@@ -26,7 +26,7 @@ loop-place-preserved c =
 pub returns-clause-noted : goal.returns-clause-noted
 returns-clause-noted c =
     let grid = c.args.grid.now in
-    let k = c.loop-place.place in
-    let all : length (cells c.args.grid.now) ≤ c.loop-place.place = omega (arith, length-cells c.args.grid.now, c.loop-place-test.false, c.size-place-end.ensures.size) in
-    let past : length c.loop-place.noted ≤ c.loop-place.place = omega (arith, all, length-cells c.args.grid.now, c.loop-place.invariant.long, c.size-place-end.ensures.grid.squares) in
-    sym (take_all k c.loop-place.noted past) ∙ c.loop-place.invariant.front ∙ ap (map (with_entry_of grid)) (take_all k (cells grid) all)
+    let k = c.loop-index.index in
+    let all : length (cells c.args.grid.now) ≤ c.loop-index.index = omega (arith, length-cells c.args.grid.now, c.loop-index-test.false, c.size-index-end.ensures.size) in
+    let past : length c.loop-index.noted ≤ c.loop-index.index = omega (arith, all, length-cells c.args.grid.now, c.loop-index.invariant.long, c.size-index-end.ensures.grid.squares) in
+    sym (take_all k c.loop-index.noted past) ∙ c.loop-index.invariant.front ∙ ap (map (with_entry_of grid)) (take_all k (cells grid) all)

@@ -3,8 +3,8 @@ use Rattle.xw_grid.specs.Grid.{cells}
 use Rattle.xw_net.specs.Change.{with_entry_of}
 use Rattle.xw_live.proofs.noted.note.Given as goal
 
-abbrev pub invariant-loop-place : goal.invariant-loop-place
-invariant-loop-place l = record {
+abbrev pub invariant-loop-index : goal.invariant-loop-index
+invariant-loop-index l = record {
   long : length l.noted ≡ length l.grid.squares;
-  front : take l.place l.noted ≡ map (with_entry_of l.grid) (take l.place (cells l.grid));
+  front : take l.index l.noted ≡ map (with_entry_of l.grid) (take l.index (cells l.grid));
 }

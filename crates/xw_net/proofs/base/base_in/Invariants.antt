@@ -5,10 +5,10 @@ use Rattle.xw_net.proofs.BaseRows.BaseBits.{base_so_far}
 use Rattle.xw_net.proofs.base.base_in.Given as goal
 
 -- the bits are those of the words that agree with the first entries
-abbrev pub invariant-loop-place : goal.invariant-loop-place
-invariant-loop-place g l = record {
+abbrev pub invariant-loop-position : goal.invariant-loop-position
+invariant-loop-position g l = record {
   same : g.R.Rows.entries l.rows ≡ g.R.Rows.entries l.fn.rows;
   risen : g.R.Rows.ticks l.fn.rows ≤ g.R.Rows.ticks l.rows;
-  spent : g.R.Rows.ticks l.rows ≤ g.R.Rows.ticks l.fn.rows + (l.place + 1);
-  words : (k : ℕ) → k < 64 → has_bit l.words k ≡ base_so_far l.board l.cells l.place (entry_at (g.R.Rows.entries l.fn.rows (length l.cells)) (64 * l.chunk + k));
+  spent : g.R.Rows.ticks l.rows ≤ g.R.Rows.ticks l.fn.rows + (l.position + 1);
+  words : (k : ℕ) → k < 64 → has_bit l.words k ≡ base_so_far l.board l.cells l.position (entry_at (g.R.Rows.entries l.fn.rows (length l.cells)) (64 * l.chunk + k));
 }

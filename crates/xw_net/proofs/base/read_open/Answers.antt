@@ -7,8 +7,8 @@ use Rattle.xw_net.specs.Region.{chunks_of}
 use Rattle.xw_net.proofs.BaseRows.BaseBits.{base_so_far, base_first, base_more, base_all}
 use Rattle.xw_net.proofs.base.read_open.Goals as goal
 
-pub loop-place-init : goal.loop-place-init
-loop-place-init g c = record {
+pub loop-position-init : goal.loop-position-init
+loop-position-init g c = record {
   same = c.read_active.ensures.entries;
   risen = c.read_active.ensures.risen;
   spent = omega (arith, c.read_active.ensures.cost);
@@ -17,11 +17,11 @@ loop-place-init g c = record {
   bits = λ i. c.read_active.ensures.bits i ∙ ap (λ n. is_active (g.R.Rows.entries c.args.rows.now n) i) c.len.ensures ∙ base_first c.args.board.now c.args.cells.now (entry_at (g.R.Rows.entries c.args.rows.now (length c.args.cells.now)) i);
 }
 
-pub loop-place-preserved : goal.loop-place-preserved
-loop-place-preserved g c =
-    let inv = c.loop-place.invariant in
+pub loop-position-preserved : goal.loop-position-preserved
+loop-position-preserved g c =
+    let inv = c.loop-position.invariant in
     let many = chunks_of (length c.args.row.now.bits) in
-    let more : (c.loop-place.place + 1 + 1) * many ≡ (c.loop-place.place + 1) * many + many = grind arith in
+    let more : (c.loop-position.position + 1 + 1) * many ≡ (c.loop-position.position + 1) * many + many = grind arith in
     record {
       same = c.keep_agreeing.ensures.entries ∙ inv.same;
       risen = omega (arith, inv.risen, c.keep_agreeing.ensures.risen);
@@ -30,12 +30,12 @@ loop-place-preserved g c =
       room = c.keep_agreeing.ensures.room ∙ inv.room;
       bits = λ i.
           c.keep_agreeing.ensures.bits i
-          ∙ ap (λ b. b && has_entry (entry c.args.board.now (get_or c.args.cells.now c.loop-place.place 0)) (g.R.Rows.entries c.loop-place.rows (length c.args.cells.now)) c.loop-place.place i) (inv.bits i)
-          ∙ ap (λ d. base_so_far c.args.board.now c.args.cells.now c.loop-place.place (entry_at (g.R.Rows.entries c.args.rows.now (length c.args.cells.now)) i) && has_entry (entry c.args.board.now (get_or c.args.cells.now c.loop-place.place 0)) (d (length c.args.cells.now)) c.loop-place.place i) inv.same
-          ∙ base_more c.args.board.now c.args.cells.now (g.R.Rows.entries c.args.rows.now (length c.args.cells.now)) c.requires.long c.loop-place.place i (omega arith);
+          ∙ ap (λ b. b && has_entry (entry c.args.board.now (get_or c.args.cells.now c.loop-position.position 0)) (g.R.Rows.entries c.loop-position.rows (length c.args.cells.now)) c.loop-position.position i) (inv.bits i)
+          ∙ ap (λ d. base_so_far c.args.board.now c.args.cells.now c.loop-position.position (entry_at (g.R.Rows.entries c.args.rows.now (length c.args.cells.now)) i) && has_entry (entry c.args.board.now (get_or c.args.cells.now c.loop-position.position 0)) (d (length c.args.cells.now)) c.loop-position.position i) inv.same
+          ∙ base_more c.args.board.now c.args.cells.now (g.R.Rows.entries c.args.rows.now (length c.args.cells.now)) c.requires.long c.loop-position.position i (omega arith);
     }
 
 pub returns-clause-bits : goal.returns-clause-bits
 returns-clause-bits g c i =
-    c.loop-place.invariant.bits i
-    ∙ base_all c.args.board.now c.args.cells.now (g.R.Rows.entries c.args.rows.now (length c.args.cells.now)) c.requires.long c.loop-place.place i (omega arith)
+    c.loop-position.invariant.bits i
+    ∙ base_all c.args.board.now c.args.cells.now (g.R.Rows.entries c.args.rows.now (length c.args.cells.now)) c.requires.long c.loop-position.position i (omega arith)

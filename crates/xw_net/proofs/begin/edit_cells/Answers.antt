@@ -25,10 +25,10 @@ loop-at-preserved c =
     let inv = c.loop-at.invariant in
     let k = c.edit_cell in
     let here : get_or c.args.cells.now c.loop-at.at c.index-cells-at.result ≡ c.index-cells-at.result = sym c.index-cells-at.is in
-    let place : c.place_in-cell.result ≡ index_of c.args.grid.now c.index-cells-at.result.0 = c.place_in-cell.ensures.place ∙ ap (λ x. index_of c.args.grid.now x.0) here in
+    let index : c.index_in-cell.result ≡ index_of c.args.grid.now c.index-cells-at.result.0 = c.index_in-cell.ensures.index ∙ ap (λ x. index_of c.args.grid.now x.0) here in
     let below_end : c.loop-at.at < length c.args.cells.now = omega (arith, c.loop-at-test.true, c.loop-at.auto.at-end) in
-    let through : (light : ℕ) → IsThrough c.args.board.now c.place_in-cell.result light → IsThroughListed c.args.grid.now c.args.board.now c.args.cells.now light =
-    λ light is. (c.index-cells-at.result, (c.loop-at.at, below_end, here), (is.0, is.1, is.2 ∙ place)) in
+    let through : (light : ℕ) → IsThrough c.args.board.now c.index_in-cell.result light → IsThroughListed c.args.grid.now c.args.board.now c.args.cells.now light =
+    λ light is. (c.index-cells-at.result, (c.loop-at.at, below_end, here), (is.0, is.1, is.2 ∙ index)) in
     record {
       len = k.ensures.len ∙ inv.len;
       queue = grows_more c.args.queue.now c.loop-at.queue c.edit_cell.new.queue inv.queue k.ensures.queue.grows;
@@ -39,9 +39,9 @@ loop-at-preserved c =
         | inl e ↦
             let first = get_or_default c.args.cells.now c.loop-at.at c.index-cells-at.result listed below_end ∙ ap (λ n. get_or c.args.cells.now n listed) (sym e) ∙ at in
             let second = get_or_default c.args.cells.now c.loop-at.at c.index-cells-at-in-loop-at.result listed below_end ∙ ap (λ n. get_or c.args.cells.now n listed) (sym e) ∙ at in
-            let cell_is : c.place_in-cell.result ≡ index_of c.args.grid.now listed.0 = c.place_in-cell.ensures.place ∙ ap (λ x. index_of c.args.grid.now x.0) first in
+            let cell_is : c.index_in-cell.result ≡ index_of c.args.grid.now listed.0 = c.index_in-cell.ensures.index ∙ ap (λ x. index_of c.args.grid.now x.0) first in
             subst (λ n. IsEdited c.args.board.now (set_has c.edit_cell.new.letters) (is_marked c.edit_cell.new.queue.marks) (is_marked c.edit_cell.new.chain.marks) n listed.1) cell_is
-            (subst (λ x. IsEdited c.args.board.now (set_has c.edit_cell.new.letters) (is_marked c.edit_cell.new.queue.marks) (is_marked c.edit_cell.new.chain.marks) c.place_in-cell.result x.1) second k.ensures.edited)
+            (subst (λ x. IsEdited c.args.board.now (set_has c.edit_cell.new.letters) (is_marked c.edit_cell.new.queue.marks) (is_marked c.edit_cell.new.chain.marks) c.index_in-cell.result x.1) second k.ensures.edited)
         | inr n ↦ k.ensures.stays (index_of c.args.grid.now listed.0) listed.1 (inv.edited listed j (omega arith) within at)
       ];
       spread = λ start h. k.ensures.spread start (inv.spread start h);

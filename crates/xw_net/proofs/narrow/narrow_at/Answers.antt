@@ -10,8 +10,8 @@ pub returns-clause-narrowed : goal.returns-clause-narrowed
 returns-clause-narrowed c len =
     let bits = c.args.row.now.bits in
     let base = c.args.base.now.bits in
-    let chunk = c.args.place / 64 in
-    chunk_narrowed len c.args.place bits base c.set_chunk.new.self.bits c.set_chunk.ensures.len
+    let chunk = c.args.index / 64 in
+    chunk_narrowed len c.args.index bits base c.set_chunk.new.self.bits c.set_chunk.ensures.len
     (λ k here.
     let at : 64 * chunk + k % 64 ≡ k = omega arith in
     elim (cases_lt k (length bits)) [

@@ -15,7 +15,7 @@ returns-in-Some-clause-marked c was j here =
     elim (cases_eq j c.args.light) [
       | inl e ↦ c.insert.ensures.grows.more j (ap (is_marked c.args.chain.now.marks) e ∙ was)
       | inr n ↦
-          let crosses : IsCrossing c.args.board.now c.args.light (cell_at c.args.board.now c.args.light c.args.place) j = record { in_board = here.1.0; apart = n; place = here.0; below = here.1.1; meets = here.2 } in
+          let crosses : IsCrossing c.args.board.now c.args.light (cell_at c.args.board.now c.args.light c.args.position) j = record { in_board = here.1.0; apart = n; position = here.0; below = here.1.1; meets = here.2 } in
           let is : Some c.in-Some.other ≡ Some j = c.in-Some.ensures.only j crosses in
           let one : j ≡ c.in-Some.other = cc in
           (added c).all j one
@@ -23,14 +23,14 @@ returns-in-Some-clause-marked c was j here =
 
 pub returns-in-Some-clause-within : goal.returns-in-Some-clause-within
 returns-in-Some-clause-within c member start reached =
-    (added c).only member start (λ j e. ap member e ∙ reached c.in-Some.other (c.in-Some.ensures.other.place, (c.in-Some.ensures.other.in_board, c.in-Some.ensures.other.below), c.in-Some.ensures.other.meets))
+    (added c).only member start (λ j e. ap member e ∙ reached c.in-Some.other (c.in-Some.ensures.other.position, (c.in-Some.ensures.other.in_board, c.in-Some.ensures.other.below), c.in-Some.ensures.other.meets))
 
 pub returns-in_default-clause-marked : goal.returns-in_default-clause-marked
 returns-in_default-clause-marked c was j here =
     elim (cases_eq j c.args.light) [
       | inl e ↦ ap (is_marked c.args.chain.now.marks) e ∙ was
       | inr n ↦
-          let crosses : IsCrossing c.args.board.now c.args.light (cell_at c.args.board.now c.args.light c.args.place) j = record { in_board = here.1.0; apart = n; place = here.0; below = here.1.1; meets = here.2 } in
+          let crosses : IsCrossing c.args.board.now c.args.light (cell_at c.args.board.now c.args.light c.args.position) j = record { in_board = here.1.0; apart = n; position = here.0; below = here.1.1; meets = here.2 } in
           let is : None ≡ Some j = sym c.in_default.is ∙ c.crossing.ensures.only j crosses in
           cc
     ]

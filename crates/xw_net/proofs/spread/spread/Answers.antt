@@ -1,6 +1,6 @@
 use Rattle.std.proofs.Common.{◌≡◌, ℕ, true, length, refl, sym, subst, ap, ◌∙◌, arith}
 use Rattle.xw_feas.specs.Flags.{set_has}
-use Rattle.xw_net.specs.Spread.{Lit, lit, IsLit, IsSpread, places_from, none_waits, no_places}
+use Rattle.xw_net.specs.Spread.{Lit, lit, IsLit, IsSpread, positions_from, none_waits, no_positions}
 use Rattle.xw_net.specs.Worklist.{ListOfLights, is_marked, is_waiting}
 use Rattle.xw_net.proofs.Lists.ListsOfLights.{waits_pop, quiet_pop, waiting-none}
 use Rattle.xw_net.proofs.Revivals.LettersComeBack.{spread_start, spread_taken, spread_end}
@@ -33,7 +33,7 @@ loop-light-preserved c =
     let left = c.take_last.new.self in
     let marks_stay = (ap (λ (l : ListOfLights). l.marks) c.take_last.ensures.rest) in
     let on_left : (light : ℕ) → is_marked c.loop-light.chain.marks light ≡ true → is_marked c.take_last.new.self.marks light ≡ true = λ light h. ap (λ m. is_marked m light) (ap (λ (l : ListOfLights). l.marks) c.take_last.ensures.rest) ∙ h in
-    let taken = subst (λ m. IsSpread c.args.board.now (set_has c.args.letters.now) (set_has c.loop-light.letters) (is_marked m) (is_waiting c.take_last.new.self.lights) (places_from c.in-Some.light 0)) (sym (ap (λ (l : ListOfLights). l.marks) c.take_last.ensures.rest))
+    let taken = subst (λ m. IsSpread c.args.board.now (set_has c.args.letters.now) (set_has c.loop-light.letters) (is_marked m) (is_waiting c.take_last.new.self.lights) (positions_from c.in-Some.light 0)) (sym (ap (λ (l : ListOfLights). l.marks) c.take_last.ensures.rest))
     (spread_taken c.args.board.now (set_has c.args.letters.now) (set_has c.loop-light.letters) (is_marked c.loop-light.chain.marks) c.loop-light.chain.lights c.take_last.new.self.lights c.in-Some.light popped inv.spread) in
     let now : Lit = lit c.bring_words.new.rows c.bring_words.new.entered c.bring_words.new.restart c.bring_words.new.queue in
     let brought = subst (λ m. IsLit c.args.board.now c.args.base.now start now (is_marked m) (is_waiting c.take_last.new.self.lights)) (sym (ap (λ (l : ListOfLights). l.marks) c.take_last.ensures.rest))
@@ -63,7 +63,7 @@ returns-clause-words c =
 
 pub returns-clause-spread : goal.returns-clause-spread
 returns-clause-spread c =
-    subst (λ m. IsSpread c.args.board.now (set_has c.args.letters.now) (set_has c.loop-light.letters) (is_marked m) none_waits no_places) (sym (ap (λ (l : ListOfLights). l.marks) c.take_last.ensures.rest))
+    subst (λ m. IsSpread c.args.board.now (set_has c.args.letters.now) (set_has c.loop-light.letters) (is_marked m) none_waits no_positions) (sym (ap (λ (l : ListOfLights). l.marks) c.take_last.ensures.rest))
     (spread_end c.args.board.now (set_has c.args.letters.now) (set_has c.loop-light.letters) (is_marked c.loop-light.chain.marks) (is_waiting c.loop-light.chain.lights) (λ i. waiting-none c.loop-light.chain.lights i c.in_default.ensures.none) c.loop-light.invariant.spread)
 
 pub returns-clause-within : goal.returns-clause-within

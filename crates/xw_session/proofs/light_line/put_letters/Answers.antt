@@ -2,7 +2,7 @@ use Rattle.std.proofs.Common.{◌≡◌, ◌++◌, ◌∷◌, [], ℕ, List, len
 use Rattle.xw_grid.specs.Grid.{entry}
 use Rattle.xw_grid.specs.Light.{step}
 use Rattle.xw_session.specs.Text.{letter_or_dot}
-use Rattle.xw_session.proofs.LightTexts.{one_more_made, pattern_by_places}
+use Rattle.xw_session.proofs.LightTexts.{one_more_made, pattern_by_positions}
 use Rattle.xw_session.proofs.light_line.put_letters.Goals as goal
 
 pub loop-k-preserved : goal.loop-k-preserved
@@ -21,7 +21,7 @@ loop-k-preserved c =
 pub returns-clause-is : goal.returns-clause-is
 returns-clause-is c =
     let same : c.args.light.now.size ≡ c.loop-k.k = omega (arith, c.loop-k-test.false, c.loop-k.auto.k-end) in
-    c.loop-k.invariant.is ∙ ap (λ letters. c.args.line.now ++ letters) (rw (← same) (sym (pattern_by_places c.args.grid.now c.args.light.now)))
+    c.loop-k.invariant.is ∙ ap (λ letters. c.args.line.now ++ letters) (rw (← same) (sym (pattern_by_positions c.args.grid.now c.args.light.now)))
 
 pub returns-clause-long : goal.returns-clause-long
 returns-clause-long c = omega (arith, c.loop-k.invariant.long, c.loop-k-test.false, c.loop-k.auto.k-end, c.requires.short)

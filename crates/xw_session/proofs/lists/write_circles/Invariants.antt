@@ -4,8 +4,8 @@ use Rattle.xw_grid.specs.Grid.{cells}
 use Rattle.xw_session.specs.Text.{circle_line}
 use Rattle.xw_session.proofs.lists.write_circles.Given as goal
 
-abbrev pub invariant-loop-place : goal.invariant-loop-place
-invariant-loop-place g l = record {
-  transcript : g.W.Sink.transcript l.sink ≡ g.W.Sink.transcript l.initial.sink ++ flat_map (circle_line l.grid l.circles) (take l.place (cells l.grid));
+abbrev pub invariant-loop-index : goal.invariant-loop-index
+invariant-loop-index g l = record {
+  transcript : g.W.Sink.transcript l.sink ≡ g.W.Sink.transcript l.initial.sink ++ flat_map (circle_line l.grid l.circles) (take l.index (cells l.grid));
   quiet : g.W.Sink.failures l.sink ≡ g.W.Sink.failures l.initial.sink;
 }

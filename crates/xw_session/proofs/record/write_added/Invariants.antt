@@ -5,9 +5,9 @@ use Rattle.xw_session.specs.Spelling.{command_line}
 use Rattle.xw_session.specs.Record.{add_command}
 use Rattle.xw_session.proofs.record.write_added.Given as goal
 
-abbrev pub invariant-loop-place : goal.invariant-loop-place
-invariant-loop-place g l = record {
-  from : l.begun ≤ l.place;
-  transcript : g.W.Sink.transcript l.sink ≡ g.W.Sink.transcript l.initial.sink ++ flat_map (λ entry. command_line (add_command entry)) (take (l.place - l.begun) (drop l.begun (row l.bank.words l.count)));
+abbrev pub invariant-loop-index : goal.invariant-loop-index
+invariant-loop-index g l = record {
+  from : l.begun ≤ l.index;
+  transcript : g.W.Sink.transcript l.sink ≡ g.W.Sink.transcript l.initial.sink ++ flat_map (λ entry. command_line (add_command entry)) (take (l.index - l.begun) (drop l.begun (row l.bank.words l.count)));
   quiet : g.W.Sink.failures l.sink ≡ g.W.Sink.failures l.initial.sink;
 }

@@ -9,17 +9,17 @@ use Rattle.xw_session.proofs.Recording.{lines_of_each, sent_as, stops_as}
 use Rattle.xw_lines.proofs.SendsLemmas.{each_sent, each_stops, each_all}
 use Rattle.xw_session.proofs.record.write_part.Goals as goal
 
-pub loop-place-preserved : goal.loop-place-preserved
-loop-place-preserved g c =
+pub loop-index-preserved : goal.loop-index-preserved
+loop-index-preserved g c =
     let grid = c.args.grid.now in
     let text : Cell → List ℕ = λ cell. command_lines (cell_commands grid c.args.clues.now c.args.circles.now c.args.part cell) in
-    let below : c.loop-place.place < grid.width * grid.height = omega (arith, c.loop-place-test.true, c.size-place-end.ensures.size) in
-    let is : c.cell_at.result ≡ get_or (cells grid) c.loop-place.place c.cell_at.result = c.cell_at.ensures.cell ∙ sym (cell_in_order grid c.loop-place.place c.cell_at.result below) in
-    let within : c.loop-place.place < length (cells grid) = omega (arith, below, length-cells grid) in
+    let below : c.loop-index.index < grid.width * grid.height = omega (arith, c.loop-index-test.true, c.size-index-end.ensures.size) in
+    let is : c.cell_at.result ≡ get_or (cells grid) c.loop-index.index c.cell_at.result = c.cell_at.ensures.cell ∙ sym (cell_in_order grid c.loop-index.index c.cell_at.result below) in
+    let within : c.loop-index.index < length (cells grid) = omega (arith, below, length-cells grid) in
     let wrote = c.in_ok-write_kept.ensures in
     record {
-      transcript = each_sent g.W.Sink.transcript g.W.Sink.failures text (cells grid) c.args.sink.now c.loop-place.sink c.write_kept.new.sink c.loop-place.place c.cell_at.result within c.loop-place.invariant.transcript (wrote.0 ∙ ap (λ (cell : Cell). g.W.Sink.transcript c.loop-place.sink ++ text cell) is);
-      quiet = wrote.1 ∙ c.loop-place.invariant.quiet;
+      transcript = each_sent g.W.Sink.transcript g.W.Sink.failures text (cells grid) c.args.sink.now c.loop-index.sink c.write_kept.new.sink c.loop-index.index c.cell_at.result within c.loop-index.invariant.transcript (wrote.0 ∙ ap (λ (cell : Cell). g.W.Sink.transcript c.loop-index.sink ++ text cell) is);
+      quiet = wrote.1 ∙ c.loop-index.invariant.quiet;
     }
 
 pub returns-in_err-write_kept : goal.returns-in_err-write_kept
@@ -27,16 +27,16 @@ returns-in_err-write_kept g c =
     let e = err_from_is_err_and c.from_residual.result c.from_residual.ensures.1 in
     let grid = c.args.grid.now in
     let text : Cell → List ℕ = λ cell. command_lines (cell_commands grid c.args.clues.now c.args.circles.now c.args.part cell) in
-    let below : c.loop-place.place < grid.width * grid.height = omega (arith, c.loop-place-test.true, c.size-place-end.ensures.size) in
-    let is : c.cell_at.result ≡ get_or (cells grid) c.loop-place.place c.cell_at.result = c.cell_at.ensures.cell ∙ sym (cell_in_order grid c.loop-place.place c.cell_at.result below) in
-    let within : c.loop-place.place < length (cells grid) = omega (arith, below, length-cells grid) in
+    let below : c.loop-index.index < grid.width * grid.height = omega (arith, c.loop-index-test.true, c.size-index-end.ensures.size) in
+    let is : c.cell_at.result ≡ get_or (cells grid) c.loop-index.index c.cell_at.result = c.cell_at.ensures.cell ∙ sym (cell_in_order grid c.loop-index.index c.cell_at.result below) in
+    let within : c.loop-index.index < length (cells grid) = omega (arith, below, length-cells grid) in
     let stops = stops_as g.W.Sink.transcript g.W.Sink.failures _ _ _ _ (ap text is) c.in_err-write_kept.ensures in
     rw e.1 (stops_as g.W.Sink.transcript g.W.Sink.failures _ _ _ _ (lines_of_each (cell_commands grid c.args.clues.now c.args.circles.now c.args.part) (cells grid))
-    (each_stops g.W.Sink.transcript g.W.Sink.failures text (cells grid) c.args.sink.now c.loop-place.sink c.write_kept.new.sink c.loop-place.place c.cell_at.result within (c.loop-place.invariant.transcript, c.loop-place.invariant.quiet) stops))
+    (each_stops g.W.Sink.transcript g.W.Sink.failures text (cells grid) c.args.sink.now c.loop-index.sink c.write_kept.new.sink c.loop-index.index c.cell_at.result within (c.loop-index.invariant.transcript, c.loop-index.invariant.quiet) stops))
 
 pub returns : goal.returns
 returns g c =
     let grid = c.args.grid.now in
     let text : Cell → List ℕ = λ cell. command_lines (cell_commands grid c.args.clues.now c.args.circles.now c.args.part cell) in
     sent_as g.W.Sink.transcript g.W.Sink.failures _ _ _ _ (lines_of_each (cell_commands grid c.args.clues.now c.args.circles.now c.args.part) (cells grid))
-    (each_all g.W.Sink.transcript g.W.Sink.failures text (cells grid) _ _ c.loop-place.place (omega (arith, c.loop-place-test.false, length-cells grid, c.size-place-end.ensures.size)) (c.loop-place.invariant.transcript, c.loop-place.invariant.quiet))
+    (each_all g.W.Sink.transcript g.W.Sink.failures text (cells grid) _ _ c.loop-index.index (omega (arith, c.loop-index-test.false, length-cells grid, c.size-index-end.ensures.size)) (c.loop-index.invariant.transcript, c.loop-index.invariant.quiet))

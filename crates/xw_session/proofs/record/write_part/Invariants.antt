@@ -4,8 +4,8 @@ use Rattle.xw_grid.specs.Grid.{cells}
 use Rattle.xw_session.specs.Record.{command_lines, cell_commands}
 use Rattle.xw_session.proofs.record.write_part.Given as goal
 
-abbrev pub invariant-loop-place : goal.invariant-loop-place
-invariant-loop-place g l = record {
-  transcript : g.W.Sink.transcript l.sink ≡ g.W.Sink.transcript l.initial.sink ++ flat_map (λ cell. command_lines (cell_commands l.grid l.clues l.circles l.part cell)) (take l.place (cells l.grid));
+abbrev pub invariant-loop-index : goal.invariant-loop-index
+invariant-loop-index g l = record {
+  transcript : g.W.Sink.transcript l.sink ≡ g.W.Sink.transcript l.initial.sink ++ flat_map (λ cell. command_lines (cell_commands l.grid l.clues l.circles l.part cell)) (take l.index (cells l.grid));
   quiet : g.W.Sink.failures l.sink ≡ g.W.Sink.failures l.initial.sink;
 }

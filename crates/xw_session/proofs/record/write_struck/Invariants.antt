@@ -4,8 +4,8 @@ use Rattle.xw_words.specs.Dictionary.{row}
 use Rattle.xw_session.specs.Record.{command_lines, strike_commands}
 use Rattle.xw_session.proofs.record.write_struck.Given as goal
 
-abbrev pub invariant-loop-place : goal.invariant-loop-place
-invariant-loop-place g l = record {
-  transcript : g.W.Sink.transcript l.sink ≡ g.W.Sink.transcript l.initial.sink ++ flat_map (λ entry. command_lines (strike_commands entry)) (take l.place (row l.bank.words l.count));
+abbrev pub invariant-loop-index : goal.invariant-loop-index
+invariant-loop-index g l = record {
+  transcript : g.W.Sink.transcript l.sink ≡ g.W.Sink.transcript l.initial.sink ++ flat_map (λ entry. command_lines (strike_commands entry)) (take l.index (row l.bank.words l.count));
   quiet : g.W.Sink.failures l.sink ≡ g.W.Sink.failures l.initial.sink;
 }

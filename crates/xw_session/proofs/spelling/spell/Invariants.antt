@@ -2,8 +2,8 @@ use Rattle.std.proofs.Common.{◌≡◌, length, take}
 use Rattle.xw_session.proofs.spelling.spell.Given as goal
 
 -- the first letters are copied
-abbrev pub invariant-loop-place : goal.invariant-loop-place
-invariant-loop-place l = record {
-  so_far : take l.place l.bytes ≡ take l.place l.letters;
+abbrev pub invariant-loop-position : goal.invariant-loop-position
+invariant-loop-position l = record {
+  so_far : take l.position l.bytes ≡ take l.position l.letters;
   long : length l.bytes ≡ 64;
 }

@@ -2,5 +2,5 @@ use Rattle.std.proofs.Common.{◌≡◌, take}
 use Rattle.xw_session.specs.Stats.{count_of_size}
 use Rattle.xw_session.proofs.stats.count_size.Given as goal
 
-abbrev pub invariant-loop-place : goal.invariant-loop-place
-invariant-loop-place l = l.count ≡ count_of_size (take l.place l.lights) l.size
+abbrev pub invariant-loop-index : goal.invariant-loop-index
+invariant-loop-index l = l.count ≡ count_of_size (take l.index l.lights) l.size

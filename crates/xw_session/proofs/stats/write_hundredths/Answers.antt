@@ -8,4 +8,4 @@ returns-in_err-write_spaced g c =
     rw e.1 (stops-within g.W.Sink.transcript g.W.Sink.failures _ _ _ _ c.in_err-write_spaced.ensures)
 
 pub returns : goal.returns
-returns g c = sends-then g.W.Sink.transcript g.W.Sink.failures _ _ _ _ _ _ c.in_ok-write_spaced.ensures c.write_two_places.ensures
+returns g c = sends-then g.W.Sink.transcript g.W.Sink.failures _ _ _ _ _ _ c.in_ok-write_spaced.ensures c.write_two_decimals.ensures

@@ -10,7 +10,7 @@ search-at-requires c =
     let block = c.blocks_before-block.result in
     let lt : block < length blocks = omega (arith, c.if-block-blocks.false) in
     let read : c.index-blocks-block.result ≡ block_at blocks block = get_or_read blocks block c.index-blocks-block.result lt c.index-blocks-block.is [] in
-    subst (IsPart (length c.args.word.now) c.args.letters.now) (sym (c.places.ensures.value ∙ read)) (part_of (length c.args.word.now) c.args.letters.now blocks block lt c.requires.part)
+    subst (IsPart (length c.args.word.now) c.args.letters.now) (sym (c.indices.ensures.value ∙ read)) (part_of (length c.args.word.now) c.args.letters.now blocks block lt c.requires.part)
 
 pub returns-clause-at : goal.returns-clause-at
 returns-clause-at c =
@@ -21,7 +21,7 @@ returns-clause-at c =
     let lt : block < length blocks = omega (arith, c.if-block-blocks.false) in
     let read : c.index-blocks-block.result ≡ block_at blocks block = get_or_read blocks block c.index-blocks-block.result lt c.index-blocks-block.is [] in
     inside_block words blocks word c.requires.part.sorted c.requires.filled block lt c.blocks_before-block.ensures.before (c.blocks_before-block.ensures.from lt) c.search-at.result
-    (subst (λ b. Belongs words b word c.search-at.result) (c.places.ensures.value ∙ read) c.search-at.ensures)
+    (subst (λ b. Belongs words b word c.search-at.result) (c.indices.ensures.value ∙ read) c.search-at.ensures)
 
 pub returns-clause-belongs : goal.returns-clause-belongs
 returns-clause-belongs c =
@@ -32,4 +32,4 @@ returns-clause-belongs c =
     let lt : block < length blocks = omega (arith, c.if-block-blocks.false) in
     let read : c.index-blocks-block.result ≡ block_at blocks block = get_or_read blocks block c.index-blocks-block.result lt c.index-blocks-block.is [] in
     belongs_there words blocks word c.requires.part.sorted c.requires.filled block lt c.blocks_before-block.ensures.before (c.blocks_before-block.ensures.from lt) c.search-at.result
-    (subst (λ b. Belongs words b word c.search-at.result) (c.places.ensures.value ∙ read) c.search-at.ensures)
+    (subst (λ b. Belongs words b word c.search-at.result) (c.indices.ensures.value ∙ read) c.search-at.ensures)

@@ -6,11 +6,11 @@ use Rattle.xw_words.specs.Dictionary.{Entry, entry_at}
 use Rattle.xw_words.proofs.Sieving.{is_among_first}
 use Rattle.xw_words.proofs.sieve.block_with.Given as goal
 
-abbrev pub invariant-loop-place : goal.invariant-loop-place
-invariant-loop-place l = record {
+abbrev pub invariant-loop-index : goal.invariant-loop-index
+invariant-loop-index l = record {
   within : l.from ≤ 26;
   found : (chunk k : ℕ) → chunk < 8 → k < 64 → (entries : List Entry) (position : ℕ) → AreColumns entries position l.columns → has_bit (get_or l.found chunk 0) k ≡ is_among_first l.letters l.from (slice_get (entry_at entries (64 * (l.at + chunk) + k)).word position);
 }
 
-abbrev pub decreases-loop-place : goal.decreases-loop-place
-decreases-loop-place l = 26 - l.from
+abbrev pub decreases-loop-index : goal.decreases-loop-index
+decreases-loop-index l = 26 - l.from

@@ -3,7 +3,7 @@ use Rattle.std.proofs.lemmas.List.{with_items_is}
 use Rattle.xw_bits.specs.Bits.{bits_of, words_have}
 use Rattle.xw_bits.proofs.BitLemmas.{length-bits_of}
 use Rattle.xw_bits.proofs.BitRowLemmas.{view_len}
-use Rattle.xw_bits.proofs.RowBlocks.{row_place, zeros_have}
+use Rattle.xw_bits.proofs.RowBlocks.{row_bit, zeros_have}
 use Rattle.xw_bits.proofs.bit_row.BitRow.clear.Goals as goal
 
 pub invariant_of-self : goal.invariant_of-self
@@ -24,5 +24,5 @@ returns-clause-bits c i =
     let r = c.self.inside in
     let many = length c.as_mut_slice.result.now in
     ap (λ ws. get_or (bits_of ws r.len) i false) (with_items_is r.words c.fill.new.self (omega (arith, c.fill.ensures.len, c.as_mut_slice.ensures.len)) ∙ c.fill.ensures.after (λ y clone. clone))
-    ∙ row_place _ r.len i (λ k le. zeros_have many k)
+    ∙ row_bit _ r.len i (λ k le. zeros_have many k)
     ∙ zeros_have many i

@@ -2,8 +2,8 @@ use Rattle.std.proofs.Common.{ℕ, ◌+◌, ◌*◌, ◌&&◌, false, get_or, sy
 use Rattle.std.proofs.lemmas.List.{with_items_is}
 use Rattle.xw_bits.specs.Bits.{bits_of, words_have, has_bit}
 use Rattle.xw_bits.proofs.BitLemmas.{length-bits_of}
-use Rattle.xw_bits.proofs.BitRowLemmas.{view_len, place_is}
-use Rattle.xw_bits.proofs.RowBlocks.{row_place, block_below, block_inside, block_above, block_none}
+use Rattle.xw_bits.proofs.BitRowLemmas.{view_len, bit_is}
+use Rattle.xw_bits.proofs.RowBlocks.{row_bit, block_below, block_inside, block_above, block_none}
 use Rattle.xw_bits.proofs.bit_row.BitRow.keep_block.Goals as goal
 
 pub keep_at-requires : goal.keep_at-requires
@@ -28,10 +28,10 @@ returns-clause-below c i lt =
     let old = c.deref_mut.result.now in
     let new = c.keep_at.new.words in
     ap (λ ws. get_or (bits_of ws r.len) i false) (with_items_is r.words c.keep_at.new.words (omega (arith, c.keep_at.auto.words, c.deref_mut.ensures.len)))
-    ∙ row_place c.keep_at.new.words r.len i (λ k le. block_none old new c.args.block c.args.at c.keep_at.ensures.below c.keep_at.ensures.inside c.keep_at.ensures.above k (ap (λ ws. words_have ws k) c.deref_mut.ensures.value ∙ c.self.invariant.nothing_past k le))
+    ∙ row_bit c.keep_at.new.words r.len i (λ k le. block_none old new c.args.block c.args.at c.keep_at.ensures.below c.keep_at.ensures.inside c.keep_at.ensures.above k (ap (λ ws. words_have ws k) c.deref_mut.ensures.value ∙ c.self.invariant.nothing_past k le))
     ∙ block_below old new c.args.block c.args.at c.keep_at.ensures.below c.keep_at.ensures.inside c.keep_at.ensures.above i lt
     ∙ ap (λ ws. words_have ws i) c.deref_mut.ensures.value
-    ∙ sym (place_is r c.self.view_is c.self.invariant i)
+    ∙ sym (bit_is r c.self.view_is c.self.invariant i)
 
 pub returns-clause-inside : goal.returns-clause-inside
 returns-clause-inside c chunk k in_block lt =
@@ -40,9 +40,9 @@ returns-clause-inside c chunk k in_block lt =
     let new = c.keep_at.new.words in
     let i : ℕ = 64 * (c.args.at + chunk) + k in
     ap (λ ws. get_or (bits_of ws r.len) i false) (with_items_is r.words c.keep_at.new.words (omega (arith, c.keep_at.auto.words, c.deref_mut.ensures.len)))
-    ∙ row_place c.keep_at.new.words r.len i (λ k le. block_none old new c.args.block c.args.at c.keep_at.ensures.below c.keep_at.ensures.inside c.keep_at.ensures.above k (ap (λ ws. words_have ws k) c.deref_mut.ensures.value ∙ c.self.invariant.nothing_past k le))
+    ∙ row_bit c.keep_at.new.words r.len i (λ k le. block_none old new c.args.block c.args.at c.keep_at.ensures.below c.keep_at.ensures.inside c.keep_at.ensures.above k (ap (λ ws. words_have ws k) c.deref_mut.ensures.value ∙ c.self.invariant.nothing_past k le))
     ∙ block_inside old new c.args.block c.args.at c.keep_at.ensures.below c.keep_at.ensures.inside c.keep_at.ensures.above chunk k in_block lt
-    ∙ ap (λ b. b && has_bit (get_or c.args.block chunk 0) k) (ap (λ ws. words_have ws i) c.deref_mut.ensures.value ∙ sym (place_is r c.self.view_is c.self.invariant i))
+    ∙ ap (λ b. b && has_bit (get_or c.args.block chunk 0) k) (ap (λ ws. words_have ws i) c.deref_mut.ensures.value ∙ sym (bit_is r c.self.view_is c.self.invariant i))
 
 pub returns-clause-above : goal.returns-clause-above
 returns-clause-above c i le =
@@ -50,7 +50,7 @@ returns-clause-above c i le =
     let old = c.deref_mut.result.now in
     let new = c.keep_at.new.words in
     ap (λ ws. get_or (bits_of ws r.len) i false) (with_items_is r.words c.keep_at.new.words (omega (arith, c.keep_at.auto.words, c.deref_mut.ensures.len)))
-    ∙ row_place c.keep_at.new.words r.len i (λ k le. block_none old new c.args.block c.args.at c.keep_at.ensures.below c.keep_at.ensures.inside c.keep_at.ensures.above k (ap (λ ws. words_have ws k) c.deref_mut.ensures.value ∙ c.self.invariant.nothing_past k le))
+    ∙ row_bit c.keep_at.new.words r.len i (λ k le. block_none old new c.args.block c.args.at c.keep_at.ensures.below c.keep_at.ensures.inside c.keep_at.ensures.above k (ap (λ ws. words_have ws k) c.deref_mut.ensures.value ∙ c.self.invariant.nothing_past k le))
     ∙ block_above old new c.args.block c.args.at c.keep_at.ensures.below c.keep_at.ensures.inside c.keep_at.ensures.above i le
     ∙ ap (λ ws. words_have ws i) c.deref_mut.ensures.value
-    ∙ sym (place_is r c.self.view_is c.self.invariant i)
+    ∙ sym (bit_is r c.self.view_is c.self.invariant i)

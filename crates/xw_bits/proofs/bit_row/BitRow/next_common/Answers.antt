@@ -4,7 +4,7 @@ use Rattle.std.proofs.lemmas.List.{get_or_default, get_or_past}
 use Rattle.std.proofs.lemmas.Nat.{and_le_l}
 use Rattle.xw_bits.specs.Bits.{has_bit}
 use Rattle.xw_bits.proofs.BitRowLemmas.{view_len}
-use Rattle.xw_bits.proofs.ChunkLemmas.{lowest_passes, none_below_lowest, common_bits, apart_place}
+use Rattle.xw_bits.proofs.ChunkLemmas.{lowest_passes, none_below_lowest, common_bits, apart_bit}
 use Rattle.xw_bits.proofs.bit_row.BitRow.next_common.Goals as goal
 
 both_is : (a b : ℕ) {x y : ℕ} → a ≡ x → b ≡ y → bit_and a b ≡ bit_and x y
@@ -39,7 +39,7 @@ returns-in-Some-clause-first c i low high =
     λ k lt. common_bits c.self.inside c.other.inside c.self.view_is c.other.view_is c.self.invariant c.other.invariant chunk c.index.result.now c.index-in-Some.result.now k one_is two_is lt in
     let test : ℕ → Bool = λ i. get_or c.args.self.now.bits i false && get_or c.args.other.now.bits i false in
     elim (cases_lt i (64 * chunk)) [
-      | inl before ↦ apart_place c.self.inside c.other.inside c.self.view_is c.other.view_is c.self.invariant c.other.invariant i (get_or c.deref.result.now (i / 64) 0) (get_or c.deref-2.result.now (i / 64) 0) (ap (λ ws. get_or ws (i / 64) 0) c.deref.ensures.value) (ap (λ ws. get_or ws (i / 64) 0) c.deref-2.ensures.value) (c.in-Some.ensures.passed (i / 64) (omega (arith, low)) (omega (arith, before)))
+      | inl before ↦ apart_bit c.self.inside c.other.inside c.self.view_is c.other.view_is c.self.invariant c.other.invariant i (get_or c.deref.result.now (i / 64) 0) (get_or c.deref-2.result.now (i / 64) 0) (ap (λ ws. get_or ws (i / 64) 0) c.deref.ensures.value) (ap (λ ws. get_or ws (i / 64) 0) c.deref-2.ensures.value) (c.in-Some.ensures.passed (i / 64) (omega (arith, low)) (omega (arith, before)))
       | inr here ↦ none_below_lowest test chunk word bits some fits i here high
     ]
 
@@ -52,7 +52,7 @@ returns-in-None-clause-none c i low =
       | inl within ↦ elim (cases_lt (i / 64) c.other.inside.words.len) [
         | inr past ↦ and_right mine its (get_or_past c.args.other.now.bits i false (omega (arith, past, view_len c.other.inside c.other.view_is, c.other.invariant.words_len)))
         | inl within_other ↦
-            apart_place c.self.inside c.other.inside c.self.view_is c.other.view_is c.self.invariant c.other.invariant i (get_or c.deref.result.now (i / 64) 0) (get_or c.deref-2.result.now (i / 64) 0) (ap (λ ws. get_or ws (i / 64) 0) c.deref.ensures.value) (ap (λ ws. get_or ws (i / 64) 0) c.deref-2.ensures.value)
+            apart_bit c.self.inside c.other.inside c.self.view_is c.other.view_is c.self.invariant c.other.invariant i (get_or c.deref.result.now (i / 64) 0) (get_or c.deref-2.result.now (i / 64) 0) (ap (λ ws. get_or ws (i / 64) 0) c.deref.ensures.value) (ap (λ ws. get_or ws (i / 64) 0) c.deref-2.ensures.value)
             (c.in-None.ensures.none (i / 64) (omega (arith, low)) (omega (arith, within, c.deref.ensures.len)) (omega (arith, within_other, c.deref-2.ensures.len)))
       ]
     ]

@@ -3,7 +3,7 @@ use Rattle.std.proofs.lemmas.Bool.{cases_lt}
 use Rattle.std.proofs.lemmas.List.{get_or_past}
 use Rattle.xw_bits.specs.Bits.{RowOfBits, bits_of}
 use Rattle.xw_bits.proofs.BitLemmas.{length-bits_of, get_or-bits_of}
-use Rattle.xw_bits.proofs.BitRowLemmas.{view_len, place_is}
+use Rattle.xw_bits.proofs.BitRowLemmas.{view_len, bit_is}
 use Rattle.xw_bits.proofs.bit_row.BitRow.push_chunk.Goals as goal
 
 pub make_room_for_bit-requires-clause-room : goal.make_room_for_bit-requires-clause-room
@@ -27,7 +27,7 @@ returns-clause-bits c i =
     let r = c.self.inside in
     let words = c.make_room_for_bit.new.words.items in
     elim (cases_lt i (r.len + 64)) [
-      | inl lt ↦ get_or-bits_of words (r.len + 64) i false lt ∙ c.make_room_for_bit.ensures.bits i ∙ sym (place_is r c.self.view_is c.self.invariant i)
+      | inl lt ↦ get_or-bits_of words (r.len + 64) i false lt ∙ c.make_room_for_bit.ensures.bits i ∙ sym (bit_is r c.self.view_is c.self.invariant i)
       | inr le ↦
           get_or_past (bits_of words (r.len + 64)) i false (omega (arith, le, length-bits_of words (r.len + 64)))
           ∙ sym (get_or_past c.args.self.now.bits i false (omega (arith, le, view_len r c.self.view_is)))

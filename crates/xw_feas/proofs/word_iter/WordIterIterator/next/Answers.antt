@@ -33,7 +33,7 @@ returns-in-Some-Listed-clause-steps g c =
     let walk = c.self.inside in
     let state = g.E.Feasible.state walk.engine.now in
     let answers = g.E.Feasible.answers walk.engine.now in
-    let listed = words_from_listed (board_of state.grid) state.words answers walk.light walk.from c.in-Some-Listed.place (sym c.next_word_at.ensures ∙ c.in-Some-Listed.is ∙ ap Some c.in-Some-Listed.field-0-is) in
+    let listed = words_from_listed (board_of state.grid) state.words answers walk.light walk.from c.in-Some-Listed.index (sym c.next_word_at.ensures ∙ c.in-Some-Listed.is ∙ ap Some c.in-Some-Listed.field-0-is) in
     sym c.self.view_is ∙ rw c.word_in-word.ensures.word listed.1
 
 pub returns-in-Some-Listed-clause-goes : goal.returns-in-Some-Listed-clause-goes

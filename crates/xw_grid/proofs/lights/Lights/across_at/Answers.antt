@@ -1,8 +1,8 @@
 use Rattle.std.proofs.Common.{subst, sym, ap, ◌∙◌}
 use Rattle.xw_grid.specs.declared.cell.Direction.TheVariants.{Across}
-use Rattle.xw_grid.specs.Light.{no_light, place_through}
-use Rattle.xw_grid.specs.Places.{ArePlaces, entry_for}
-use Rattle.xw_grid.proofs.PlaceLemmas.{table_right}
+use Rattle.xw_grid.specs.Light.{no_light, index_through}
+use Rattle.xw_grid.specs.LightTable.{IsLightTable, entry_for}
+use Rattle.xw_grid.proofs.LightTableLemmas.{table_right}
 use Rattle.xw_grid.proofs.lights.Lights.across_at.Goals as goal
 
 pub returns : goal.returns
@@ -10,8 +10,8 @@ returns c =
     let inner = c.self.inside in
     let kept = c.self.invariant in
     c.at.ensures
-    ∙ ap (λ places. entry_for inner.width inner.height places c.args.cell) c.deref.ensures.value
+    ∙ ap (λ table. entry_for inner.width inner.height table c.args.cell) c.deref.ensures.value
     ∙ ap (λ w. entry_for w inner.height inner.across.items c.args.cell) kept.wide
     ∙ ap (λ h. entry_for kept.grid.width h inner.across.items c.args.cell) kept.high
-    ∙ table_right kept.grid Across inner.across.items c.args.cell no_light (subst (λ lights. ArePlaces kept.grid lights Across inner.across.items) kept.whole kept.by_row)
-    ∙ ap (λ lights. place_through lights Across c.args.cell) (sym kept.whole ∙ c.self.view_is)
+    ∙ table_right kept.grid Across inner.across.items c.args.cell no_light (subst (λ lights. IsLightTable kept.grid lights Across inner.across.items) kept.whole kept.by_row)
+    ∙ ap (λ lights. index_through lights Across c.args.cell) (sym kept.whole ∙ c.self.view_is)

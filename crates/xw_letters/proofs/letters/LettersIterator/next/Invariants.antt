@@ -4,7 +4,7 @@ use Rattle.xw_letters.proofs.letters.LettersIterator.next.Given as goal
 
 -- the letters still to come are the same as at the start
 abbrev pub invariant-loop-self : goal.invariant-loop-self
-invariant-loop-self l = letters_from l.self-inside.set l.self-inside.place ≡ l.fn.self
+invariant-loop-self l = letters_from l.self-inside.set l.self-inside.index ≡ l.fn.self
 
 abbrev pub decreases-loop-self : goal.decreases-loop-self
-decreases-loop-self l = 26 - l.self-inside.place
+decreases-loop-self l = 26 - l.self-inside.index

@@ -28,7 +28,7 @@ pub invariant_of-self-2 : goal.invariant_of-self-2
 invariant_of-self-2 c =
     let old = c.args.self.now in
     let now : State = record { grid = old.grid; words = c.strike_in.new.bank.words } in
-    let kept : IsKept now c.settle_word-self.new.net = c.settle_word-self.ensures.kept old.bank.words (word_struck c.args.word.now) (struck_edit old.grid old.bank.words c.strike_in.new.bank.words c.args.word.now c.in_ok-place.place c.in_ok-place.ensures.place c.in_ok-place.ensures.ok) old.kept.formed old.kept.settled in
+    let kept : IsKept now c.settle_word-self.new.net = c.settle_word-self.ensures.kept old.bank.words (word_struck c.args.word.now) (struck_edit old.grid old.bank.words c.strike_in.new.bank.words c.args.word.now c.in_ok-index.index c.in_ok-index.ensures.index c.in_ok-index.ensures.ok) old.kept.formed old.kept.settled in
     record {
       light_list = old.light_list;
       kept = kept;

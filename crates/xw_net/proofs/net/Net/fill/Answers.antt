@@ -7,7 +7,7 @@ use Rattle.xw_words.specs.Dictionary.{Entry, row}
 use Rattle.xw_letters.specs.Letter.{is_capital}
 use Rattle.xw_feas.specs.Board.{light_at}
 use Rattle.xw_feas.specs.Flags.{set_has}
-use Rattle.xw_net.specs.Marks.{IsPlace, slot_at, known, IsPosition, IsReady}
+use Rattle.xw_net.specs.Marks.{IsPositionIn, slot_at, known, IsSetting, IsReady}
 use Rattle.xw_net.specs.Base.{base_bits}
 use Rattle.xw_net.specs.Spread.{bits_in}
 use Rattle.xw_net.specs.Worklist.{is_marked}
@@ -41,7 +41,7 @@ strip_queued-requires-clause-queue g c =
 
 pub returns-clause-filled : goal.returns-clause-filled
 unfolding word_stands letter_stands held_in restart_in pending_in queued_in
-returns-clause-filled g c dictionary position =
+returns-clause-filled g c dictionary setting =
     let board = c.args.board.now in
     let old = c.args.self.now in
     let fresh = c.requires.fresh in
@@ -53,25 +53,25 @@ returns-clause-filled g c dictionary position =
     let start : Net = record old { base = with_items old.base c.read_marked.new.base; letters = with_items old.letters c.fill_letters.new.letters; chain = c.mark_all.new.chain } in
     let is_base : IsBase board dictionary start.base.items = λ light lt.
     ap (λ (rows : List RowOfBits). bits_in rows light) base_is
-    ∙ c.read_marked.ensures.on light lt (or_left (is_marked c.mark_all.new.chain.marks light) false (c.mark_all.ensures.all light lt)) (λ place some. let never : None ≡ Some (length (light_at board light), place) = some in cc)
-    ∙ ap (base_bits board (light_at board light)) (position.read (length (light_at board light))) in
-    let held_far : (light place letter : ℕ) → IsPlace c.args.board.now light place → is_capital letter ≡ true → known c.args.board.now dictionary light ≤ held_in c.args.self.now (slot_at c.args.board.now light place) letter =
-    λ light place letter here capital. omega (arith, fresh.held light place letter here capital, known_few dictionary (length (light_at board light)) position.words) in
+    ∙ c.read_marked.ensures.on light lt (or_left (is_marked c.mark_all.new.chain.marks light) false (c.mark_all.ensures.all light lt)) (λ position some. let never : None ≡ Some (length (light_at board light), position) = some in cc)
+    ∙ ap (base_bits board (light_at board light)) (setting.read (length (light_at board light))) in
+    let held_far : (light position letter : ℕ) → IsPositionIn c.args.board.now light position → is_capital letter ≡ true → known c.args.board.now dictionary light ≤ held_in c.args.self.now (slot_at c.args.board.now light position) letter =
+    λ light position letter here capital. omega (arith, fresh.held light position letter here capital, known_few dictionary (length (light_at board light)) setting.words) in
     let words_read : (light : ℕ) → length (g.R.Rows.entries c.args.rows.now (length (light_at c.args.board.now light))) ≡ length (row dictionary (length (light_at c.args.board.now light))) =
-    λ light. ap (λ (words : List Entry). length words) (position.read (length (light_at board light))) in
+    λ light. ap (λ (words : List Entry). length words) (setting.read (length (light_at board light))) in
     let ready : IsReady board dictionary (marks_of back.new.self) =
-    brought_ready_all board entries dictionary position (marks_of start) (marks_of back.new.self) (is_marked back.new.self.chain.marks) (back.ensures.brought dictionary is_base)
+    brought_ready_all board entries dictionary setting (marks_of start) (marks_of back.new.self) (is_marked back.new.self.chain.marks) (back.ensures.brought dictionary is_base)
     (λ light lt. back.ensures.seeded light (c.mark_all.ensures.all light lt))
     fresh.words
     (λ cell letter. ap (λ s. set_has s cell letter) letters_is ∙ c.fill_letters.ensures.letters cell letter)
     held_far
     fresh.pending in
-    let position' = subst (λ e. IsPosition c.args.board.now e dictionary) (sym c.read_marked.ensures.entries) position in
+    let setting' = subst (λ e. IsSetting c.args.board.now e dictionary) (sym c.read_marked.ensures.entries) setting in
     let whole : IsWholeNet c.args.board.now (row dictionary) start = record {
       shaped = search rules;
       chained = search rules;
       bits = λ light lt. fresh.whole.bits light lt ∙ words_read light;
-      base = base_read board entries (row dictionary) start.base.items position.read (subst (HasBase c.args.board.now (g.R.Rows.entries c.args.rows.now)) (sym base_is) c.read_marked.ensures.base);
+      base = base_read board entries (row dictionary) start.base.items setting.read (subst (HasBase c.args.board.now (g.R.Rows.entries c.args.rows.now)) (sym base_is) c.read_marked.ensures.base);
       room = λ light lt. omega (arith, fresh.whole.room light lt, words_read light);
       base_room = λ light lt. omega (
         arith,
@@ -83,10 +83,10 @@ returns-clause-filled g c dictionary position =
       );
     } in
     roomier_filled last.new.self c.keep_counts.new.self c.keep_counts.ensures board dictionary
-    (last.ensures.filled dictionary position' (brought_unstripped board dictionary start back.new.self c.unmark.new.self whole is_base
+    (last.ensures.filled dictionary setting' (brought_unstripped board dictionary start back.new.self c.unmark.new.self whole is_base
     (c.unmark.ensures.shaped board back.ensures.shaped) (c.unmark.ensures.chained board back.ensures.chained)
     (back.ensures.bits (row dictionary) whole.bits) back.ensures.base c.unmark.ensures.empty back.ensures.row_room (is_marked back.new.self.chain.marks) (back.ensures.brought dictionary is_base)
-    ready (λ light place letter here capital lt. absurd (omega (arith, lt, held_far light place letter here capital))) fresh.pending c.unmark.ensures.rest c.unmark.ensures.marked))
+    ready (λ light position letter here capital lt. absurd (omega (arith, lt, held_far light position letter here capital))) fresh.pending c.unmark.ensures.rest c.unmark.ensures.marked))
 
 pub bring_back-requires-clause-chained : goal.bring_back-requires-clause-chained
 bring_back-requires-clause-chained g c = grind (arith, common_steps)

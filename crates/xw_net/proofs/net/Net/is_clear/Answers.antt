@@ -10,7 +10,7 @@ pub returns : goal.returns
 unfolding pending_in
 returns c clear letter =
     let sets = c.args.self.now.pending.items in
-    let here = c.place_of-here in
+    let here = c.position_of-here in
     let none : c.index.result.now ≡ 0 = eqb-true c.index.result.now 0 (ap (λ n. c.index.result.now == n) (sym c.new.ensures) ∙ sym c.is_same.ensures.set ∙ clear) in
     let is : c.index.result.now ≡ get_or sets here.result.slot 0 =
     c.index.ensures ∙ get_or_default sets here.result.slot c.index.result.now 0 (omega (arith, here.ensures.in_slots, c.requires.shaped.pending)) in

@@ -1,12 +1,12 @@
 use Rattle.std.proofs.Common.{◌≡◌, ◌⊎◌, ◌<◌, ◌≤◌, ℕ, true}
 use Rattle.xw_words.specs.Dictionary.{Dictionary}
-use Rattle.xw_net.specs.Marks.{IsHolding, IsSlot, IsPlace, IsPosition, IsHeld, cell_at}
+use Rattle.xw_net.specs.Marks.{IsHolding, IsSlot, IsPositionIn, IsSetting, IsHeld, cell_at}
 use Rattle.xw_net.specs.Due.{Measure, IsUnderway, and_light}
 use Rattle.xw_net.specs.Nets.{IsShaped, IsLeft, HasBits, Waits, left_of, marks_of, letter_stands, pending_in, queued_in}
 use Rattle.xw_net.proofs.net.Net.keep_light.Given as goal
 
-abbrev pub invariant-loop-place : goal.invariant-loop-place
-invariant-loop-place g l = record {
+abbrev pub invariant-loop-position : goal.invariant-loop-position
+invariant-loop-position g l = record {
   entered : l.self.entered.items ≡ l.fn.self.entered.items;
   same : g.R.Rows.entries l.rows ≡ g.R.Rows.entries l.fn.rows;
   risen : g.R.Rows.ticks l.fn.rows ≤ g.R.Rows.ticks l.rows;
@@ -15,10 +15,10 @@ invariant-loop-place g l = record {
   bits : HasBits l.board (g.R.Rows.entries l.fn.rows) l.self;
   fewer : left_of l.self ≤ left_of l.fn.self;
   waits : (other : ℕ) → Waits l.fn.self other → Waits l.self other;
-  held : (dictionary : Dictionary) → IsPosition l.board (g.R.Rows.entries l.fn.rows) dictionary → (place letter : ℕ) → IsPlace l.board l.light place → place < l.place
-      → letter_stands l.self (cell_at l.board l.light place) letter ≡ true → IsHeld l.board dictionary (marks_of l.self) l.light place letter;
-  holding : (dictionary : Dictionary) → IsPosition l.board (g.R.Rows.entries l.fn.rows) dictionary → IsHolding l.board dictionary (marks_of l.fn.self) → IsHolding l.board dictionary (marks_of l.self);
+  held : (dictionary : Dictionary) → IsSetting l.board (g.R.Rows.entries l.fn.rows) dictionary → (position letter : ℕ) → IsPositionIn l.board l.light position → position < l.position
+      → letter_stands l.self (cell_at l.board l.light position) letter ≡ true → IsHeld l.board dictionary (marks_of l.self) l.light position letter;
+  holding : (dictionary : Dictionary) → IsSetting l.board (g.R.Rows.entries l.fn.rows) dictionary → IsHolding l.board dictionary (marks_of l.fn.self) → IsHolding l.board dictionary (marks_of l.self);
   pending : (slot letter : ℕ) → pending_in l.self slot letter ≡ true → (pending_in l.fn.self slot letter ≡ true) ⊎ IsSlot l.board slot;
-  kept : (dictionary : Dictionary) (measure : Measure) → IsPosition l.board (g.R.Rows.entries l.fn.rows) dictionary → measure.member l.light ≡ true
+  kept : (dictionary : Dictionary) (measure : Measure) → IsSetting l.board (g.R.Rows.entries l.fn.rows) dictionary → measure.member l.light ≡ true
       → IsUnderway l.board dictionary measure (marks_of l.fn.self) (and_light (queued_in l.fn.self) l.light) (g.R.Rows.ticks l.fn.rows) → IsUnderway l.board dictionary measure (marks_of l.self) (and_light (queued_in l.self) l.light) (g.R.Rows.ticks l.rows);
 }

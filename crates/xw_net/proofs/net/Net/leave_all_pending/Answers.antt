@@ -5,7 +5,7 @@ use Rattle.xw_feas.specs.Board.{light_at}
 use Rattle.xw_feas.specs.Flags.{set_has}
 use Rattle.xw_net.specs.Marks.{side_of}
 use Rattle.xw_net.specs.Nets.{pending_in, queued_in}
-use Rattle.xw_net.proofs.Stripping.SearchPlaces.{with_letters}
+use Rattle.xw_net.proofs.Stripping.SearchStarts.{with_letters}
 use Rattle.xw_net.specs.Worklist.{is_marked}
 use Rattle.xw_net.proofs.Lists.ListsOfLights.{waits_grow}
 use Rattle.xw_net.proofs.Lists.QueuedLights.{queued_more, grown_longer}

@@ -1,7 +1,7 @@
 use Rattle.std.proofs.Common.{◌≡◌, ℕ, Bool, false, List, length, Some, get_or, slice_get, refl, sym, ap, ◌∙◌, arith}
 use Rattle.std.proofs.lemmas.List.{get_or_default}
 use Rattle.std.proofs.lemmas.Option.{slice_get_read}
-use Rattle.xw_bits.proofs.PlaceLemmas.{within_row}
+use Rattle.xw_bits.proofs.SetBitLemmas.{within_row}
 use Rattle.xw_net.specs.Nets.{bits_at, bits_for}
 use Rattle.xw_net.proofs.Nets.SettledNets.{stands_shaped}
 use Rattle.xw_net.proofs.Nets.FirstFlag.{first_listed, first_entered, first_nowhere}
@@ -18,13 +18,13 @@ pub returns-in-Some : goal.returns-in-Some
 returns-in-Some c =
     let net = c.args.self.now in
     let light = c.args.light in
-    let place = c.in-Some.place in
+    let index = c.in-Some.index in
     let shaped = stands_shaped c.args.lights.now net light c.requires.settled c.requires.light in
     let row_is : slice_get net.rows.items light ≡ Some c.index-row.result.now = slice_get_read net.rows.items (length net.rows.items) light c.index-row.result.now refl shaped.0 c.index-row.ensures in
     let bits : bits_for net light ≡ c.index-row.result.now.bits = ap bits_at row_is in
-    sym (first_listed c.args.lights.now net light c.requires.light c.args.from place
-    (omega (arith, within_row c.index-row.result.now.bits place c.in-Some.ensures.set.1, ap (λ (b : List Bool). length b) bits)) c.in-Some.ensures.set.0
-    (ap (λ (b : List Bool). get_or b place false) bits ∙ c.in-Some.ensures.set.1)
+    sym (first_listed c.args.lights.now net light c.requires.light c.args.from index
+    (omega (arith, within_row c.index-row.result.now.bits index c.in-Some.ensures.set.1, ap (λ (b : List Bool). length b) bits)) c.in-Some.ensures.set.0
+    (ap (λ (b : List Bool). get_or b index false) bits ∙ c.in-Some.ensures.set.1)
     (λ k low high. ap (λ (b : List Bool). get_or b k false) bits ∙ c.in-Some.ensures.first k low high))
 
 pub returns-then-index : goal.returns-then-index

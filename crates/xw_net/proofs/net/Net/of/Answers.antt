@@ -3,7 +3,7 @@ use Rattle.xw_words.specs.Dictionary.{Dictionary, row}
 use Rattle.xw_feas.specs.Board.{Board, board_of}
 use Rattle.xw_feas.specs.WellFormed.{HasLetterEntries}
 use Rattle.xw_feas.proofs.FormedLemmas.{laid_out}
-use Rattle.xw_net.specs.Marks.{IsPosition}
+use Rattle.xw_net.specs.Marks.{IsSetting}
 use Rattle.xw_net.specs.Room.{counts_of, HasRoom}
 use Rattle.xw_net.specs.Net.{HasRoomIn, known_counts}
 use Rattle.xw_net.specs.Blank.{IsBlank}
@@ -28,14 +28,14 @@ pub returns-clause-settled : goal.returns-clause-settled
 returns-clause-settled c =
     let grid = c.args.grid.now in
     let letters = subst HasLetterEntries c.new.ensures c.fill.ensures.letters in
-    let position : IsPosition (board_of c.args.grid.now) (row c.new-rows.result.words) c.args.bank.now.words = record {
+    let setting : IsSetting (board_of c.args.grid.now) (row c.new-rows.result.words) c.args.bank.now.words = record {
       laid_out = laid_out grid c.well_formed-2.ensures letters;
       apart = slots_apart grid;
       words = c.known_distinct.ensures;
       read = λ len. ap (λ (d : Dictionary). row d len) c.new-rows.ensures.words;
     } in
     filled_settled grid c.args.bank.now.words c.fill.new.self (subst (λ (b : Board). IsFilled b c.args.bank.now.words c.fill.new.self) c.new.ensures
-    (c.fill.ensures.filled c.args.bank.now.words (subst (λ (b : Board). IsPosition b (row c.new-rows.result.words) c.args.bank.now.words) (sym c.new.ensures) position)))
+    (c.fill.ensures.filled c.args.bank.now.words (subst (λ (b : Board). IsSetting b (row c.new-rows.result.words) c.args.bank.now.words) (sym c.new.ensures) setting)))
 
 pub returns-clause-room : goal.returns-clause-room
 returns-clause-room c =

@@ -5,7 +5,7 @@ use Rattle.xw_feas.specs.Flags.{set_has}
 use Rattle.xw_net.specs.Opened.{Arrays, arrays_of, IsOpening}
 use Rattle.xw_net.specs.Opened.IsTouched.{by_word}
 use Rattle.xw_net.specs.Opened.MayGain.{if_touched, if_queued}
-use Rattle.xw_net.specs.Spread.{no_places}
+use Rattle.xw_net.specs.Spread.{no_positions}
 use Rattle.xw_net.specs.Worklist.{ListOfLights}
 use Rattle.xw_net.specs.Begin.{HasLength, Prepares}
 use Rattle.xw_net.specs.Change.{word_of, fields_of}
@@ -42,11 +42,11 @@ returns-clause-opening g c =
       new_marked = λ light is. p.ensures.chain.more light (t.ensures.new_marked light is);
       edited = λ listed has. let edited = t.ensures.edited listed has in record {
         may = edited.may;
-        queued = λ light place here at. p.ensures.queue.more light (edited.queued light place here at);
+        queued = λ light position here at. p.ensures.queue.more light (edited.queued light position here at);
         all = edited.all;
-        marked = λ filled light place here at. p.ensures.chain.more light (edited.marked filled light place here at);
+        marked = λ filled light position here at. p.ensures.chain.more light (edited.marked filled light position here at);
       };
-      spread = spread_grows board (set_has c.deref_mut.result.now) (set_has c.touch.new.letters) c.touch.new.chain c.prepare.new.chain no_places p.ensures.chain t.ensures.spread;
+      spread = spread_grows board (set_has c.deref_mut.result.now) (set_has c.touch.new.letters) c.touch.new.chain c.prepare.new.chain no_positions p.ensures.chain t.ensures.spread;
       freed = t.ensures.freed;
       prepared = subst (λ w. Prepares board (g.R.Rows.entries c.args.rows.now) w c.deref_mut-3.result.now c.prepare.new.words c.deref_mut-2.result.now c.prepare.new.base c.prepare.new.queue c.prepare.new.chain) c.word.ensures p.ensures.prepared;
       queued_within = λ member start these. p.ensures.queued_within member (t.ensures.queued_within member start these) (λ light is. these light (by_word (long light is)));

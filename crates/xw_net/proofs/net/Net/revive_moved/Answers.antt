@@ -7,7 +7,7 @@ use Rattle.xw_feas.specs.State.{State, Action}
 use Rattle.xw_net.specs.declared.net.Net.{Net}
 use Rattle.xw_net.specs.Change.{word_of, fields_of, Fields, IsChange, AreReadsOf}
 use Rattle.xw_net.specs.Revival.{IsMatching, same_light}
-use Rattle.xw_net.specs.Marks.{IsPosition}
+use Rattle.xw_net.specs.Marks.{IsSetting}
 use Rattle.xw_net.specs.Nets.{marks_of, word_stands, letter_stands, held_in, restart_in, pending_in, queued_in, IsQueue}
 use Rattle.xw_net.specs.Worklist.{is_marked}
 use Rattle.xw_net.specs.Brought.{IsBase, IsBegun, IsReadyBut, base_cost}
@@ -23,9 +23,9 @@ use Rattle.xw_net.proofs.Revivals.UnstrippedNet.{brought_unstripped}
 use Rattle.xw_net.proofs.Costs.CostBounds.{revival-is}
 use Rattle.xw_net.proofs.net.Net.revive_moved.Goals as goal
 
-position_of : (before now : State) (action : Action) (change : Fields) (board : Board) (entries : ℕ → List Entry) → board ≡ board_of now.grid → AreReadsOf entries now.words → IsChange before now action change → IsPosition board entries now.words
-position_of before now action change board entries same read is =
-    subst (λ b. IsPosition b entries now.words) (sym same) (record { laid_out = is.formed_now.board; apart = slots_apart now.grid; words = is.formed_now.dictionary; read = read })
+setting_of : (before now : State) (action : Action) (change : Fields) (board : Board) (entries : ℕ → List Entry) → board ≡ board_of now.grid → AreReadsOf entries now.words → IsChange before now action change → IsSetting board entries now.words
+setting_of before now action change board entries same read is =
+    subst (λ b. IsSetting b entries now.words) (sym same) (record { laid_out = is.formed_now.board; apart = slots_apart now.grid; words = is.formed_now.dictionary; read = read })
 
 matching_of : (before now : State) (board : Board) → board ≡ board_of now.grid → now.grid.width ≡ before.grid.width → IsMatching (board_of before.grid) board (same_light before.grid now.grid)
 matching_of before now board same wide = subst (λ b. IsMatching (board_of before.grid) b (same_light before.grid now.grid)) (sym same) (same_is_matching before.grid now.grid wide)
@@ -55,13 +55,13 @@ unfolding word_stands letter_stands held_in restart_in pending_in queued_in is_m
 returns-clause-revived g c before words action settled read is filled moved room base_room =
     let board = c.args.board.now in
     let opened = c.begin.ensures.opened before words action settled read is filled moved in
-    let position = position_of before (record { grid = c.args.grid.now; words = words }) action (fields_of c.args.lights.now c.args.change.now) c.args.board.now (g.R.Rows.entries c.args.rows.now) c.requires.boards read is in
+    let setting = setting_of before (record { grid = c.args.grid.now; words = words }) action (fields_of c.args.lights.now c.args.change.now) c.args.board.now (g.R.Rows.entries c.args.rows.now) c.requires.boards read is in
     let is_base = base_of before (record { grid = c.args.grid.now; words = words }) action settled c.begin.new.self c.args.board.now c.requires.boards opened in
     let begun = begun_of before (record { grid = c.args.grid.now; words = words }) action settled c.begin.new.self c.args.board.now c.requires.boards opened in
     let covers = c.bring_back.ensures.covers (board_of before.grid) before.words words (same_light before.grid c.args.grid.now) (word_stands settled) (letter_stands settled) is_base
     (matching_of before (record { grid = c.args.grid.now; words = words }) c.args.board.now c.requires.boards is.width) filled.exact begun in
     let start = ready_of before (record { grid = c.args.grid.now; words = words }) action settled c.begin.new.self c.args.board.now c.requires.boards opened in
-    let ready = c.bring_back.ensures.ready (g.R.Rows.entries c.args.rows.now) words position is_base start covers in
+    let ready = c.bring_back.ensures.ready (g.R.Rows.entries c.args.rows.now) words setting is_base start covers in
     let words_read : (light : ℕ) → length (g.R.Rows.entries c.args.rows.now (length (light_at c.args.board.now light))) ≡ length (row words (length (light_at c.args.board.now light))) =
     λ light. ap (λ (entries : List Entry). length entries) (read (length (light_at board light))) in
     let whole : IsWholeNet c.args.board.now (row words) c.begin.new.self = record {

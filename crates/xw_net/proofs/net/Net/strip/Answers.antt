@@ -4,7 +4,7 @@ use Rattle.xw_feas.specs.Board.{Board, board_of, light_at}
 use Rattle.xw_feas.specs.State.{State}
 use Rattle.xw_feas.specs.WellFormed.{IsWellFormed}
 use Rattle.xw_net.specs.Change.{AreReadsOf}
-use Rattle.xw_net.specs.Marks.{IsPosition, IsReady}
+use Rattle.xw_net.specs.Marks.{IsSetting, IsReady}
 use Rattle.xw_net.specs.Due.{IsClosed, HasQueued, set_cost}
 use Rattle.xw_net.specs.Nets.{marks_of, letter_stands}
 use Rattle.xw_net.specs.Steps.{IsStrippable}
@@ -15,26 +15,26 @@ use Rattle.xw_net.proofs.Costs.CostBounds.{stripping-is}
 use Rattle.xw_net.proofs.Nets.SettledNets.{filled_settled}
 use Rattle.xw_net.proofs.net.Net.strip.Goals as goal
 
-position_of : (state : State) (board : Board) (entries : ℕ → List Entry) → board ≡ board_of state.grid → AreReadsOf entries state.words → IsWellFormed state → IsPosition board entries state.words
-position_of state board entries same read formed =
-    subst (λ b. IsPosition b entries state.words) (sym same) (record { laid_out = formed.board; apart = slots_apart state.grid; words = formed.dictionary; read = read })
+setting_of : (state : State) (board : Board) (entries : ℕ → List Entry) → board ≡ board_of state.grid → AreReadsOf entries state.words → IsWellFormed state → IsSetting board entries state.words
+setting_of state board entries same read formed =
+    subst (λ b. IsSetting b entries state.words) (sym same) (record { laid_out = formed.board; apart = slots_apart state.grid; words = formed.dictionary; read = read })
 
 pub strip_queued-requires-clause-net : goal.strip_queued-requires-clause-net
 strip_queued-requires-clause-net g c = subst (λ b. IsStrippable b (g.R.Rows.entries c.args.rows.now) c.args.self.now) (sym c.new-board.ensures) (record { shaped = c.requires.shaped; bits = c.requires.bits })
 
 pub returns-clause-settled : goal.returns-clause-settled
 returns-clause-settled g c words read formed unstripped =
-    let position = position_of (record { grid = c.args.grid.now; words = words }) c.new-board.result (g.R.Rows.entries c.args.rows.now) c.new-board.ensures read formed in
+    let setting = setting_of (record { grid = c.args.grid.now; words = words }) c.new-board.result (g.R.Rows.entries c.args.rows.now) c.new-board.ensures read formed in
     filled_settled c.args.grid.now words c.strip_queued.new.self (subst (λ b. IsFilled b words c.strip_queued.new.self) c.new-board.ensures
-    (c.strip_queued.ensures.filled words position (subst (λ b. IsUnstripped b words c.args.self.now) (sym c.new-board.ensures) unstripped)))
+    (c.strip_queued.ensures.filled words setting (subst (λ b. IsUnstripped b words c.args.self.now) (sym c.new-board.ensures) unstripped)))
 
 pub returns-clause-cost : goal.returns-clause-cost
 returns-clause-cost g c before words action member read formed revived region =
-    let position = position_of (record { grid = c.args.grid.now; words = words }) c.new-board.result (g.R.Rows.entries c.args.rows.now) c.new-board.ensures read formed in
+    let setting = setting_of (record { grid = c.args.grid.now; words = words }) c.new-board.result (g.R.Rows.entries c.args.rows.now) c.new-board.ensures read formed in
     let ready = revived.unstripped.ready in
     let closed = region_is_closed before (record { grid = c.args.grid.now; words = words }) action member _ _ region ready.sound.within in
     let back = sym c.new-board.ensures in
-    let stripping = c.strip_queued.ensures.cost words (λ light. member (light_at c.new-board.result light)) position (subst (λ b. IsReady b words (marks_of c.args.self.now)) back ready)
+    let stripping = c.strip_queued.ensures.cost words (λ light. member (light_at c.new-board.result light)) setting (subst (λ b. IsReady b words (marks_of c.args.self.now)) back ready)
     (subst (λ b. IsClosed b words (λ light. member (light_at b light)) (letter_stands c.args.self.now)) back closed)
     (subst (λ b. HasQueued b (λ light. member (light_at b light)) (marks_of c.args.self.now)) back (λ light in_board on. revived.queued member region light on)) in
     omega (arith, stripping, ap (λ b. set_cost b words (λ light. member (light_at b light))) c.new-board.ensures, stripping-is (record { grid = c.args.grid.now; words = words }) member)

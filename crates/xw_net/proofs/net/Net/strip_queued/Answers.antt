@@ -9,7 +9,7 @@ use Rattle.xw_net.specs.Worklist.{ListOfLights, is_marked, is_waiting}
 use Rattle.xw_net.proofs.Lists.ListsOfLights.{waiting-none, waits_taken}
 use Rattle.xw_net.specs.Brought.{HasBase, IsBase}
 use Rattle.xw_net.specs.declared.net.Net.{Net}
-use Rattle.xw_net.specs.Marks.{IsHolding, IsPosition, IsSettledNet, IsSlot}
+use Rattle.xw_net.specs.Marks.{IsHolding, IsSetting, IsSettledNet, IsSlot}
 use Rattle.xw_net.specs.Due.{Measure, IsUnderway, due, set_cost}
 use Rattle.xw_net.specs.Nets.{IsLeft, HasBits, IsQueue, left_of, marks_of, word_stands, letter_stands, held_in, restart_in, pending_in, queued_in}
 use Rattle.xw_net.proofs.Costs.DueTicks.{due-bound}
@@ -64,8 +64,8 @@ loop-light-init g c =
       bits = c.requires.net.bits;
       queue = c.requires.queue;
       pending = λ slot letter pends. inl pends;
-      holding = λ dictionary position holding. holding;
-      kept = λ dictionary measure position under. under;
+      holding = λ dictionary setting holding. holding;
+      kept = λ dictionary measure setting under. under;
     }
 
 pub loop-light-preserved : goal.loop-light-preserved
@@ -85,10 +85,10 @@ loop-light-preserved g c =
       queue = subst (λ (n : Net). IsQueue n) (sym e) (λ light. k.ensures.waits light (λ apart is.
           waits_taken c.loop-light.self.queue.lights c.take_turn.new.self.lights c.in-Some.light light c.in-Some.ensures.taken apart (inv.queue light (ap (λ marks. get_or marks light false) (sym (ap (λ (l : ListOfLights). l.marks) c.take_turn.ensures.rest)) ∙ is))));
       pending = λ slot letter pends. elim (k.ensures.pending slot letter (sym (ap (λ (n : Net). pending_in n slot letter) e) ∙ pends)) [ inl before ↦ inv.pending slot letter before | inr at ↦ inr at ];
-      holding = λ dictionary position holding.
-          subst (λ (n : Net). IsHolding c.args.board.now dictionary (marks_of n)) (sym e) (k.ensures.holding dictionary (subst (λ e. IsPosition c.args.board.now e dictionary) (sym inv.same) position) (inv.holding dictionary position holding));
-      kept = λ dictionary measure position under.
-          subst (λ (n : Net). IsUnderway c.args.board.now dictionary measure (marks_of n) (queued_in n) (g.R.Rows.ticks k.new.rows)) (sym e) (k.ensures.kept dictionary measure (subst (λ e. IsPosition c.args.board.now e dictionary) (sym inv.same) position) (subst (λ (q : ListOfLights). IsUnderway c.args.board.now dictionary measure (marks_of (record c.loop-light.self { queue = q })) (queued_in (record c.loop-light.self { queue = q })) (g.R.Rows.ticks c.loop-light.rows)) (sym c.take_turn.ensures.rest) (inv.kept dictionary measure position under)));
+      holding = λ dictionary setting holding.
+          subst (λ (n : Net). IsHolding c.args.board.now dictionary (marks_of n)) (sym e) (k.ensures.holding dictionary (subst (λ e. IsSetting c.args.board.now e dictionary) (sym inv.same) setting) (inv.holding dictionary setting holding));
+      kept = λ dictionary measure setting under.
+          subst (λ (n : Net). IsUnderway c.args.board.now dictionary measure (marks_of n) (queued_in n) (g.R.Rows.ticks k.new.rows)) (sym e) (k.ensures.kept dictionary measure (subst (λ e. IsSetting c.args.board.now e dictionary) (sym inv.same) setting) (subst (λ (q : ListOfLights). IsUnderway c.args.board.now dictionary measure (marks_of (record c.loop-light.self { queue = q })) (queued_in (record c.loop-light.self { queue = q })) (g.R.Rows.ticks c.loop-light.rows)) (sym c.take_turn.ensures.rest) (inv.kept dictionary measure setting under)));
     }
 
 none_wait : (g : Over) (c : goal.In_default g) → c.take_turn.new.self.lights ≡ []
@@ -106,7 +106,7 @@ still_holding g c = c.loop-light.invariant.holding
 
 settles : (g : Over) (c : goal.In_default g) → SettlesMarks c.args.board.now (g.R.Rows.entries c.args.rows.now) c.args.self.now (record c.loop-light.self { queue = c.take_turn.new.self })
 unfolding word_stands letter_stands held_in restart_in pending_in queued_in
-settles g c dictionary position ready =
+settles g c dictionary setting ready =
     let board = c.args.board.now in
     let old = c.args.self.now in
     let ticks = g.R.Rows.ticks c.args.rows.now in
@@ -114,9 +114,9 @@ settles g c dictionary position ready =
     let measure : Measure = record { member = λ light. true; letters = letter_stands old; budget = ticks + due board dictionary (λ light. true) (marks_of old) } in
     let start : IsUnderway board dictionary measure (marks_of old) (queued_in old) ticks = record {
       kept = ready;
-      paid = record { closed = λ light place other other_place letter here there meets stands lost has. refl; within = omega arith; queued = λ light lt h. refl; fewer = λ cell letter h. h };
+      paid = record { closed = λ light position other other_position letter here there meets stands lost has. refl; within = omega arith; queued = λ light lt h. refl; fewer = λ cell letter h. h };
     } in
-    let under = inv.kept dictionary measure position start in
+    let under = inv.kept dictionary measure setting start in
     subst (λ (q : ListOfLights). IsSettledNet c.args.board.now dictionary (marks_of (record c.loop-light.self { queue = q }))) (sym c.take_turn.ensures.rest)
     (settled_net board dictionary (marks_of c.loop-light.self) under.kept (λ light lt.
     false_from_ne_true (queued_in c.loop-light.self light) (λ is.
@@ -124,20 +124,20 @@ settles g c dictionary position ready =
 
 none_pending : (g : Over) (c : goal.In_default g) → LeavesNonePending c.args.board.now (g.R.Rows.entries c.args.rows.now) c.args.self.now (record c.loop-light.self { queue = c.take_turn.new.self })
 unfolding word_stands letter_stands held_in restart_in pending_in queued_in
-none_pending g c dictionary position ready placed slot letter =
+none_pending g c dictionary setting ready at_slots slot letter =
     let last = c.loop-light.self in
     false_from_ne_true (pending_in last slot letter) (λ pends.
-    let at : IsSlot c.args.board.now slot = elim (c.loop-light.invariant.pending slot letter pends) [ inl before ↦ placed slot letter before | inr at ↦ at ] in
-    both_ways (pending_in last slot letter) (ap (λ s. pending_in last s letter) (sym at.3) ∙ (settles g c dictionary position ready).none_pending at.0 at.1 letter at.2) pends)
+    let at : IsSlot c.args.board.now slot = elim (c.loop-light.invariant.pending slot letter pends) [ inl before ↦ at_slots slot letter before | inr at ↦ at ] in
+    both_ways (pending_in last slot letter) (ap (λ s. pending_in last s letter) (sym at.3) ∙ (settles g c dictionary setting ready).none_pending at.0 at.1 letter at.2) pends)
 
 leaves_feasible : (g : Over) (c : goal.In_default g) → LeavesFeasible c.args.board.now (g.R.Rows.entries c.args.rows.now) c.args.self.now (record c.loop-light.self { queue = c.take_turn.new.self })
 unfolding word_stands letter_stands held_in restart_in pending_in queued_in
-leaves_feasible g c dictionary position ready =
-    settled_exact c.args.board.now (g.R.Rows.entries c.args.rows.now) dictionary position (marks_of (record c.loop-light.self { queue = c.take_turn.new.self })) (settles g c dictionary position ready)
+leaves_feasible g c dictionary setting ready =
+    settled_exact c.args.board.now (g.R.Rows.entries c.args.rows.now) dictionary setting (marks_of (record c.loop-light.self { queue = c.take_turn.new.self })) (settles g c dictionary setting ready)
 
 pub returns-clause-filled : goal.returns-clause-filled
 unfolding word_stands letter_stands held_in restart_in pending_in queued_in
-returns-clause-filled g c dictionary position from =
+returns-clause-filled g c dictionary setting from =
     let board = c.args.board.now in
     let old = c.args.self.now in
     let last : Net = record c.loop-light.self { queue = c.take_turn.new.self } in
@@ -148,16 +148,16 @@ returns-clause-filled g c dictionary position from =
       whole = record {
         shaped = search rules;
         chained = left_chained board old last rest from.whole.chained;
-        bits = λ light lt. inv.bits light lt ∙ ap length (position.read (length (light_at board light)));
+        bits = λ light lt. inv.bits light lt ∙ ap length (setting.read (length (light_at board light)));
         base = subst (HasBase c.args.board.now (row dictionary)) (sym base) from.whole.base;
         room = λ light lt. omega (arith, from.whole.room light lt, rest.rows light);
         base_room = λ light lt. omega (arith, from.whole.base_room light lt, ap (λ rows. (row_at rows light).room) base);
       };
       is_base = subst (IsBase c.args.board.now dictionary) (sym base) from.is_base;
-      settled = settles g c dictionary position from.ready;
-      holding = still_holding g c dictionary position from.holding;
-      exact = leaves_feasible g c dictionary position from.ready;
-      pending = none_pending g c dictionary position from.ready (λ slot letter pends. absurd (both_ways (pending_in old slot letter) (from.pending slot letter) pends));
+      settled = settles g c dictionary setting from.ready;
+      holding = still_holding g c dictionary setting from.holding;
+      exact = leaves_feasible g c dictionary setting from.ready;
+      pending = none_pending g c dictionary setting from.ready (λ slot letter pends. absurd (both_ways (pending_in old slot letter) (from.pending slot letter) pends));
       quiet = record {
         queue = none_wait g c;
         queued = none_queued g c;
@@ -167,7 +167,7 @@ returns-clause-filled g c dictionary position from =
     }
 
 pub returns-clause-cost : goal.returns-clause-cost
-returns-clause-cost g c dictionary member position ready closed queued =
+returns-clause-cost g c dictionary member setting ready closed queued =
     let board = c.args.board.now in
     let old = c.args.self.now in
     let ticks = g.R.Rows.ticks c.args.rows.now in
@@ -176,5 +176,5 @@ returns-clause-cost g c dictionary member position ready closed queued =
       kept = ready;
       paid = record { closed = closed; within = omega (arith, due-bound board dictionary (marks_of old) member); queued = queued; fewer = λ cell letter h. h };
     } in
-    let under = c.loop-light.invariant.kept dictionary measure position start in
+    let under = c.loop-light.invariant.kept dictionary measure setting start in
     omega (arith, under.paid.within)

@@ -58,10 +58,10 @@ returns-then-at-2 c =
     let open_light : is_wholly_entered board (light_at board light) ≡ false = ap (is_wholly_entered board) (sym at) ∙ ap (λ b. is_wholly_entered b c.light-cells.result) (sym c.new-board.ensures) ∙ sym c.has_all_entries.ensures ∙ c.if-has_all_entries.false in
     let known : c.known-known.result ≡ length (known_words engine.bank.words (length (light_at board light))) = c.known-known.ensures.words ∙ ap (λ n. length (known_words engine.bank.words n)) (c.len.ensures ∙ ap length at) in
     let test : (k : ℕ) → k < length (known_words engine.bank.words (length (light_at board light))) → get_or row k false ≡ _ = λ k under. ap (λ r. get_or r k false) row_is ∙ listed_is board engine.bank.words engine.words.items engine.letters.items engine.exact engine.answered light k in_board under open_light in
-    let under : c.loop-place.place < length (known_words engine.bank.words (length (light_at board light))) = omega (arith, known, c.loop-place-test.true) in
-    next-listed board engine.bank.words (answers_of board engine.bank.words engine.words.items engine.letters.items) light c.args.from c.loop-place.place open_light c.loop-place.auto.place under
-    (sym (test c.loop-place.place under) ∙ sym c.at-in-loop-place.ensures ∙ c.if-at-2.true)
-    (λ k low high. sym (test k (omega arith)) ∙ c.loop-place.invariant k low high)
+    let under : c.loop-index.index < length (known_words engine.bank.words (length (light_at board light))) = omega (arith, known, c.loop-index-test.true) in
+    next-listed board engine.bank.words (answers_of board engine.bank.words engine.words.items engine.letters.items) light c.args.from c.loop-index.index open_light c.loop-index.auto.index under
+    (sym (test c.loop-index.index under) ∙ sym c.at-in-loop-index.ensures ∙ c.if-at-2.true)
+    (λ k low high. sym (test k (omega arith)) ∙ c.loop-index.invariant k low high)
 
 pub returns : goal.returns
 returns c =
@@ -77,7 +77,7 @@ returns c =
     let known : c.known-known.result ≡ length (known_words engine.bank.words (length (light_at board light))) = c.known-known.ensures.words ∙ ap (λ n. length (known_words engine.bank.words n)) (c.len.ensures ∙ ap length at) in
     let test : (k : ℕ) → k < length (known_words engine.bank.words (length (light_at board light))) → get_or row k false ≡ _ = λ k under. ap (λ r. get_or r k false) row_is ∙ listed_is board engine.bank.words engine.words.items engine.letters.items engine.exact engine.answered light k in_board under open_light in
     next-none_listed board engine.bank.words (answers_of board engine.bank.words engine.words.items engine.letters.items) light c.args.from open_light
-    (λ k low high. sym (test k high) ∙ c.loop-place.invariant k low (omega (arith, known, c.loop-place-test.false)))
+    (λ k low high. sym (test k high) ∙ c.loop-index.invariant k low (omega (arith, known, c.loop-index-test.false)))
 
 pub light-cells-requires : goal.light-cells-requires
 light-cells-requires c = omega (arith, c.requires, length-lights c.args.self.now.grid, ap (λ b. length b.lights) c.new-board.ensures)

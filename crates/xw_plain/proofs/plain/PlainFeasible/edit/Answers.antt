@@ -18,7 +18,7 @@ returns c =
           changes =
               ap spelled_out (c.changed.ensures ∙ ap (λ before. changed_sets new.grid before new.letters.items 0) c.in_ok-apply.ensures.before)
               ∙ changes_told new.grid old.letters.items new.letters.items (answers_of (board_of old.grid) old.bank.words old.words.items old.letters.items) (answers_of (board_of new.grid) new.bank.words new.words.items new.letters.items)
-              (λ place. sets_at (board_of old.grid) old.bank.words old.words.items old.letters.items place) (λ place. sets_at (board_of new.grid) new.bank.words new.words.items new.letters.items place);
+              (λ index. sets_at (board_of old.grid) old.bank.words old.words.items old.letters.items index) (λ index. sets_at (board_of new.grid) new.bank.words new.words.items new.letters.items index);
         },
       ),
       record { edited = tt },

@@ -1,5 +1,5 @@
 use Rattle.std.proofs.Common.{◌≡◌, ◌∙◌, ◌++◌, ℕ, List, Some, ap, subst}
-use Rattle.xw_grid.specs.Light.{lights_of, place_named}
+use Rattle.xw_grid.specs.Light.{lights_of, index_named}
 use Rattle.xw_lines.specs.Device.{Begins}
 use Rattle.std.proofs.lemmas.Result.{err_from_is_err_and}
 use Rattle.std.specs.Prelude.{length}
@@ -18,11 +18,11 @@ returns-in_err-write_counted-in-Some g c =
     let state = c.args.self.now in
     let words = c.in-Some.ensures.some in
     let all = feasible_words (position_of state.position) words.0 in
-    let placed : worded state (place_named (lights_of state.position.grid) (name_of_light c.args.named)) c.args.most ≡ worded state (Some words.0) c.args.most = ap (λ light. worded state light c.args.most) words.1 in
+    let at_light : worded state (index_named (lights_of state.position.grid) (name_of_light c.args.named)) c.args.most ≡ worded state (Some words.0) c.args.most = ap (λ light. worded state light c.args.most) words.1 in
     let lines : counted_lines c.in-Some.count (first_words c.args.most c.in-Some.found) ≡ counted_lines (length all) (first_words c.args.most all) =
     ap (λ count. counted_lines count (first_words c.args.most c.in-Some.found)) words.2 ∙ ap (λ (xs : List (List ℕ)). counted_lines (length all) (first_words c.args.most xs)) words.3 in
     let wrote = c.in_err-write_counted-in-Some.ensures in
-    rw e.1 (query_stops g.W.Sink.transcript g.W.Sink.failures state (commands.Words c.args.named c.args.most) (counted_lines (length all) (first_words c.args.most all)) _ _ _ placed
+    rw e.1 (query_stops g.W.Sink.transcript g.W.Sink.failures state (commands.Words c.args.named c.args.most) (counted_lines (length all) (first_words c.args.most all)) _ _ _ at_light
     (subst (λ (xs : List ℕ). Begins (g.W.Sink.transcript c.args.sink.now) (g.W.Sink.transcript c.write_counted.new.sink) xs) lines wrote.0, wrote.1))
 
 pub returns-in_ok-write_counted-in-Some : goal.returns-in_ok-write_counted-in-Some
@@ -30,11 +30,11 @@ returns-in_ok-write_counted-in-Some g c =
     let state = c.args.self.now in
     let words = c.in-Some.ensures.some in
     let all = feasible_words (position_of state.position) words.0 in
-    let placed : worded state (place_named (lights_of state.position.grid) (name_of_light c.args.named)) c.args.most ≡ worded state (Some words.0) c.args.most = ap (λ light. worded state light c.args.most) words.1 in
+    let at_light : worded state (index_named (lights_of state.position.grid) (name_of_light c.args.named)) c.args.most ≡ worded state (Some words.0) c.args.most = ap (λ light. worded state light c.args.most) words.1 in
     let lines : counted_lines c.in-Some.count (first_words c.args.most c.in-Some.found) ≡ counted_lines (length all) (first_words c.args.most all) =
     ap (λ count. counted_lines count (first_words c.args.most c.in-Some.found)) words.2 ∙ ap (λ (xs : List (List ℕ)). counted_lines (length all) (first_words c.args.most xs)) words.3 in
     let wrote = c.in_ok-write_counted-in-Some.ensures in
-    query_answers g.W.Sink.transcript g.W.Sink.failures state (commands.Words c.args.named c.args.most) (counted_lines (length all) (first_words c.args.most all)) _ _ _ _ placed
+    query_answers g.W.Sink.transcript g.W.Sink.failures state (commands.Words c.args.named c.args.most) (counted_lines (length all) (first_words c.args.most all)) _ _ _ _ at_light
     (subst (λ (xs : List ℕ). g.W.Sink.transcript c.write_counted.new.sink ≡ g.W.Sink.transcript c.args.sink.now ++ xs) lines wrote.0, wrote.1) c.end_answer.ensures.sends c.end_answer.ensures.step
 
 pub returns-in-None : goal.returns-in-None

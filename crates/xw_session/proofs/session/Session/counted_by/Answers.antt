@@ -1,5 +1,5 @@
 use Rattle.std.proofs.Common.{ℕ, ◌≡◌, length, Some, subst}
-use Rattle.xw_grid.specs.Light.{lights_of, place_named}
+use Rattle.xw_grid.specs.Light.{lights_of, index_named}
 use Rattle.xw_fill.specs.Position.{position_of}
 use Rattle.xw_fill.specs.FeasibleWords.{feasible_words}
 use Rattle.xw_session.specs.State.{State}
@@ -8,6 +8,6 @@ use Rattle.xw_session.proofs.session.Session.counted_by.Goals as goal
 
 pub returns-in-Ok-Ok-clause-some : goal.returns-in-Ok-Ok-clause-some
 returns-in-Ok-Ok-clause-some g c =
-    subst (λ (s : State). (light : ℕ) × (place_named (lights_of s.position.grid) c.args.name ≡ Some light)
+    subst (λ (s : State). (light : ℕ) × (index_named (lights_of s.position.grid) c.args.name ≡ Some light)
     × (c.in-Ok-Ok.count ≡ length (feasible_words (position_of s.position) light)) × (c.in-Ok-Ok.found ≡ feasible_words (position_of s.position) light)) c.self.view_is
     (counted (g.E.Feasible.state c.self.inside.engine) (g.E.Feasible.answers c.self.inside.engine) _ c.in-Ok-Ok.count c.in-Ok-Ok.found (g.met.E.Feasible.exact c.self.inside.engine) c.in-Ok-Ok.ensures c.in-Ok-Ok.ensures')

@@ -1,6 +1,6 @@
 use Rattle.std.proofs.Common.{◌≡◌, None, ap, ◌∙◌, subst}
 use Rattle.xw_grid.specs.Grid.{IsGrid}
-use Rattle.xw_grid.specs.Light.{lights_of, place_named}
+use Rattle.xw_grid.specs.Light.{lights_of, index_named}
 use Rattle.xw_feas.specs.State.{placed_in, with_grid}
 use Rattle.xw_session.specs.State.{State}
 use Rattle.xw_session.specs.Reply.{name_of_light, moved}
@@ -12,5 +12,5 @@ returns-in-None g c =
     let state = c.args.self.now in
     let grid_is : c.grid.result.now ≡ state.position.grid = c.grid.ensures ∙ ap (λ (s : State). s.position.grid) c.self.view_is in
     let formed : IsGrid state.position.grid = subst IsGrid grid_is c.well_formed-2.ensures in
-    let none : place_named (lights_of state.position.grid) (name_of_light c.args.named) ≡ None = no_such_number state.position.grid (name_of_light c.args.named) formed c.in-None.ensures.none in
-    ap (λ place. moved state (with_grid state.position (placed_in state.position.grid place c.args.word.now))) none
+    let none : index_named (lights_of state.position.grid) (name_of_light c.args.named) ≡ None = no_such_number state.position.grid (name_of_light c.args.named) formed c.in-None.ensures.none in
+    ap (λ light. moved state (with_grid state.position (placed_in state.position.grid light c.args.word.now))) none

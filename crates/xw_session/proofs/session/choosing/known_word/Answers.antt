@@ -11,15 +11,15 @@ word-requires g c =
     let size = light_size state.grid c.args.light c.light_at-size.result (in_grid_light state.grid c.args.light c.requires.light) c.light_at-size.ensures in
     let known : length (row c.bank.result.now.words c.light_at-size.result.size) ≡ length (row state.words c.light_at-size.result.size) = ap (λ (words : Dictionary). length (row words c.light_at-size.result.size)) c.bank.ensures in
     let many = length-map _ (λ (w : Entry). w.word) ∙ ap (λ n. length (row state.words n)) size in
-    omega (arith, c.requires.place, many, known)
+    omega (arith, c.requires.index, many, known)
 
 pub returns : goal.returns
 returns g c =
     let state = g.E.Feasible.state c.args.engine.now in
     let size = light_size state.grid c.args.light c.light_at-size.result (in_grid_light state.grid c.args.light c.requires.light) c.light_at-size.ensures in
     let known = row state.words (length (light_at (board_of state.grid) c.args.light)) in
-    let there : c.args.place < length known = omega (arith, c.requires.place, length-map known (λ (w : Entry). w.word)) in
+    let there : c.args.index < length known = omega (arith, c.requires.index, length-map known (λ (w : Entry). w.word)) in
     c.word.ensures.word
-    ∙ ap (λ (words : Dictionary). (entry_at (row words c.light_at-size.result.size) c.args.place).word) c.bank.ensures
-    ∙ ap (λ n. (entry_at (row state.words n) c.args.place).word) (sym size)
-    ∙ sym (get_or-map (λ (w : Entry). w.word) known c.args.place no_entry [] there)
+    ∙ ap (λ (words : Dictionary). (entry_at (row words c.light_at-size.result.size) c.args.index).word) c.bank.ensures
+    ∙ ap (λ n. (entry_at (row state.words n) c.args.index).word) (sym size)
+    ∙ sym (get_or-map (λ (w : Entry). w.word) known c.args.index no_entry [] there)

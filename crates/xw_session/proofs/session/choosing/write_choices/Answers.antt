@@ -31,15 +31,15 @@ pub loop-left-preserved : goal.loop-left-preserved
 loop-left-preserved g c =
     let start = g.E.Feasible.state c.args.engine.now in
     let light = c.args.light in
-    let place = c.in-Some.place in
+    let index = c.in-Some.index in
     let sent = c.loop-left.invariant.0 in
     let so_far = c.loop-left.invariant.1 in
-    let word = get_or (spellings_at (position_of start) light) place [] in
-    let next = subst (λ (s : State). IsNextWord (position_of s) light c.loop-left.from place) so_far.same c.in-Some.ensures in
-    let left : take c.loop-left.left (words_left (position_of start) light c.loop-left.from) ≡ word ∷ take (c.loop-left.left - 1) (words_left (position_of start) light (place + 1)) =
-    ap (take c.loop-left.left) (next_left (position_of start) light c.loop-left.from place next) ∙ take_next c.loop-left.left word (words_left (position_of start) light (place + 1)) c.loop-left-test.true in
+    let word = get_or (spellings_at (position_of start) light) index [] in
+    let next = subst (λ (s : State). IsNextWord (position_of s) light c.loop-left.from index) so_far.same c.in-Some.ensures in
+    let left : take c.loop-left.left (words_left (position_of start) light c.loop-left.from) ≡ word ∷ take (c.loop-left.left - 1) (words_left (position_of start) light (index + 1)) =
+    ap (take c.loop-left.left) (next_left (position_of start) light c.loop-left.from index next) ∙ take_next c.loop-left.left word (words_left (position_of start) light (index + 1)) c.loop-left-test.true in
     let wrote = c.in_ok-write_choice_at.ensures.sends in
-    let line = wrote.0 ∙ ap (λ (s : State). g.W.Sink.transcript c.loop-left.sink ++ choice_line s light (get_or (spellings_at (position_of s) light) place [])) so_far.same in (
+    let line = wrote.0 ∙ ap (λ (s : State). g.W.Sink.transcript c.loop-left.sink ++ choice_line s light (get_or (spellings_at (position_of s) light) index [])) so_far.same in (
       sent ++ choice_line start light word,
       record {
         same = c.write_choice_at.ensures.unchanged ∙ so_far.same;
@@ -63,11 +63,11 @@ returns-in_err-write_choice_at-clause-sends g c =
     let e = err_from_is_err_and c.from_residual.result c.from_residual.ensures.1 in
     let start = g.E.Feasible.state c.args.engine.now in
     let light = c.args.light in
-    let place = c.in-Some.place in
+    let index = c.in-Some.index in
     let so_far = c.loop-left.invariant.1 in
-    let word = get_or (spellings_at (position_of start) light) place [] in
-    let next = subst (λ (s : State). IsNextWord (position_of s) light c.loop-left.from place) so_far.same c.in-Some.ensures in
-    let left : take c.loop-left.left (words_left (position_of start) light c.loop-left.from) ≡ word ∷ take (c.loop-left.left - 1) (words_left (position_of start) light (place + 1)) =
-    ap (take c.loop-left.left) (next_left (position_of start) light c.loop-left.from place next) ∙ take_next c.loop-left.left word (words_left (position_of start) light (place + 1)) c.loop-left-test.true in
-    let stops = subst (λ (s : State). Begins (g.W.Sink.transcript c.loop-left.sink) (g.W.Sink.transcript c.write_choice_at.new.sink) (choice_line s light (get_or (spellings_at (position_of s) light) place [])) × HasFailed (g.W.Sink.failures c.loop-left.sink) (g.W.Sink.failures c.write_choice_at.new.sink)) so_far.same c.in_err-write_choice_at.ensures.sends in
+    let word = get_or (spellings_at (position_of start) light) index [] in
+    let next = subst (λ (s : State). IsNextWord (position_of s) light c.loop-left.from index) so_far.same c.in-Some.ensures in
+    let left : take c.loop-left.left (words_left (position_of start) light c.loop-left.from) ≡ word ∷ take (c.loop-left.left - 1) (words_left (position_of start) light (index + 1)) =
+    ap (take c.loop-left.left) (next_left (position_of start) light c.loop-left.from index next) ∙ take_next c.loop-left.left word (words_left (position_of start) light (index + 1)) c.loop-left-test.true in
+    let stops = subst (λ (s : State). Begins (g.W.Sink.transcript c.loop-left.sink) (g.W.Sink.transcript c.write_choice_at.new.sink) (choice_line s light (get_or (spellings_at (position_of s) light) index [])) × HasFailed (g.W.Sink.failures c.loop-left.sink) (g.W.Sink.failures c.write_choice_at.new.sink)) so_far.same c.in_err-write_choice_at.ensures.sends in
     rw e.1 (next_stops g.W.Sink.transcript g.W.Sink.failures (choice_line start light) c.args.sink.now c.loop-left.sink c.write_choice_at.new.sink c.loop-left.invariant.0 (choice_lines start light c.args.most) _ _ word so_far.transcript so_far.quiet so_far.left left stops)

@@ -9,23 +9,23 @@ pub returns-in_err-write_count_at : goal.returns-in_err-write_count_at
 returns-in_err-write_count_at g c =
     let e = err_from_is_err_and c.from_residual.result c.from_residual.ensures.1 in
     let state = g.E.Feasible.state c.args.engine.now in
-    let count = c.len-place-end.ensures.len ∙ ap length c.lights.ensures in
-    let inside : c.loop-place.place < length (lights_of state.grid) = omega (arith, c.loop-place-test.true, count) in
-    rw e.1 (stops_at g.W.Sink.transcript g.W.Sink.failures (count_line state) (length (lights_of state.grid)) _ _ _ c.loop-place.place inside (c.loop-place.invariant.transcript, c.loop-place.invariant.quiet) c.in_err-write_count_at.ensures)
+    let count = c.len-index-end.ensures.len ∙ ap length c.lights.ensures in
+    let inside : c.loop-index.index < length (lights_of state.grid) = omega (arith, c.loop-index-test.true, count) in
+    rw e.1 (stops_at g.W.Sink.transcript g.W.Sink.failures (count_line state) (length (lights_of state.grid)) _ _ _ c.loop-index.index inside (c.loop-index.invariant.transcript, c.loop-index.invariant.quiet) c.in_err-write_count_at.ensures)
 
-pub loop-place-preserved : goal.loop-place-preserved
-loop-place-preserved g c =
+pub loop-index-preserved : goal.loop-index-preserved
+loop-index-preserved g c =
     let state = g.E.Feasible.state c.args.engine.now in
-    let count = c.len-place-end.ensures.len ∙ ap length c.lights.ensures in
-    let inside : c.loop-place.place < length (lights_of state.grid) = omega (arith, c.loop-place-test.true, count) in
+    let count = c.len-index-end.ensures.len ∙ ap length c.lights.ensures in
+    let inside : c.loop-index.index < length (lights_of state.grid) = omega (arith, c.loop-index-test.true, count) in
     record {
-      transcript = one_more_sent g.W.Sink.transcript g.W.Sink.failures (count_line state) (length (lights_of state.grid)) _ _ _ c.loop-place.place inside c.loop-place.invariant.transcript c.in_ok-write_count_at.ensures.0;
-      quiet = c.in_ok-write_count_at.ensures.1 ∙ c.loop-place.invariant.quiet;
+      transcript = one_more_sent g.W.Sink.transcript g.W.Sink.failures (count_line state) (length (lights_of state.grid)) _ _ _ c.loop-index.index inside c.loop-index.invariant.transcript c.in_ok-write_count_at.ensures.0;
+      quiet = c.in_ok-write_count_at.ensures.1 ∙ c.loop-index.invariant.quiet;
     }
 
 pub returns : goal.returns
 returns g c =
     let state = g.E.Feasible.state c.args.engine.now in
-    let count = c.len-place-end.ensures.len ∙ ap length c.lights.ensures in
-    let past : length (lights_of state.grid) ≤ c.loop-place.place = omega (arith, c.loop-place-test.false, count) in
-    all_sent g.W.Sink.transcript g.W.Sink.failures (count_line state) (length (lights_of state.grid)) _ _ c.loop-place.place past (c.loop-place.invariant.transcript, c.loop-place.invariant.quiet)
+    let count = c.len-index-end.ensures.len ∙ ap length c.lights.ensures in
+    let past : length (lights_of state.grid) ≤ c.loop-index.index = omega (arith, c.loop-index-test.false, count) in
+    all_sent g.W.Sink.transcript g.W.Sink.failures (count_line state) (length (lights_of state.grid)) _ _ c.loop-index.index past (c.loop-index.invariant.transcript, c.loop-index.invariant.quiet)

@@ -3,7 +3,7 @@ use Rattle.std.proofs.lemmas.List.{take_more_set}
 use Rattle.xw_grid.specs.Grid.{entry}
 use Rattle.xw_grid.specs.Light.{step}
 use Rattle.xw_session.specs.Text.{letter_or_dot}
-use Rattle.xw_session.proofs.LightTexts.{one_more_made, pattern_by_places}
+use Rattle.xw_session.proofs.LightTexts.{one_more_made, pattern_by_positions}
 use Rattle.xw_session.proofs.text.Pattern.new.Goals as goal
 
 pub loop-k-preserved : goal.loop-k-preserved
@@ -20,4 +20,4 @@ loop-k-preserved c =
 pub returns : goal.returns
 returns c =
     let same : c.args.light.now.size ≡ c.loop-k.k = omega (arith, c.loop-k-test.false, c.loop-k.auto.k-end) in
-    ap (λ n. take n c.loop-k.bytes) same ∙ c.loop-k.invariant.is ∙ rw (← same) (sym (pattern_by_places c.args.grid.now c.args.light.now))
+    ap (λ n. take n c.loop-k.bytes) same ∙ c.loop-k.invariant.is ∙ rw (← same) (sym (pattern_by_positions c.args.grid.now c.args.light.now))

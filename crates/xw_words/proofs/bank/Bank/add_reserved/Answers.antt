@@ -1,6 +1,6 @@
 use Rattle.std.proofs.Common.{◌≡◌, ◌<◌, length, sym, ap, refl, ◌∙◌, true, false}
 use Rattle.std.specs.Prelude.{None, slice_index_or, [], ◌∷◌, ◌++◌}
-use Rattle.xw_words.specs.Dictionary.{row, place_in, most_words}
+use Rattle.xw_words.specs.Dictionary.{row, index_in, most_words}
 use Rattle.xw_words.proofs.DictionaryLemmas.{row_kept, IsKept-set, AreWords-push, entries_in-set, row-entries_in, room_within}
 use Rattle.xw_words.proofs.RoomLemmas.{KeepsOtherRoom-set}
 use Rattle.xw_words.proofs.bank.Bank.add_reserved.Goals as goal
@@ -21,20 +21,20 @@ invariant_of-self c =
     let small = room_within rows len c.self.invariant (ap (λ bank. slice_index_or bank.room len false) c.self.view_is ∙ c.requires.room) in
     let at = row_kept rows len old c.self.invariant small c.index_mut-row.ensures.value in
     let was : row c.args.self.now.words len ≡ old.entries = ap (λ bank. row bank.words len) (sym c.self.view_is) ∙ row-entries_in rows len old at.within c.index_mut-row.ensures.value in
-    let unknown : place_in old.entries word ≡ None = ap (λ es. place_in es word) (sym was) ∙ c.requires.unknown in
+    let unknown : index_in old.entries word ≡ None = ap (λ es. index_in es word) (sym was) ∙ c.requires.unknown in
     let few : length old.entries < most_words = c.add_reserved.ensures.few in
     IsKept-set rows len c.add_reserved.new.self c.self.invariant c.add_reserved.ensures.long (c.add_reserved.ensures.word_len ∙ at.len_is)
     (rw c.add_reserved.ensures.entries (AreWords-push len old.entries word at.words refl c.are_letters.ensures unknown few))
 
-pub returns-clause-place : goal.returns-clause-place
-returns-clause-place c =
+pub returns-clause-index : goal.returns-clause-index
+returns-clause-index c =
     let rows = c.self.inside.rows.items in
     let old = c.index_mut-row.result.now in
     let len = length c.args.word.now in
     let small = room_within rows len c.self.invariant (ap (λ bank. slice_index_or bank.room len false) c.self.view_is ∙ c.requires.room) in
     let at = row_kept rows len old c.self.invariant small c.index_mut-row.ensures.value in
     let was : row c.args.self.now.words len ≡ old.entries = ap (λ bank. row bank.words len) (sym c.self.view_is) ∙ row-entries_in rows len old at.within c.index_mut-row.ensures.value in
-    c.len-place.ensures.value ∙ ap (λ entries. length entries) (sym was)
+    c.len-index.ensures.value ∙ ap (λ entries. length entries) (sym was)
 
 pub returns-clause-words : goal.returns-clause-words
 returns-clause-words c =

@@ -7,12 +7,12 @@ use Rattle.xw_words.proofs.ColumnLemmas.{no_letter}
 use Rattle.xw_words.proofs.bank.Bank.column_of.Goals as goal
 
 pub returns-in-None-clause-none : goal.returns-in-None-clause-none
-returns-in-None-clause-none c = λ place.
+returns-in-None-clause-none c = λ index.
     let rows = c.self.inside.rows.items in
     let dictionary = map (λ (r : Row). r.entries) rows in
     let past : length rows ≤ c.args.len = omega (arith, c.in-None.ensures.lookup.3, c.deref.ensures.len) in
     let none : row dictionary c.args.len ≡ [] = get_or_past dictionary c.args.len [] (omega (arith, length-map rows (λ (r : Row). r.entries))) in
-    rw (← c.self.view_is) (ap (λ es. has_letter es c.args.position c.args.letter place) none ∙ no_letter [] c.args.position c.args.letter place (omega arith))
+    rw (← c.self.view_is) (ap (λ es. has_letter es c.args.position c.args.letter index) none ∙ no_letter [] c.args.position c.args.letter index (omega arith))
 
 pub returns-in-None-clause-within : goal.returns-in-None-clause-within
 returns-in-None-clause-within c = λ _.

@@ -4,7 +4,7 @@ use Rattle.std.specs.Vec.{with_items}
 use Rattle.std.proofs.lemmas.List.{with_items_is, length_push}
 use Rattle.xw_bits.specs.Bits.{RowOfBits}
 use Rattle.xw_words.specs.Row.{Row, entries_of}
-use Rattle.xw_words.specs.Dictionary.{place_in}
+use Rattle.xw_words.specs.Dictionary.{index_in}
 use Rattle.xw_words.specs.Index.{word_in, IsIndex, IsInserted}
 use Rattle.xw_words.specs.Columns.{column_at, bit_in}
 use Rattle.xw_words.proofs.RowLemmas.{length-entries_of}
@@ -16,28 +16,28 @@ push_word-requires-clause-room c =
     let r = c.self.inside in
     let kept = c.self.invariant in
     let some = room_is (length r.active.bits) r.reserved r.index.room c.args.self.now.room (ap (λ (row : Row). row.room) c.self.view_is) c.requires.room in
-    let P : List RowOfBits → Type 0 = λ columns. (i : ℕ) → i < length columns → c.len-place.result < (column_at columns i).room in
+    let P : List RowOfBits → Type 0 = λ columns. (i : ℕ) → i < length columns → c.len-index.result < (column_at columns i).room in
     let known : (n : ℕ) → n ≡ length r.active.bits → ((i : ℕ) → i < length r.columns.items → length r.active.bits < (column_at r.columns.items i).room) → (i : ℕ) → i < length r.columns.items → n < (column_at r.columns.items i).room =
     λ n e all i lt. omega (arith, e, all i lt) in
-    subst P (sym c.deref_mut.ensures.value) (known c.len-place.result c.len-place.ensures.value
+    subst P (sym c.deref_mut.ensures.value) (known c.len-index.result c.len-index.ensures.value
     (column_room r.word_len r.reserved r.letters.items r.active.bits r.columns.items (record { few = kept.column_count; all = kept.all_columns; bits = kept.columns; room = kept.columns_room }) some))
 
 pub push_word-requires-clause-long : goal.push_word-requires-clause-long
 push_word-requires-clause-long c =
     let r = c.self.inside in
     let kept = c.self.invariant in
-    let P : List RowOfBits → Type 0 = λ columns. (i : ℕ) → i < length columns → length (column_at columns i).bits ≡ 64 * ((c.len-place.result + 63) / 64) in
+    let P : List RowOfBits → Type 0 = λ columns. (i : ℕ) → i < length columns → length (column_at columns i).bits ≡ 64 * ((c.len-index.result + 63) / 64) in
     subst P (sym c.deref_mut.ensures.value) (λ i lt.
     column_long r.word_len r.reserved r.letters.items r.active.bits r.columns.items (record { few = kept.column_count; all = kept.all_columns; bits = kept.columns; room = kept.columns_room }) i lt
-    ∙ ap (λ n. 64 * ((n + 63) / 64)) (sym c.len-place.ensures.value))
+    ∙ ap (λ n. 64 * ((n + 63) / 64)) (sym c.len-index.ensures.value))
 
 pub push_word-requires-clause-clear : goal.push_word-requires-clause-clear
 push_word-requires-clause-clear c =
     let r = c.self.inside in
     let kept = c.self.invariant in
-    let P : List RowOfBits → Type 0 = λ columns. (i : ℕ) → i < length columns → get_or (column_at columns i).bits c.len-place.result false ≡ false in
+    let P : List RowOfBits → Type 0 = λ columns. (i : ℕ) → i < length columns → get_or (column_at columns i).bits c.len-index.result false ≡ false in
     subst P (sym c.deref_mut.ensures.value) (λ i lt.
-    ap (λ n. get_or (column_at r.columns.items i).bits n false) c.len-place.ensures.value
+    ap (λ n. get_or (column_at r.columns.items i).bits n false) c.len-index.ensures.value
     ∙ column_clear r.word_len r.reserved r.letters.items r.active.bits r.columns.items (record { few = kept.column_count; all = kept.all_columns; bits = kept.columns; room = kept.columns_room }) i lt)
 
 pub invariant_of-self : goal.invariant_of-self
@@ -50,27 +50,27 @@ invariant_of-self c =
     let fits : length word ≡ r.word_len = c.requires.length ∙ sym (ap (λ (row : Row). row.word_len) c.self.view_is) in
     let long_entries = length-entries_of r.word_len r.letters.items flags in
     let known : length flags < 1048576 = omega (arith, some, kept.reserved_few) in
-    let unknown : place_in (entries_of r.word_len r.letters.items flags) word ≡ None = ap (λ (row : Row). place_in row.entries word) c.self.view_is ∙ c.requires.unknown in
-    let B : ℕ → List ℕ → ℕ → Type 0 = λ len letters place. IsInserted (word_in len letters) r.index.places word place c.insert.new.self.places in
-    let counted : B r.word_len c.deref.result.now c.len-place.result = subst (λ n. B n c.deref.result.now c.len-place.result) fits c.insert.ensures in
-    let lettered : B r.word_len r.letters.items c.len-place.result = subst (λ ls. B r.word_len ls c.len-place.result) c.deref.ensures.value counted in
-    let put : B r.word_len r.letters.items (length flags) = subst (B r.word_len r.letters.items) c.len-place.ensures.value lettered in
+    let unknown : index_in (entries_of r.word_len r.letters.items flags) word ≡ None = ap (λ (row : Row). index_in row.entries word) c.self.view_is ∙ c.requires.unknown in
+    let B : ℕ → List ℕ → ℕ → Type 0 = λ len letters index. IsInserted (word_in len letters) r.index.indices word index c.insert.new.self.indices in
+    let counted : B r.word_len c.deref.result.now c.len-index.result = subst (λ n. B n c.deref.result.now c.len-index.result) fits c.insert.ensures in
+    let lettered : B r.word_len r.letters.items c.len-index.result = subst (λ ls. B r.word_len ls c.len-index.result) c.deref.ensures.value counted in
+    let put : B r.word_len r.letters.items (length flags) = subst (B r.word_len r.letters.items) c.len-index.ensures.value lettered in
     let grown = length_push flags true in
     let longer : length c.push.new.self.bits ≡ length flags + 1 = ap length c.push.ensures.bits ∙ grown in
-    let indexed = index_pushed r.word_len r.letters.items word flags r.index.places c.insert.new.self.places kept.index put kept.letters fits unknown in
+    let indexed = index_pushed r.word_len r.letters.items word flags r.index.indices c.insert.new.self.indices kept.index put kept.letters fits unknown in
     let I : List ℕ → ℕ → List ℕ → Type 0 = λ letters n index. IsIndex (word_in r.word_len letters) n index in
     let C : List ℕ → List Bool → List RowOfBits → Type 0 = λ letters bits columns. AreColumns r.word_len r.reserved (entries_of r.word_len letters bits) columns in
     let new = c.push_word.new.columns in
     let old_is = c.deref_mut.ensures.value in
     let same : length new ≡ length r.columns.items = c.push_word.auto.columns ∙ ap length old_is in
     let pushed = columns_pushed r.word_len r.reserved r.letters.items word flags r.columns.items new (record { few = kept.column_count; all = kept.all_columns; bits = kept.columns; room = kept.columns_room }) same kept.letters fits
-    (let P : List RowOfBits → ℕ → Type 0 = λ old place. (i : ℕ) → i < length old → length (column_at new i).bits ≡ 64 * ((place + 64) / 64) in subst (λ old. P old (length r.active.bits)) old_is (subst (P c.deref_mut.result.now) c.len-place.ensures.value c.push_word.ensures.long))
-    (let P : List RowOfBits → ℕ → Type 0 = λ old place. (i other : ℕ) → i < length old → get_or (column_at new i).bits other false ≡ cond (eqb other place) (bit_in word i) (get_or (column_at old i).bits other false) in
-    subst (λ old. P old (length r.active.bits)) old_is (subst (P c.deref_mut.result.now) c.len-place.ensures.value c.push_word.ensures.bits))
+    (let P : List RowOfBits → ℕ → Type 0 = λ old index. (i : ℕ) → i < length old → length (column_at new i).bits ≡ 64 * ((index + 64) / 64) in subst (λ old. P old (length r.active.bits)) old_is (subst (P c.deref_mut.result.now) c.len-index.ensures.value c.push_word.ensures.long))
+    (let P : List RowOfBits → ℕ → Type 0 = λ old index. (i other : ℕ) → i < length old → get_or (column_at new i).bits other false ≡ cond (eqb other index) (bit_in word i) (get_or (column_at old i).bits other false) in
+    subst (λ old. P old (length r.active.bits)) old_is (subst (P c.deref_mut.result.now) c.len-index.ensures.value c.push_word.ensures.bits))
     (let P : List RowOfBits → Type 0 = λ old. (i : ℕ) → (column_at old i).room ≤ (column_at new i).room in subst P old_is c.push_word.ensures.more) in
     let columns_now : List RowOfBits = (with_items r.columns new).items in
-    let placed : C (r.letters.items ++ word) (flags ++ true ∷ []) columns_now = subst (C (r.letters.items ++ word) (flags ++ true ∷ [])) (sym (with_items_is r.columns new (c.push_word.auto.columns ∙ c.deref_mut.ensures.len))) pushed in
-    let active : C (r.letters.items ++ word) c.push.new.self.bits columns_now = subst (λ bits. C (r.letters.items ++ word) bits columns_now) (sym c.push.ensures.bits) placed in
+    let with_columns : C (r.letters.items ++ word) (flags ++ true ∷ []) columns_now = subst (C (r.letters.items ++ word) (flags ++ true ∷ [])) (sym (with_items_is r.columns new (c.push_word.auto.columns ∙ c.deref_mut.ensures.len))) pushed in
+    let active : C (r.letters.items ++ word) c.push.new.self.bits columns_now = subst (λ bits. C (r.letters.items ++ word) bits columns_now) (sym c.push.ensures.bits) with_columns in
     let columns : C c.append.new.letters.items c.push.new.self.bits columns_now = subst (λ letters. C letters c.push.new.self.bits columns_now) (sym c.append.ensures.items) active in
     record {
       short = kept.short;
@@ -79,7 +79,7 @@ invariant_of-self c =
       few = omega (arith, longer, known);
       within = omega (arith, longer, some);
       reserved_few = kept.reserved_few;
-      index = subst (λ letters. I letters (length c.push.new.self.bits) c.insert.new.self.places) (sym c.append.ensures.items) (subst (λ n. I (r.letters.items ++ word) n c.insert.new.self.places) (sym longer) indexed);
+      index = subst (λ letters. I letters (length c.push.new.self.bits) c.insert.new.self.indices) (sym c.append.ensures.items) (subst (λ n. I (r.letters.items ++ word) n c.insert.new.self.indices) (sym longer) indexed);
       column_count = columns.few;
       all_columns = columns.all;
       columns = columns.bits;

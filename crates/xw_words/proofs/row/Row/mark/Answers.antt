@@ -7,8 +7,8 @@ pub invariant_of-self : goal.invariant_of-self
 invariant_of-self c =
     let r = c.self.inside in
     let kept = c.self.invariant in
-    let same : length c.put.new.self.bits ≡ length r.active.bits = ap length c.put.ensures.bits ∙ length-set r.active.bits c.args.place c.args.active in
-    let columns = columns_marked r.word_len r.reserved r.letters.items r.active.bits c.put.new.self.bits c.args.place c.args.active r.columns.items (record { few = kept.column_count; all = kept.all_columns; bits = kept.columns; room = kept.columns_room }) c.put.ensures.bits in
+    let same : length c.put.new.self.bits ≡ length r.active.bits = ap length c.put.ensures.bits ∙ length-set r.active.bits c.args.index c.args.active in
+    let columns = columns_marked r.word_len r.reserved r.letters.items r.active.bits c.put.new.self.bits c.args.index c.args.active r.columns.items (record { few = kept.column_count; all = kept.all_columns; bits = kept.columns; room = kept.columns_room }) c.put.ensures.bits in
     record {
       short = kept.short;
       long = kept.long;
@@ -16,7 +16,7 @@ invariant_of-self c =
       few = omega (arith, kept.few);
       within = omega (arith, kept.within);
       reserved_few = kept.reserved_few;
-      index = let P : ℕ → Type 0 = λ n. IsIndex (word_in r.word_len r.letters.items) n r.index.places in subst P (sym same) kept.index;
+      index = let P : ℕ → Type 0 = λ n. IsIndex (word_in r.word_len r.letters.items) n r.index.indices in subst P (sym same) kept.index;
       column_count = columns.few;
       all_columns = columns.all;
       columns = columns.bits;

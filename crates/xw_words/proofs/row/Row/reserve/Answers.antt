@@ -8,13 +8,13 @@ use Rattle.xw_words.proofs.KeptRowLemmas.{AreColumns, columns_made, columns_kept
 use Rattle.xw_words.proofs.row.Row.reserve.Goals as goal
 
 -- a row with the same words, and room for as many as are reserved
-module _ (r s : Inside) (kept : IsKeptRow r) (len : s.word_len ≡ r.word_len) (letters : s.letters.items ≡ r.letters.items) (bits : s.active.bits ≡ r.active.bits) (places : s.index.places ≡ r.index.places) where
-  same_index : IsIndex (word_in s.word_len s.letters.items) (length s.active.bits) s.index.places
+module _ (r s : Inside) (kept : IsKeptRow r) (len : s.word_len ≡ r.word_len) (letters : s.letters.items ≡ r.letters.items) (bits : s.active.bits ≡ r.active.bits) (indices : s.index.indices ≡ r.index.indices) where
+  same_index : IsIndex (word_in s.word_len s.letters.items) (length s.active.bits) s.index.indices
   same_index =
-      subst (λ n. IsIndex (word_in n s.letters.items) (length s.active.bits) s.index.places) (sym len)
-      (subst (λ ls. IsIndex (word_in r.word_len ls) (length s.active.bits) s.index.places) (sym letters)
-      (subst (λ fs. IsIndex (word_in r.word_len r.letters.items) (length fs) s.index.places) (sym bits)
-      (subst (IsIndex (word_in r.word_len r.letters.items) (length r.active.bits)) (sym places) kept.index)))
+      subst (λ n. IsIndex (word_in n s.letters.items) (length s.active.bits) s.index.indices) (sym len)
+      (subst (λ ls. IsIndex (word_in r.word_len ls) (length s.active.bits) s.index.indices) (sym letters)
+      (subst (λ fs. IsIndex (word_in r.word_len r.letters.items) (length fs) s.index.indices) (sym bits)
+      (subst (IsIndex (word_in r.word_len r.letters.items) (length r.active.bits)) (sym indices) kept.index)))
 
   same_words : AreColumns r.word_len s.reserved (entries_of r.word_len r.letters.items r.active.bits) s.columns.items → AreColumns s.word_len s.reserved (entries_of s.word_len s.letters.items s.active.bits) s.columns.items
   same_words are =
@@ -48,7 +48,7 @@ pub invariant_of-self-in_err-grow_columns : goal.invariant_of-self-in_err-grow_c
 invariant_of-self-in_err-grow_columns c =
     let r = c.self.inside in
     let kept = c.self.invariant in
-    still_kept r _ kept refl refl refl c.reserve.ensures.places
+    still_kept r _ kept refl refl refl c.reserve.ensures.indices
     (columns_kept r.word_len r.reserved (entries_of r.word_len r.letters.items r.active.bits) r.columns.items c.grow_columns.new.columns.items (columns_of r kept) (omega (arith, c.grow_columns.ensures.more))
     (omega (arith, length-entries_of r.word_len r.letters.items r.active.bits, kept.within)) c.grow_columns.ensures.bits (omega (arith, c.grow_columns.ensures.few)) c.grow_columns.ensures.room_stays)
     kept.long kept.within kept.reserved_few kept.letters_room kept.active_room
@@ -57,7 +57,7 @@ pub invariant_of-self-in_err-reserve_words : goal.invariant_of-self-in_err-reser
 invariant_of-self-in_err-reserve_words c =
     let r = c.self.inside in
     let kept = c.self.invariant in
-    still_kept r _ kept refl c.reserve_words.ensures.items c.reserve_words.ensures.bits c.reserve.ensures.places
+    still_kept r _ kept refl c.reserve_words.ensures.items c.reserve_words.ensures.bits c.reserve.ensures.indices
     (columns_kept r.word_len r.reserved (entries_of r.word_len r.letters.items r.active.bits) r.columns.items c.grow_columns.new.columns.items (columns_of r kept) (omega (arith, c.grow_columns.ensures.more))
     (omega (arith, length-entries_of r.word_len r.letters.items r.active.bits, kept.within)) c.grow_columns.ensures.bits (omega (arith, c.grow_columns.ensures.few)) c.grow_columns.ensures.room_stays)
     kept.long kept.within kept.reserved_few (omega (arith, kept.letters_room, c.reserve_words.ensures.capacity)) (omega (arith, kept.active_room, c.reserve_words.ensures.room_stays))
@@ -70,7 +70,7 @@ invariant_of-self-2 c =
     let new = c.grow_columns.new.columns in
     let entries_long = length-entries_of r.word_len r.letters.items r.active.bits in
     let new_long : length new.items ≡ vec_len new = omega arith in
-    still_kept r _ kept refl c.reserve_words.ensures.items c.reserve_words.ensures.bits c.reserve.ensures.places
+    still_kept r _ kept refl c.reserve_words.ensures.items c.reserve_words.ensures.bits c.reserve.ensures.indices
     (columns_made r.word_len r.reserved (entries_of r.word_len r.letters.items r.active.bits) r.columns.items new.items (columns_of r kept) (omega (arith, c.grow_columns.ensures.more))
     (omega (arith, entries_long, kept.within)) c.grow_columns.ensures.bits (new_long ∙ c.in_ok-grow_columns.ensures.all) words (λ i lt. c.in_ok-grow_columns.ensures.room i (omega (arith, new_long, lt))))
     (λ _. omega (arith, c.requires.long, ap (λ (row : Row). row.word_len) c.self.view_is)) (omega (arith, c.len-known.ensures.value, c.grown-words.ensures.more)) c.grown-words.ensures.few

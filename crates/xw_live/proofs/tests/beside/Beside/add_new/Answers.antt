@@ -49,7 +49,7 @@ invariant_of-self-2 c =
     let now : State = record { grid = old.grid; words = c.add_in.new.bank.words } in
     let ready = settled_alike (record { grid = old.grid; words = old.bank.words }) old.net c.make_room.new.net c.make_room.ensures.same old.kept.settled in
     let added : add_word old.bank.words c.args.word.now ≡ Ok c.add_in.new.bank.words = ap (λ (words : Dictionary). add_word words c.args.word.now) (sym c.make_room.ensures.words) ∙ c.add_in.ensures.words in
-    let edit : IsWordEdit old.grid old.bank.words c.add_in.new.bank.words (word_added c.args.word.now) (length c.args.word.now, c.args.place) = added_edit old.grid old.bank.words c.add_in.new.bank.words c.args.word.now c.args.place c.requires added in
+    let edit : IsWordEdit old.grid old.bank.words c.add_in.new.bank.words (word_added c.args.word.now) (length c.args.word.now, c.args.index) = added_edit old.grid old.bank.words c.add_in.new.bank.words c.args.word.now c.args.index c.requires added in
     let kept : IsKept now c.settle_word.new.net = c.settle_word.ensures old.bank.words (word_added c.args.word.now) edit old.kept.formed ready in
     record {
       light_list = old.light_list;

@@ -1,9 +1,0 @@
-use Rattle.std.proofs.Common.{◌≡◌, length, map}
-use Rattle.xw_files.specs.Text.Place.{after}
-use Rattle.xw_files.proofs.text.place.after.Given as goal
-
-abbrev pub invariant-loop-rest : goal.invariant-loop-rest
-invariant-loop-rest l = after l.name (map (λ line. line.now) l.rest) ≡ after l.name (map (λ line. line.now) l.lines)
-
-abbrev pub decreases-loop-rest : goal.decreases-loop-rest
-decreases-loop-rest l = length l.rest

@@ -1,8 +1,0 @@
-use Rattle.std.proofs.Common.{rules}
-use Rattle.xw_files.proofs.text.place.text_place.Goals as goal
-
-pub returns-then-ne : goal.returns-then-ne
-returns-then-ne c = search rules
-
-pub returns : goal.returns
-returns c = search rules
