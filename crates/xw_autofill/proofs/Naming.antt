@@ -2,7 +2,7 @@
 use Rattle.std.proofs.Common.{◌≡◌, ℕ, zero, suc, ◌+◌, ◌<◌, ◌≢◌, Bool, true, false, cond, ◌&&◌, ◌||◌, ◌==◌, List, [], ◌∷◌, take, length, get_or, set, Option, Some, None, refl, sym, ◌∙◌, ap, subst, arith, inl, inr}
 use Rattle.std.specs.Prelude.{◌⊎◌, Result, Ok, Err, is_some, IfOk, IfSome, IfNone}
 use Rattle.std.specs.List.{list_any}
-use Rattle.std.proofs.lemmas.Bool.{cases_eq, eq-eqb, ne_eqb, false≢true, true≢false}
+use Rattle.std.proofs.lemmas.Bool.{cases_Bool, cases_eq, eq-eqb, ne_eqb, false≢true, true≢false}
 use Rattle.std.proofs.lemmas.List.{take_more, get_or-set_same, get_or-set_other}
 use Rattle.std.proofs.lemmas.List.Folds.{list_any-append}
 use Rattle.xw_grid.specs.declared.cell.LightName.{LightName}
@@ -25,10 +25,10 @@ use Rattle.xw_fill.proofs.PlacingLemmas.{length-entries_with, entries_with-other
 use Rattle.xw_fill.proofs.SearchLemmas.{chosen-Some}
 use Rattle.xw_fill.proofs.Shaped.{IsShaped, shaped}
 use Rattle.xw_fill.proofs.BelowLemmas.{any_below-none}
-use Rattle.xw_autofill.specs.NamedFill.{flags, passes, is_in_named, entry_in, is_light, IsChanged, IsFillOf, IsAutofilled, AreFlagged}
+use Rattle.xw_autofill.specs.NamedFill.{flags, passes, is_in_named, entry_in, is_light, IsChanged, IsFillOf, IsInLights, IsAutofilled, AreFlagged}
 use Rattle.xw_autofill.specs.Progress.{IsOpen, IsPlan, AreAlive, entries_of}
 use Rattle.xw_autofill.specs.declared.plan.Plan.{Plan}
-use Rattle.xw_autofill.proofs.NamedFills.{in_named-from, entered_start}
+use Rattle.xw_autofill.proofs.NamedFills.{in_named-from, in_named-gives, entered_start}
 use Rattle.xw_autofill.proofs.Searching.{apart_from}
 
 -- ---- flags
@@ -125,6 +125,18 @@ all_from_fill position entries is fill outside = record {
     words = λ light in_grid not_entered. absurd (false≢true (sym not_entered ∙ fill.entered light in_grid));
     distinct = fill.distinct;
   }
+
+-- the same for entries that differ from the position in lights alone
+pub all_from_laid : (position : Position) (entries : List (Option ℕ)) → IsLaidOut position.board → IsInLights position entries → IsFill position entries → IsFillOf (λ light. true) position entries
+all_from_laid position entries laid inside fill = all_from_fill position entries (shaped position.board laid) fill (record {
+  long = inside.long;
+  same = λ cell none. inside.elsewhere cell (outside cell none);
+}) where
+  outside : (cell : ℕ) → ((light k : ℕ) → light < light_count position → k < length (light_at position.board light) → get_or (light_at position.board light) k 0 ≢ cell) → is_in_named (λ light. true) position cell ≡ false
+  outside cell none = elim (cases_Bool (is_in_named (λ light. true) position cell)) [
+    | inl within ↦ let there = in_named-gives (λ light. true) position cell within in absurd (none there.0 there.1 there.2 there.4 there.5)
+    | inr not_within ↦ not_within
+  ]
 
 -- a fill of all lights is a fill
 pub fill_from_all : (position : Position) (entries : List (Option ℕ)) → IsFillOf (λ light. true) position entries → IsFill position entries

@@ -52,6 +52,11 @@ pub record IsFillOf (named : ℕ → Bool) (position : Position) (entries : List
   pub distinct : (light other : ℕ) → light < other → other < light_count position → is_entered (holding position entries) light ≡ true → is_entered (holding position entries) other ≡ true → spelling (holding position entries) light ≢ spelling (holding position entries) other
   pub alive : (light : ℕ) → light < light_count position → (named light ≡ true) ⊎ IsChanged position entries light → lacks_words (holding position entries) light ≡ false
 
+-- There is an entry for each cell, and the cells in no light have the entries of the position.
+pub record IsInLights (position : Position) (entries : List (Option ℕ)) : Type 0 where
+  pub long : length entries ≡ length position.board.entries
+  pub elsewhere : (cell : ℕ) → is_in_named (λ light. true) position cell ≡ false → entry_in entries cell ≡ entry_in position.board.entries cell
+
 -- What each answer means: after Filled the state holds a fill of the named lights, NoFill means that there is none, and
 -- NoFill and Limit leave the state as it was.
 abbrev pub IsAutofilled : (ℕ → Bool) → State → State → Filling → Type 0
