@@ -1,6 +1,6 @@
 -- The fault that is answered is the first one.
 use Rattle.std.proofs.Common.{◌≡◌, ◌≢◌, ℕ, ◌+◌, ◌<◌, true, false, List, [], ◌∷◌, length, get_or, drop, Some, None, Result, Ok, Err, refl, sym, ap, subst, ◌∙◌, inl, inr, arith}
-use Rattle.std.specs.Prelude.{position, IfErr}
+use Rattle.std.specs.Prelude.{position, IfErr, IfOk}
 use Rattle.std.proofs.lemmas.Bool.{cases_Bool, cases_eq, eqb-true, eq-eqb, ne_eqb}
 use Rattle.std.proofs.lemmas.List.Quantifiers.{position-Some}
 use Rattle.std.proofs.lemmas.Option.{slice_get_within, get_or_from_slice_get, slice_get-get_or}
@@ -14,6 +14,7 @@ use Rattle.xw_grid.specs.Edit.{grid_of}
 use Rattle.xw_grid.specs.Clue.{ClueMap, no_clues}
 use Rattle.xw_grid.specs.declared.puzzle.Puzzle.{Puzzle}
 use Rattle.xw_grid.specs.Puzzle.{PuzzleShown, puzzle_view}
+use Rattle.xw_files.specs.declared.fault.Tag.{Tag}
 use Rattle.xw_files.specs.declared.fault.Tag.TheVariants as tags
 use Rattle.xw_files.specs.declared.fault.ReadFault.{ReadFault}
 use Rattle.xw_files.specs.declared.fault.ReadFault.TheVariants as faults
@@ -22,7 +23,7 @@ use Rattle.xw_files.specs.Text.Lines.{text_lines}
 use Rattle.xw_files.specs.Text.Tag.{name_of, names}
 use Rattle.xw_files.specs.Text.Starts.{starts}
 use Rattle.xw_files.specs.Text.Shape.{Lines, header_at, tag_at, texts_at, size_at, rows_at, grid_at, clues_at, both_clues_at, notes_at, shape, is_nul, all_of}
-use Rattle.xw_files.specs.Text.Faults.{below, count_plain, past_lines, from_size, from_grid, from_across, from_down, from_notes, Lacks, HasOther, HasSize, WithSize, CountsApart, grid_in, LinesHave, HasFault, location_of, within_location, ComesBefore, IsFirstFault}
+use Rattle.xw_files.specs.Text.Faults.{below, count_plain, past_lines, from_size, from_grid, from_across, from_down, from_notes, Lacks, HasOther, HasSize, WithSize, CountsApart, grid_in, LinesHave, HasFault, location_of, within_location, ComesBefore, IsFirstFault, HasNoFault}
 use Rattle.xw_files.proofs.TextLemmas.FaultOrder.{IsFirst, NoneBefore, Leads, leads_then, is_single, tag_single, passed, first_at}
 use Rattle.xw_files.proofs.TextLemmas.FaultSteps.{true_not_false, header_leads, tag_leads, texts_lead, size_leads, of_size}
 use Rattle.xw_files.proofs.TextLemmas.FaultRows.{rows_lead}
@@ -62,6 +63,10 @@ clues_lead lines at under fault direction begins clues same single row col none 
     subst (λ t. Leads lines (λ (x : ClueMap × Lines). (x.1 ≡ past_lines under) × NoneBefore lines (location_of fault + 1)) (clues_at fault direction begins clues t)) (sym same)
     (clues_lead_from lines under fault direction begins clues single row col none has apart)
 
+-- the lines have no fault of any location
+abbrev AllPassed : Lines → Type 0
+AllPassed lines = NoneBefore lines (location_of (faults.Tag tags.Notepad) + 1)
+
 module _ (lines : Lines) (width height : ℕ) (has : HasSize (below (from_size lines)) width height) where
   -- a fault that a size has, and what it says
   there : (P : ℕ → ℕ → Type 0) → P width height → WithSize lines P
@@ -87,30 +92,32 @@ module _ (lines : Lines) (width height : ℕ) (has : HasSize (below (from_size l
   both_lead grid at is same none =
       subst (λ g. Leads lines (λ (x : ClueMap × Lines). (x.1 ≡ from_notes height lines) × NoneBefore lines (location_of (faults.Tag tags.Notepad))) (both_clues_at g at)) (sym is) (both_lead_from at same none)
 
-  notes_lead_from : (notes : Lines) → NoneBefore lines (location_of (faults.Tag tags.Notepad)) → (HasOther (name_of tags.Notepad) notes → LinesHave lines (faults.Tag tags.Notepad)) → Leads lines (λ (x : List ℕ). Unit {0}) (notes_at notes)
+  notes_lead_from : (notes : Lines) → NoneBefore lines (location_of (faults.Tag tags.Notepad)) → (HasOther (name_of tags.Notepad) notes → LinesHave lines (faults.Tag tags.Notepad)) → (LinesHave lines (faults.Tag tags.Notepad) → HasOther (name_of tags.Notepad) notes)
+      → Leads lines (λ (x : List ℕ). AllPassed lines) (notes_at notes)
   unfolding notes_at
-  notes_lead_from [] none has_other = tt
-  notes_lead_from (line ∷ rest) none has_other =
+  notes_lead_from [] none has_other other = passed lines (faults.Tag tags.Notepad) refl none other
+  notes_lead_from (line ∷ rest) none has_other other =
       elim (cases_Bool (names line (name_of tags.Notepad))) [
-        | inl is ↦ rw is tt
-        | inr other ↦ rw other (first_at lines (faults.Tag tags.Notepad) refl refl none (has_other other))
+        | inl is ↦ rw is (passed lines (faults.Tag tags.Notepad) refl none (λ have. true_not_false is (other have)))
+        | inr differs ↦ rw differs (first_at lines (faults.Tag tags.Notepad) refl refl none (has_other differs))
       ]
 
-  pub notes_lead : (at : Lines) → at ≡ from_notes height lines → NoneBefore lines (location_of (faults.Tag tags.Notepad)) → Leads lines (λ (x : List ℕ). Unit {0}) (notes_at at)
+  pub notes_lead : (at : Lines) → at ≡ from_notes height lines → NoneBefore lines (location_of (faults.Tag tags.Notepad)) → Leads lines (λ (x : List ℕ). AllPassed lines) (notes_at at)
   notes_lead at same none =
-      notes_lead_from at none (λ other. there (λ w h. HasOther (name_of tags.Notepad) (from_notes h lines)) (subst (HasOther (name_of tags.Notepad)) same other))
+      let other : ℕ → ℕ → Type 0 = λ w h. HasOther (name_of tags.Notepad) (from_notes h lines) in
+      notes_lead_from at none (λ differs. there other (subst (HasOther (name_of tags.Notepad)) same differs)) (λ have. subst (HasOther (name_of tags.Notepad)) (sym same) (of_size lines width height other has have))
 
 -- ---- all of it
 
-shape_leads : (lines : Lines) → Leads lines (λ (x : PuzzleShown). Unit {0}) (shape lines)
+shape_leads : (lines : Lines) → Leads lines (λ (x : PuzzleShown). AllPassed lines) (shape lines)
 unfolding shape
 shape_leads lines =
-    let Q : PuzzleShown → Type 0 = λ x. Unit {0} in
+    let Q : PuzzleShown → Type 0 = λ x. AllPassed lines in
     leads_then lines _ Q (header_at lines) _ (header_leads lines) (λ a p.
     leads_then lines _ Q (texts_at a) _ (texts_lead lines a p.0 p.1) (λ texts q.
     leads_then lines _ Q (grid_at texts.1) _ (grid_leads lines texts.1 q.0 q.1) (λ grid r.
     leads_then lines _ Q (both_clues_at grid.0 grid.1) _ (both_lead lines r.0 r.1 r.2 grid.0 grid.1 r.3 r.4 r.5) (λ clues s.
-    leads_then lines _ Q (notes_at clues.1) _ (notes_lead lines r.0 r.1 r.2 clues.1 s.0 s.1) (λ notes t. tt)))))
+    leads_then lines _ Q (notes_at clues.1) _ (notes_lead lines r.0 r.1 r.2 clues.1 s.0 s.1) (λ notes t. t)))))
 
 -- lines' faults are the file's, where no byte is NUL
 has_of_lines : (bytes : List ℕ) (fault : ReadFault) → LinesHave (text_lines bytes) fault → HasFault bytes fault
@@ -135,6 +142,45 @@ nul_is_first bytes offset is =
     none before (faults.Tag tag) (inr both) have = true_not_false (tag_single tag) (ap is_single both.0)
     none before earlier (inr both) have = absurd (omega (arith, both.0))
 
+-- lines without a fault of any location have none
+none_of_passed : (lines : Lines) → AllPassed lines → (fault : ReadFault) → LinesHave lines fault → ⊥
+none_of_passed lines passed faults.Header have = passed faults.Header (omega arith) have
+none_of_passed lines passed (faults.Tag tag) have = passed (faults.Tag tag) (tag_within tag) have
+  where
+    tag_within : (tag : Tag) → location_of (faults.Tag tag) < location_of (faults.Tag tags.Notepad) + 1
+    tag_within tags.Title = omega arith
+    tag_within tags.Author = omega arith
+    tag_within tags.Copyright = omega arith
+    tag_within tags.Size = omega arith
+    tag_within tags.Grid = omega arith
+    tag_within tags.Across = omega arith
+    tag_within tags.Down = omega arith
+    tag_within tags.Notepad = omega arith
+none_of_passed lines passed faults.SizeLine have = passed faults.SizeLine (omega arith) have
+none_of_passed lines passed (faults.GridLine row) have = passed (faults.GridLine row) (omega arith) have
+none_of_passed lines passed (faults.BadCell cell) have = passed (faults.BadCell cell) (omega arith) have
+none_of_passed lines passed faults.AcrossCount have = passed faults.AcrossCount (omega arith) have
+none_of_passed lines passed faults.DownCount have = passed faults.DownCount (omega arith) have
+none_of_passed lines passed fault have = have
+
+pub no_fault : (bytes : List ℕ) (puzzle : PuzzleShown) → all_of bytes ≡ Ok puzzle → HasNoFault bytes
+unfolding all_of
+no_fault bytes puzzle e fault have =
+    elim (cases_option (position is_nul bytes)) [
+      | inl found ↦ absurd (fails (rw found.1 at e))
+      | inr none ↦
+          let lines = text_lines bytes in
+          let passed : AllPassed lines = subst (Leads lines (λ (x : PuzzleShown). AllPassed lines)) (rw none at e) (shape_leads lines) in
+          none_of_passed lines passed fault (lines_of_has bytes fault none have)
+    ]
+  where
+    fails : {X : Type 0} {x : X} {other : ReadFault} → ◌≡◌ {A = Result X ReadFault} (Err other) (Ok x) → ⊥
+    fails e = cc
+
+pub is_faultless : (bytes : List ℕ) (result : Result Puzzle ReadFault) → GivesOrLacksMemory puzzle_view result (all_of bytes) → IfOk result (λ _. HasNoFault bytes)
+is_faultless bytes (Ok read) given = no_fault bytes (puzzle_view read) given
+is_faultless bytes (Err fault) given = tt
+
 pub first_fault : (bytes : List ℕ) (fault : ReadFault) → all_of bytes ≡ Err fault → IsFirstFault bytes fault
 unfolding all_of
 first_fault bytes fault e =
@@ -142,7 +188,7 @@ first_fault bytes fault e =
       | inl found ↦ subst (IsFirstFault bytes) (sym (fault_is (rw found.1 at e))) (nul_is_first bytes found.0 found.1)
       | inr none ↦
           let lines = text_lines bytes in
-          let first : IsFirst lines fault = subst (Leads lines (λ (x : PuzzleShown). Unit {0})) (rw none at e) (shape_leads lines) in
+          let first : IsFirst lines fault = subst (Leads lines (λ (x : PuzzleShown). AllPassed lines)) (rw none at e) (shape_leads lines) in
           (has_of_lines bytes fault first.0, λ earlier before have. first.1 earlier before (lines_of_has bytes earlier none have))
     ]
   where

@@ -7,7 +7,7 @@ use Rattle.xw_files.specs.Part.{circled_cells, part_of}
 use Rattle.xw_files.specs.Puz.Sections.{Section, AreBytes, AreSections, HasNoGext}
 use Rattle.xw_files.specs.Puz.Board.{puzzle_at}
 use Rattle.xw_files.specs.Puz.Relation.{IsPuz}
-use Rattle.xw_files.specs.Puz.Faults.{IsFirstFault}
+use Rattle.xw_files.specs.Puz.Faults.{IsFirstFault, HasNoFault}
 use Rattle.xw_files.specs.Puz.Writing.{written}
 
 -- all puzzles of one file have the same file part
@@ -35,3 +35,7 @@ FirstFaultIsFound = (bytes : List ℕ) (fault : ReadFault) → AreBytes bytes �
 -- and only one fault is the first
 abbrev pub FirstFaultIsOne : Type 0
 FirstFaultIsOne = (bytes : List ℕ) (fault other : ReadFault) → IsFirstFault bytes fault → IsFirstFault bytes other → fault ≡ other
+
+-- a file of a puzzle has no fault
+abbrev pub FilesHaveNoFault : Type 0
+FilesHaveNoFault = (bytes : List ℕ) (puzzle : PuzzleShown) → AreBytes bytes → IsPuz bytes puzzle → HasNoFault bytes

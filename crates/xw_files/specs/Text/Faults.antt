@@ -170,6 +170,10 @@ ComesBefore one other = (location_of one < location_of other) ⊎ ((location_of 
 abbrev pub IsFirstFault : List ℕ → ReadFault → Type 0
 IsFirstFault bytes fault = HasFault bytes fault × ((earlier : ReadFault) → ComesBefore earlier fault → HasFault bytes earlier → ⊥)
 
+-- a text file has no fault
+abbrev pub HasNoFault : List ℕ → Type 0
+HasNoFault bytes = (fault : ReadFault) → HasFault bytes fault → ⊥
+
 -- a text file has at most one first fault
 abbrev pub HasOneFirstFault : Type 0
 HasOneFirstFault = (bytes : List ℕ) (one other : ReadFault) → IsFirstFault bytes one → IsFirstFault bytes other → one ≡ other

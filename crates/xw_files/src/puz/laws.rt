@@ -1,5 +1,5 @@
 //! Laws of the `.puz` format: they do nothing at run time and give callers proved facts.
-ghost use Rattle.xw_files.specs.Puz.Laws.{FilesHaveOnePart, BytesAreCut, CutsAreOne, WrittenIsRead, FirstFaultIsFound, FirstFaultIsOne};
+ghost use Rattle.xw_files.specs.Puz.Laws.{FilesHaveOnePart, BytesAreCut, CutsAreOne, WrittenIsRead, FirstFaultIsFound, FirstFaultIsOne, FilesHaveNoFault};
 
 /// All puzzles of one file have the same file part.
 pub fn files_have_one_part()
@@ -22,4 +22,9 @@ pub fn what_is_written_is_read()
 pub fn reading_finds_the_first_fault()
     ensures found { FirstFaultIsFound }
     ensures one { FirstFaultIsOne }
+{}
+
+/// A file of a puzzle has no fault.
+pub fn files_have_no_fault()
+    ensures { FilesHaveNoFault }
 {}

@@ -6,7 +6,7 @@ ghost use Rattle.std.specs.Char.{is_ascii_digit};
 ghost use Rattle.std.specs.Str.Parse.{digits_value};
 ghost use Rattle.std.specs.List.{join_with_byte};
 ghost use Rattle.xw_files.specs.declared.fault.ReadFault.TheVariants.{Memory};
-ghost use Rattle.xw_files.specs.Text.Faults.{IsFirstFault, HasOneFirstFault};
+ghost use Rattle.xw_files.specs.Text.Faults.{IsFirstFault, HasNoFault, HasOneFirstFault};
 ghost use Rattle.xw_files.specs.Text.Relation.{IsText, IsBare, HasOnePart};
 ghost use Rattle.xw_grid.specs.Puzzle.{PuzzleShown, puzzle_view, texts_view};
 ghost use Rattle.xw_files.specs.Part.{part_of};
@@ -357,6 +357,8 @@ pub fn read_text(alloc: Global, bytes: &[u8]) -> Result<Puzzle, ReadFault>
     ensures only { (puzzle : PuzzleShown) → IsText bytes.now puzzle → GivesOrLacksMemory (λ read. part_of (puzzle_view read)) result (Ok (part_of puzzle)) }
     // The fault is the first one that the file has, unless an allocation failed.
     ensures first { IfErr result (λ fault. fault ≢ Memory → IsFirstFault bytes.now fault) }
+    // A file that is read has no fault.
+    ensures faultless { IfOk result (λ _. HasNoFault bytes.now) }
     // The exact result, including which fault is returned.
     ensures exact { GivesOrLacksMemory puzzle_view result (all_of bytes.now) }
 {
