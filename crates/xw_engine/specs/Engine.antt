@@ -45,9 +45,10 @@ pub record IsMisread (bytes : List ℕ) (fault : ReadFault) : Type 0 where
   pub format : HasFormat bytes kind
   pub first : IsFirstFault kind bytes fault
 
--- why no puzzle is read of the bytes
+-- why a session does not begin on the bytes: an allocation failed, or there are bytes, and they have this first fault
 abbrev pub IsUnread : List ℕ → ReadFault → Type 0
-IsUnread bytes fault = (fault ≡ reads.Memory) ⊎ IsMisread bytes fault
+IsUnread [] fault = fault ≡ reads.Memory
+IsUnread (byte ∷ bytes) fault = (fault ≡ reads.Memory) ⊎ IsMisread (byte ∷ bytes) fault
 
 -- why no session begins with this list and these bytes
 abbrev pub IsUnopened : List ℕ → List ℕ → Status → Type 0

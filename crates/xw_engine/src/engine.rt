@@ -5,7 +5,7 @@ ghost use Rattle.xw_grid.specs.Puzzle.{PuzzleShown, puzzle_view};
 ghost use Rattle.xw_session.specs.Resuming.{refused_line};
 ghost use Rattle.xw_files.specs.Formats.{IsRead, written_as};
 ghost use Rattle.xw_session.specs.Opening.{opened_on, puzzle_of};
-ghost use Rattle.xw_engine.specs.Engine.{Shown, HasPuzzle, IsOpened, IsUnread, IsUnopened, IsLineDone, IsFileMade, IsRecordMade, IsReplayAnswer, IsResumed, record_name, replay_status};
+ghost use Rattle.xw_engine.specs.Engine.{Shown, HasPuzzle, IsOpened, IsMisread, IsUnread, IsUnopened, IsLineDone, IsFileMade, IsRecordMade, IsReplayAnswer, IsResumed, record_name, replay_status};
 
 use crate::status::Status;
 use std::alloc::{AllocError, Global};
@@ -52,7 +52,7 @@ fn dictionary(alloc: Global, list: &[u8]) -> Result<Bank, Status>
 /// Reads the puzzle in the bytes of a file.
 fn puzzle_in(alloc: Global, bytes: &[u8]) -> Result<Puzzle, ReadFault>
     ensures ok { IfOk result (λ puzzle. (kind : Kind) × IsRead kind bytes.now (puzzle_view puzzle)) }
-    ensures err { IfErr result (λ fault. IsUnread bytes.now fault) }
+    ensures err { IfErr result (λ fault. (fault ≡ ReadFault.Memory) ⊎ IsMisread bytes.now fault) }
 {
     read_as(alloc, kind_of(bytes), bytes)
 }
@@ -120,8 +120,8 @@ fn report(alloc: Global, ended: Result<usize, Stop>, told: VecSink) -> Option<(S
 
 impl Engine {
     /// Opens a session over the words of a list, on the puzzle in the bytes of a file or, if there are none, on an empty grid
-    /// of 15 rows and columns. Returns `Full` if the list has too many words of one length, `Unread` if the bytes are no
-    /// puzzle, and `Memory` if an allocation fails.
+    /// of 15 rows and columns. Returns `Full` if the list has too many words of one length, `Unread` if there are bytes and
+    /// they are no puzzle, and `Memory`, or `Unread` with the fault `Memory`, if an allocation fails.
     pub fn open(alloc: Global, list: &[u8], puzzle: &[u8]) -> Result<Engine, Status>
         ensures ok { IfOk result (λ engine. IsOpened list.now puzzle.now engine) }
         ensures err { IfErr result (λ status. IsUnopened list.now puzzle.now status) }
