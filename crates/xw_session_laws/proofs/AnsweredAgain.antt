@@ -65,7 +65,7 @@ module _ (state next : State) where
       ap (λ found. unwrap_or found left) is ∙ sym after
   reply_left command (Err refusal) outcome left e fits step after none = let bad : 1 ≡ 0 = sym (ap refusals step) ∙ none in absurd (omega (arith, bad))
 
-  line_left : (found : Result (Option Command) SyntaxFault) (outcome : Step) (answer : List ℕ) (left : State) → left_by_line state found ≡ Some left → AnswersParsed state found outcome answer next → refusals outcome ≡ 0 → left ≡ next
+  pub line_left : (found : Result (Option Command) SyntaxFault) (outcome : Step) (answer : List ℕ) (left : State) → left_by_line state found ≡ Some left → AnswersParsed state found outcome answer next → refusals outcome ≡ 0 → left ≡ next
   line_left (Ok None) outcome answer left e said none = ap (λ found. unwrap_or found left) (sym e) ∙ sym said.2
   line_left (Ok (Some command)) outcome answer left e said none = reply_left command said.0 outcome left e said.1 said.2 said.4 none
   line_left (Err fault) outcome answer left e said none = cc
@@ -102,7 +102,7 @@ module _ (state last : State) (answer : List ℕ) where
   reply_wants command (Err refusal) next e (due, owed, fits) step is =
       (refusal, due_left command due refusal next (ap state_left (sym (determined state command due next e owed)) ∙ e) fits, is)
 
-  line_wants : (found : Result (Option Command) SyntaxFault) (next : State) → left_by_line state found ≡ Some next → AnswersParsed state found Refused answer last → WantsMemory state found answer
+  pub line_wants : (found : Result (Option Command) SyntaxFault) (next : State) → left_by_line state found ≡ Some next → AnswersParsed state found Refused answer last → WantsMemory state found answer
   line_wants (Ok None) next e said = let bad : Refused ≡ Silent = said.0 in cc
   line_wants (Ok (Some command)) next e said = reply_wants command said.0 next e said.1 said.2 said.3
   line_wants (Err fault) next e said = cc

@@ -28,3 +28,4 @@ pub mod JournalAgain
 pub mod JournalCut
 pub mod JournalRuns
 pub mod JournalLeft
+pub mod Resumed

@@ -33,6 +33,7 @@ ghost use Rattle.xw_session_laws.specs.Journals.{JournalsMakeSessionsAgain, Jour
 ghost use Rattle.xw_session_laws.specs.Journals.{JournalsAreRefusedForMemoryOnly, JournalsAreCutAtLines, RunsAreJournaled, BrokenRunsAreJournaled};
 ghost use Rattle.xw_session_laws.specs.Journals.{StoppedRunsAreJournaled, JournaledRunsAreMadeAgain, BegunJournalsAreMadeAgain, LinesArePlain};
 ghost use Rattle.xw_session_laws.specs.Journals.{RunsLeaveJournals};
+ghost use Rattle.xw_session_laws.specs.Resumed.{LinesAreResumed, RecordsAreResumed, JournalsAreResumed};
 ghost use Rattle.xw_lines.specs.Cut.{ended_lines, last_piece, with_lfs, AllHaveNoLf, HasNoLf};
 
 use xw_lines::{Sink, Source};
@@ -222,3 +223,25 @@ pub fn journaled_runs_are_made_again()
 pub fn runs_leave_journals<R: Source, W: Sink>()
     ensures { RunsLeaveJournals R.transcript R.is_at_end R.failures W.transcript W.failures }
 {}
+
+/// Lines that can all be executed leave the same state when `resume` of `xw_session` replays them, with no line refused or reported,
+/// unless it stops for a failed allocation.
+pub fn lines_are_resumed()
+    ensures { LinesAreResumed }
+{}
+
+/// A record that `resume` replays, in a session with the same words at the start, rebuilds the recorded session, or `resume` stops for a
+/// failed allocation.
+pub fn records_are_resumed()
+    ensures { RecordsAreResumed }
+{
+    lines_make_sessions_again();
+}
+
+/// A journal that `resume` replays, in the state where its session started, leaves the state where that session ended, or `resume` stops
+/// for a failed allocation.
+pub fn journals_are_resumed()
+    ensures { JournalsAreResumed }
+{
+    journals_make_sessions_again();
+}
