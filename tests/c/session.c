@@ -5,6 +5,9 @@
  *
  * Its messages are those of the program, except that it reports no counts of a word list and no rebus cells, and calls the
  * file of --resume `record`.
+ *
+ * It counts the blocks that it and the library allocate, and ends with a message if a closed session has not freed all of its own. For that
+ * it is linked with --wrap=malloc, --wrap=realloc and --wrap=free.
  */
 #include "xw.h"
 
@@ -20,6 +23,28 @@ struct bytes {
     uint8_t *at;
     size_t length;
 };
+
+/* The blocks that are allocated and not freed. */
+static size_t blocks;
+
+void *__real_malloc(size_t), *__real_realloc(void *, size_t), __real_free(void *);
+
+void *__wrap_malloc(size_t size) {
+    void *block = __real_malloc(size);
+    blocks += block != NULL;
+    return block;
+}
+
+void *__wrap_realloc(void *block, size_t size) {
+    void *moved = __real_realloc(block, size);
+    blocks += !block && moved;
+    return moved;
+}
+
+void __wrap_free(void *block) {
+    blocks -= block != NULL;
+    __real_free(block);
+}
 
 /* Ends the run with a message. */
 static void end(int status, const char *file, const char *what) {
@@ -156,6 +181,7 @@ int main(int count, char **words) {
     }
 
     struct xw xw = {0};
+    size_t before = blocks;
     if (xw_line(&xw, (const uint8_t *)"show", 4) != XW_CLOSED)
         end(FAILED, NULL, "a line was answered without a session");
     open_session(&xw, files[0], files[1]);
@@ -177,5 +203,7 @@ int main(int count, char **words) {
     if (xw.is_open || xw.held.at || xw_puz(&xw) != XW_CLOSED)
         end(FAILED, NULL, "a closed session is open");
     xw_close(&xw);
+    if (blocks != before)
+        end(FAILED, NULL, "a closed session has blocks that are not freed");
     return is_refused ? REFUSED : ACCEPTED;
 }
