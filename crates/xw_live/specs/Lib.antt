@@ -1,3 +1,4 @@
 pub mod Engine
 pub mod Idle
 pub mod Live
+pub mod Saved

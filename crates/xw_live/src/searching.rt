@@ -21,6 +21,11 @@ pub struct Saved {
 }
 
 impl Searchable for Live {
+    ghost use Rattle.std.specs.Prelude.{◌≡◌};
+    ghost use Rattle.xw_feas.specs.Snapshot.{IsTwin};
+    ghost use Rattle.xw_live.specs.Live.{state_of};
+    ghost use Rattle.xw_live.specs.Saved.{saved_state};
+
     type Snapshot = Saved;
 
     ghost saved = { λ snapshot. record { grid = snapshot.grid; words = snapshot.bank.value.words } };
@@ -48,7 +53,12 @@ impl Searchable for Live {
         snapshot.grid.copy_from(&self.grid);
     }
 
-    fn exchange(&mut self, snapshot: &mut Saved) {
+    fn exchange(&mut self, snapshot: &mut Saved)
+        requires twin { IsTwin (saved_state snapshot.old) (state_of self.old) }
+        ensures now { state_of self.new ≡ saved_state snapshot.old }
+        ensures saved { saved_state snapshot.new ≡ state_of self.old }
+        ensures spent { self.new.spent ≡ self.old.spent }
+    {
         std::mem::swap(&mut self.grid, &mut snapshot.grid);
         std::mem::swap(&mut self.net, &mut snapshot.net);
     }
