@@ -83,7 +83,7 @@ pub fn is_entered<E: Feasible>(engine: &E, light: usize) -> bool
 }
 
 /// Returns the number of lights that are not wholly entered.
-pub fn unentered_count<E: Feasible>(engine: &E) -> usize
+pub(crate) fn unentered_count<E: Feasible>(engine: &E) -> usize
     ensures { result ≡ unentered_count (position_of (E.state engine.now)) }
 {
     let mut count = 0;
@@ -96,7 +96,7 @@ pub fn unentered_count<E: Feasible>(engine: &E) -> usize
 }
 
 /// Returns whether two lights have the same letters, whether or not they are wholly entered.
-pub fn agree<E: Feasible>(engine: &E, light: usize, other: usize) -> bool
+pub(crate) fn agree<E: Feasible>(engine: &E, light: usize, other: usize) -> bool
     requires light { light < light_count (position_of (E.state engine.now)) }
     requires other { other < light_count (position_of (E.state engine.now)) }
     ensures { result ≡ bytes_eq (spelling (position_of (E.state engine.now)) light) (spelling (position_of (E.state engine.now)) other) }
@@ -115,7 +115,7 @@ pub fn spell_same<E: Feasible>(engine: &E, light: usize, other: usize) -> bool
 }
 
 /// Returns the first earlier light that spells the same. Returns `None` if this light is not wholly entered.
-pub fn first_same<E: Feasible>(engine: &E, light: usize) -> Option<usize>
+pub(crate) fn first_same<E: Feasible>(engine: &E, light: usize) -> Option<usize>
     requires { light < light_count (position_of (E.state engine.now)) }
     ensures { result ≡ first_same (position_of (E.state engine.now)) light }
 {
@@ -131,7 +131,7 @@ pub fn first_same<E: Feasible>(engine: &E, light: usize) -> Option<usize>
 }
 
 /// Returns the first light without a feasible word.
-pub fn first_without_words<E: Feasible>(engine: &E) -> Option<usize>
+pub(crate) fn first_without_words<E: Feasible>(engine: &E) -> Option<usize>
     ensures { result ≡ first_below (lacks_words (position_of (E.state engine.now))) (light_count (position_of (E.state engine.now))) }
 {
     for light in 0..light_count(engine) {
@@ -144,7 +144,7 @@ pub fn first_without_words<E: Feasible>(engine: &E) -> Option<usize>
 
 /// Returns the chosen light: of the lights that are not wholly entered, the first with the fewest feasible words.
 /// Returns `None` if all lights are wholly entered.
-pub fn chosen<E: Feasible>(engine: &E) -> Option<usize>
+pub(crate) fn chosen<E: Feasible>(engine: &E) -> Option<usize>
     ensures { result ≡ chosen (position_of (E.state engine.now)) }
 {
     let mut best = None;
@@ -163,7 +163,7 @@ pub fn chosen<E: Feasible>(engine: &E) -> Option<usize>
 
 /// The result of one scan of all lights.
 #[derive(Clone, Copy)]
-pub enum Scan {
+pub(crate) enum Scan {
     /// Some light has no feasible word.
     Blocked,
     /// Each light has a feasible word. The value is the chosen light, if any.
@@ -171,7 +171,7 @@ pub enum Scan {
 }
 
 /// Scans all lights, with one count of words per light. `since` must have a note for exactly the wholly entered lights.
-pub fn scan_lights<E: Feasible>(engine: &E, since: &[Option<usize>]) -> Scan
+pub(crate) fn scan_lights<E: Feasible>(engine: &E, since: &[Option<usize>]) -> Scan
     requires long { length since.now ≡ light_count (position_of (E.state engine.now)) }
     requires entered { AreEntered (position_of (E.state engine.now)) (has_note since.now) }
     ensures { result ≡ scanned (position_of (E.state engine.now)) }
