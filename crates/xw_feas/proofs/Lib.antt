@@ -17,3 +17,5 @@ pub mod CrossingLemmas
 pub mod PassesLemmas
 pub mod WriteLemmas
 pub mod PlacingLemmas
+pub mod GreatestLemmas
+pub mod PlacedLemmas

@@ -20,3 +20,5 @@ pub mod WellFormed
 pub mod Laws
 pub mod Passes
 pub mod Snapshot
+pub mod PlacedWord
+pub mod Greatest

@@ -5,12 +5,19 @@ ghost use Rattle.xw_grid.specs.declared.cell.Cell.{Cell};
 ghost use Rattle.xw_feas.specs.declared.edit.Refusal.{Refusal};
 ghost use Rattle.xw_feas.specs.Board.{Board};
 ghost use Rattle.xw_feas.specs.Feasible.{Family, IsSupported};
+ghost use Rattle.xw_feas.specs.Greatest.{CoversSupported, IsFeasibleFamily};
+ghost use Rattle.xw_feas.specs.PlacedWord.{WordsArePlaced};
 ghost use Rattle.xw_feas.specs.State.{State, Action, list_written, after, IsAfter};
 ghost use Rattle.xw_feas.specs.Laws.{together, WantNothing, write_of, IsRefusedInTurn};
 
 /// The union of two supported families is supported.
 pub fn families_join()
     ensures { (board : Board) (words : Dictionary) (one other : Family) → IsSupported board words one → IsSupported board words other → IsSupported board words (together one other) }
+{}
+
+/// A supported family that every supported family is within has exactly the feasible words and letters.
+pub fn greatest_family_is_feasible()
+    ensures { (board : Board) (words : Dictionary) (family : Family) → IsSupported board words family → CoversSupported board words family → IsFeasibleFamily board words family }
 {}
 
 /// If no edit of a list allocates, that is none is a `Block`, a `Bar` or the addition of a new
@@ -24,4 +31,9 @@ pub fn edits_lead_to_one_state()
 pub fn cells_are_written_in_turn()
     ensures accepted { (state next : State) (list : List (Cell × Option ℕ)) → (after state (list_written list) ≡ Ok next) ↔ IsAfter state (map write_of list) 0 next }
     ensures refused { (state : State) (list : List (Cell × Option ℕ)) (refusal : Refusal) → after state (list_written list) ≡ Err refusal → IsRefusedInTurn state list refusal }
+{}
+
+/// An accepted `Place` writes each letter of its word into the cell of the light at its position, and changes nothing else.
+pub fn words_are_placed()
+    ensures { WordsArePlaced }
 {}
