@@ -28,3 +28,4 @@ pub mod Copy
 pub mod Tally
 pub mod Update
 pub mod Cost
+pub mod RegionLaws

@@ -16,6 +16,7 @@ mod fill;
 mod fit;
 mod forget;
 mod gone;
+pub mod laws;
 mod narrow;
 pub mod net;
 mod position;

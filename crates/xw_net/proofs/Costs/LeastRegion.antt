@@ -2,13 +2,14 @@
 -- cost of every closed set is a bound by the cost of the region.
 use Rattle.std.proofs.Common.{◌≡◌, ℕ, zero, suc, ◌≤◌, Bool, true, false, cond, not, ◌&&◌, ◌||◌, eqb, List, [], ◌∷◌, ◌++◌, map, length, Some, None, refl, sym, ◌∙◌, ap, subst, arith, inl, inr}
 use Rattle.std.proofs.lemmas.List.Elements.{Contains-append_cases, Contains-append_left, Contains-append_right, All-contains, filter_passes}
-use Rattle.std.specs.Prelude.{filter, ◌↔◌, Option, Contains, bytes_eq}
+use Rattle.std.specs.Prelude.{filter, ◌↔◌, Option, Contains, IsTrue, bytes_eq}
 use Rattle.std.specs.List.{list_any, list_all}
 use Rattle.std.proofs.lemmas.Bool.{and_parts, and_from, or_cases, or_left, or_right, cases_Bool, false≢true, both_ways, eqb-true, eq-eqb, not-true, not_from_false}
 use Rattle.xw_feas.specs.Board.{board_of, entry, light_at}
-use Rattle.xw_feas.specs.Choices.{IsExact}
+use Rattle.xw_feas.specs.Feasible.{IsFeasibleLetter, answers_letter}
 use Rattle.xw_feas.specs.State.{State, Action}
 use Rattle.xw_net.specs.Region.{edited_cells, changes_words, IsSettled, StandsIn, StandsInEither, IsRegion, cost, light_cost, IsWithinCost}
+use Rattle.xw_net.specs.RegionLaws.{IsLeastRegion, LeastRegionExists, LeastRegionBounds}
 use Rattle.xw_net.specs.Sums.{sum_below}
 use Rattle.xw_net.proofs.Costs.CostsByLight.{sum_below-le, cost-indices}
 use Rattle.xw_net.proofs.Edits.KeptByEdits.{contains_first, contains_later, contains_filtered, contains_mapped}
@@ -129,14 +130,17 @@ module _ (all : List (List ℕ)) (seed : List ℕ → Bool) (link : List ℕ →
 
 -- ---- the least region of an edit
 
--- with exactly the feasible letters before and after, a test can decide which cells are settled
+-- with a test for the feasible letters before and after, a test can decide which cells are settled
 abbrev settled_by : (ℕ → Bool) → (ℕ → Bool) → Option ℕ → Option ℕ → Bool
 settled_by first second None entry = false
 settled_by first second (Some letter) None = false
 settled_by first second (Some letter) (Some other) = eqb letter other && (first letter && second letter)
 
-module _ (before now : State) (action : Action) (words letters words' letters' : ℕ → ℕ → Bool)
-    (exact : IsExact (board_of before.grid) before.words words letters) (exact' : IsExact (board_of now.grid) now.words words' letters') where
+-- the test holds for exactly the feasible letters
+abbrev DecidesLetters : State → (ℕ → ℕ → Bool) → Type 0
+DecidesLetters state letters = (cell letter : ℕ) → IsTrue (letters cell letter) ↔ IsFeasibleLetter (board_of state.grid) state.words cell letter
+
+module _ (before now : State) (action : Action) (letters letters' : ℕ → ℕ → Bool) (exact : DecidesLetters before letters) (exact' : DecidesLetters now letters') where
   abbrev settled : ℕ → Bool
   settled cell = settled_by (letters cell) (letters' cell) (entry (board_of before.grid) cell) (entry (board_of now.grid) cell)
 
@@ -148,13 +152,13 @@ module _ (before now : State) (action : Action) (words letters words' letters' :
     split (Some letter) (Some other) at at' g =
         let parts = and_parts (eqb letter other) (letters cell letter && letters' cell letter) g in
         let marks = and_parts (letters cell letter) (letters' cell letter) parts.1 in
-        (letter, at, at' ∙ ap Some (sym (eqb-true letter other parts.0)), (exact.letters cell letter).0 marks.0, (exact'.letters cell letter).0 marks.1)
+        (letter, at, at' ∙ ap Some (sym (eqb-true letter other parts.0)), (exact cell letter).0 marks.0, (exact' cell letter).0 marks.1)
 
   settled-from : (cell : ℕ) → IsSettled before now cell → settled cell ≡ true
   settled-from cell (letter, at, at', feasible, feasible') =
       ap (settled_by (letters cell) (letters' cell) (entry (board_of before.grid) cell)) at'
       ∙ ap (λ e. settled_by (letters cell) (letters' cell) e (Some letter)) at
-      ∙ and_from _ _ (eq-eqb letter letter refl) (and_from _ _ ((exact.letters cell letter).1 feasible) ((exact'.letters cell letter).1 feasible'))
+      ∙ and_from _ _ (eq-eqb letter letter refl) (and_from _ _ ((exact cell letter).1 feasible) ((exact' cell letter).1 feasible'))
 
   abbrev lights_before : List (List ℕ)
   lights_before = (board_of before.grid).lights
@@ -248,21 +252,40 @@ module _ (before now : State) (action : Action) (words letters words' letters' :
         let parts = and_parts (not (settled found.0)) (list_any (λ c. eqb found.0 c) o) found.2 in
         closed.spreads l o found.0 has_l (stands_back l there) (stands_back o there') found.1 (holds_gives o found.0 parts.1) (λ is. both_ways _ (not-true _ parts.0) (settled-from found.0 is))
 
-  -- so being within the cost of every closed set is the same as being within the cost of the region
-  pub within_cost : (ticks : ℕ) → IsWithinCost before now action ticks ↔ (ticks ≤ cost now region)
-  within_cost ticks = (
-    (λ within. within region region_is_region),
+pub least_region_exists : LeastRegionExists
+least_region_exists before now action one other are are' =
+    let letters = answers_letter one in
+    let letters' = answers_letter other in (
+      region before now action letters letters' are.letters are'.letters,
+      record {
+        closed = region_is_region before now action letters letters' are.letters are'.letters;
+        least = region_is_least before now action letters letters' are.letters are'.letters;
+      },
+    )
+
+-- ---- its cost
+
+module _ (before now : State) (action : Action) (region : List ℕ → Bool) (least : IsLeastRegion before now action region) where
+  part_of : (List ℕ → Bool) → ℕ → ℕ
+  part_of member light = cond (member (light_at (board_of now.grid) light)) (light_cost now.words (light_at (board_of now.grid) light)) 0
+
+  fewer : (first second : Bool) (n : ℕ) → (first ≡ true → second ≡ true) → cond first n 0 ≤ cond second n 0
+  fewer false second n follows = omega arith
+  fewer true second n follows = rw (follows refl) (omega arith)
+
+  costs_less : (member : List ℕ → Bool) → IsRegion before now action member → cost now region ≤ cost now member
+  unfolding part_of
+  costs_less member closed =
+      let count = length (board_of now.grid).lights in
+      let terms : sum_below (part_of region) count ≤ sum_below (part_of member) count = sum_below-le (part_of region) (part_of member) count (λ light below.
+      fewer (region (light_at (board_of now.grid) light)) (member (light_at (board_of now.grid) light)) (light_cost now.words (light_at (board_of now.grid) light)) (least.least member closed (light_at (board_of now.grid) light))) in
+      omega (arith, terms, cost-indices now region, cost-indices now member)
+
+  pub least_bounds : (ticks : ℕ) → IsWithinCost before now action ticks ↔ (ticks ≤ cost now region)
+  least_bounds ticks = (
+    (λ within. within region least.closed),
     (λ few member closed. omega (arith, few, costs_less member closed)),
-  ) where
-    part_of : (List ℕ → Bool) → ℕ → ℕ
-    part_of member light = cond (member (light_at (board_of now.grid) light)) (light_cost now.words (light_at (board_of now.grid) light)) 0
+  )
 
-    fewer : (first second : Bool) (n : ℕ) → (first ≡ true → second ≡ true) → cond first n 0 ≤ cond second n 0
-    fewer false second n follows = omega arith
-    fewer true second n follows = rw (follows refl) (omega arith)
-
-    costs_less : (member : List ℕ → Bool) → IsRegion before now action member → cost now region ≤ cost now member
-    costs_less member closed =
-        let terms : sum_below (part_of region) (length lights_now) ≤ sum_below (part_of member) (length lights_now) = sum_below-le (part_of region) (part_of member) (length lights_now) (λ light below.
-        fewer (region (light_at (board_of now.grid) light)) (member (light_at (board_of now.grid) light)) (light_cost now.words (light_at (board_of now.grid) light)) (region_is_least member closed (light_at (board_of now.grid) light))) in
-        omega (arith, terms, cost-indices now region, cost-indices now member)
+pub least_region_bounds : LeastRegionBounds
+least_region_bounds before now action region least = least_bounds before now action region least
