@@ -19,3 +19,4 @@ pub mod WriteLemmas
 pub mod PlacingLemmas
 pub mod GreatestLemmas
 pub mod PlacedLemmas
+pub mod WellFormedLemmas

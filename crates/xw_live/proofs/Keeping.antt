@@ -1,5 +1,5 @@
 -- What an engine keeps from one edit to the next.
-use Rattle.std.proofs.Common.{◌≡◌, ℕ, ◌+◌, ◌*◌, ◌<◌, ◌≤◌, Bool, true, false, add-zero, List, length, Some, None, refl, sym, ◌∙◌, ap, subst, arith}
+use Rattle.std.proofs.Common.{◌≡◌, ℕ, ◌+◌, ◌*◌, ◌<◌, ◌≤◌, Bool, true, false, add-zero, List, length, Some, None, sym, ◌∙◌, ap, subst, arith}
 use Rattle.std.specs.Prelude.{Option, slice_get, is_some, if◌then◌else◌}
 use Rattle.std.proofs.lemmas.Bool.{false≢true}
 use Rattle.std.proofs.Math.Logic.{∥∥₁_elim}
@@ -7,13 +7,9 @@ use mathlib.Core.Logic.{∥∥₁_prop}
 use mathlib.Core.HLevel.{Π_prop}
 use Rattle.std.specs.Coded.{Coded-set, coded_ℕ, le_prop}
 use Rattle.std.proofs.lemmas.List.{length-map}
-use Rattle.std.proofs.lemmas.Option.{slice_get_within, get_or_from_slice_get}
-use Rattle.xw_letters.specs.Letter.{IsLetter}
 use Rattle.xw_letters.specs.LetterSet.{letters_in}
-use Rattle.xw_words.specs.Dictionary.{Dictionary, IsDictionary}
-use Rattle.xw_grid.specs.declared.cell.Square.{Square}
-use Rattle.xw_grid.specs.declared.cell.Square.TheVariants.{Block, Open}
-use Rattle.xw_grid.specs.Grid.{Grid, IsGrid, IsSquare, letter_in, index_of}
+use Rattle.xw_words.specs.Dictionary.{Dictionary}
+use Rattle.xw_grid.specs.Grid.{Grid, IsGrid, index_of}
 use Rattle.xw_grid.specs.declared.lights.Light.{Light}
 use Rattle.xw_grid.specs.Light.{lights_of, cells_of}
 use Rattle.xw_grid.proofs.LightLemmas.{length-line}
@@ -27,11 +23,10 @@ use Rattle.xw_feas.specs.Rows.{grows}
 use Rattle.xw_feas.specs.Shape.{SameCounts, GrowsAt}
 use Rattle.xw_feas.specs.Standing.{HasRows}
 use Rattle.xw_feas.specs.State.{State}
-use Rattle.xw_feas.specs.WellFormed.{IsWellFormed, HasLetterEntries}
+use Rattle.xw_feas.specs.WellFormed.{IsWellFormed}
 use Rattle.xw_feas.proofs.AnswersLemmas.{AreAnswers-rows}
-use Rattle.xw_feas.proofs.BoardLemmas.{entry-square, length-open_cells, length-lights, light_at-found}
+use Rattle.xw_feas.proofs.BoardLemmas.{length-open_cells, length-lights, light_at-found}
 use Rattle.xw_feas.proofs.QueryLemmas.{count_is}
-use Rattle.xw_feas.proofs.FormedLemmas.{formed}
 use Rattle.xw_net.specs.declared.net.Net.{Net}
 use Rattle.xw_live.specs.Engine.{IsKept, net_answers}
 use Rattle.xw_net.specs.Layout.{layout_of}
@@ -64,23 +59,6 @@ kept_alike state old new alike none_waits kept = kept_from state new (settled_al
 -- there is a set for each cell
 pub kept_cells : (state : State) (net : Net) → IsKept state net → length (sets_of net) ≡ length state.grid.squares
 kept_cells state net kept = sym (length-map (sets_of net) letters_in) ∙ kept.answers.cells ∙ length-open_cells state.grid
-
--- ---- facts about every grid and dictionary
-
-letter_entries : (grid : Grid) → IsGrid grid → HasLetterEntries (board_of grid)
-letter_entries grid is cell letter at = split (slice_get grid.squares cell) refl (sym (entry-square grid cell) ∙ at) where
-  split : (square : Option Square) → slice_get grid.squares cell ≡ square → letter_in square ≡ Some letter → IsLetter letter
-  split None found h = cc
-  split (Some Block) found h = cc
-  split (Some (Open None)) found h = cc
-  split (Some (Open (Some other))) found h =
-      let same : other ≡ letter = cc in
-      let below = slice_get_within grid.squares cell (Open (Some other)) found in
-      let here : IsSquare (Open (Some other)) = subst IsSquare (get_or_from_slice_get grid.squares cell (Open (Some other)) Block found) (is.letters cell Block below) in
-      subst IsLetter same here
-
-pub state_formed : (grid : Grid) (words : Dictionary) → IsGrid grid → IsDictionary words → IsWellFormed (record { grid = grid; words = words })
-state_formed grid words is dictionary = formed grid words is dictionary (letter_entries grid is)
 
 -- ---- room
 

@@ -10,3 +10,4 @@ pub mod ChangedWord
 pub mod ChangedLights
 pub mod FilledCells
 pub mod ListedCells
+pub mod ToldEdits

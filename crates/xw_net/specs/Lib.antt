@@ -29,3 +29,4 @@ pub mod Tally
 pub mod Update
 pub mod Cost
 pub mod RegionLaws
+pub mod Settling

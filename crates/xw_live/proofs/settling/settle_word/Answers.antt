@@ -2,7 +2,8 @@ use Rattle.std.proofs.Common.{map, refl, sym, ap}
 use Rattle.xw_feas.specs.State.{State}
 use Rattle.xw_net.specs.Change.{with_entry_of}
 use Rattle.xw_net.proofs.Edits.ChangeFacts.{change_made}
-use Rattle.xw_live.proofs.Keeping.{state_formed, room_without}
+use Rattle.xw_feas.proofs.WellFormedLemmas.{state_formed}
+use Rattle.xw_live.proofs.Keeping.{room_without}
 use Rattle.xw_net.specs.Net.{known_counts}
 use Rattle.xw_live.proofs.settling.settle_word.Goals as goal
 

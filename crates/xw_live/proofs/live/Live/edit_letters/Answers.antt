@@ -7,7 +7,8 @@ use Rattle.xw_net.specs.Net.{known_counts}
 use Rattle.xw_live.specs.Live.{state_of}
 use Rattle.xw_net.proofs.Edits.ChangeFacts.{change_made}
 use Rattle.xw_live.proofs.Made.{letters_of_grid, grid_made}
-use Rattle.xw_live.proofs.Keeping.{kept_cells, state_formed, stood_same, room_without, room_of_lights}
+use Rattle.xw_feas.proofs.WellFormedLemmas.{state_formed}
+use Rattle.xw_live.proofs.Keeping.{kept_cells, stood_same, room_without, room_of_lights}
 use Rattle.xw_net.proofs.Edits.ListedCells.{edit_in_grid}
 use Rattle.xw_live.proofs.live.Live.edit_letters.Goals as goal
 

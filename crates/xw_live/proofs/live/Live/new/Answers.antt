@@ -1,7 +1,8 @@
 use Rattle.std.proofs.Common.{sym, ◌∙◌}
 use Rattle.xw_feas.specs.State.{State}
 use Rattle.xw_live.specs.Engine.{IsKept}
-use Rattle.xw_live.proofs.Keeping.{kept_from, kept_cells, state_formed}
+use Rattle.xw_feas.proofs.WellFormedLemmas.{state_formed}
+use Rattle.xw_live.proofs.Keeping.{kept_from, kept_cells}
 use Rattle.xw_live.proofs.live.Live.new.Goals as goal
 
 pub invariant_of-result : goal.invariant_of-result

@@ -1,7 +1,8 @@
 use Rattle.std.proofs.Common.{sym, ◌∙◌}
 use Rattle.xw_feas.specs.State.{State}
 use Rattle.xw_live.specs.Engine.{IsKept}
-use Rattle.xw_live.proofs.Keeping.{kept_from, kept_cells, state_formed}
+use Rattle.xw_feas.proofs.WellFormedLemmas.{state_formed}
+use Rattle.xw_live.proofs.Keeping.{kept_from, kept_cells}
 use Rattle.xw_live.proofs.live.Live.take_grid.Goals as goal
 
 pub replace-requires-clause-kept : goal.replace-requires-clause-kept

@@ -7,7 +7,8 @@ use Rattle.xw_net.specs.Net.{known_counts}
 use Rattle.xw_live.specs.Live.{state_of}
 use Rattle.xw_net.proofs.Edits.ChangeFacts.{change_made, size_kept}
 use Rattle.xw_live.proofs.Made.{shape_of_grid, grid_made}
-use Rattle.xw_live.proofs.Keeping.{kept_alike, kept_cells, as_many_cells, state_formed, settled_alike, stood_same, room_of_lights, room_waiting, room_for_none}
+use Rattle.xw_feas.proofs.WellFormedLemmas.{state_formed}
+use Rattle.xw_live.proofs.Keeping.{kept_alike, kept_cells, as_many_cells, settled_alike, stood_same, room_of_lights, room_waiting, room_for_none}
 use Rattle.xw_net.proofs.Edits.ListedCells.{edit_in_grid}
 use Rattle.xw_live.proofs.live.Live.take_shape.Goals as goal
 

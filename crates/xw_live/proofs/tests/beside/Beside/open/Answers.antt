@@ -1,6 +1,7 @@
 use Rattle.xw_feas.specs.State.{State}
 use Rattle.xw_live.specs.Engine.{IsKept}
-use Rattle.xw_live.proofs.Keeping.{kept_from, state_formed}
+use Rattle.xw_feas.proofs.WellFormedLemmas.{state_formed}
+use Rattle.xw_live.proofs.Keeping.{kept_from}
 use Rattle.xw_live.proofs.tests.beside.Beside.open.Goals as goal
 
 pub invariant_of-result : goal.invariant_of-result
