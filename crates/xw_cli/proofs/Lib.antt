@@ -3,4 +3,3 @@ pub mod Usages
 pub mod Failures
 pub mod Told
 pub mod Opened
-pub mod WholeLines

@@ -12,7 +12,6 @@ use Rattle.xw_files.specs.declared.fault.ReadFault.{ReadFault}
 use Rattle.xw_files.specs.declared.fault.WriteFault.{WriteFault}
 use Rattle.xw_files.specs.declared.kind.Kind.{Kind}
 use Rattle.xw_files.specs.declared.kind.Kind.TheVariants.{Puz, Text}
-use Rattle.xw_cli.specs.declared.arguments.SessionFiles.{SessionFiles}
 use Rattle.xw_cli.specs.declared.failure.Failure.{Failure}
 use Rattle.xw_cli.specs.declared.failure.Failure.TheVariants as failures
 use Rattle.xw_cli.specs.declared.location.Location.{Location}
@@ -32,10 +31,15 @@ abbrev pub IsCannotWrite : List ℕ → Failure → Type 0
 IsCannotWrite name (failures.CannotWrite file) = file.bytes.items ≡ name
 IsCannotWrite name other = ⊥
 
--- another program has the file with this name open
+-- another program has the file with this name as its journal
 abbrev pub IsInUse : List ℕ → Failure → Type 0
 IsInUse name (failures.InUse file) = file.bytes.items ≡ name
 IsInUse name other = ⊥
+
+-- the name no longer leads to the journal that was opened by it
+abbrev pub IsReplaced : List ℕ → Failure → Type 0
+IsReplaced name (failures.Replaced file) = file.bytes.items ≡ name
+IsReplaced name other = ⊥
 
 -- the file with this name has the fault with this name, at this location if one is told
 abbrev pub IsFileFault : List ℕ → List ℕ → Option Location → Failure → Type 0
@@ -77,6 +81,12 @@ abbrev pub IsRebusTold : {S : Type 0} → (S → List ℕ) → (S → ℕ) → L
 IsRebusTold transcript failures name Puz bytes old new = (sections : List Section) → HasSections bytes sections → IsToldIf transcript failures name (list_any is_rebus sections) old new
 IsRebusTold transcript failures name Text bytes old new = new ≡ old
 
+-- ---- writing a file
+
+-- why the file with this name is not replaced
+abbrev pub IsUnreplaced : List ℕ → Failure → Type 0
+IsUnreplaced name failure = (failure ≡ failures.Memory) ⊎ (IsCannotWrite name failure ⊎ IsInUse name failure)
+
 -- ---- writing a puzzle file
 
 -- these are the bytes of the puzzle in the format that the name asks for
@@ -96,48 +106,11 @@ pub record IsUnfit (name : List ℕ) (explain : Bool) (puzzle : PuzzleShown) (fa
 
 -- why the puzzle is not written to the file with this name
 abbrev pub IsUnwritten : List ℕ → Bool → PuzzleShown → Failure → Type 0
-IsUnwritten name explain puzzle failure = (failure ≡ failures.Memory) ⊎ (IsCannotWrite name failure ⊎ IsUnfit name explain puzzle failure)
+IsUnwritten name explain puzzle failure = IsUnreplaced name failure ⊎ IsUnfit name explain puzzle failure
 
--- ---- files that must differ
+-- ---- files that are named
 
 -- the file is named, and P holds of its name
 abbrev pub IfNamed : Option (Bor (List ℕ)) → (List ℕ → Type 0) → Type 0
 IfNamed None P = ⊥
 IfNamed (Some file) P = P file.now
-
--- this file cannot be written, since it is the word list
-abbrev pub IsOneFile : List ℕ → Failure → Type 0
-IsOneFile name (failures.OneFile file) = file.bytes.items ≡ name
-IsOneFile name other = ⊥
-
--- this file is named for the puzzle and for the record
-abbrev pub IsTwoTexts : List ℕ → Failure → Type 0
-IsTwoTexts name (failures.TwoTexts file) = file.bytes.items ≡ name
-IsTwoTexts name other = ⊥
-
--- the file with the second name is the word list, which the first names
-abbrev pub IsOverList : Option (Bor (List ℕ)) → Option (Bor (List ℕ)) → Failure → Type 0
-IsOverList dict written failure = IfNamed dict (λ _. IfNamed written (λ name. IsOneFile name failure))
-
--- this file is named for the journal and by another option
-abbrev pub IsSharedJournal : List ℕ → Failure → Type 0
-IsSharedJournal name (failures.SharedJournal file) = file.bytes.items ≡ name
-IsSharedJournal name other = ⊥
-
--- the journal is the other file
-abbrev pub IsOverJournal : Option (Bor (List ℕ)) → Option (Bor (List ℕ)) → Failure → Type 0
-IsOverJournal journal other failure = IfNamed journal (λ name. IfNamed other (λ _. IsSharedJournal name failure))
-
--- the word list is named for the puzzle or for the record, or one file for both
-abbrev pub AreTextsNotApart : SessionFiles → Failure → Type 0
-AreTextsNotApart files failure =
-    (failure ≡ failures.Memory) ⊎ (IsOverList files.dict files.to_file failure ⊎ (IsOverList files.dict files.save_file failure ⊎ IfNamed files.to_file (λ _. IfNamed files.save_file (λ name. IsTwoTexts name failure))))
-
--- the journal is the word list, or is named for the puzzle or for the record
-abbrev pub IsJournalNotApart : SessionFiles → Failure → Type 0
-IsJournalNotApart files failure =
-    (failure ≡ failures.Memory) ⊎ (IsOverJournal files.journal_file files.dict failure ⊎ (IsOverJournal files.journal_file files.to_file failure ⊎ IsOverJournal files.journal_file files.save_file failure))
-
--- two files that must differ are one
-abbrev pub IsNotApart : SessionFiles → Failure → Type 0
-IsNotApart files failure = AreTextsNotApart files failure ⊎ IsJournalNotApart files failure

@@ -1,3 +1,4 @@
+pub mod Apart
 pub mod Shapes
 pub mod Calls
 pub mod Usage

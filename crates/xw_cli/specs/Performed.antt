@@ -9,6 +9,7 @@ use Rattle.xw_grid.specs.Puzzle.{PuzzleShown}
 use Rattle.xw_files.specs.Formats.{IsRead}
 use Rattle.xw_files.specs.declared.kind.Kind.{Kind}
 use Rattle.xw_files.specs.declared.kind.Kind.TheVariants.{Puz, Text}
+use Rattle.xw_journal.specs.File.{kept_lines}
 use Rattle.xw_lines.specs.Cut.{lines_of}
 use Rattle.xw_lines.specs.Device.{flushed, saturated}
 use Rattle.xw_lines.specs.Run.{Speaks}
@@ -29,9 +30,10 @@ use Rattle.xw_cli.specs.declared.failure.Failure.TheVariants as failures
 use Rattle.xw_cli.specs.declared.failure.Status.{Status}
 use Rattle.xw_cli.specs.declared.failure.Status.TheVariants.{Accepted}
 use Rattle.xw_cli.specs.Explained.{IsTold}
-use Rattle.xw_cli.specs.Files.{AreBytesFor, IfNamed, IsCannotRead, IsCannotWrite, IsLineFault, IsNotApart, IsUnread, IsUnwritten}
+use Rattle.xw_cli.specs.Apart.{AreInUse, IsNotApart}
+use Rattle.xw_cli.specs.Files.{AreBytesFor, IfNamed, IsCannotRead, IsLineFault, IsReplaced, IsUnread, IsUnwritten}
 use Rattle.xw_cli.specs.Journals.{HasReplayed, IsUnreplayed}
-use Rattle.xw_cli.specs.SessionFiles.{IsUnloaded, IsUnsaved}
+use Rattle.xw_cli.specs.SessionFiles.{IsNotKept, IsUnloaded, IsUnsaved}
 use Rattle.xw_cli.specs.Status.{run_ended}
 
 -- ---- check
@@ -102,10 +104,10 @@ pub record IsOpened (files : SessionFiles) (state : State) : Type 0 where
   pub has_puzzle : HasPuzzle files.from_file puzzle
   pub opened : state ≡ opened_on words puzzle
 
--- the commands that some bytes have are replayed if a file is named, and this number of lines is refused
+-- the lines of some bytes that count are replayed if a file is named, and this number of them is refused
 abbrev pub HasResumed : Option (Bor (List ℕ)) → State → ℕ → State → Type 0
 HasResumed None start refused state = (refused ≡ 0) × (state ≡ start)
-HasResumed (Some file) start refused state = (text : List ℕ) × (told : List ℕ) × Resumes file.now start (lines_of text) (Ok refused) told state
+HasResumed (Some file) start refused state = (text : List ℕ) × (told : List ℕ) × Resumes file.now start (kept_lines text) (Ok refused) told state
 
 -- if a file is named, the puzzle can be written in the format that its name asks for
 abbrev pub IsKept : Option (Bor (List ℕ)) → PuzzleShown → Type 0
@@ -169,18 +171,28 @@ IsUnresumed name failure = (failure ≡ failures.Memory) ⊎ (IsCannotRead name 
 abbrev pub IsUnanswered : Failure → Type 0
 IsUnanswered failure = (failure ≡ failures.Memory) ⊎ ((failure ≡ failures.Input) ⊎ (failure ≡ failures.Output))
 
--- why the files of a session are not written
-abbrev pub IsUnclosed : SessionFiles → Bool → Failure → Type 0
-IsUnclosed files explain failure =
-    (failure ≡ failures.Memory) ⊎ (IfNamed files.save_file (λ name. IsUnsaved name failure) ⊎ (IfNamed files.journal_file (λ name. IsUnsaved name failure) ⊎ IfNamed files.to_file (λ name. (puzzle : PuzzleShown) × IsUnwritten name explain puzzle failure)))
+-- why the session is not saved
+abbrev pub IsNotSaved : SessionFiles → Failure → Type 0
+IsNotSaved files failure =
+    (failure ≡ failures.Memory) ⊎ (IsNotApart files failure ⊎ IfNamed files.save_file (λ name. IsNotKept name failure ⊎ IsUnsaved name failure))
+
+-- why the puzzle of a session is not written
+abbrev pub IsNotPut : SessionFiles → Bool → Failure → Type 0
+IsNotPut files explain failure = IsNotApart files failure ⊎ IfNamed files.to_file (λ name. (puzzle : PuzzleShown) × IsUnwritten name explain puzzle failure)
 
 -- why an opened session is not run to its end
 abbrev pub IsCut : SessionFiles → Bool → Failure → Type 0
-IsCut files explain failure = IfNamed files.resume_file (λ name. IsUnresumed name failure) ⊎ (IsUnanswered failure ⊎ IsUnclosed files explain failure)
+IsCut files explain failure =
+    IfNamed files.resume_file (λ name. IsUnresumed name failure) ⊎ (IsUnanswered failure ⊎ (IsNotSaved files failure ⊎ IsNotPut files explain failure))
+
+-- why the journal with this name does not take a line, or is not replaced at the end
+abbrev pub IsJournalFault : List ℕ → Failure → Type 0
+IsJournalFault name failure = IsUnsaved name failure ⊎ IsReplaced name failure
 
 -- why an opened session is not run to its end with the journal of this name
 abbrev pub IsCutJournal : List ℕ → SessionFiles → Bool → Failure → Type 0
-IsCutJournal name files explain failure = IsUnreplayed name failure ⊎ (IsUnanswered failure ⊎ (IsCannotWrite name failure ⊎ IsUnclosed files explain failure))
+IsCutJournal name files explain failure =
+    IsUnreplayed name failure ⊎ (IsUnanswered failure ⊎ (IsJournalFault name failure ⊎ (IsNotSaved files failure ⊎ IsNotPut files explain failure)))
 
 -- why an opened session is not run to its end, with or without a journal
 abbrev pub IsCutWith : Option (Bor (List ℕ)) → SessionFiles → Bool → Failure → Type 0
@@ -189,7 +201,8 @@ IsCutWith (Some file) files explain failure = IsCutJournal file.now files explai
 
 -- why a session is not opened and run to its end
 abbrev pub IsUnedited : SessionFiles → Bool → Failure → Type 0
-IsUnedited files explain failure = IsNotApart files failure ⊎ (IsUnopened files explain failure ⊎ IsCutWith files.journal_file files explain failure)
+IsUnedited files explain failure =
+    IsNotApart files failure ⊎ (AreInUse files failure ⊎ (IsUnopened files explain failure ⊎ IsCutWith files.journal_file files explain failure))
 
 -- ---- any call
 

@@ -1,7 +1,7 @@
 -- The word list of a session, and the commands that it resumes: what is read, what is told, and which failure ends it.
 use Rattle.std.specs.Prelude.{◌≡◌, ◌⊎◌, ◌-◌, ◌++◌, ℕ, List, None, Result, Ok, Err, codes, decimal, length}
 use Rattle.xw_words.specs.WordList.{IsTooLong, listed_in, results_of, words_among}
-use Rattle.xw_lines.specs.Cut.{lines_of}
+use Rattle.xw_journal.specs.File.{kept_lines}
 use Rattle.xw_session.specs.Resuming.{Resumes, Tells}
 use Rattle.xw_session.specs.State.{State}
 use Rattle.xw_session.specs.Text.{name_of}
@@ -9,7 +9,8 @@ use Rattle.xw_session.specs.declared.resuming.Stop.{Stop}
 use Rattle.xw_session.specs.declared.resuming.Stop.TheVariants as stops
 use Rattle.xw_cli.specs.declared.failure.Failure.{Failure}
 use Rattle.xw_cli.specs.declared.failure.Failure.TheVariants as failures
-use Rattle.xw_cli.specs.Files.{IsCannotRead, IsCannotWrite, IsFileFault, IsLineFault}
+use Rattle.xw_cli.specs.Explained.{GoesOut}
+use Rattle.xw_cli.specs.Files.{IsCannotRead, IsFileFault, IsLineFault, IsUnreplaced}
 
 -- ---- the word list
 
@@ -35,6 +36,14 @@ IsUnloaded name failure = (failure ≡ failures.Memory) ⊎ (IsCannotRead name f
 
 -- ---- the commands to resume
 
+-- the report of lines that do not count, since they were cut
+abbrev pub cut_line : List ℕ → List ℕ
+cut_line name = codes "xw: " ++ name ++ codes ": a cut line was dropped\n"
+
+-- the report goes out, or there is nothing to report
+abbrev pub MayTellCut : {S : Type 0} → (S → List ℕ) → (S → ℕ) → List ℕ → S → S → Type 0
+MayTellCut transcript failures name old new = GoesOut transcript failures old new (cut_line name) ⊎ (new ≡ old)
+
 -- the failure says at which line of this file the replay stopped, and why; or an allocation failed
 abbrev pub IsStopped : List ℕ → Stop → Failure → Type 0
 IsStopped name (stops.NoCommand number refusal) failure = (failure ≡ failures.Memory) ⊎ IsLineFault name number (name_of refusal) failure
@@ -47,11 +56,11 @@ IsReplayed name (Ok refused) (Err failure) = ⊥
 IsReplayed name (Err stop) (Ok count) = ⊥
 IsReplayed name (Err stop) (Err failure) = IsStopped name stop failure
 
--- The lines of the text are replayed from the first state, up to the first that is no command: the result, the state
--- that is left and the reports of refused lines are those of the replay.
-abbrev pub Replays : {S : Type 0} → (S → List ℕ) → (S → ℕ) → List ℕ → List ℕ → State → State → Result ℕ Failure → S → S → Type 0
-Replays transcript failures name text start left result old new =
-    (ended : Result ℕ Stop) × (told : List ℕ) × Resumes name start (lines_of text) ended told left × Tells transcript failures old new told × IsReplayed name ended result
+-- These lines are replayed from the first state, up to the first that is no command: the result, the state that is left and the
+-- reports of refused lines are those of the replay.
+abbrev pub Replays : {S : Type 0} → (S → List ℕ) → (S → ℕ) → List ℕ → List (List ℕ) → State → State → Result ℕ Failure → S → S → Type 0
+Replays transcript failures name lines start left result old new =
+    (ended : Result ℕ Stop) × (told : List ℕ) × Resumes name start lines ended told left × Tells transcript failures old new told × IsReplayed name ended result
 
 -- The file with this name cannot be read, and nothing changes.
 pub record IsNotRead {S : Type 0} (name : List ℕ) (start left : State) (result : Result ℕ Failure) (old new : S) : Type 0 where
@@ -61,12 +70,27 @@ pub record IsNotRead {S : Type 0} (name : List ℕ) (start left : State) (result
   pub state : left ≡ start
   pub untold : new ≡ old
 
--- what resuming the file with this name does: the lines of some bytes are replayed, or the file cannot be read
+-- What resuming the file with this name does: the lines of some bytes that count are replayed, after a report if others were cut; or the
+-- file cannot be read.
 abbrev pub IsResumed : {S : Type 0} → (S → List ℕ) → (S → ℕ) → List ℕ → State → State → Result ℕ Failure → S → S → Type 0
-IsResumed transcript failures name start left result old new = ((text : List ℕ) × Replays transcript failures name text start left result old new) ⊎ IsNotRead name start left result old new
+IsResumed {S} transcript failures name start left result old new =
+    ((text : List ℕ) × (mid : S) × MayTellCut transcript failures name old mid × Replays transcript failures name (kept_lines text) start left result mid new)
+    ⊎ IsNotRead name start left result old new
 
 -- ---- the record
 
--- why the record is not written to the file with this name
+-- why the session is not written to the file with this name
 abbrev pub IsUnsaved : List ℕ → Failure → Type 0
-IsUnsaved name failure = (failure ≡ failures.Memory) ⊎ IsCannotWrite name failure
+IsUnsaved name failure = IsUnreplaced name failure
+
+-- the name under which an old file is kept
+abbrev pub old_name : List ℕ → List ℕ
+old_name name = name ++ codes "~"
+
+-- the report of an old file that is kept
+abbrev pub old_line : List ℕ → List ℕ
+old_line name = codes "xw: " ++ name ++ codes ": refused lines; the old file is kept as " ++ old_name name ++ codes "\n"
+
+-- why the old file is not kept before the session is written over it
+abbrev pub IsNotKept : List ℕ → Failure → Type 0
+IsNotKept name failure = (failure ≡ failures.Memory) ⊎ (IsCannotRead name failure ⊎ IsUnreplaced (old_name name) failure)

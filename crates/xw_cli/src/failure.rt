@@ -65,6 +65,10 @@ pub enum Failure {
     InUse {
         file: String,
     },
+    #[error("xw: {file}: replaced")]
+    Replaced {
+        file: String,
+    },
     #[error("xw: {file}: {name}")]
     File {
         file: String,
@@ -90,6 +94,14 @@ pub enum Failure {
     TwoTexts {
         file: String,
     },
+    #[error("xw: {file}: the session cannot be written over the puzzle to start with")]
+    OverPuzzle {
+        file: String,
+    },
+    #[error("xw: {file}: the session cannot be written as .puz")]
+    SavedAsPuz {
+        file: String,
+    },
     #[error("xw: {file}: the journal cannot be another file of the call")]
     SharedJournal {
         file: String,
@@ -106,6 +118,8 @@ impl Failure {
             Failure::Line { .. } => Status::Format,
             Failure::OneFile { .. } => Status::Usage,
             Failure::TwoTexts { .. } => Status::Usage,
+            Failure::OverPuzzle { .. } => Status::Usage,
+            Failure::SavedAsPuz { .. } => Status::Usage,
             Failure::SharedJournal { .. } => Status::Usage,
             _ => Status::Failed,
         }

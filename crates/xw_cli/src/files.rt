@@ -4,17 +4,17 @@ ghost use Rattle.xw_grid.specs.Puzzle.{puzzle_view};
 ghost use Rattle.xw_files.specs.Formats.{IsRead};
 ghost use Rattle.xw_files.specs.FaultNames.{read_fault_name, write_fault_name};
 ghost use Rattle.xw_cli.specs.declared.failure.Failure.TheVariants.{Memory};
-ghost use Rattle.xw_cli.specs.Files.{location_if, IsCannotRead, IsCannotWrite, IsFileFault, IsLineFault, IsMalformed, IsUnread, IsRebusTold, AreBytesFor, IsUnfit, IsUnwritten, IsOverList, IsOverJournal, AreTextsNotApart, IsJournalNotApart, IsNotApart};
+ghost use Rattle.xw_cli.specs.Files.{location_if, IsCannotRead, IsCannotWrite, IsFileFault, IsLineFault, IsMalformed, IsUnread, IsRebusTold, AreBytesFor, IsUnfit, IsUnwritten, IsUnreplaced};
 ghost use Rattle.xw_cli.specs.Locations.{read_location, write_location};
 
-use crate::arguments::SessionFiles;
 use crate::explaining::tell_rebus;
 use crate::failure::Failure;
+use crate::journal::{in_use, unwritable};
 use crate::location::{self, Location};
+use crate::locks::{Held, Locks, hold};
 use crate::names::kind_by_name;
-use crate::replacing::replace;
+use crate::replacing::{replace, replace_like};
 use std::alloc::Global;
-use std::os::unix::fs::MetadataExt;
 use std::rt::Files;
 use std::{fs, io};
 use xw_files::fault::{ReadFault, WriteFault};
@@ -152,7 +152,7 @@ pub fn line_fault(alloc: Global, file: &str, number: usize, name: &'static str) 
 
 /// Writes a puzzle file in the format that its name asks for. The file is not opened until all bytes are built. A fault
 /// of the puzzle comes with its location if `explain` is set.
-pub fn write_puzzle<R: Files + AllocGlobal>(
+pub fn write_puzzle<R: Locks + AllocGlobal>(
     rt: &R,
     file: &str,
     puzzle: &Puzzle,
@@ -195,97 +195,49 @@ fn unfit(alloc: Global, file: &str, explain: bool, grid: &Grid, fault: WriteFaul
     }
 }
 
-/// Replaces a file. Returns `Memory` if an allocation fails, and `CannotWrite` for any other error.
-pub fn write_file<R: Files + AllocGlobal>(rt: &R, file: &str, bytes: &[u8]) -> Result<(), Failure>
+/// Replaces a file, unless another program has it as its journal. Returns `Memory` if an allocation fails, and `CannotWrite` for any
+/// other error.
+pub fn write_file<R: Locks + AllocGlobal>(rt: &R, file: &str, bytes: &[u8]) -> Result<(), Failure>
+    ensures err { IfErr result (λ failure. IsUnreplaced file.now failure) }
+{
+    match hold(rt, file) {
+        Held::Free(_file) => write_own_file(rt, file, bytes),
+        Held::InUse => Err(in_use(rt.alloc(), file)),
+    }
+}
+
+/// Replaces a file, as `write_file`, and gives it the mode of another file.
+pub fn write_copy<R: Locks + AllocGlobal>(
+    rt: &R,
+    file: &str,
+    like: &str,
+    bytes: &[u8],
+) -> Result<(), Failure>
+    ensures err { IfErr result (λ failure. IsUnreplaced file.now failure) }
+{
+    match hold(rt, file) {
+        Held::Free(_file) => told(rt.alloc(), file, replace_like(rt, file, like, bytes)),
+        Held::InUse => Err(in_use(rt.alloc(), file)),
+    }
+}
+
+/// Replaces a file, as `write_file`, also the journal of this program.
+pub fn write_own_file<R: Files + AllocGlobal>(
+    rt: &R,
+    file: &str,
+    bytes: &[u8],
+) -> Result<(), Failure>
     ensures err { IfErr result (λ failure. (failure ≡ Memory) ⊎ IsCannotWrite file.now failure) }
 {
-    match replace(rt, file, bytes) {
+    told(rt.alloc(), file, replace(rt, file, bytes))
+}
+
+/// Returns the failure for a file that could not be replaced.
+fn told(alloc: Global, file: &str, replaced: io::Result<()>) -> Result<(), Failure>
+    ensures { IfErr result (λ failure. (failure ≡ Memory) ⊎ IsCannotWrite file.now failure) }
+{
+    match replaced {
         Ok(()) => Ok(()),
-        Err(error) => {
-            if error.kind() == io::ErrorKind::OutOfMemory {
-                return Err(Failure::Memory);
-            }
-            let file = String::from_str(rt.alloc(), file)?;
-            Err(Failure::CannotWrite { file })
-        }
-    }
-}
-
-/// Refuses to write over the word list, to write both the puzzle and the record to one file, and to use the journal as another file.
-/// Compares the files themselves, not their names, if both exist.
-pub fn keep_apart<R: Files + AllocGlobal>(rt: &R, named: SessionFiles<'_>) -> Result<(), Failure>
-    ensures err { IfErr result (λ failure. IsNotApart named.entry failure) }
-{
-    keep_texts_apart(rt, named)?;
-    keep_journal_apart(rt, named)?;
-    Ok(())
-}
-
-/// Refuses to write over the word list, and to write both the puzzle and the record to one file.
-fn keep_texts_apart<R: Files + AllocGlobal>(rt: &R, named: SessionFiles<'_>) -> Result<(), Failure>
-    ensures err { IfErr result (λ failure. AreTextsNotApart named.entry failure) }
-{
-    spare(rt, named.dict, named.to_file)?;
-    spare(rt, named.dict, named.save_file)?;
-    match (named.to_file, named.save_file) {
-        (Some(to_file), Some(file)) if is_one_file(rt, to_file, file) => {
-            let file = String::from_str(rt.alloc(), file)?;
-            Err(Failure::TwoTexts { file })
-        }
-        _ => Ok(()),
-    }
-}
-
-/// Refuses to use the journal as another file.
-fn keep_journal_apart<R: Files + AllocGlobal>(
-    rt: &R,
-    named: SessionFiles<'_>,
-) -> Result<(), Failure>
-    ensures err { IfErr result (λ failure. IsJournalNotApart named.entry failure) }
-{
-    spare_journal(rt, named.journal_file, named.dict)?;
-    spare_journal(rt, named.journal_file, named.to_file)?;
-    spare_journal(rt, named.journal_file, named.save_file)
-}
-
-/// Refuses to use the journal as this other file.
-fn spare_journal<R: Files + AllocGlobal>(
-    rt: &R,
-    journal: Option<&str>,
-    other: Option<&str>,
-) -> Result<(), Failure>
-    ensures err { IfErr result (λ failure. (failure ≡ Memory) ⊎ IsOverJournal journal.entry other.entry failure) }
-{
-    match (journal, other) {
-        (Some(file), Some(other)) if is_one_file(rt, file, other) => {
-            let file = String::from_str(rt.alloc(), file)?;
-            Err(Failure::SharedJournal { file })
-        }
-        _ => Ok(()),
-    }
-}
-
-/// Refuses to write over the word list.
-fn spare<R: Files + AllocGlobal>(
-    rt: &R,
-    dict: Option<&str>,
-    written: Option<&str>,
-) -> Result<(), Failure>
-    ensures err { IfErr result (λ failure. (failure ≡ Memory) ⊎ IsOverList dict.entry written.entry failure) }
-{
-    match (dict, written) {
-        (Some(dict), Some(file)) if is_one_file(rt, dict, file) => {
-            let file = String::from_str(rt.alloc(), file)?;
-            Err(Failure::OneFile { file })
-        }
-        _ => Ok(()),
-    }
-}
-
-/// Returns whether two names are the same file. If one of them does not exist, the names are compared.
-fn is_one_file<R: Files>(rt: &R, one: &str, other: &str) -> bool {
-    match (fs::metadata(rt, one), fs::metadata(rt, other)) {
-        (Ok(one), Ok(other)) => one.dev() == other.dev() && one.ino() == other.ino(),
-        _ => one == other,
+        Err(error) => Err(unwritable(alloc, file, &error)),
     }
 }

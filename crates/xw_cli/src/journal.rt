@@ -1,106 +1,220 @@
 //! The file of a journal: its opening, its replay, and the writer for its lines.
-ghost use Rattle.std.specs.Prelude.{◌≡◌, ◌≢◌, ◌⊎◌, ◌++◌, [], Bool, Ok, IfOk, IfErr, OnOk, OnErr, IsOkUnless};
-ghost use Rattle.xw_lines.specs.Cut.{ended_lines, last_piece, lines_of};
+ghost use Rattle.std.specs.Prelude.{◌≡◌, ◌≢◌, ◌⊎◌, [], ℕ, ◌≤◌, length, OnOk, IfOk, IfErr, IsOkUnless, codes};
+ghost use Rattle.xw_journal.specs.File.{form_of as form_of_bytes};
 ghost use Rattle.xw_cli.specs.declared.failure.Failure.TheVariants.{Memory};
-ghost use Rattle.xw_cli.specs.Explained.{GoesOut};
-ghost use Rattle.xw_cli.specs.Files.{IsCannotRead, IsCannotWrite, IsInUse};
-ghost use Rattle.xw_cli.specs.Journals.{cut_line, HasReplayed, IsNotReady, IsUnreplayed};
+ghost use Rattle.xw_cli.specs.Files.{IsCannotRead, IsCannotWrite, IsInUse, IsLineFault, IsReplaced};
+ghost use Rattle.xw_cli.specs.Journals.{HasReplayed, IsNotBegun, IsNotReady, IsUnreplayed};
+ghost use Rattle.xw_cli.specs.SessionFiles.{IsUnsaved};
 
 use crate::failure::Failure;
-use crate::replacing::followed;
-use crate::session_files::resume_text;
+use crate::files::{line_fault, write_own_file};
+use crate::identity::{Identity, identity_of};
+use crate::locks::Locks;
+use crate::replacing::{followed, new_beside, put, sync_folder};
+use crate::session_files::{resume_text, tell_cut};
 use std::alloc::Global;
-use std::fs::{self, File, OpenFile, OpenOptions, TryLockError};
+use std::fs::{self, OpenFile, OpenOptions};
 use std::io::{self, BufWriter, ErrorKind, Read, Write};
-use std::os::unix::fs::MetadataExt;
+use std::os::unix::fs::PermissionsExt;
 use std::rt::Files;
+use xw_feas::feasible::Feasible;
 use xw_feas::searchable::Searchable;
-use xw_lines::{Sink, ToWrite, device};
+use xw_journal::file::{FIRST_LINE, Form, form_of, kept, saved};
+use xw_lines::{Sink, ToWrite};
 use xw_session::Session;
 
 /// The size of the buffer in bytes. The lines of almost any command fit, and so are one write.
 const GATHERED: usize = 65536;
 
-/// A file system whose open files can be locked.
-pub trait Locks: Files {
-    /// Locks an open file until it is closed. Returns `false` if another open of the file is locked.
-    fn try_lock(&self, file: &Self::File) -> io::Result<bool>;
+/// The name of an open file.
+pub trait Place {
+    /// Returns whether the name still leads to the file.
+    fn is_there(&self) -> io::Result<bool>;
 }
 
-impl Locks for HostRuntime {
-    fn try_lock(&self, file: &File) -> io::Result<bool> {
-        match file.try_lock() {
-            Ok(()) => Ok(true),
-            Err(TryLockError::WouldBlock) => Ok(false),
-            Err(TryLockError::Error(error)) => Err(error),
+/// The name of an open journal.
+#[derive(Drop)]
+pub struct JournalName<R: Files + Drop> {
+    rt: R,
+    file: String,
+    identity: Identity,
+}
+
+impl<R: Files + Drop> Place for JournalName<R> {
+    fn is_there(&self) -> io::Result<bool> {
+        Ok(identity_of(&self.rt, &self.file)? == Some(self.identity))
+    }
+}
+
+/// A file that is open for appending. What was written since the last flush is taken back if a write or a flush fails. If the file is
+/// synced, a flush brings what was written to the device.
+#[derive(Drop)]
+pub struct Appended<F: Drop, P: Drop> {
+    file: F,
+    place: P,
+    is_synced: bool,
+    /// The length of the file at the last flush.
+    length: u64,
+    /// The number of bytes written since then.
+    written: u64,
+    is_lost: bool,
+}
+
+impl<F: Write + OpenFile + Drop, P: Place + Drop> Appended<F, P> {
+    /// Appends to an open file of this length.
+    pub fn new(file: F, place: P, length: u64, is_synced: bool) -> Appended<F, P> {
+        Appended {
+            file,
+            place,
+            is_synced,
+            length,
+            written: 0,
+            is_lost: false,
         }
     }
-}
 
-/// A file that is open for appending. If it is synced, a flush brings what was written to the device.
-#[derive(Drop)]
-pub struct Appended<F: Drop> {
-    file: F,
-    is_synced: bool,
-}
-
-impl<F: Write + OpenFile + Drop> Write for Appended<F> {
-    fn write(&mut self, bytes: &[u8]) -> io::Result<usize> {
-        self.file.write(bytes)
+    /// Returns whether a write failed since the name of the file no longer led to it.
+    pub fn is_lost(&self) -> bool {
+        self.is_lost
     }
 
-    fn flush(&mut self) -> io::Result<()> {
+    /// Returns the name of the file.
+    pub fn place(&self) -> &P {
+        &self.place
+    }
+
+    /// Writes to the file if its name still leads to it.
+    fn append(&mut self, bytes: &[u8]) -> io::Result<usize>
+        ensures bound { IfOk result (λ count. count ≤ length bytes.now) }
+    {
+        if !self.place.is_there()? {
+            self.is_lost = true;
+            return Err(io::Error::from(ErrorKind::NotFound));
+        }
+        match self.file.write(bytes)? {
+            0 if !bytes.is_empty() => Err(io::Error::from(ErrorKind::WriteZero)),
+            count => Ok(count),
+        }
+    }
+
+    /// Brings what was written to the system, and to the device if that is asked for.
+    fn bring(&mut self) -> io::Result<()> {
         self.file.flush()?;
         if self.is_synced {
             self.file.sync_data()?;
         }
         Ok(())
     }
+
+    /// Cuts the file to its length at the last flush. If this fails too, the next start drops what is left of the line.
+    fn take_back(&mut self) {
+        if self.written > 0 {
+            let _ = self.file.set_len(self.length);
+            self.written = 0;
+        }
+    }
 }
 
-/// Returns a writer that appends to an open file, one flush at a time.
-pub fn appending<F: Write + OpenFile + Drop>(
+impl<F: Write + OpenFile + Drop, P: Place + Drop> Write for Appended<F, P> {
+    fn write(&mut self, bytes: &[u8]) -> io::Result<usize> {
+        match self.append(bytes) {
+            Ok(count) => {
+                self.written = self.written.saturating_add(count as u64);
+                Ok(count)
+            }
+            Err(error) => {
+                if error.kind() != ErrorKind::Interrupted {
+                    self.take_back();
+                }
+                Err(error)
+            }
+        }
+    }
+
+    fn flush(&mut self) -> io::Result<()> {
+        match self.bring() {
+            Ok(()) => {
+                self.length = self.length.saturating_add(self.written);
+                self.written = 0;
+                Ok(())
+            }
+            Err(error) => {
+                self.take_back();
+                Err(error)
+            }
+        }
+    }
+}
+
+/// Returns a writer that appends to a file, one flush at a time.
+pub fn buffered<F: Write + OpenFile + Drop, P: Place + Drop>(
     alloc: Global,
-    file: F,
-    is_synced: bool,
-) -> Result<ToWrite<BufWriter<Appended<F>>>, Failure>
+    appended: Appended<F, P>,
+) -> Result<ToWrite<BufWriter<Appended<F, P>>>, Failure>
     ensures transcript { IfOk result (λ sink. sink.transcript.transcript ≡ []) }
     ensures failures { IfOk result (λ sink. sink.failures ≡ 0) }
     ensures memory { IsOkUnless result Memory }
 {
-    match BufWriter::with_capacity(alloc, GATHERED, Appended { file, is_synced }) {
+    match BufWriter::with_capacity(alloc, GATHERED, appended) {
         Ok(writer) => Ok(ToWrite::new(writer)),
         Err(_) => Err(Failure::Memory),
     }
 }
 
-/// Brings the entry of a file in its folder to the device: that of a new file would else be lost with the power.
-pub fn sync_entry<R: Files + AllocGlobal>(rt: &R, file: &str) -> io::Result<()> {
-    let folder = followed(rt, file)?.with_file_name(rt.alloc(), ".")?;
-    let opened = OpenOptions::new().read(true).open(rt, &folder)?;
-    opened.sync_all()
+/// Returns a writer that appends to the open file of a journal. If `is_synced` is set, brings the entry of the file in its folder to
+/// the device.
+pub fn appending<R: Locks + AllocGlobal + Clone + Drop>(
+    rt: &R,
+    file: &str,
+    opened: R::File,
+    is_synced: bool,
+) -> Result<ToWrite<BufWriter<Appended<R::File, JournalName<R>>>>, Failure>
+    ensures transcript { IfOk result (λ sink. sink.transcript.transcript ≡ []) }
+    ensures failures { IfOk result (λ sink. sink.failures ≡ 0) }
+    ensures err { IfErr result (λ failure. (failure ≡ Memory) ⊎ IsCannotWrite file.now failure) }
+{
+    let found = match opened.metadata() {
+        Ok(found) => found,
+        Err(error) => return Err(unwritable(rt.alloc(), file, &error)),
+    };
+    if is_synced {
+        // Not every file system can do this.
+        let _ = sync_entry(rt, file);
+    }
+    let place = JournalName {
+        rt: rt.clone()?,
+        file: String::from_str(rt.alloc(), file)?,
+        identity: Identity::of(&found),
+    };
+    buffered(
+        rt.alloc(),
+        Appended::new(opened, place, found.len(), is_synced),
+    )
 }
 
-/// Opens the journal, makes it if it is missing, replays its whole lines, and cuts it to these. Returns the open file, which is
-/// locked, and the number of refused lines. If a line is no command, the file stays as it was.
+fn sync_entry<R: Files + AllocGlobal>(rt: &R, file: &str) -> io::Result<()> {
+    sync_folder(rt, &followed(rt, file)?)
+}
+
+/// Opens the journal, makes it if it is missing, replays the lines that count, and cuts it to these. Returns the open file, which
+/// is locked and begins with the first line, and the number of refused lines. If a line is no command, or if the last line is cut
+/// in a file without the first line, the file stays as it was.
 pub fn resume_journal<R: Locks + AllocGlobal, F: Searchable, E: Sink>(
     rt: &R,
     file: &str,
     session: &mut Session<F>,
     errors: &mut E,
 ) -> Result<(R::File, usize), Failure>
-    // The whole lines of some bytes are replayed.
+    // The lines of some bytes that count are replayed.
     ensures ok { IfOk result (λ resumed. HasReplayed file.now session.old resumed.1 session.new) }
     ensures err { IfErr result (λ failure. IsUnreplayed file.now failure) }
 {
     let alloc = rt.alloc();
     let (opened, bytes) = open_journal(rt, file)?;
-    let whole = whole_lines(bytes.as_slice());
-    let refused = resume_text(alloc, file, session, whole, errors)?;
-    if whole.len() < bytes.len() {
-        drop_cut_line(alloc, file, &opened, whole.len(), errors)?;
-    }
-    Ok((opened, refused))
+    let text = bytes.as_slice();
+    let refused = resume_text(alloc, file, session, kept(text), errors)?;
+    let begun = begin_journal(rt, file, opened, text, errors)?;
+    Ok((begun, refused))
 }
 
 /// Opens a journal, or makes it, and locks it. Returns the open file and its bytes.
@@ -143,12 +257,8 @@ fn lock<R: Locks>(rt: &R, file: &str, opened: &R::File) -> io::Result<bool> {
     if !rt.try_lock(opened)? {
         return Ok(false);
     }
-    let own = opened.metadata()?;
-    match fs::metadata(rt, file) {
-        Ok(found) => Ok(found.dev() == own.dev() && found.ino() == own.ino()),
-        Err(error) if error.kind() == ErrorKind::NotFound => Ok(false),
-        Err(error) => Err(error),
-    }
+    let own = Identity::of(&opened.metadata()?);
+    Ok(identity_of(rt, file)? == Some(own))
 }
 
 /// Returns the bytes of an open file.
@@ -158,49 +268,109 @@ fn read_whole<F: Read>(alloc: Global, file: &mut F) -> io::Result<Vec<u8>> {
     Ok(bytes)
 }
 
-/// Returns the bytes up to the last LF.
-fn whole_lines(bytes: &[u8]) -> &[u8]
-    ensures lines { lines_of result.now ≡ ended_lines bytes.now }
-    ensures rest { bytes.now ≡ result.now ++ last_piece bytes.now }
-{
-    let mut end = bytes.len();
-    while end > 0 && bytes[end - 1] != b'\n' {
-        end -= 1;
-    }
-    &bytes[..end]
-}
-
-/// Cuts a journal to the length of its whole lines, and reports that a line was dropped. Errors of writing the report are ignored.
-fn drop_cut_line<F: OpenFile, E: Sink>(
-    alloc: Global,
+/// Makes a file with these bytes, which were replayed, a journal that lines can be appended to. Reports it if a cut line is dropped.
+fn begin_journal<R: Locks + AllocGlobal, E: Sink>(
+    rt: &R,
     file: &str,
-    opened: &F,
-    length: usize,
+    opened: R::File,
+    bytes: &[u8],
     errors: &mut E,
-) -> Result<(), Failure>
-    ensures told { OnOk result (GoesOut E.transcript E.failures errors.old errors.new (cut_line file.now)) }
-    ensures err { IfErr result (λ failure. (failure ≡ Memory) ⊎ IsCannotWrite file.now failure) }
-    ensures untold { OnErr result (errors.new ≡ errors.old) }
+) -> Result<R::File, Failure>
+    ensures ok { OnOk result (form_of_bytes bytes.now ≢ Form.Cut) }
+    ensures err { IfErr result (λ failure. IsNotBegun file.now failure) }
 {
-    match opened.set_len(length as u64) {
-        Ok(()) => tell_cut(alloc, file, errors),
+    let alloc = rt.alloc();
+    let begun = match form_of(bytes) {
+        Form::Begun => begin(opened),
+        Form::Named => cut(opened, bytes.len(), kept(bytes).len()),
+        Form::Whole => put_first_line(rt, file, &opened, bytes),
+        Form::Cut => return Err(cut_fault(alloc, file, bytes)),
+    };
+    match begun {
+        Ok((begun, is_cut)) => {
+            if is_cut {
+                tell_cut(alloc, file, errors)?;
+            }
+            Ok(begun)
+        }
         Err(error) => Err(unwritable(alloc, file, &error)),
     }
 }
 
-/// Reports that a cut line was dropped. Write errors are ignored.
-fn tell_cut<E: Sink>(alloc: Global, file: &str, errors: &mut E) -> Result<(), Failure>
-    ensures told { OnOk result (GoesOut E.transcript E.failures errors.old errors.new (cut_line file.now)) }
-    ensures memory { IsOkUnless result Memory }
-    ensures untold { OnErr result (errors.new ≡ errors.old) }
+/// Writes the first line into a file that has at most a part of it. Returns whether it had a part.
+fn begin<F: Write + OpenFile + Drop>(mut opened: F) -> io::Result<(F, bool)> {
+    let is_cut = opened.metadata()?.len() > 0;
+    opened.set_len(0)?;
+    if let Err(error) = opened.write_all(FIRST_LINE) {
+        let _ = opened.set_len(0);
+        return Err(error);
+    }
+    Ok((opened, is_cut))
+}
+
+/// Cuts a file to the lines that count, if it is longer. Returns whether it was.
+fn cut<F: OpenFile + Drop>(opened: F, length: usize, whole: usize) -> io::Result<(F, bool)> {
+    let is_cut = whole < length;
+    if is_cut {
+        opened.set_len(whole as u64)?;
+    }
+    Ok((opened, is_cut))
+}
+
+/// Replaces a file of whole lines by one with the first line before them, which is locked before it has the name. Returns the new
+/// file.
+fn put_first_line<R: Locks + AllocGlobal>(
+    rt: &R,
+    file: &str,
+    opened: &R::File,
+    bytes: &[u8],
+) -> io::Result<(R::File, bool)> {
+    let target = followed(rt, file)?;
+    let mode = opened.metadata()?.permissions().mode();
+    let mut whole = Vec::with_capacity(rt.alloc(), FIRST_LINE.len().saturating_add(bytes.len()))?;
+    whole.extend_from_slice(FIRST_LINE)?;
+    whole.extend_from_slice(bytes)?;
+    let (beside, renamed) = new_beside(rt, &target, Some(mode), whole.as_slice())?;
+    if let Err(error) = rt.try_lock(&renamed) {
+        let _ = fs::remove_file(rt, &beside);
+        return Err(error);
+    }
+    put(rt, &beside, &target)?;
+    Ok((renamed, false))
+}
+
+/// Returns the failure for a file without the first line whose last line has no LF.
+fn cut_fault(alloc: Global, file: &str, bytes: &[u8]) -> Failure
+    ensures { (result ≡ Memory) ⊎ ((number : ℕ) × IsLineFault file.now number (codes "Cut") result) }
 {
-    let text = format!(in alloc; "xw: {file}: a cut line was dropped\n")?;
-    let _ = device::write_all(errors, text.as_bytes());
-    Ok(())
+    let ended = bytes.iter().filter(|byte| **byte == b'\n').count();
+    line_fault(alloc, file, ended.saturating_add(1), "Cut")
+}
+
+/// Replaces a journal by the record of its session, unless its name no longer leads to it. `refused` is the number of its lines that
+/// were refused: if there are such lines, they are not in the record, and the journal stays as it is.
+pub fn end_journal<R: Files + AllocGlobal, P: Place, F: Feasible>(
+    rt: &R,
+    file: &str,
+    place: &P,
+    refused: usize,
+    session: &Session<F>,
+) -> Result<(), Failure>
+    ensures { IfErr result (λ failure. IsUnsaved file.now failure ⊎ IsReplaced file.now failure) }
+{
+    match place.is_there() {
+        Ok(true) if refused > 0 => Ok(()),
+        Ok(true) => {
+            let bytes = saved(rt.alloc(), session)?;
+            write_own_file(rt, file, bytes.as_slice())
+        }
+        Ok(false) => Err(replaced(rt.alloc(), file)),
+        Err(error) => Err(unwritable(rt.alloc(), file, &error)),
+    }
 }
 
 /// Returns the failure for a file that cannot be written: `Memory` if the error or the message wants memory.
-fn unwritable(alloc: Global, file: &str, error: &io::Error) -> Failure
+pub fn unwritable(alloc: Global, file: &str, error: &io::Error) -> Failure
     ensures { (result ≡ Memory) ⊎ IsCannotWrite file.now result }
 {
     if error.kind() == ErrorKind::OutOfMemory {
@@ -233,11 +403,21 @@ fn unreadable(alloc: Global, file: &str, error: &io::Error) -> Failure
 }
 
 /// Returns the failure for a file that another program has open as its journal.
-fn in_use(alloc: Global, file: &str) -> Failure
+pub fn in_use(alloc: Global, file: &str) -> Failure
     ensures { (result ≡ Memory) ⊎ IsInUse file.now result }
 {
     match String::from_str(alloc, file) {
         Ok(file) => Failure::InUse { file },
+        Err(_) => Failure::Memory,
+    }
+}
+
+/// Returns the failure for a journal whose name no longer leads to it.
+pub fn replaced(alloc: Global, file: &str) -> Failure
+    ensures { (result ≡ Memory) ⊎ IsReplaced file.now result }
+{
+    match String::from_str(alloc, file) {
+        Ok(file) => Failure::Replaced { file },
         Err(_) => Failure::Memory,
     }
 }

@@ -1,12 +1,15 @@
 //! The program behind its command line: what it does with its arguments, files and streams, over any engine.
 #![tactic(auto)]
 
+mod apart;
 pub mod arguments;
 pub mod explaining;
 pub mod failure;
 pub mod files;
+pub mod identity;
 pub mod journal;
 pub mod location;
+pub mod locks;
 pub mod names;
 mod perform;
 pub mod replacing;

@@ -9,16 +9,18 @@ ghost use Rattle.xw_files.specs.Formats.{IsRead};
 ghost use Rattle.xw_files.specs.declared.kind.Kind.{Kind};
 ghost use Rattle.xw_cli.specs.declared.failure.Failure.TheVariants.{Memory};
 ghost use Rattle.xw_cli.specs.declared.failure.Status.TheVariants.{Accepted};
-ghost use Rattle.xw_cli.specs.Files.{AreBytesFor, IfNamed, IsCannotWrite, IsUnread, IsUnwritten};
-ghost use Rattle.xw_cli.specs.SessionFiles.{IsUnloaded, IsUnsaved};
-ghost use Rattle.xw_cli.specs.Performed.{format_name, described, IsChecked, IsUnchecked, IsConverted, IsUnconverted, HasWords, IsOpened, HasResumed, IsKept, AreAnsweredOn, IsRun, IsJournaled, IsEdited, IsUnopened, IsUnresumed, IsUnanswered, IsUnclosed, IsCut, IsCutJournal, IsUnedited, IsPerformedOn, MayEnd, IsEnded};
+ghost use Rattle.xw_cli.specs.Files.{AreBytesFor, IfNamed, IsCannotWrite, IsReplaced, IsUnread, IsUnwritten};
+ghost use Rattle.xw_cli.specs.SessionFiles.{IsUnloaded};
+ghost use Rattle.xw_cli.specs.Performed.{format_name, described, IsChecked, IsUnchecked, IsConverted, IsUnconverted, HasWords, IsOpened, HasResumed, IsKept, AreAnsweredOn, IsRun, IsJournaled, IsEdited, IsUnopened, IsUnresumed, IsUnanswered, IsNotSaved, IsNotPut, IsCut, IsCutJournal, IsUnedited, IsPerformedOn, MayEnd, IsEnded};
 
+use crate::apart::{are_one, keep_apart, keep_free, keep_session_apart};
 use crate::arguments::{Call, SessionFiles};
 use crate::explaining::{show, tell};
 use crate::failure::{Failure, Status, run_status};
 use crate::files;
-use crate::journal::{Locks, appending, cannot_write, resume_journal, sync_entry};
-use crate::session_files::{read_dictionary, resume_file, write_record};
+use crate::journal::{appending, cannot_write, end_journal, replaced, resume_journal};
+use crate::locks::Locks;
+use crate::session_files::{keep_old, read_dictionary, resume_file, write_session};
 use std::alloc::Global;
 use std::rt::Files;
 use xw_feas::feasible::Feasible;
@@ -31,7 +33,7 @@ use xw_session::{Session, Sink, Source, opening};
 use xw_words::Bank;
 
 /// Executes a call, prints a failure if there is one, and returns the exit status.
-pub fn perform<F: Searchable, R: Locks + AllocGlobal, I: Source, O: Sink, E: Sink>(
+pub fn perform<F: Searchable, R: Locks + AllocGlobal + Clone + Drop, I: Source, O: Sink, E: Sink>(
     rt: &R,
     call: Call<'_>,
     input: &mut I,
@@ -48,7 +50,7 @@ pub fn perform<F: Searchable, R: Locks + AllocGlobal, I: Source, O: Sink, E: Sin
 }
 
 /// Executes a call.
-fn run<F: Searchable, R: Locks + AllocGlobal, I: Source, O: Sink, E: Sink>(
+fn run<F: Searchable, R: Locks + AllocGlobal + Clone + Drop, I: Source, O: Sink, E: Sink>(
     rt: &R,
     call: Call<'_>,
     input: &mut I,
@@ -72,7 +74,7 @@ fn run<F: Searchable, R: Locks + AllocGlobal, I: Source, O: Sink, E: Sink>(
 }
 
 /// Runs a session: opens its files, answers the input, and writes its files.
-fn edit<F: Searchable, R: Locks + AllocGlobal, I: Source, O: Sink, E: Sink>(
+fn edit<F: Searchable, R: Locks + AllocGlobal + Clone + Drop, I: Source, O: Sink, E: Sink>(
     rt: &R,
     named: SessionFiles<'_>,
     explain: bool,
@@ -83,7 +85,8 @@ fn edit<F: Searchable, R: Locks + AllocGlobal, I: Source, O: Sink, E: Sink>(
     ensures ok { IfOk result (λ status. IsEdited named.entry status (I.transcript input.old) (I.transcript input.new) (O.transcript output.old) (O.transcript output.new)) }
     ensures err { IfErr result (λ failure. IsUnedited named.entry explain failure) }
 {
-    files::keep_apart(rt, named)?;
+    keep_apart(rt, named)?;
+    keep_free(rt, named)?;
     let mut session: Session<F> = open(rt, named, explain, errors)?;
     match named.journal_file {
         Some(file) => answer_journaled(rt, session, file, named, explain, input, output, errors),
@@ -92,7 +95,13 @@ fn edit<F: Searchable, R: Locks + AllocGlobal, I: Source, O: Sink, E: Sink>(
 }
 
 /// Replays the journal, answers the input while each change is journaled, and writes the files of the session.
-fn answer_journaled<F: Searchable, R: Locks + AllocGlobal, I: Source, O: Sink, E: Sink>(
+fn answer_journaled<
+    F: Searchable,
+    R: Locks + AllocGlobal + Clone + Drop,
+    I: Source,
+    O: Sink,
+    E: Sink,
+>(
     rt: &R,
     mut session: Session<F>,
     file: &str,
@@ -107,17 +116,35 @@ fn answer_journaled<F: Searchable, R: Locks + AllocGlobal, I: Source, O: Sink, E
 {
     let alloc = rt.alloc();
     let (opened, refused) = resume_journal(rt, file, &mut session, errors)?;
-    let journal = appending(alloc, opened, named.is_synced)?;
-    if named.is_synced {
-        // Not every file system can do this.
-        let _ = sync_entry(rt, file);
-    }
+    let journal = appending(rt, file, opened, named.is_synced)?;
     let mut journaled = JournaledSession::new(alloc, session, journal)?;
     let answered = converse_journaled(alloc, &mut journaled, file, refused, input, output);
     let (session, journal) = journaled.into_parts();
-    // This discards the unwritten bytes, since their write failed, and keeps the lock until the journal is replaced.
-    let (_locked, _unwritten) = journal.into_writer().into_parts();
-    close(rt, &session, named, explain, answered)
+    // This discards the unwritten bytes, since their write failed, and keeps the lock to the end.
+    let (appended, _unwritten) = journal.into_writer().into_parts();
+    let answered = told_lost(alloc, file, appended.is_lost(), answered);
+    let apart = keep_apart(rt, named);
+    let status = save(rt, &session, named, refused, answered, errors)?;
+    end_journal(rt, file, appended.place(), refused, &session)?;
+    apart?;
+    write_puzzle(rt, &session, named, explain)?;
+    Ok(status)
+}
+
+/// Names the cause if a write to the journal failed since its name no longer led to it.
+fn told_lost(
+    alloc: Global,
+    file: &str,
+    is_lost: bool,
+    answered: Result<Status, Failure>,
+) -> Result<Status, Failure>
+    ensures ok { IfOk result (λ status. answered ≡ Ok status) }
+    ensures err { IfErr result (λ failure. (answered ≡ Err failure) ⊎ ((failure ≡ Memory) ⊎ IsReplaced file.now failure)) }
+{
+    match answered {
+        Err(_) if is_lost => Err(replaced(alloc, file)),
+        other => other,
+    }
 }
 
 /// Answers the input of a session with a journal, and returns the status. `before` is the number of lines refused earlier.
@@ -150,7 +177,7 @@ fn stopped(alloc: Global, file: &str, cause: Option<Cause>) -> Failure
 }
 
 /// Replays the commands to start with, answers the input, and writes the files of the session.
-fn answer<F: Searchable, R: Files + AllocGlobal, I: Source, O: Sink, E: Sink>(
+fn answer<F: Searchable, R: Locks + AllocGlobal, I: Source, O: Sink, E: Sink>(
     rt: &R,
     session: &mut Session<F>,
     named: SessionFiles<'_>,
@@ -164,7 +191,12 @@ fn answer<F: Searchable, R: Files + AllocGlobal, I: Source, O: Sink, E: Sink>(
 {
     let refused = resume(rt, session, named.resume_file, errors)?;
     let answered = converse(session, refused, input, output);
-    close(rt, session, named, explain, answered)
+    // Files that have become one are told apart before one of them is replaced.
+    let apart = keep_apart(rt, named);
+    let status = save(rt, session, named, refused, answered, errors)?;
+    apart?;
+    write_puzzle(rt, session, named, explain)?;
+    Ok(status)
 }
 
 /// Answers the input, and returns the status. `before` is the number of lines refused earlier.
@@ -251,44 +283,79 @@ fn resume<F: Searchable, R: Files + AllocGlobal, E: Sink>(
     }
 }
 
-/// Writes the files of a session that ended. The record is written however the session ended. If no device and no allocation failed,
-/// the journal is replaced by the record too, and the puzzle is written.
-fn close<F: Feasible, R: Files + AllocGlobal>(
+/// Saves a session that ended, however it ended, and returns the status. `refused` is the number of lines of the file to resume or of
+/// the journal that were refused.
+fn save<F: Feasible, R: Locks + AllocGlobal, E: Sink>(
+    rt: &R,
+    session: &Session<F>,
+    named: SessionFiles<'_>,
+    refused: usize,
+    answered: Result<Status, Failure>,
+    errors: &mut E,
+) -> Result<Status, Failure>
+    ensures ok { IfOk result (λ status. answered ≡ Ok status) }
+    ensures err { IfErr result (λ failure. (answered ≡ Err failure) ⊎ IsNotSaved named.entry failure) }
+{
+    let saved = write_saved(rt, session, named, refused, errors);
+    let status = answered?;
+    saved?;
+    Ok(status)
+}
+
+/// Writes the session to a file if one is given. If this is the file that was resumed, and lines of it were refused, the old file is
+/// kept under another name.
+fn write_saved<F: Feasible, R: Locks + AllocGlobal, E: Sink>(
+    rt: &R,
+    session: &Session<F>,
+    named: SessionFiles<'_>,
+    refused: usize,
+    errors: &mut E,
+) -> Result<(), Failure>
+    ensures err { IfErr result (λ failure. IsNotSaved named.entry failure) }
+{
+    let Some(file) = named.save_file else {
+        return Ok(());
+    };
+    keep_session_apart(rt, named)?;
+    if refused > 0 && is_resumed(rt, named.resume_file, file)? {
+        keep_old(rt, file, errors)?;
+    }
+    write_session(rt, file, session)
+}
+
+/// Returns whether a file is the one that was resumed.
+fn is_resumed<R: Files + AllocGlobal>(
+    rt: &R,
+    resumed: Option<&str>,
+    file: &str,
+) -> Result<bool, Failure>
+    ensures { IfErr result (λ failure. failure ≡ Memory) }
+{
+    match resumed {
+        Some(resumed) => are_one(rt, resumed, file),
+        None => Ok(false),
+    }
+}
+
+/// Writes the puzzle of a session that ended to a file if one is given. Files that have become one since the session began are refused.
+fn write_puzzle<F: Feasible, R: Locks + AllocGlobal>(
     rt: &R,
     session: &Session<F>,
     named: SessionFiles<'_>,
     explain: bool,
-    answered: Result<Status, Failure>,
-) -> Result<Status, Failure>
-    ensures ok { IfOk result (λ status. (answered ≡ Ok status) × IsKept named.entry.to_file (puzzle_of session.now)) }
-    ensures err { IfErr result (λ failure. (answered ≡ Err failure) ⊎ IsUnclosed named.entry explain failure) }
-{
-    let saved = save(rt, session, named.save_file);
-    let status = answered?;
-    saved?;
-    save(rt, session, named.journal_file)?;
-    if let Some(file) = named.to_file {
-        keep(rt, file, session, explain)?;
-    }
-    Ok(status)
-}
-
-/// Writes the record to a file if one is given.
-fn save<F: Feasible, R: Files + AllocGlobal>(
-    rt: &R,
-    session: &Session<F>,
-    named: Option<&str>,
 ) -> Result<(), Failure>
-    ensures err { IfErr result (λ failure. IfNamed named.entry (λ name. IsUnsaved name failure)) }
+    ensures ok { OnOk result (IsKept named.entry.to_file (puzzle_of session.now)) }
+    ensures err { IfErr result (λ failure. IsNotPut named.entry explain failure) }
 {
-    match named {
-        Some(file) => write_record(rt, file, session),
-        None => Ok(()),
-    }
+    let Some(file) = named.to_file else {
+        return Ok(());
+    };
+    keep_apart(rt, named)?;
+    keep(rt, file, session, explain)
 }
 
 /// Writes the puzzle of a session to a file.
-fn keep<F: Feasible, R: Files + AllocGlobal>(
+fn keep<F: Feasible, R: Locks + AllocGlobal>(
     rt: &R,
     file: &str,
     session: &Session<F>,
@@ -304,7 +371,7 @@ fn keep<F: Feasible, R: Files + AllocGlobal>(
 }
 
 /// Writes the puzzle of one file to another.
-fn convert<R: Files + AllocGlobal, E: Sink>(
+fn convert<R: Locks + AllocGlobal, E: Sink>(
     rt: &R,
     from_file: &str,
     to_file: &str,

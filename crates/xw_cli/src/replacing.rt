@@ -1,14 +1,15 @@
 //! Replaces a file atomically.
-use std::fs::{self, File, OpenFile, OpenOptions, Permissions};
+use std::fs::{self, OpenFile, OpenOptions, Permissions};
 use std::io::{self, ErrorKind, Write};
+use std::os::unix::fs::{OpenOptionsExt, PermissionsExt};
 use std::path::PathBuf;
 use std::rt::Files;
 
 /// The maximum number of symbolic links followed in a row.
 const MOST_LINKS: u32 = 40;
 
-/// The maximum number of names tried for the temporary file.
-const MOST_NAMES: u32 = 1000;
+/// The bits of a mode that say who may read, write and execute a file.
+const PERMISSION_BITS: u32 = 0o777;
 
 /// Replaces the contents of a file: afterwards it has all the bytes, or is unchanged, even after a full disk, a failed
 /// device or a kill. Anything but a regular file is written in place.
@@ -17,13 +18,32 @@ pub fn replace<R: Files + AllocGlobal>(rt: &R, file: &str, bytes: &[u8]) -> io::
         Ok(found) if found.is_file() => {
             // A file without write permission must not be replaced either.
             OpenOptions::new().write(true).open(rt, file)?;
-            put_new(rt, &followed(rt, file)?, Some(found.permissions()), bytes)
+            put_new(
+                rt,
+                &followed(rt, file)?,
+                Some(found.permissions().mode()),
+                bytes,
+            )
         }
         Ok(_) => fs::write(rt, file, bytes),
         Err(error) if error.kind() == ErrorKind::NotFound => {
             put_new(rt, &followed(rt, file)?, None, bytes)
         }
         Err(error) => Err(error),
+    }
+}
+
+/// Replaces the contents of a file, as `replace`. The file then has the mode of another one, which exists.
+pub fn replace_like<R: Files + AllocGlobal>(
+    rt: &R,
+    file: &str,
+    like: &str,
+    bytes: &[u8],
+) -> io::Result<()> {
+    let mode = fs::metadata(rt, like)?.permissions().mode();
+    match fs::metadata(rt, file) {
+        Ok(found) if !found.is_file() => fs::write(rt, file, bytes),
+        _ => put_new(rt, &followed(rt, file)?, Some(mode), bytes),
     }
 }
 
@@ -51,45 +71,82 @@ pub fn followed<R: Files + AllocGlobal>(rt: &R, file: &str) -> io::Result<PathBu
     Err(io::Error::from(ErrorKind::FilesystemLoop))
 }
 
-/// Writes the bytes to a temporary file in the same directory, and renames it to the target. Removes the temporary file
-/// on failure.
+/// Writes the bytes to a new file beside the target, and renames it to the target.
 fn put_new<R: Files + AllocGlobal>(
     rt: &R,
     target: &PathBuf,
-    mode: Option<Permissions>,
+    mode: Option<u32>,
     bytes: &[u8],
 ) -> io::Result<()> {
-    let (beside, file) = new_file(rt, target)?;
-    let put = match fill(file, mode, bytes) {
-        Ok(()) => fs::rename(rt, &beside, target),
-        Err(error) => Err(error),
-    };
-    if put.is_err() {
-        let _ = fs::remove_file(rt, &beside);
+    let (beside, _opened) = new_beside(rt, target, mode, bytes)?;
+    put(rt, &beside, target)
+}
+
+/// Writes the bytes to a new file in the folder of the target. Returns its path and the open file, or removes it on failure.
+pub fn new_beside<R: Files + AllocGlobal>(
+    rt: &R,
+    target: &PathBuf,
+    mode: Option<u32>,
+    bytes: &[u8],
+) -> io::Result<(PathBuf, R::File)> {
+    let (beside, mut opened) = new_file(rt, target, mode)?;
+    match fill(&mut opened, mode, bytes) {
+        Ok(()) => Ok((beside, opened)),
+        Err(error) => {
+            let _ = fs::remove_file(rt, &beside);
+            Err(error)
+        }
     }
-    put
+}
+
+/// Renames a new file to its target, and brings the new entry of the folder to the device. Removes the new file on failure.
+pub fn put<R: Files + AllocGlobal>(rt: &R, beside: &PathBuf, target: &PathBuf) -> io::Result<()> {
+    if let Err(error) = fs::rename(rt, beside, target) {
+        let _ = fs::remove_file(rt, beside);
+        return Err(error);
+    }
+    // The file is replaced, and not every file system can do this.
+    let _ = sync_folder(rt, target);
+    Ok(())
+}
+
+/// Brings the entries of the folder of a file to the device: that of a new file would else be lost with the power.
+pub fn sync_folder<R: Files + AllocGlobal>(rt: &R, target: &PathBuf) -> io::Result<()> {
+    let folder = target.with_file_name(rt.alloc(), ".")?;
+    let opened = OpenOptions::new().read(true).open(rt, &folder)?;
+    opened.sync_all()
 }
 
 /// Writes all bytes, syncs the file, and sets the mode of the file that it replaces.
 fn fill<F: Write + OpenFile + Drop>(
-    mut file: F,
-    mode: Option<Permissions>,
+    file: &mut F,
+    mode: Option<u32>,
     bytes: &[u8],
 ) -> io::Result<()> {
     file.write_all(bytes)?;
     file.sync_all()?;
     match mode {
-        Some(mode) => file.set_permissions(mode),
+        Some(mode) => file.set_permissions(Permissions::from_mode(mode)),
         None => Ok(()),
     }
 }
 
-/// Creates a temporary file next to the target, under a name that is not in use.
-fn new_file<R: Files + AllocGlobal>(rt: &R, target: &PathBuf) -> io::Result<(PathBuf, R::File)> {
-    for number in 0..MOST_NAMES {
+/// Creates a file next to the target, under a name that is not in use, for appending. It never has more permissions than the file
+/// that it replaces.
+fn new_file<R: Files + AllocGlobal>(
+    rt: &R,
+    target: &PathBuf,
+    mode: Option<u32>,
+) -> io::Result<(PathBuf, R::File)> {
+    let mut options = OpenOptions::new();
+    options.append(true).create_new(true);
+    if let Some(mode) = mode {
+        options.mode(mode & PERMISSION_BITS);
+    }
+    for number in 0..u32::MAX {
         let name = format!(in rt.alloc(); ".xw-{number}.new")?;
         let beside = target.with_file_name(rt.alloc(), name.as_str())?;
-        match File::create_new(rt, &beside) {
+        match options.open(rt, &beside) {
             Ok(file) => return Ok((beside, file)),
             Err(error) if error.kind() == ErrorKind::AlreadyExists => {}
             Err(error) => return Err(error),

@@ -6,17 +6,20 @@ ghost use Rattle.xw_cli.specs.declared.failure.Failure.TheVariants.{Memory};
 ghost use Rattle.xw_cli.specs.Explained.{GoesOut};
 ghost use Rattle.xw_cli.specs.Files.{IsFileFault};
 ghost use Rattle.xw_cli.specs.SessionFiles.{counts_line, loaded_line, IsOverfull, IsUnloaded, IsStopped, Replays, IsResumed, IsUnsaved};
+ghost use Rattle.xw_cli.specs.SessionFiles.{cut_line, IsNotKept};
+ghost use Rattle.xw_lines.specs.Cut.{lines_of};
 
 use crate::failure::Failure;
-use crate::files::{file_fault, line_fault, read_file, write_file};
+use crate::files::{file_fault, line_fault, read_file, write_copy, write_file};
+use crate::locks::Locks;
 use std::alloc::Global;
 use std::rt::Files;
 use xw_feas::feasible::Feasible;
 use xw_feas::searchable::Searchable;
+use xw_journal::file::{kept, saved};
 use xw_lines::device;
 use xw_session::refusal::{self, Refusal};
 use xw_session::resuming::{self, Stop};
-use xw_session::saving::record;
 use xw_session::{Session, Sink};
 use xw_words::{Bank, Loaded, WordFault};
 
@@ -84,22 +87,36 @@ fn tell_loaded<E: Sink>(
     Ok(())
 }
 
-/// Replays the commands of a file, and returns the number of refused lines.
+/// Replays the commands of a file that count, and returns the number of refused lines. Reports on `errors` if others were cut.
 pub fn resume_file<R: Files + AllocGlobal, F: Searchable, E: Sink>(
     rt: &R,
     file: &str,
     session: &mut Session<F>,
     errors: &mut E,
 ) -> Result<usize, Failure>
-    // The lines of some bytes are replayed, or the file cannot be read and nothing changes.
     ensures { IsResumed E.transcript E.failures file.now session.old session.new result errors.old errors.new }
 {
     let alloc = rt.alloc();
     let text = read_file(rt, file)?;
-    resume_text(alloc, file, session, text.as_slice(), errors)
+    let whole = kept(text.as_slice());
+    if whole.len() < text.len() {
+        tell_cut(alloc, file, errors)?;
+    }
+    resume_text(alloc, file, session, whole, errors)
 }
 
-/// Replays the commands in the bytes of a file, as `resume_file`.
+/// Reports that a cut line was dropped. Write errors are ignored.
+pub fn tell_cut<E: Sink>(alloc: Global, file: &str, errors: &mut E) -> Result<(), Failure>
+    ensures told { OnOk result (GoesOut E.transcript E.failures errors.old errors.new (cut_line file.now)) }
+    ensures memory { IsOkUnless result Memory }
+    ensures untold { OnErr result (errors.new ≡ errors.old) }
+{
+    let text = format!(in alloc; "xw: {file}: a cut line was dropped\n")?;
+    let _ = device::write_all(errors, text.as_bytes());
+    Ok(())
+}
+
+/// Replays commands, and returns the number of refused lines. `file` is named in reports.
 pub fn resume_text<F: Searchable, E: Sink>(
     alloc: Global,
     file: &str,
@@ -107,7 +124,7 @@ pub fn resume_text<F: Searchable, E: Sink>(
     text: &[u8],
     errors: &mut E,
 ) -> Result<usize, Failure>
-    ensures { Replays E.transcript E.failures file.now text.now session.old session.new result errors.old errors.new }
+    ensures { Replays E.transcript E.failures file.now (lines_of text.now) session.old session.new result errors.old errors.new }
 {
     match resuming::resume(alloc, session, file, text, errors) {
         Ok(refused) => Ok(refused),
@@ -127,14 +144,31 @@ fn stopped(alloc: Global, file: &str, stop: Stop) -> Failure
     }
 }
 
-/// Writes the record of a session to a file. The file is not opened until all bytes are built.
-pub fn write_record<R: Files + AllocGlobal, F: Feasible>(
+/// Writes a session to a file: the first line and the record. The file is not opened until all bytes are built.
+pub fn write_session<R: Locks + AllocGlobal, F: Feasible>(
     rt: &R,
     file: &str,
     session: &Session<F>,
 ) -> Result<(), Failure>
     ensures err { IfErr result (λ failure. IsUnsaved file.now failure) }
 {
-    let bytes = record(rt.alloc(), session)?;
+    let bytes = saved(rt.alloc(), session)?;
     write_file(rt, file, bytes.as_slice())
+}
+
+/// Keeps a file under another name before it is written over, and reports it.
+pub fn keep_old<R: Locks + AllocGlobal, E: Sink>(
+    rt: &R,
+    file: &str,
+    errors: &mut E,
+) -> Result<(), Failure>
+    ensures err { IfErr result (λ failure. IsNotKept file.now failure) }
+{
+    let alloc = rt.alloc();
+    let bytes = read_file(rt, file)?;
+    let old = format!(in alloc; "{file}~")?;
+    write_copy(rt, &old, file, bytes.as_slice())?;
+    let text = format!(in alloc; "xw: {file}: refused lines; the old file is kept as {file}~\n")?;
+    let _ = device::write_all(errors, text.as_bytes());
+    Ok(())
 }

@@ -1,3 +1,5 @@
+pub mod WholeLines
+pub mod Groups
 pub mod Answering
 pub mod Entered
 pub mod Keeping

@@ -11,9 +11,10 @@ use Rattle.xw_commands.specs.declared.command.Command.{Command}
 use Rattle.xw_commands.specs.declared.command.Command.TheVariants as commands
 use Rattle.xw_commands.specs.declared.command.SyntaxFault.{SyntaxFault}
 use Rattle.xw_session.specs.Answer.{Answers}
-use Rattle.xw_session.specs.Record.{letter_commands, command_lines}
+use Rattle.xw_session.specs.Record.{letter_commands}
 use Rattle.xw_session.specs.State.{State}
 use Rattle.xw_session.specs.Resuming.{MayBeDone}
+use Rattle.xw_journal.specs.Group.{grouped}
 use Rattle.xw_journal.specs.declared.cause.Cause.{Cause}
 use Rattle.xw_journal.specs.declared.cause.Cause.TheVariants.{Journal, Memory}
 use Rattle.xw_journal.specs.declared.effect.Effect.{Effect}
@@ -76,7 +77,7 @@ pub record HasEntriesBefore (before after : Grid) (entries : List (Option ℕ)) 
 abbrev pub text_of_effect : Effect → List ℕ → Grid → Grid → List ℕ
 text_of_effect Nothing line before after = []
 text_of_effect Change line before after = line ++ 10 ∷ []
-text_of_effect Letters line before after = command_lines (entered_commands before after)
+text_of_effect Letters line before after = grouped (entered_commands before after)
 
 abbrev pub text_of_parsed : Result (Option Command) SyntaxFault → List ℕ → Grid → Grid → List ℕ
 text_of_parsed (Ok (Some command)) line before after = text_of_effect (effect_of command) line before after

@@ -1,15 +1,17 @@
 //! Writes the text of a line to a journal.
-ghost use Rattle.std.specs.Prelude.{◌≡◌, ℕ, List, [], ◌∷◌, ◌++◌, if◌then◌else◌, option_map, OnErr};
+ghost use Rattle.std.specs.Prelude.{◌≡◌, ℕ, List, [], ◌∷◌, ◌++◌, false, true, ◌≢◌, if◌then◌else◌, option_map, OnErr};
 ghost use Rattle.xw_grid.specs.Grid.{Grid as AnyGrid, entry};
 ghost use Rattle.xw_commands.specs.Command.{command_of};
 ghost use Rattle.xw_lines.specs.Cut.{held};
 ghost use Rattle.xw_lines.specs.Device.{flushed};
 ghost use Rattle.xw_lines.specs.Sends.{Sends};
 ghost use Rattle.xw_session.specs.Record.{command_lines, letter_commands};
+ghost use Rattle.xw_journal.specs.Group.{grouped};
 ghost use Rattle.xw_journal.specs.Journal.{effect_of_parsed, entered_commands, events_of_effect, journal_events, HasEntriesBefore, WereKept};
 
 use crate::effect::Effect;
 use crate::entries::Entries;
+use crate::group::{BEGIN, END};
 use xw_grid::{Cell, Grid};
 use xw_lines::device::{self, Sink, WriteFailed};
 use xw_lines::outcome::Step;
@@ -39,6 +41,32 @@ fn write_entered<J: Sink>(journal: &mut J, before: &Entries, grid: &Grid) -> Res
         write_unless(journal, before.has(index, grid.entry(cell)), grid, cell)?;
     }
     Ok(())
+}
+
+/// Whether a grid has letters that it had not before.
+fn has_entered(before: &Entries, grid: &Grid) -> bool
+    ensures none { (was : AnyGrid) → HasEntriesBefore was grid.now before.now → result ≡ false → entered_commands was grid.now ≡ [] }
+    ensures some { (was : AnyGrid) → HasEntriesBefore was grid.now before.now → result ≡ true → entered_commands was grid.now ≢ [] }
+{
+    for index in 0..grid.size() {
+        let entry = grid.entry(grid.cell_at(index));
+        if entry.is_some() && !before.has(index, entry) {
+            return true;
+        }
+    }
+    false
+}
+
+/// Writes the letters that a grid has and had not before, as a group of commands, if there are any.
+fn write_group<J: Sink>(journal: &mut J, before: &Entries, grid: &Grid) -> Result<(), WriteFailed>
+    ensures { (was : AnyGrid) → HasEntriesBefore was grid.now before.now → Sends J.transcript J.failures journal.old journal.new result (grouped (entered_commands was grid.now)) }
+{
+    if !has_entered(before, grid) {
+        return Ok(());
+    }
+    write_line(journal, BEGIN)?;
+    write_entered(journal, before, grid)?;
+    write_line(journal, END)
 }
 
 fn flush<J: Sink>(journal: &mut J) -> Result<(), WriteFailed>
@@ -71,7 +99,7 @@ fn keep<J: Sink>(
     match effect {
         Effect::Nothing => return Ok(()),
         Effect::Change => write_line(journal, line)?,
-        Effect::Letters => write_entered(journal, before, grid)?,
+        Effect::Letters => write_group(journal, before, grid)?,
     }
     flush(journal)
 }

@@ -4,6 +4,8 @@
 mod cause;
 mod effect;
 mod entries;
+pub mod file;
+mod group;
 mod journal;
 mod session;
 

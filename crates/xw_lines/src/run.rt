@@ -107,7 +107,7 @@ fn first_lf(bytes: &[u8]) -> Option<usize>
 }
 
 /// Returns the index of the first LF at `from` or later.
-fn next_lf(bytes: &[u8], from: usize) -> Option<usize>
+pub fn next_lf(bytes: &[u8], from: usize) -> Option<usize>
     requires { from ≤ length bytes.now }
     ensures within { IfSome result (λ end. (from ≤ end) × (end < length bytes.now)) }
     ensures ends { IfSome result (λ end. EndsLine bytes.now from end) }

@@ -1,5 +1,5 @@
 -- Examples of a record and of a journal, computed from the definitions.
-use Rattle.std.specs.Prelude.{◌≡◌, true, false, List, [], ◌∷◌, ◌++◌, codes, replicate, set, Some, None, Ok, refl}
+use Rattle.std.specs.Prelude.{◌≡◌, true, false, List, [], ◌∷◌, ◌++◌, codes, map, replicate, set, Some, None, Ok, refl}
 use Rattle.std.specs.Fmt.{digits}
 use Rattle.xw_words.specs.Dictionary.{Dictionary, Entry}
 use Rattle.xw_grid.specs.declared.cell.Square.TheVariants.{Open}
@@ -12,9 +12,11 @@ use Rattle.xw_session.specs.Text.{accepted, refused}
 use Rattle.xw_session.specs.declared.refusal.Refusal.TheVariants as refusals
 use Rattle.xw_commands.specs.declared.command.SyntaxFault.TheVariants as faults
 use Rattle.xw_session.specs.Record.{known_counts, record_commands, record_lines}
-use Rattle.xw_lines.specs.Cut.{lines_of, ended_lines}
+use Rattle.xw_lines.specs.Cut.{lines_of}
 use Rattle.xw_lines.specs.declared.outcome.Step.TheVariants.{Accepted, Refused}
+use Rattle.xw_journal.specs.File.{form_of, kept_lines}
 use Rattle.xw_journal.specs.Journal.{journal_text, taken}
+use Rattle.xw_journal.specs.declared.file.Form.TheVariants.{Begun, Named, Whole, Cut}
 use Rattle.xw_journal.specs.declared.effect.Effect.TheVariants.{Change}
 use Rattle.xw_session_laws.specs.Replay.{replayed, replayed_lines}
 use Rattle.xw_session_laws.specs.Journals.{IsJournaled, without_flushes}
@@ -73,13 +75,13 @@ before_fill = record {
 abbrev after_fill : State
 after_fill = record before_fill { position = record before_fill.position { grid = record before_fill.position.grid { squares = Open (Some 67) ∷ Open (Some 65) ∷ Open (Some 84) ∷ [] } } }
 
--- a search is journaled as the letters that it entered
-fill_journaled : journal_text before_fill.position.grid (codes "fill 9") Accepted after_fill.position.grid ≡ codes "set 1 1 C\nset 1 3 T\n"
+-- a search is journaled as the letters that it entered, in one group
+fill_journaled : journal_text before_fill.position.grid (codes "fill 9") Accepted after_fill.position.grid ≡ codes "# begin\nset 1 1 C\nset 1 3 T\n# end\n"
 unfolding digits
 fill_journaled = refl
 
 -- they lead to the grid after the search
-fill_made_again : replayed_lines before_fill (lines_of (codes "set 1 1 C\nset 1 3 T\n")) ≡ Some after_fill
+fill_made_again : replayed_lines before_fill (lines_of (codes "# begin\nset 1 1 C\nset 1 3 T\n# end\n")) ≡ Some after_fill
 fill_made_again = refl
 
 -- any other change is journaled as its line, and nothing else is
@@ -92,9 +94,27 @@ query_journaled = refl
 refusal_journaled : journal_text before_fill.position.grid (codes "circle 9 9") Refused before_fill.position.grid ≡ []
 refusal_journaled = refl
 
--- of a journal that was cut in a line, the whole lines are executed
-cut_made_again : replayed_lines before_fill (ended_lines (codes "set 1 1 C\nset 1 ")) ≡ Some (record before_fill { position = record before_fill.position { grid = record before_fill.position.grid { squares = Open (Some 67) ∷ Open (Some 65) ∷ Open None ∷ [] } } })
-cut_made_again = refl
+-- a search that enters nothing writes nothing
+no_fill_journaled : journal_text before_fill.position.grid (codes "fill 9") Accepted before_fill.position.grid ≡ []
+no_fill_journaled = refl
+
+-- of a file that was cut, the whole lines count, and groups only if they have an end
+cut_line_dropped : kept_lines (codes "# xw session 1\nset 1 1 C\nset 1 ") ≡ codes "# xw session 1" ∷ codes "set 1 1 C" ∷ []
+cut_line_dropped = refl
+
+cut_group_dropped : kept_lines (codes "# xw session 1\nwatch on\n# begin\nset 1 1 C\nset 1 3 T\n") ≡ codes "# xw session 1" ∷ codes "watch on" ∷ []
+cut_group_dropped = refl
+
+whole_group_kept : kept_lines (codes "# xw session 1\n# begin\nset 1 1 C\n# end\nset 1") ≡ codes "# xw session 1" ∷ codes "# begin" ∷ codes "set 1 1 C" ∷ codes "# end" ∷ []
+whole_group_kept = refl
+
+-- a file without the first line has all its lines
+all_lines_kept : kept_lines (codes "watch on\nset 1 1 C") ≡ codes "watch on" ∷ codes "set 1 1 C" ∷ []
+all_lines_kept = refl
+
+-- what files are to a journal
+forms : map form_of ([] ∷ codes "# xw se" ∷ codes "# xw session 1\nset" ∷ codes "watch on\n" ∷ codes "watch on" ∷ []) ≡ Begun ∷ Begun ∷ Named ∷ Whole ∷ Cut ∷ []
+forms = refl
 
 -- the flush after a line is no byte of the journal
 flush_left_out : without_flushes (taken Change (codes "watch on\n") ++ taken Change (codes "watch off\n")) ≡ codes "watch on\nwatch off\n"

@@ -1,38 +1,37 @@
 -- The first lines of a journal.
-use Rattle.std.proofs.Common.{◌≡◌, ℕ, Bool, true, false, not, List, [], ◌∷◌, ◌++◌, map, flat_map, Some, None, refl, sym, ◌∙◌, ap, subst, inl, inr, append_assoc}
-use Rattle.std.specs.Prelude.{Option, Ok, Err, ◌⊎◌, if◌then◌else◌}
+use Rattle.std.proofs.Common.{◌≡◌, ℕ, Bool, true, false, List, [], ◌∷◌, ◌++◌, map, flat_map, Some, None, refl, sym, ◌∙◌, ap, subst, inl, inr, append_assoc, append-nil}
+use Rattle.std.specs.Prelude.{Option, Ok, ◌⊎◌, ◌||◌, if◌then◌else◌}
+use Rattle.std.specs.List.{list_any}
 use Rattle.std.specs.Option.{option_and_then}
-use Rattle.xw_letters.specs.Letter.{letter_of}
+use Rattle.std.proofs.lemmas.Slice.Eq.{bytes_eq-Decides}
 use Rattle.xw_grid.specs.declared.cell.Cell.{Cell}
-use Rattle.xw_grid.specs.declared.fault.GridFault.TheVariants.{OutOfGrid, OnBlock}
-use Rattle.xw_grid.specs.Grid.{Grid, IsGrid, is_inside, is_block, entry, cells}
-use Rattle.xw_grid.specs.Edit.{with_entry}
-use Rattle.xw_feas.specs.State.{with_grid as with_edited, by_fault}
+use Rattle.xw_grid.specs.Grid.{Grid, IsGrid, entry}
 use Rattle.xw_lines.specs.declared.outcome.Step.{Step}
 use Rattle.xw_lines.specs.Cut.{Cut, cut, lines_of, ended_lines, last_piece, last_line, with_lfs, HasNoLf, AllHaveNoLf}
 use Rattle.xw_lines.proofs.Cuts.{cut-with_lfs, cut-whole}
+use Rattle.xw_commands.specs.Command.{command_of}
 use Rattle.xw_commands.specs.declared.command.Command.{Command}
 use Rattle.xw_commands.specs.declared.command.Command.TheVariants as commands
 use Rattle.xw_commands.specs.declared.command.CellArg.{CellArg}
-use Rattle.xw_session.specs.State.{State, cell_of}
+use Rattle.xw_session.specs.State.{State}
 use Rattle.xw_session.specs.Answer.{Answers}
-use Rattle.xw_session.specs.Reply.{moved, with_letter}
-use Rattle.xw_session.specs.Record.{spot_of, letter_commands, command_lines}
+use Rattle.xw_session.specs.Record.{spot_of, letter_commands}
+use Rattle.xw_journal.specs.Group.{begin_line, end_line, begins_group, ends_group, complete, grouped}
 use Rattle.xw_journal.specs.Journal.{is_same_entry, entered_at, entered_commands, journal_text}
-use Rattle.xw_session_laws.specs.Replay.{state_left, replayed, replayed_lines, with_grid}
-use Rattle.xw_session_laws.specs.Journals.{IsJournaled, BeginWithLetters, AreFirstLines}
-use Rattle.xw_session_laws.proofs.Replaying.{replayed_both}
-use Rattle.xw_session_laws.proofs.AnsweredAgain.{both_replayed, some_left}
-use Rattle.xw_session_laws.proofs.CommandsRead.{line_without_lf}
-use Rattle.xw_session_laws.proofs.RecordRead.{AreRecorded, lines_are, replayed_as_read}
-use Rattle.xw_session_laws.proofs.JournalLines.{plain_joined, Enters, Leaves, line_leaves, grid_after_line, Replays, line_replays, lines_there, lines_again, both_there}
+use Rattle.xw_journal.proofs.Groups.{IsClosed, none_closed, plain_closed, ended_closed, open_dropped}
+use Rattle.xw_session_laws.specs.Replay.{replayed_lines}
+use Rattle.xw_session_laws.specs.Journals.{IsJournaled, AreFirstLines}
+use Rattle.xw_session_laws.proofs.AnsweredAgain.{both_replayed}
+use Rattle.xw_session_laws.proofs.CommandsRead.{line_without_lf, read_again}
+use Rattle.xw_session_laws.proofs.RecordRead.{AreRecorded}
+use Rattle.xw_session_laws.proofs.JournalLines.{plain_joined, Leaves, line_leaves, grid_after_line, Replays, line_replays, lines_there, lines_again, both_there, group_lines, group_apart, group_plain}
 use Rattle.xw_session_laws.proofs.JournalAgain.{journal_replays}
 
 -- ---- lists
 
 module _ {X : Type 0} where
   -- one of two fronts of a list is a front of the other
-  fronts : (xs ys first more : List X) → xs ++ ys ≡ first ++ more
+  pub fronts : (xs ys first more : List X) → xs ++ ys ≡ first ++ more
       → ((x : X) × (tail : List X) × (xs ≡ first ++ x ∷ tail)) ⊎ ((tail : List X) × (first ≡ xs ++ tail) × (ys ≡ tail ++ more))
   fronts [] ys first more e = inr (first, refl, e)
   fronts (x ∷ xs) ys [] more e = inl (x, xs, refl)
@@ -52,22 +51,9 @@ module _ {X : Type 0} where
   only_front one x [] tail e = refl
   only_front one x (y ∷ first) tail e = let rest : [] ≡ first ++ x ∷ tail = cc in no_front first tail x (y ∷ first ≡ []) rest
 
-  front_mapped : {Y : Type 0} (f : Y → X) (ys : List Y) (first tail : List X) → map f ys ≡ first ++ tail → (front : List Y) × (back : List Y) × (ys ≡ front ++ back) × (first ≡ map f front)
-  front_mapped f ys [] tail e = ([], ys, refl, refl)
-  front_mapped f [] (x ∷ first) tail e = cc
-  front_mapped f (y ∷ ys) (x ∷ first) tail e =
-      let head : f y ≡ x = cc in
-      let rest : map f ys ≡ first ++ tail = cc in
-      let is = front_mapped f ys first tail rest in
-      (y ∷ is.0, is.1, ap (λ zs. y ∷ zs) is.2, ap (λ h. h ∷ first) (sym head) ∙ ap (λ zs. f y ∷ zs) is.3)
-
 pub plain_front : (front lines : List (List ℕ)) → AllHaveNoLf (front ++ lines) → AllHaveNoLf front
 plain_front [] lines plain = tt
 plain_front (line ∷ front) lines plain = (plain.0, plain_front front lines plain.1)
-
-recorded_front : (front rest : List Command) → AreRecorded (front ++ rest) → AreRecorded front
-recorded_front [] rest are = tt
-recorded_front (command ∷ front) rest are = (are.0, recorded_front front rest are.1)
 
 -- ---- the whole lines of the first bytes
 
@@ -108,10 +94,6 @@ both_sets : (front rest : List Command) → AreSets front → AreSets rest → A
 both_sets [] rest a b = b
 both_sets (command ∷ front) rest a b = (a.0, both_sets front rest a.1 b)
 
-sets_front : (front rest : List Command) → AreSets (front ++ rest) → AreSets front
-sets_front [] rest are = tt
-sets_front (command ∷ front) rest are = (are.0, sets_front front rest are.1)
-
 pub entered_sets : (before after : Grid) (all : List Cell) → AreSets (flat_map (entered_at before after) all)
 entered_sets before after [] = tt
 entered_sets before after (cell ∷ all) =
@@ -121,34 +103,50 @@ entered_sets before after (cell ∷ all) =
       by_entry false None = tt
       by_entry false (Some letter) = ((spot_of cell, letter, refl), tt)
 
--- letters change the grid only
-abbrev GoesOn : List Command → State → State → Type 0
-GoesOn letters state left = (grid : Grid) → replayed (with_grid state grid) letters ≡ Some left → left ≡ with_grid state left.position.grid
+-- ---- lines that begin or end a group
 
-module _ (letters : List Command) (state left : State) (further : GoesOn letters state left) where
-  by_tests : (inside blocks : Bool) (grid : Grid)
-      → option_and_then (λ next. replayed next letters) (state_left (moved state (with_edited state.position (by_fault (if not inside then Err OutOfGrid else if blocks then Err OnBlock else Ok grid))))) ≡ Some left
-      → left ≡ with_grid state left.position.grid
-  by_tests true false grid e = further grid e
-  by_tests true true grid e = cc
-  by_tests false blocks grid e = cc
+begins_comment : (line : List ℕ) (command : Command) → command_of line ≡ Ok (Some command) → line ≡ begin_line → ⊥
+begins_comment line command read is = let bad : command_of begin_line ≡ Ok (Some command) = ap command_of (sym is) ∙ read in cc
 
-  by_letter : (at : CellArg) (found : Option ℕ) → option_and_then (λ next. replayed next letters) (state_left (with_letter state at found)) ≡ Some left → left ≡ with_grid state left.position.grid
-  by_letter at None e = cc
-  by_letter at (Some capital) e = by_tests (is_inside state.position.grid (cell_of at)) (is_block state.position.grid (cell_of at)) (with_entry state.position.grid (cell_of at) (Some capital)) e
+ends_comment : (line : List ℕ) (command : Command) → command_of line ≡ Ok (Some command) → line ≡ end_line → ⊥
+ends_comment line command read is = let bad : command_of end_line ≡ Ok (Some command) = ap command_of (sym is) ∙ read in cc
 
-sets_leave : (letters : List Command) (state left : State) → AreSets letters → replayed state letters ≡ Some left → left ≡ with_grid state left.position.grid
-sets_leave [] state left are e = let same : state ≡ left = cc in subst (λ (s : State). s ≡ with_grid state s.position.grid) same refl
-sets_leave (command ∷ letters) state left ((at, letter, is), are) e =
-    by_letter letters state left (λ grid e. sets_leave letters (with_grid state grid) left are e) at (letter_of letter) (ap (λ first. replayed state (first ∷ letters)) (sym is) ∙ e)
+-- a command neither begins nor ends a group
+begins_none : (line : List ℕ) (command : Command) → command_of line ≡ Ok (Some command) → begins_group line ≡ false
+begins_none line command read = by_test (begins_group line) refl where
+  by_test : (t : Bool) → begins_group line ≡ t → t ≡ false
+  by_test true e = absurd (begins_comment line command read ((bytes_eq-Decides line begin_line).0 e))
+  by_test false e = refl
+
+ends_none : (line : List ℕ) (command : Command) → command_of line ≡ Ok (Some command) → ends_group line ≡ false
+ends_none line command read = by_test (ends_group line) refl where
+  by_test : (t : Bool) → ends_group line ≡ t → t ≡ false
+  by_test true e = absurd (ends_comment line command read ((bytes_eq-Decides line end_line).0 e))
+  by_test false e = refl
+
+-- no first lines of recorded commands end a group
+no_tail : (first tail : List (List ℕ)) → [] ≡ first ++ tail → tail ≡ []
+no_tail [] tail e = sym e
+no_tail (line ∷ first) tail e = cc
+
+no_end : (commands : List Command) (first : List (List ℕ)) (tail : List (List ℕ)) → AreRecorded commands → map line_without_lf commands ++ end_line ∷ [] ≡ first ++ tail
+    → (tail ≡ [] → ⊥) → list_any ends_group first ≡ false
+no_end commands [] tail recorded e behind = refl
+no_end [] (line ∷ first) tail recorded e behind =
+    let none : [] ≡ first ++ tail = cc in absurd (behind (no_tail first tail none))
+no_end (command ∷ commands) (line ∷ first) tail recorded e behind =
+    let head : line_without_lf command ≡ line = cc in
+    let rest : map line_without_lf commands ++ end_line ∷ [] ≡ first ++ tail = cc in
+    let other : ends_group line ≡ false = ap ends_group (sym head) ∙ ends_none (line_without_lf command) command (read_again command recorded.0).2 in
+    ap (λ t. t || list_any ends_group first) other ∙ no_end commands first tail recorded.1 rest behind
 
 -- ---- the first lines of a journal
 
 -- none of the lines is done
-nothing_done : (start end : State) (lines : List (List ℕ)) (journal : List ℕ) (first more : List (List ℕ)) → IsJournaled start lines journal end → lines_of journal ≡ first ++ more → first ≡ [] → AreFirstLines start lines journal end first
-nothing_done start end lines journal first more done parts none = record {
-  more = more;
-  of_journal = parts;
+nothing_done : (start end : State) (lines : List (List ℕ)) (journal : List ℕ) → IsJournaled start lines journal end → AreFirstLines start lines journal end []
+nothing_done start end lines journal done = record {
+  more = lines_of journal;
+  of_journal = refl;
   done = [];
   others = lines;
   of_lines = refl;
@@ -158,14 +156,51 @@ nothing_done start end lines journal first more done parts none = record {
   mid = start;
   so_far = (refl, refl);
   further = done;
-  letters = [];
-  begun = tt;
-  are = none;
-  left = start;
-  entered = refl;
-  only = refl;
-  again = ap (replayed_lines start) none;
+  are = refl;
+  again = refl;
 }
+
+-- the lines of a group, and first lines of them
+group_closed : (commands : List Command) → IsClosed (group_lines commands)
+group_closed commands = ended_closed (begin_line ∷ map line_without_lf commands)
+
+group_begun : (commands : List Command) → AreRecorded commands → (first tail : List (List ℕ)) (next : List ℕ) → group_lines commands ≡ first ++ next ∷ tail → complete first ≡ []
+group_begun commands recorded [] tail next e = refl
+group_begun commands recorded (line ∷ first) tail next e =
+    let head : begin_line ≡ line = cc in
+    let rest : map line_without_lf commands ++ end_line ∷ [] ≡ first ++ next ∷ tail = cc in
+    ap (λ l. complete (l ∷ first)) (sym head) ∙ open_dropped [] first none_closed (no_end commands first (next ∷ tail) recorded rest (λ none. cc))
+
+grouped_lines : (command : Command) (commands : List Command) → AreRecorded (command ∷ commands) → lines_of (grouped (command ∷ commands)) ≡ group_lines (command ∷ commands)
+grouped_lines command commands recorded =
+    let lines = group_lines (command ∷ commands) in
+    ap lines_of (group_apart command commands recorded) ∙ ap (λ (c : Cut). c.ended ++ last_line c.rest) (cut-with_lfs lines [] (group_plain (command ∷ commands) recorded) tt) ∙ append-nil lines
+
+-- the text of one line is closed, and of a part of it nothing counts
+pub record IsUnit (text : List ℕ) : Type 0 where
+  pub closed : IsClosed (lines_of text)
+  pub begun : (first tail : List (List ℕ)) (next : List ℕ) → lines_of text ≡ first ++ next ∷ tail → complete first ≡ []
+
+no_unit : IsUnit []
+no_unit = record { closed = none_closed; begun = λ first tail next e. no_front first tail next (complete first ≡ []) e }
+
+line_unit : (line : List ℕ) → HasNoLf line → (command : Command) → command_of line ≡ Ok (Some command) → IsUnit (line ++ 10 ∷ [])
+line_unit line plain command read = record {
+  closed = subst IsClosed (sym (alone line plain)) (plain_closed [] line none_closed (begins_none line command read));
+  begun = λ first tail next e. ap complete (only_front line next first tail (sym (alone line plain) ∙ e));
+}
+
+group_unit : (commands : List Command) → AreRecorded commands → IsUnit (grouped commands)
+group_unit [] recorded = no_unit
+group_unit (command ∷ commands) recorded = record {
+  closed = subst IsClosed (sym (grouped_lines command commands recorded)) (group_closed (command ∷ commands));
+  begun = λ first tail next e. group_begun (command ∷ commands) recorded first tail next (sym (grouped_lines command commands recorded) ∙ e);
+}
+
+left_unit : (state : State) (line text : List ℕ) (next : State) → HasNoLf line → Leaves state line text next → IsUnit text
+left_unit state line text next plain (inl (none, same)) = subst IsUnit (sym none) no_unit
+left_unit state line text next plain (inr (inl (is, left, (command, read)))) = subst IsUnit (sym is) (line_unit line plain command read)
+left_unit state line text next plain (inr (inr enters)) = subst IsUnit (sym enters.text-is) (group_unit (entered_commands state.position.grid next.position.grid) enters.recorded)
 
 module _ (start mid end : State) (line : List ℕ) (lines : List (List ℕ)) (outcome : Step) (answer others journal : List ℕ)
     (said : Answers start line outcome answer mid) (rest : IsJournaled mid lines others end)
@@ -176,21 +211,27 @@ module _ (start mid end : State) (line : List ℕ) (lines : List (List ℕ)) (ou
   abbrev whole : IsJournaled start (line ∷ lines) journal end
   whole = (outcome, answer, mid, others, said, rest, journal-is)
 
-  module _ (is : IsGrid start.position.grid) (plain : HasNoLf line) where
+  module _ (is : IsGrid start.position.grid) (plain : HasNoLf line) (plain_lines : AllHaveNoLf lines) where
     leaves : Leaves start line text mid
     leaves = line_leaves start is line outcome answer mid said
 
     one : Replays start text mid
     one = line_replays start line text mid plain leaves
 
+    two : Replays mid others end
+    two = journal_replays lines mid end others (grid_after_line start is line outcome answer mid said) plain_lines rest
+
+    all_lines : lines_of journal ≡ lines_of text ++ lines_of others
+    all_lines = ap lines_of journal-is ∙ both_there start mid end text others one two
+
     -- the line is done
-    line_done : AllHaveNoLf lines → (first tail more : List (List ℕ)) → lines_of journal ≡ first ++ more → first ≡ lines_of text ++ tail → AreFirstLines mid lines others end tail → AreFirstLines start (line ∷ lines) journal end first
-    line_done plain first tail more parts first-is cuts =
-        let plain_done = plain_front cuts.done cuts.others (subst AllHaveNoLf cuts.of_lines plain) in
-        let two = journal_replays cuts.done mid cuts.mid cuts.bytes (grid_after_line start is line outcome answer mid said) plain_done cuts.so_far in
+    line_done : (first tail : List (List ℕ)) → first ≡ lines_of text ++ tail → AreFirstLines mid lines others end tail → AreFirstLines start (line ∷ lines) journal end first
+    line_done first tail first-is cuts =
+        let plain_done = plain_front cuts.done cuts.others (subst AllHaveNoLf cuts.of_lines plain_lines) in
+        let more_done = journal_replays cuts.done mid cuts.mid cuts.bytes (grid_after_line start is line outcome answer mid said) plain_done cuts.so_far in
         record {
-          more = more;
-          of_journal = parts;
+          more = cuts.more;
+          of_journal = all_lines ∙ ap (λ xs. lines_of text ++ xs) cuts.of_journal ∙ sym (append_assoc (lines_of text) tail cuts.more) ∙ ap (λ xs. xs ++ cuts.more) (sym first-is);
           done = line ∷ cuts.done;
           others = cuts.others;
           of_lines = ap (λ xs. line ∷ xs) cuts.of_lines;
@@ -200,99 +241,36 @@ module _ (start mid end : State) (line : List ℕ) (lines : List (List ℕ)) (ou
           mid = cuts.mid;
           so_far = (outcome, answer, mid, cuts.bytes, said, cuts.so_far, refl);
           further = cuts.further;
-          letters = cuts.letters;
-          begun = cuts.begun;
-          are = first-is ∙ ap (λ xs. lines_of text ++ xs) cuts.are ∙ sym (append_assoc (lines_of text) (lines_of cuts.bytes) (lines_of (command_lines cuts.letters)))
-              ∙ ap (λ xs. xs ++ lines_of (command_lines cuts.letters)) (sym (both_there start mid cuts.mid text cuts.bytes one two));
-          left = cuts.left;
-          entered = cuts.entered;
-          only = cuts.only;
+          are = first-is ∙ ap (λ xs. lines_of text ++ xs) cuts.are ∙ sym (both_there start mid cuts.mid text cuts.bytes one more_done);
           again = ap (replayed_lines start) first-is ∙ both_replayed start (lines_of text) tail ∙ ap (option_and_then (λ mid. replayed_lines mid tail)) (lines_again start mid text one) ∙ cuts.again;
         }
 
-    -- the line is a search, and some of its letters are done
-    letters_begin : (front back : List Command) → Enters start line text mid → entered_commands start.position.grid mid.position.grid ≡ front ++ back → BeginWithLetters start (line ∷ lines) front
-    letters_begin [] back enters parts = tt
-    letters_begin (letter ∷ front) back enters parts = record {
-      command = enters.command;
-      is = enters.is;
-      searches = enters.searches;
-      answer = enters.answer;
-      next = mid;
-      answers = enters.answers;
-      others = back;
-      entered = parts;
-    }
-
-    -- these letters of the search are done
-    letters_done : Enters start line text mid → (first more : List (List ℕ)) → lines_of journal ≡ first ++ more → (front back : List Command) → entered_commands start.position.grid mid.position.grid ≡ front ++ back → first ≡ map line_without_lf front
-        → (left : State) → replayed start front ≡ Some left → AreFirstLines start (line ∷ lines) journal end first
-    letters_done enters first more parts front back is mapped left reached =
-        let recorded : AreRecorded front = recorded_front front back (subst AreRecorded is enters.recorded) in
-        record {
-          more = more;
-          of_journal = parts;
-          done = [];
-          others = line ∷ lines;
-          of_lines = refl;
-          bytes = [];
-          rest = journal;
-          parts = refl;
-          mid = start;
-          so_far = (refl, refl);
-          further = whole;
-          letters = front;
-          begun = letters_begin front back enters is;
-          are = mapped ∙ sym (lines_are front recorded);
-          left = left;
-          entered = reached;
-          only = sets_leave front start left (sets_front front back (subst AreSets is (entered_sets start.position.grid mid.position.grid (cells mid.position.grid)))) reached;
-          again = ap (replayed_lines start) mapped ∙ replayed_as_read start front recorded ∙ reached;
-        }
-
-    letters_reached : Enters start line text mid → (front back : List Command) → entered_commands start.position.grid mid.position.grid ≡ front ++ back → (left : State) × (replayed start front ≡ Some left)
-    letters_reached enters front back is =
-        some_left (replayed start front) (λ next. replayed next back) mid (sym (replayed_both start front back) ∙ ap (replayed start) (sym is) ∙ enters.done)
-
-    some_letters_done : Enters start line text mid → (first tail more : List (List ℕ)) → lines_of journal ≡ first ++ more → lines_of text ≡ first ++ tail → AreFirstLines start (line ∷ lines) journal end first
-    some_letters_done enters first tail more parts front =
-        let is = front_mapped line_without_lf (entered_commands start.position.grid mid.position.grid) first tail (sym (ap lines_of enters.text-is ∙ lines_are (entered_commands start.position.grid mid.position.grid) enters.recorded) ∙ front) in
-        let reached = letters_reached enters is.0 is.1 is.2 in
-        letters_done enters first more parts is.0 is.1 is.2 is.3 reached.0 reached.1
-
-    -- the text of the line goes on behind the first lines
-    line_begun : Leaves start line text mid → (first tail more : List (List ℕ)) (next : List ℕ) → lines_of journal ≡ first ++ more → lines_of text ≡ first ++ next ∷ tail → AreFirstLines start (line ∷ lines) journal end first
-    line_begun (inl (none, same)) first tail more next parts front = no_front first tail next (AreFirstLines start (line ∷ lines) journal end first) (ap lines_of (sym none) ∙ front)
-    line_begun (inr (inl (is, left))) first tail more next parts front =
-        nothing_done start end (line ∷ lines) journal first more whole parts (only_front line next first tail (sym (ap lines_of is ∙ alone line plain) ∙ front))
-    line_begun (inr (inr enters)) first tail more next parts front = some_letters_done enters first (next ∷ tail) more parts front
-
-    by_fronts : (first more : List (List ℕ)) → lines_of journal ≡ first ++ more
+    by_fronts : (first more : List (List ℕ))
         → ((next : List ℕ) × (tail : List (List ℕ)) × (lines_of text ≡ first ++ next ∷ tail)) ⊎ ((tail : List (List ℕ)) × (first ≡ lines_of text ++ tail) × (lines_of others ≡ tail ++ more))
-        → AllHaveNoLf lines → ((tail : List (List ℕ)) → lines_of others ≡ tail ++ more → AreFirstLines mid lines others end tail) → AreFirstLines start (line ∷ lines) journal end first
-    by_fronts first more parts (inl (next, tail, front)) plain cuts = line_begun leaves first tail more next parts front
-    by_fronts first more parts (inr (tail, front, behind)) plain cuts = line_done plain first tail more parts front (cuts tail behind)
+        → ((tail : List (List ℕ)) → lines_of others ≡ tail ++ more → AreFirstLines mid lines others end (complete tail)) → AreFirstLines start (line ∷ lines) journal end (complete first)
+    by_fronts first more (inl (next, tail, front)) cuts =
+        subst (AreFirstLines start (line ∷ lines) journal end) (sym ((left_unit start line text mid plain leaves).begun first tail next front)) (nothing_done start end (line ∷ lines) journal whole)
+    by_fronts first more (inr (tail, front, behind)) cuts =
+        line_done (complete first) (complete tail) (ap complete front ∙ (left_unit start line text mid plain leaves).closed tail) (cuts tail behind)
 
-    line_cut : (first more : List (List ℕ)) → lines_of journal ≡ first ++ more → AllHaveNoLf lines → ((tail : List (List ℕ)) → lines_of others ≡ tail ++ more → AreFirstLines mid lines others end tail) → AreFirstLines start (line ∷ lines) journal end first
-    line_cut first more parts plain_lines cuts =
-        let two = journal_replays lines mid end others (grid_after_line start is line outcome answer mid said) plain_lines rest in
-        let there : lines_of text ++ lines_of others ≡ first ++ more = sym (ap lines_of journal-is ∙ both_there start mid end text others one two) ∙ parts in
-        by_fronts first more parts (fronts (lines_of text) (lines_of others) first more there) plain_lines cuts
+    line_cut : (first more : List (List ℕ)) → lines_of journal ≡ first ++ more → ((tail : List (List ℕ)) → lines_of others ≡ tail ++ more → AreFirstLines mid lines others end (complete tail))
+        → AreFirstLines start (line ∷ lines) journal end (complete first)
+    line_cut first more parts cuts = by_fronts first more (fronts (lines_of text) (lines_of others) first more (sym all_lines ∙ parts)) cuts
 
 no_lines : (first more : List (List ℕ)) → [] ≡ first ++ more → first ≡ []
 no_lines [] more e = refl
 no_lines (line ∷ first) more e = cc
 
 first_lines_cut : (lines : List (List ℕ)) (start end : State) (journal : List ℕ) (first more : List (List ℕ)) → IsGrid start.position.grid → AllHaveNoLf lines → IsJournaled start lines journal end → lines_of journal ≡ first ++ more
-    → AreFirstLines start lines journal end first
+    → AreFirstLines start lines journal end (complete first)
 first_lines_cut [] start end journal first more is plain done parts =
-    nothing_done start end [] journal first more done parts (no_lines first more (ap lines_of (sym done.0) ∙ parts))
+    subst (AreFirstLines start [] journal end) (ap complete (sym (no_lines first more (ap lines_of (sym done.0) ∙ parts)))) (nothing_done start end [] journal done)
 first_lines_cut (line ∷ lines) start end journal first more is plain (outcome, answer, mid, others, said, rest, journal-is) parts =
-    line_cut start mid end line lines outcome answer others journal said rest journal-is is plain.0 first more parts plain.1
+    line_cut start mid end line lines outcome answer others journal said rest journal-is is plain.0 plain.1 first more parts
     (λ tail behind. first_lines_cut lines mid end others tail more (grid_after_line start is line outcome answer mid said) plain.1 rest behind)
 
 pub journal_cut : (start end : State) (lines : List (List ℕ)) (journal front rest : List ℕ) → IsGrid start.position.grid → AllHaveNoLf lines → IsJournaled start lines journal end
-    → journal ≡ front ++ rest → AreFirstLines start lines journal end (ended_lines front)
+    → journal ≡ front ++ rest → AreFirstLines start lines journal end (complete (ended_lines front))
 journal_cut start end lines journal front rest is plain done parts =
     let whole = journal_replays lines start end journal is plain done in
     let first = ended_first whole.lines front rest whole.plain (sym whole.whole ∙ parts) in

@@ -1,5 +1,5 @@
 -- The text that one line leaves in a journal, as lines that make its change again.
-use Rattle.std.proofs.Common.{◌≡◌, ℕ, List, [], ◌∷◌, ◌++◌, get_or, map, Some, None, refl, sym, ◌∙◌, ap, subst, inl, inr, append_assoc, append-nil}
+use Rattle.std.proofs.Common.{◌≡◌, ℕ, List, [], ◌∷◌, ◌++◌, get_or, map, codes, Some, None, refl, sym, ◌∙◌, ap, subst, inl, inr, append_assoc, append-nil}
 use Rattle.std.specs.Prelude.{Option, Result, Ok, Err, ◌⊎◌}
 use Rattle.std.specs.Option.{option_and_then}
 use Rattle.xw_grid.specs.declared.cell.Square.{Square}
@@ -16,7 +16,7 @@ use Rattle.xw_session.specs.declared.refusal.Refusal.{Refusal}
 use Rattle.xw_session.specs.State.{State}
 use Rattle.xw_session.specs.Reply.{Reply}
 use Rattle.xw_session.specs.Answer.{IsDue, Replies, step_of, state_after, AnswersParsed, Answers}
-use Rattle.xw_session.specs.Record.{command_lines}
+use Rattle.xw_journal.specs.Group.{begin_line, end_line, grouped}
 use Rattle.xw_journal.specs.declared.effect.Effect.{Effect}
 use Rattle.xw_journal.specs.declared.effect.Effect.TheVariants.{Nothing, Change, Letters}
 use Rattle.xw_journal.specs.Journal.{effect_of, entered_commands, text_of_effect, text_of_parsed, journal_text}
@@ -33,9 +33,13 @@ use Rattle.xw_session_laws.proofs.LettersEntered.{IsLettered, letters_entered, e
 abbrev pub IsQuiet : State → List ℕ → State → Type 0
 IsQuiet state text next = (text ≡ []) × (next ≡ state)
 
+-- the line is a command
+abbrev pub IsCommand : List ℕ → Type 0
+IsCommand line = (command : Command) × (command_of line ≡ Ok (Some command))
+
 -- the line makes its change again, and is written
 abbrev pub IsChange : State → List ℕ → List ℕ → State → Type 0
-IsChange state line text next = (text ≡ line ++ 10 ∷ []) × (left_by_line state (command_of line) ≡ Some next)
+IsChange state line text next = (text ≡ line ++ 10 ∷ []) × (left_by_line state (command_of line) ≡ Some next) × IsCommand line
 
 -- the line is a search, whose letters make its change again and are written
 pub record Enters (state : State) (line text : List ℕ) (next : State) : Type 0 where
@@ -44,7 +48,7 @@ pub record Enters (state : State) (line text : List ℕ) (next : State) : Type 0
   pub searches : effect_of command ≡ Letters
   pub answer : List ℕ
   pub answers : Answers state line Accepted answer next
-  pub text-is : text ≡ command_lines (entered_commands state.position.grid next.position.grid)
+  pub text-is : text ≡ grouped (entered_commands state.position.grid next.position.grid)
   pub recorded : AreRecorded (entered_commands state.position.grid next.position.grid)
   pub done : replayed state (entered_commands state.position.grid next.position.grid) ≡ Some next
 
@@ -89,7 +93,7 @@ module _ (state : State) (is : IsGrid state.position.grid) where
       by_effect : (effect : Effect) → effect_of command ≡ effect → HasEffect effect state command reply → Leaves state line text next
       by_effect Nothing effect left = inl (text_is ∙ ap (λ effect. text_of_effect effect line state.position.grid next.position.grid) effect, same ∙ left)
       by_effect Change effect left =
-          inr (inl (text_is ∙ ap (λ effect. text_of_effect effect line state.position.grid next.position.grid) effect, ap (left_by_line state) read ∙ ap state_left left ∙ ap Some (sym same)))
+          inr (inl (text_is ∙ ap (λ effect. text_of_effect effect line state.position.grid next.position.grid) effect, ap (left_by_line state) read ∙ ap state_left left ∙ ap Some (sym same), (command, read)))
       by_effect Letters effect (inl left) =
           let stays : state ≡ next = sym (same ∙ left) in
           by_letters effect
@@ -153,19 +157,49 @@ both_replays start mid end bytes others a b = record {
   done = both_replayed start a.lines b.lines ∙ ap (option_and_then (λ mid. replayed_lines mid b.lines)) a.done ∙ b.done;
 }
 
-pub commands_replay : (state next : State) (commands : List Command) → AreRecorded commands → replayed state commands ≡ Some next → Replays state (command_lines commands) next
-commands_replay state next commands recorded done = record {
-  lines = map line_without_lf commands;
-  whole = lines_apart commands recorded;
-  plain = no_lf_in commands recorded;
-  done = replayed_as_read state commands recorded ∙ done;
+-- a comment changes nothing
+after_comment : (state : State) (line : List ℕ) (lines : List (List ℕ)) → command_of line ≡ Ok None → replayed_lines state (line ∷ lines) ≡ replayed_lines state lines
+after_comment state line lines e = ap (λ found. option_and_then (λ next. replayed_lines next lines) (left_by_line state found)) e
+
+-- the lines of a group of commands
+abbrev pub group_lines : List Command → List (List ℕ)
+group_lines commands = begin_line ∷ (map line_without_lf commands ++ end_line ∷ [])
+
+pub group_apart : (command : Command) (commands : List Command) → AreRecorded (command ∷ commands) → grouped (command ∷ commands) ≡ with_lfs (group_lines (command ∷ commands)) []
+group_apart command commands recorded =
+    ap (λ xs. codes "# begin\n" ++ (xs ++ codes "# end\n")) (lines_apart (command ∷ commands) recorded)
+    ∙ ap (λ xs. codes "# begin\n" ++ xs) (lfs_joined (map line_without_lf (command ∷ commands)) (end_line ∷ []) [])
+
+pub group_plain : (commands : List Command) → AreRecorded commands → AllHaveNoLf (group_lines commands)
+group_plain commands recorded =
+    (begin_plain, plain_joined (map line_without_lf commands) (end_line ∷ []) (no_lf_in commands recorded) (end_plain, tt)) where
+      begin_plain : HasNoLf begin_line
+      begin_plain = (λ z. cc, (λ z. cc, (λ z. cc, (λ z. cc, (λ z. cc, (λ z. cc, (λ z. cc, tt)))))))
+
+      end_plain : HasNoLf end_line
+      end_plain = (λ z. cc, (λ z. cc, (λ z. cc, (λ z. cc, (λ z. cc, tt)))))
+
+group_done : (state next : State) (commands : List Command) → AreRecorded commands → replayed state commands ≡ Some next → replayed_lines state (group_lines commands) ≡ Some next
+group_done state next commands recorded done =
+    after_comment state begin_line (map line_without_lf commands ++ end_line ∷ []) refl
+    ∙ both_replayed state (map line_without_lf commands) (end_line ∷ [])
+    ∙ ap (option_and_then (λ mid. replayed_lines mid (end_line ∷ []))) (replayed_as_read state commands recorded ∙ done)
+    ∙ after_comment next end_line [] refl
+
+group_replays : (state next : State) (commands : List Command) → AreRecorded commands → replayed state commands ≡ Some next → Replays state (grouped commands) next
+group_replays state next [] recorded done = record { lines = []; whole = refl; plain = tt; done = done }
+group_replays state next (command ∷ commands) recorded done = record {
+  lines = group_lines (command ∷ commands);
+  whole = group_apart command commands recorded;
+  plain = group_plain (command ∷ commands) recorded;
+  done = group_done state next (command ∷ commands) recorded done;
 }
 
 pub line_replays : (state : State) (line bytes : List ℕ) (next : State) → HasNoLf line → Leaves state line bytes next → Replays state bytes next
 line_replays state line bytes next plain (inl (none, same)) = record { lines = []; whole = none; plain = tt; done = ap Some (sym same) }
-line_replays state line bytes next plain (inr (inl (is, left))) = record { lines = line ∷ []; whole = is; plain = (plain, tt); done = ap (option_and_then (λ next. Some next)) left }
+line_replays state line bytes next plain (inr (inl (is, left, command))) = record { lines = line ∷ []; whole = is; plain = (plain, tt); done = ap (option_and_then (λ next. Some next)) left }
 line_replays state line bytes next plain (inr (inr enters)) =
-    subst (λ bytes. Replays state bytes next) (sym enters.text-is) (commands_replay state next (entered_commands state.position.grid next.position.grid) enters.recorded enters.done)
+    subst (λ bytes. Replays state bytes next) (sym enters.text-is) (group_replays state next (entered_commands state.position.grid next.position.grid) enters.recorded enters.done)
 
 -- the lines of such a text
 module _ (start end : State) (bytes : List ℕ) (is : Replays start bytes end) where

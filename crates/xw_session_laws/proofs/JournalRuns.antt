@@ -24,6 +24,7 @@ use Rattle.xw_session.specs.State.{State}
 use Rattle.xw_session.specs.Answer.{Answers}
 use Rattle.xw_session.specs.Record.{command_lines}
 use Rattle.xw_session.specs.Spelling.{command_line}
+use Rattle.xw_journal.specs.Group.{complete, grouped}
 use Rattle.xw_journal.specs.Journal.{effect_of, entered_commands, text_of_effect, text_of_parsed, journal_text, taken, events_of_parsed, journal_events, JournaledState, AnswersJournaled, IsUnjournaled, IsUnkept, IsCause, StopsAtJournal}
 use Rattle.xw_journal.specs.declared.cause.Cause.{Cause}
 use Rattle.xw_journal.specs.declared.cause.Cause.TheVariants.{Journal, Memory}
@@ -76,12 +77,18 @@ letters_unmarked (command ∷ letters) recorded ((at, letter, is), sets) =
     let good : IsRecorded (commands.Set at letter) = subst IsRecorded is recorded.0 in
     joined (command_line command) (command_lines letters) (subst (λ command. IsUnmarked (command_line command)) (sym is) (set_unmarked at letter good.0 good.1)) (letters_unmarked letters recorded.1 sets)
 
+group_unmarked : (letters : List Command) → AreRecorded letters → AreSets letters → IsUnmarked (grouped letters)
+group_unmarked [] recorded sets = refl
+group_unmarked (command ∷ letters) recorded sets =
+    joined (codes "# begin\n") (command_lines (command ∷ letters) ++ codes "# end\n") refl
+    (joined (command_lines (command ∷ letters)) (codes "# end\n") (letters_unmarked (command ∷ letters) recorded sets) refl)
+
 text_unmarked : (state : State) (line text : List ℕ) (next : State) → AreBytes line → Leaves state line text next → IsUnmarked text
 text_unmarked state line text next are (inl (none, same)) = subst IsUnmarked (sym none) refl
-text_unmarked state line text next are (inr (inl (is, left))) = subst IsUnmarked (sym is) (joined line (10 ∷ []) (bytes_unmarked line are) refl)
+text_unmarked state line text next are (inr (inl (is, left, command))) = subst IsUnmarked (sym is) (joined line (10 ∷ []) (bytes_unmarked line are) refl)
 text_unmarked state line text next are (inr (inr enters)) =
     subst IsUnmarked (sym enters.text-is)
-    (letters_unmarked (entered_commands state.position.grid next.position.grid) enters.recorded (entered_sets state.position.grid next.position.grid (cells next.position.grid)))
+    (group_unmarked (entered_commands state.position.grid next.position.grid) enters.recorded (entered_sets state.position.grid next.position.grid (cells next.position.grid)))
 
 taken_unmarked : (effect : Effect) (text : List ℕ) → (effect ≡ Nothing → text ≡ []) → IsUnmarked text → without_flushes (taken effect text) ≡ text
 taken_unmarked Nothing text none plain = sym (none refl)
@@ -278,8 +285,8 @@ module _ (start end : JournaledState) (lines : List (List ℕ)) (is : IsGrid sta
       let held : without_flushes end.journal ≡ done.bytes = done.written ∙ ap (λ xs. xs ++ done.bytes) none in
       ap (λ bytes. replayed_lines start.state (lines_of bytes)) held ∙ lines_again start.state end.state done.bytes (journal_replays lines start.state end.state done.bytes is plain done.journaled)
 
-  pub begun_again : (begun : HasBegunJournal start lines end) → AreFirstLines start.state lines begun.bytes end.state (ended_lines (without_flushes end.journal))
+  pub begun_again : (begun : HasBegunJournal start lines end) → AreFirstLines start.state lines begun.bytes end.state (complete (ended_lines (without_flushes end.journal)))
   begun_again begun =
       let held : begun.front ≡ without_flushes end.journal = sym (begun.written ∙ ap (λ xs. xs ++ begun.front) none) in
-      subst (λ front. AreFirstLines start.state lines begun.bytes end.state (ended_lines front)) held
+      subst (λ front. AreFirstLines start.state lines begun.bytes end.state (complete (ended_lines front))) held
       (journal_cut start.state end.state lines begun.bytes begun.front begun.rest is plain begun.journaled begun.parts)

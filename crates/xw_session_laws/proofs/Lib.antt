@@ -29,3 +29,4 @@ pub mod JournalCut
 pub mod JournalRuns
 pub mod JournalLeft
 pub mod Resumed
+pub mod JournalFiles

@@ -1,8 +1,8 @@
 -- A session with a journal, and the laws of journals.
-use Rattle.std.specs.Prelude.{◌≡◌, ℕ, ◌<◌, Bool, not, List, [], ◌∷◌, ◌++◌, filter, All, Some, Ok, nat_eq}
+use Rattle.std.specs.Prelude.{◌≡◌, ◌⊎◌, ℕ, ◌<◌, Bool, true, not, List, [], ◌∷◌, ◌++◌, filter, All, Some, nat_eq}
 use Rattle.xw_grid.specs.Grid.{IsGrid}
 use Rattle.xw_lines.specs.declared.outcome.Step.{Step}
-use Rattle.xw_lines.specs.declared.outcome.Step.TheVariants.{Accepted, Refused}
+use Rattle.xw_lines.specs.declared.outcome.Step.TheVariants.{Refused}
 use Rattle.xw_lines.specs.Cut.{lines_of, ended_lines, last_piece, AllHaveNoLf}
 use Rattle.xw_lines.specs.Device.{flushed}
 use Rattle.xw_lines.specs.Spoken.{Spoken, BreaksOff}
@@ -10,13 +10,12 @@ use Rattle.xw_lines.specs.declared.outcome.RunEnd.{RunEnd}
 use Rattle.xw_lines.specs.declared.outcome.RunEnd.TheVariants.{Done, ReadFailed, WriteFailed, Stopped, Endless, Memory}
 use Rattle.xw_lines.specs.Run.{StopsIn, IsRun}
 use Rattle.xw_commands.specs.Command.{command_of}
-use Rattle.xw_commands.specs.declared.command.Command.{Command}
 use Rattle.xw_session.specs.Answer.{Answers}
-use Rattle.xw_session.specs.Record.{command_lines}
 use Rattle.xw_session.specs.State.{State}
-use Rattle.xw_journal.specs.declared.effect.Effect.TheVariants.{Letters}
-use Rattle.xw_journal.specs.Journal.{effect_of, entered_commands, journal_text, JournaledState, AnswersJournaled, StopsAtJournal}
-use Rattle.xw_session_laws.specs.Replay.{replayed, replayed_lines, with_grid, WantsMemory}
+use Rattle.xw_journal.specs.File.{first_line, is_part, kept_lines}
+use Rattle.xw_journal.specs.Group.{complete}
+use Rattle.xw_journal.specs.Journal.{journal_text, JournaledState, AnswersJournaled, StopsAtJournal}
+use Rattle.xw_session_laws.specs.Replay.{replayed_lines, WantsMemory}
 
 -- Starting in `start`, a session may answer these lines, each accepted, refused or silent, with these bytes in its journal, and ends in
 -- `end`.
@@ -56,25 +55,8 @@ JournalsAreRefusedForMemoryOnly =
 
 -- ---- a part of a journal
 
--- A search at this line may be answered such that these letters are the first that it enters.
-pub record MayEnterFirst (state : State) (line : List ℕ) (letters : List Command) : Type 0 where
-  pub command : Command
-  pub is : command_of line ≡ Ok (Some command)
-  pub searches : effect_of command ≡ Letters
-  pub answer : List ℕ
-  pub next : State
-  pub answers : Answers state line Accepted answer next
-  pub others : List Command
-  pub entered : entered_commands state.position.grid next.position.grid ≡ letters ++ others
-
--- there are no letters, or the first of these lines is a search that may enter them first
-abbrev pub BeginWithLetters : State → List (List ℕ) → List Command → Type 0
-BeginWithLetters state lines [] = Unit {0}
-BeginWithLetters state [] (letter ∷ letters) = ⊥
-BeginWithLetters state (line ∷ lines) (letter ∷ letters) = MayEnterFirst state line (letter ∷ letters)
-
--- `first` are the first lines of a journal of `lines`: those of the given lines `done`, and, if the next given line is a search, some
--- letters that it entered. They leave the state after `done`, with these letters.
+-- `first` are the first lines of a journal of `lines`: those of the given lines `done`, each with all that it wrote. They leave the
+-- state after `done`.
 pub record AreFirstLines (start : State) (lines : List (List ℕ)) (journal : List ℕ) (end : State) (first : List (List ℕ)) : Type 0 where
   -- they are the first lines of the journal
   pub more : List (List ℕ)
@@ -89,21 +71,28 @@ pub record AreFirstLines (start : State) (lines : List (List ℕ)) (journal : Li
   pub mid : State
   pub so_far : IsJournaled start done bytes mid
   pub further : IsJournaled mid others rest end
-  -- some letters of the search at the first of the others
-  pub letters : List Command
-  pub begun : BeginWithLetters mid others letters
-  pub are : first ≡ lines_of bytes ++ lines_of (command_lines letters)
+  pub are : first ≡ lines_of bytes
   -- the state that they leave
-  pub left : State
-  pub entered : replayed mid letters ≡ Some left
-  pub only : left ≡ with_grid mid left.position.grid
-  pub again : replayed_lines start first ≡ Some left
+  pub again : replayed_lines start first ≡ Some mid
 
--- the whole lines of any first bytes of a journal are its first lines
+-- Of any first bytes of a journal, the lines that count are its first lines: each command that was journaled is there with all that it
+-- wrote, or not at all, also a search.
 abbrev pub JournalsAreCutAtLines : Type 0
 JournalsAreCutAtLines =
     (start end : State) (lines : List (List ℕ)) (journal front rest : List ℕ) → IsGrid start.position.grid → AllHaveNoLf lines → IsJournaled start lines journal end
-    → journal ≡ front ++ rest → AreFirstLines start lines journal end (ended_lines front)
+    → journal ≡ front ++ rest → AreFirstLines start lines journal end (complete (ended_lines front))
+
+-- The lines of a file that count leave the state after some first lines of a journal.
+pub record KeepsFirstLines (start : State) (lines : List (List ℕ)) (journal : List ℕ) (end : State) (file : List ℕ) : Type 0 where
+  pub first : List (List ℕ)
+  pub are : AreFirstLines start lines journal end first
+  pub again : replayed_lines start (kept_lines file) ≡ Some are.mid
+
+-- The first bytes of the file of a journal have a part of its first line only, or keep the first lines of the journal.
+abbrev pub JournalFilesAreCutAtLines : Type 0
+JournalFilesAreCutAtLines =
+    (start end : State) (lines : List (List ℕ)) (journal front rest : List ℕ) → IsGrid start.position.grid → AllHaveNoLf lines → IsJournaled start lines journal end
+    → first_line ++ journal ≡ front ++ rest → (is_part front ≡ true) ⊎ KeepsFirstLines start lines journal end front
 
 -- ---- the journal of a run
 
@@ -157,11 +146,11 @@ JournaledRunsAreMadeAgain =
     (start end : JournaledState) (lines : List (List ℕ)) → IsGrid start.state.position.grid → AllHaveNoLf lines → without_flushes start.journal ≡ []
     → HasJournaled start lines end → replayed_lines start.state (lines_of (without_flushes end.journal)) ≡ Some end.state
 
--- its whole lines are the first lines of such a journal
+-- its lines that count are the first lines of such a journal
 abbrev pub BegunJournalsAreMadeAgain : Type 0
 BegunJournalsAreMadeAgain =
     (start end : JournaledState) (lines : List (List ℕ)) → IsGrid start.state.position.grid → AllHaveNoLf lines → without_flushes start.journal ≡ []
-    → (begun : HasBegunJournal start lines end) → AreFirstLines start.state lines begun.bytes end.state (ended_lines (without_flushes end.journal))
+    → (begun : HasBegunJournal start lines end) → AreFirstLines start.state lines begun.bytes end.state (complete (ended_lines (without_flushes end.journal)))
 
 -- the lines of a text have no LF, and only bytes of the text
 abbrev pub LinesArePlain : Type 0
@@ -179,8 +168,8 @@ UnlessStopped Endless P = P
 UnlessStopped Memory P = P
 
 -- What a run left in a journal that was empty before it. `text` was read, and the session ended in the state after `lines` of it. Unless
--- it stopped, it holds the journal of these lines, which makes the session again. In any case its whole lines are first lines of
--- that journal.
+-- it stopped, it holds the journal of these lines, whose lines lead to that state. In any case its lines that count are first lines
+-- of that journal.
 pub record LeavesJournal {R : Type 0} (read : R → List ℕ) (result : RunEnd) (start end : JournaledState) (source source' : R) : Type 0 where
   pub text : List ℕ
   pub was_read : read source' ≡ read source ++ text
@@ -191,7 +180,7 @@ pub record LeavesJournal {R : Type 0} (read : R → List ℕ) (result : RunEnd) 
   pub journaled : IsJournaled start.state lines bytes end.state
   pub whole : UnlessStopped result (without_flushes end.journal ≡ bytes)
   pub again : UnlessStopped result (replayed_lines start.state (lines_of (without_flushes end.journal)) ≡ Some end.state)
-  pub first : AreFirstLines start.state lines bytes end.state (ended_lines (without_flushes end.journal))
+  pub first : AreFirstLines start.state lines bytes end.state (complete (ended_lines (without_flushes end.journal)))
 
 -- every run with an empty journal does so, however it ends
 abbrev pub RunsLeaveJournals : {R W : Type 0} → (R → List ℕ) → (R → Bool) → (R → ℕ) → (W → List ℕ) → (W → ℕ) → Type 0

@@ -30,7 +30,7 @@ ghost use Rattle.xw_session_laws.specs.Replay.{NoneIsStruck, SessionsBegin, Sess
 ghost use Rattle.xw_session_laws.specs.Replay.{LinesMakeSessionsAgain, AnsweredLinesMakeSessionsAgain, RecordsAreRefusedForMemoryOnly, replayed, bared};
 ghost use Rattle.xw_session_laws.specs.Replay.{with_grid, with_words, clues_of, ComeFirst, BarsAreOnEdges, barred, barred_right, AreFrom, AreTextsFrom};
 ghost use Rattle.xw_session_laws.specs.Journals.{JournalsMakeSessionsAgain, JournalsHaveWholeLines, AnsweredJournalsMakeSessionsAgain};
-ghost use Rattle.xw_session_laws.specs.Journals.{JournalsAreRefusedForMemoryOnly, JournalsAreCutAtLines, RunsAreJournaled, BrokenRunsAreJournaled};
+ghost use Rattle.xw_session_laws.specs.Journals.{JournalsAreRefusedForMemoryOnly, JournalsAreCutAtLines, JournalFilesAreCutAtLines, RunsAreJournaled, BrokenRunsAreJournaled};
 ghost use Rattle.xw_session_laws.specs.Journals.{StoppedRunsAreJournaled, JournaledRunsAreMadeAgain, BegunJournalsAreMadeAgain, LinesArePlain};
 ghost use Rattle.xw_session_laws.specs.Journals.{RunsLeaveJournals};
 ghost use Rattle.xw_session_laws.specs.Resumed.{LinesAreResumed, RecordsAreResumed, JournalsAreResumed};
@@ -192,10 +192,12 @@ pub fn answered_journals_make_sessions_again()
     ensures memory { JournalsAreRefusedForMemoryOnly }
 {}
 
-/// The whole lines of any first bytes of a journal are its first lines. They leave the state after those of the given
-/// lines whose text is whole, with the letters, if any, that a search at the next line entered first.
+/// Of the first bytes of a journal, the lines that count are its first lines: each command is there with all that it wrote, or not at
+/// all, also a search. They leave the state after these commands. The same holds of the first bytes of the file of a journal, unless they
+/// are only a part of its first line.
 pub fn journals_are_cut_at_lines()
-    ensures { JournalsAreCutAtLines }
+    ensures lines { JournalsAreCutAtLines }
+    ensures files { JournalFilesAreCutAtLines }
 {}
 
 /// A run whose lines are answered with a journal writes the journal of these lines.
@@ -210,8 +212,8 @@ pub fn stopped_runs_are_journaled()
     ensures stopped { StoppedRunsAreJournaled }
 {}
 
-/// A journal that was empty before a run makes the session after the run again. If the journal failed, its whole lines
-/// are the first lines of such a journal.
+/// A journal that was empty before a run leads to the session after the run. If the journal failed, its lines that count are the first
+/// lines of such a journal.
 pub fn journaled_runs_are_made_again()
     ensures lines { LinesArePlain }
     ensures made { JournaledRunsAreMadeAgain }
@@ -219,7 +221,7 @@ pub fn journaled_runs_are_made_again()
 {}
 
 /// However a run ends, a journal that was empty before it holds the journal of the lines that were answered, or first
-/// bytes of it if the journal failed, and its whole lines make the session again as far as they go.
+/// bytes of it if the journal failed, and its lines that count lead to the state after the commands that they have.
 pub fn runs_leave_journals<R: Source, W: Sink>()
     ensures { RunsLeaveJournals R.transcript R.is_at_end R.failures W.transcript W.failures }
 {}

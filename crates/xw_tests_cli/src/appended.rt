@@ -3,25 +3,29 @@ use std::cell::Cell;
 use std::fs::{Metadata, OpenFile};
 use std::io::{self, ErrorKind, Write};
 use std::test::Fail;
-use xw_cli::journal::appending;
+use xw_cli::journal::{Appended, Place, buffered};
 use xw_lines::{Sink, device};
 
-/// The calls of a file, and whether bringing it to the device fails.
+/// The calls of a file, whether bringing it to the device fails, and whether its name leads to it.
 #[derive(Drop)]
 struct Calls {
     bytes: Cell<usize>,
+    cuts: Cell<u32>,
     writes: Cell<u32>,
     syncs: Cell<u32>,
     fails: bool,
+    is_there: Cell<bool>,
 }
 
 impl Calls {
     fn new(fails: bool) -> Calls {
         Calls {
             bytes: Cell::new(0),
+            cuts: Cell::new(0),
             writes: Cell::new(0),
             syncs: Cell::new(0),
             fails,
+            is_there: Cell::new(true),
         }
     }
 }
@@ -50,8 +54,10 @@ impl<'a> OpenFile for Noting<'a> {
         Err(io::Error::from(ErrorKind::Unsupported))
     }
 
-    fn set_len(&self, _size: u64) -> io::Result<()> {
-        Err(io::Error::from(ErrorKind::Unsupported))
+    fn set_len(&self, size: u64) -> io::Result<()> {
+        self.calls.bytes.set(size as usize);
+        self.calls.cuts.set(self.calls.cuts.get().saturating_add(1));
+        Ok(())
     }
 
     fn sync_all(&self) -> io::Result<()> {
@@ -69,12 +75,29 @@ impl<'a> OpenFile for Noting<'a> {
     }
 }
 
+/// The name of such a file.
+#[derive(Drop)]
+struct Name<'a> {
+    calls: &'a Calls,
+}
+
+impl<'a> Place for Name<'a> {
+    fn is_there(&self) -> io::Result<bool> {
+        Ok(self.calls.is_there.get())
+    }
+}
+
+/// Appends to such a file, which is empty at first.
+fn appended<'a>(calls: &'a Calls, is_synced: bool) -> Appended<Noting<'a>, Name<'a>> {
+    Appended::new(Noting { calls }, Name { calls }, 0, is_synced)
+}
+
 /// A line is one write when it is flushed. It is brought to the device then, and only then, if that is asked for.
 #[test]
 fn line_is_one_write(rt: HostRuntime) -> Result<(), Fail> {
     for is_synced in [false, true] {
         let calls = Calls::new(false);
-        let mut journal = appending(rt.alloc(), Noting { calls: &calls }, is_synced)?;
+        let mut journal = buffered(rt.alloc(), appended(&calls, is_synced))?;
         for lines in 1..=3 {
             device::write_all(&mut journal, b"set 1 1 A")?;
             device::write_all(&mut journal, b"\n")?;
@@ -88,15 +111,32 @@ fn line_is_one_write(rt: HostRuntime) -> Result<(), Fail> {
     Ok(())
 }
 
-/// A flush fails if the line does not come to the device.
+/// A flush fails if the line does not come to the device, and the line is taken back.
 #[test]
 fn line_is_not_synced(rt: HostRuntime) -> Result<(), Fail> {
     for is_synced in [false, true] {
         let calls = Calls::new(true);
-        let mut journal = appending(rt.alloc(), Noting { calls: &calls }, is_synced)?;
+        let mut journal = buffered(rt.alloc(), appended(&calls, is_synced))?;
         device::write_all(&mut journal, b"set 1 1 A\n")?;
         assert_eq!(rt; journal.flush().is_err(), is_synced);
-        assert_eq!(rt; calls.bytes.get(), 10);
+        assert_eq!(rt; calls.bytes.get(), if is_synced { 0 } else { 10 });
     }
+    Ok(())
+}
+
+/// Nothing is written to a file that its name no longer leads to.
+#[test]
+fn file_is_replaced(rt: HostRuntime) -> Result<(), Fail> {
+    let calls = Calls::new(false);
+    let mut journal = buffered(rt.alloc(), appended(&calls, false))?;
+    device::write_all(&mut journal, b"watch on\n")?;
+    assert!(rt; journal.flush().is_ok());
+    calls.is_there.set(false);
+    device::write_all(&mut journal, b"watch off\n")?;
+    assert!(rt; journal.flush().is_err());
+    assert_eq!(rt; calls.bytes.get(), 9);
+    assert_eq!(rt; calls.cuts.get(), 0);
+    let (appended, _unwritten) = journal.into_writer().into_parts();
+    assert!(rt; appended.is_lost());
     Ok(())
 }

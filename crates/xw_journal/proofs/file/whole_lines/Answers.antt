@@ -1,7 +1,7 @@
 use Rattle.std.proofs.Common.{rules, arith, ◌-◌, inl, inr}
-use Rattle.xw_cli.proofs.WholeLines.{rest_of, whole_lines}
-use Rattle.xw_cli.proofs.journal.whole_lines.Goals as goal
-use Rattle.xw_cli.proofs.journal.whole_lines.Goals.{then-loop-end-test+else-bytes-end-ne10, else-loop-end-test}
+use Rattle.xw_journal.proofs.WholeLines.{rest_of, whole_lines}
+use Rattle.xw_journal.proofs.file.whole_lines.Goals as goal
+use Rattle.xw_journal.proofs.file.whole_lines.Goals.{then-loop-end-test+else-bytes-end-ne10, else-loop-end-test}
 
 pub returns-clause-lines : goal.returns-clause-lines
 returns-clause-lines c =

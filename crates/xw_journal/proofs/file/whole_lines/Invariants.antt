@@ -1,6 +1,6 @@
 use Rattle.std.proofs.Common.{◌≤◌, drop, length}
 use Rattle.xw_lines.specs.Cut.{HasNoLf}
-use Rattle.xw_cli.proofs.journal.whole_lines.Given as goal
+use Rattle.xw_journal.proofs.file.whole_lines.Given as goal
 
 -- the bytes left out have no LF
 abbrev pub invariant-loop-end : goal.invariant-loop-end

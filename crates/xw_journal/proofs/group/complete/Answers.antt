@@ -1,0 +1,20 @@
+use Rattle.std.proofs.Common.{◌≡◌, ◌∙◌, sym, ap, subst, take, drop, List, ℕ, Some, None}
+use Rattle.std.specs.Prelude.{Option, IfNone}
+use Rattle.std.specs.Option.{unwrap_or}
+use Rattle.std.proofs.lemmas.List.{take-append-drop}
+use Rattle.xw_lines.specs.Cut.{ended_lines, lines_of, HasNoLf}
+use Rattle.xw_journal.specs.Group.{complete as complete_lines}
+use Rattle.xw_journal.proofs.Groups.{scanned-more, scanned-kept}
+use Rattle.xw_journal.proofs.group.complete.Goals as goal
+
+pub loop-end-preserved : goal.loop-end-preserved
+loop-end-preserved c =
+    scanned-more c.args.bytes.now c.loop-end.from c.in-Some.end c.in-Some.ensures.within.0 c.in-Some.ensures.within.1 c.in-Some.ensures.ends c.loop-end.open c.open_after-open.result c.loop-end.invariant c.open_after-open.ensures
+
+pub returns-clause-lines : goal.returns-clause-lines
+returns-clause-lines c =
+    ap (λ n. lines_of (take n c.args.bytes.now)) c.unwrap_or.ensures
+    ∙ scanned-kept c.args.bytes.now c.loop-end.from c.in_default.ensures.none c.loop-end.open c.loop-end.invariant
+
+pub returns-clause-front : goal.returns-clause-front
+returns-clause-front c = (drop c.unwrap_or.result c.args.bytes.now, sym (take-append-drop c.unwrap_or.result c.args.bytes.now))

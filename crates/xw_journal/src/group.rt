@@ -1,0 +1,40 @@
+//! Groups of lines: a comment, commands, and another comment. A group that was cut is not executed at all.
+ghost use Rattle.std.specs.Prelude.{◌≡◌, ℕ, List, ◌++◌};
+ghost use Rattle.xw_lines.specs.Cut.{ended_lines, lines_of};
+ghost use Rattle.xw_journal.specs.Group.{complete as complete_lines, open_after as open_behind};
+
+use xw_lines::run::next_lf;
+
+/// The comment before a group.
+pub const BEGIN: &[u8] = b"# begin";
+
+/// The comment behind a group.
+pub const END: &[u8] = b"# end";
+
+/// Returns where a group begins that has no end, after one more line. `begun` is where one begins before this line, and `from` where
+/// this line begins.
+fn open_after(begun: Option<usize>, from: usize, line: &[u8]) -> Option<usize>
+    ensures { result ≡ open_behind begun from line.now }
+{
+    if line == BEGIN {
+        begun.or(Some(from))
+    } else if line == END {
+        None
+    } else {
+        begun
+    }
+}
+
+/// Returns the bytes before a last line without an LF, and before the first group without an end.
+pub fn complete(bytes: &[u8]) -> &[u8]
+    ensures lines { lines_of result.now ≡ complete_lines (ended_lines bytes.now) }
+    ensures front { (rest : List ℕ) × (bytes.now ≡ result.now ++ rest) }
+{
+    let mut open = None;
+    let mut from = 0;
+    while let Some(end) = next_lf(bytes, from) {
+        open = open_after(open, from, &bytes[from..end]);
+        from = end + 1;
+    }
+    &bytes[..open.unwrap_or(from)]
+}
