@@ -18,5 +18,6 @@ pub mod PassesLemmas
 pub mod WriteLemmas
 pub mod PlacingLemmas
 pub mod GreatestLemmas
+pub mod Parts
 pub mod PlacedLemmas
 pub mod WellFormedLemmas

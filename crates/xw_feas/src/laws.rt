@@ -5,7 +5,7 @@ ghost use Rattle.xw_grid.specs.declared.cell.Cell.{Cell};
 ghost use Rattle.xw_feas.specs.declared.edit.Refusal.{Refusal};
 ghost use Rattle.xw_feas.specs.Board.{Board};
 ghost use Rattle.xw_feas.specs.Feasible.{Family, IsSupported};
-ghost use Rattle.xw_feas.specs.Greatest.{CoversSupported, IsFeasibleFamily};
+ghost use Rattle.xw_feas.specs.Greatest.{GreatestIsFeasible, StandingIsFeasible, FeasibleFamilyExists};
 ghost use Rattle.xw_feas.specs.PlacedWord.{WordsArePlaced};
 ghost use Rattle.xw_feas.specs.State.{State, Action, list_written, after, IsAfter};
 ghost use Rattle.xw_feas.specs.Laws.{together, WantNothing, write_of, IsRefusedInTurn};
@@ -15,9 +15,16 @@ pub fn families_join()
     ensures { (board : Board) (words : Dictionary) (one other : Family) → IsSupported board words one → IsSupported board words other → IsSupported board words (together one other) }
 {}
 
-/// A supported family that every supported family is within has exactly the feasible words and letters.
+/// The supported family that has every supported family within it has exactly the feasible words and letters. So have the
+/// choices that are set, if they are base words, cover every supported family and support themselves.
 pub fn greatest_family_is_feasible()
-    ensures { (board : Board) (words : Dictionary) (family : Family) → IsSupported board words family → CoversSupported board words family → IsFeasibleFamily board words family }
+    ensures family { GreatestIsFeasible }
+    ensures choices { StandingIsFeasible }
+{}
+
+/// Some family has exactly the feasible words and letters.
+pub fn feasible_family_exists()
+    ensures { FeasibleFamilyExists }
 {}
 
 /// If no edit of a list allocates, that is none is a `Block`, a `Bar` or the addition of a new

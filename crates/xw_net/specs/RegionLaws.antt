@@ -1,7 +1,5 @@
 -- The region of an edit is the least closed set of lights.
 use Rattle.std.specs.Prelude.{ℕ, ◌≤◌, Bool, List, IsTrue, ◌↔◌}
-use Rattle.xw_feas.specs.Board.{board_of}
-use Rattle.xw_feas.specs.Feasible.{Answers, AreAnswers}
 use Rattle.xw_feas.specs.State.{State, Action}
 use Rattle.xw_net.specs.Region.{IsRegion, IsWithinCost, cost}
 
@@ -10,11 +8,9 @@ pub record IsLeastRegion (before after : State) (action : Action) (member : List
   pub closed : IsRegion before after action member
   pub least : (other : List ℕ → Bool) → IsRegion before after action other → (light : List ℕ) → IsTrue (member light) → IsTrue (other light)
 
--- there is a least closed set, between any two states that have answers
+-- each edit has a least closed set
 abbrev pub LeastRegionExists : Type 0
-LeastRegionExists =
-    (before after : State) (action : Action) (one other : Answers) → AreAnswers (board_of before.grid) before.words one → AreAnswers (board_of after.grid) after.words other
-    → (member : List ℕ → Bool) × IsLeastRegion before after action member
+LeastRegionExists = (before after : State) (action : Action) → (member : List ℕ → Bool) × IsLeastRegion before after action member
 
 -- ticks are within the cost of every closed set if they are within the cost of the least one, and only then
 abbrev pub LeastRegionBounds : Type 0

@@ -1,56 +1,20 @@
 -- There is a least region: the lights that are in every closed set of lights. So a bound by the
 -- cost of every closed set is a bound by the cost of the region.
-use Rattle.std.proofs.Common.{◌≡◌, ℕ, zero, suc, ◌≤◌, Bool, true, false, cond, not, ◌&&◌, ◌||◌, eqb, List, [], ◌∷◌, ◌++◌, map, length, Some, None, refl, sym, ◌∙◌, ap, subst, arith, inl, inr}
+use Rattle.std.proofs.Common.{◌≡◌, ℕ, ◌≤◌, Bool, true, false, cond, not, ◌&&◌, ◌||◌, eqb, List, ◌++◌, length, Some, None, refl, sym, ◌∙◌, ap, subst, arith, inl, inr}
 use Rattle.std.proofs.lemmas.List.Elements.{Contains-append_cases, Contains-append_left, Contains-append_right, All-contains, filter_passes}
 use Rattle.std.specs.Prelude.{filter, ◌↔◌, Option, Contains, IsTrue, bytes_eq}
 use Rattle.std.specs.List.{list_any, list_all}
 use Rattle.std.proofs.lemmas.Bool.{and_parts, and_from, or_cases, or_left, or_right, cases_Bool, false≢true, both_ways, eqb-true, eq-eqb, not-true, not_from_false}
 use Rattle.xw_feas.specs.Board.{board_of, entry, light_at}
-use Rattle.xw_feas.specs.Feasible.{IsFeasibleLetter, answers_letter}
+use Rattle.xw_feas.specs.Feasible.{IsFeasibleLetter}
 use Rattle.xw_feas.specs.State.{State, Action}
+use Rattle.xw_feas.proofs.GreatestLemmas.{greatest_exists}
+use Rattle.xw_feas.proofs.Parts.{all_from, all_gives, any_from, any_gives, parts_of, part_picked, filtered_in}
 use Rattle.xw_net.specs.Region.{edited_cells, changes_words, IsSettled, StandsIn, StandsInEither, IsRegion, cost, light_cost, IsWithinCost}
 use Rattle.xw_net.specs.RegionLaws.{IsLeastRegion, LeastRegionExists, LeastRegionBounds}
 use Rattle.xw_net.specs.Sums.{sum_below}
 use Rattle.xw_net.proofs.Costs.CostsByLight.{sum_below-le, cost-indices}
-use Rattle.xw_net.proofs.Edits.KeptByEdits.{contains_first, contains_later, contains_filtered, contains_mapped}
 use Rattle.std.proofs.lemmas.Slice.Eq.{bytes_eq-Decides}
-
--- ---- tests of all and of some elements
-
-all_from : {X : Type 0} (test : X → Bool) (xs : List X) → ((x : X) → Contains xs x → test x ≡ true) → list_all test xs ≡ true
-all_from test [] each = refl
-all_from test (x ∷ xs) each = and_from _ _ (each x (contains_first x xs)) (all_from test xs (λ y there. each y (contains_later y x xs there)))
-
-all_gives : {X : Type 0} (test : X → Bool) (xs : List X) → list_all test xs ≡ true → (x : X) → Contains xs x → test x ≡ true
-all_gives test [] h x (k, below, at) = absurd (omega arith)
-all_gives test (y ∷ ys) h x (zero, below, at) = subst (λ z. test z ≡ true) at (and_parts (test y) (list_all test ys) h).0
-all_gives test (y ∷ ys) h x (suc k, below, at) = all_gives test ys (and_parts (test y) (list_all test ys) h).1 x (k, omega arith, at)
-
-any_from : {X : Type 0} (test : X → Bool) (xs : List X) (x : X) → Contains xs x → test x ≡ true → list_any test xs ≡ true
-any_from test [] x (k, below, at) h = absurd (omega arith)
-any_from test (y ∷ ys) x (zero, below, at) h = or_left _ (list_any test ys) (subst (λ z. test z ≡ true) (sym at) h)
-any_from test (y ∷ ys) x (suc k, below, at) h = or_right (test y) _ (any_from test ys x (k, omega arith, at) h)
-
-any_gives : {X : Type 0} (test : X → Bool) (xs : List X) → list_any test xs ≡ true → (x : X) × Contains xs x × (test x ≡ true)
-any_gives test [] h = absurd (false≢true h)
-any_gives test (y ∷ ys) h = elim (or_cases (test y) (list_any test ys) h) [
-  | inl here ↦ (y, contains_first y ys, here)
-  | inr there ↦ let found = any_gives test ys there in (found.0, contains_later found.0 y ys found.1, found.2)
-]
-
--- ---- the sublists of a list
-
--- all sublists; each set that a test selects is among them
-abbrev parts_of : {X : Type 0} → List X → List (List X)
-parts_of [] = [] ∷ []
-parts_of (x ∷ xs) = parts_of xs ++ map (λ part. x ∷ part) (parts_of xs)
-
-part_picked : {X : Type 0} (test : X → Bool) (xs : List X) → Contains (parts_of xs) (filter test xs)
-part_picked test [] = contains_first [] []
-part_picked test (x ∷ xs) = by_test (test x) (part_picked test xs) where
-  by_test : (b : Bool) → Contains (parts_of xs) (filter test xs) → Contains (parts_of xs ++ map (λ part. x ∷ part) (parts_of xs)) (cond b (x ∷ filter test xs) (filter test xs))
-  by_test true rest = Contains-append_right (parts_of xs) (map (λ part. x ∷ part) (parts_of xs)) (x ∷ filter test xs) (contains_mapped (λ part. x ∷ part) (parts_of xs) (filter test xs) rest)
-  by_test false rest = Contains-append_left (parts_of xs) (map (λ part. x ∷ part) (parts_of xs)) (filter test xs) rest
 
 -- ---- the least closed set of some lights
 
@@ -119,14 +83,14 @@ module _ (all : List (List ℕ)) (seed : List ℕ → Bool) (link : List ℕ →
 
         part_seeds : has_seeds (filter member all) ≡ true
         part_seeds = all_from (λ l. if_then (seed l) (among (filter member all) l)) all (λ l there.
-            if_then-from (seed l) (among (filter member all) l) (λ seeded. among_from (filter member all) l (contains_filtered member all l there (seeds l there seeded))))
+            if_then-from (seed l) (among (filter member all) l) (λ seeded. among_from (filter member all) l (filtered_in member all l there (seeds l there seeded))))
 
         part_links : has_links (filter member all) ≡ true
         part_links = all_from (λ l. list_all (λ o. if_then (among (filter member all) l && link l o) (among (filter member all) o)) all) all (λ l there.
             all_from (λ o. if_then (among (filter member all) l && link l o) (among (filter member all) o)) all (λ o there'.
             if_then-from (among (filter member all) l && link l o) (among (filter member all) o) (λ h.
             let both = and_parts (among (filter member all) l) (link l o) h in
-            among_from (filter member all) o (contains_filtered member all o there' (links l o there there' (picked l (among_gives (filter member all) l both.0)) both.1)))))
+            among_from (filter member all) o (filtered_in member all o there' (links l o there there' (picked l (among_gives (filter member all) l both.0)) both.1)))))
 
 -- ---- the least region of an edit
 
@@ -253,13 +217,13 @@ module _ (before now : State) (action : Action) (letters letters' : ℕ → ℕ 
         closed.spreads l o found.0 has_l (stands_back l there) (stands_back o there') found.1 (holds_gives o found.0 parts.1) (λ is. both_ways _ (not-true _ parts.0) (settled-from found.0 is))
 
 pub least_region_exists : LeastRegionExists
-least_region_exists before now action one other are are' =
-    let letters = answers_letter one in
-    let letters' = answers_letter other in (
-      region before now action letters letters' are.letters are'.letters,
+least_region_exists before now action =
+    let one = greatest_exists (board_of before.grid) before.words in
+    let other = greatest_exists (board_of now.grid) now.words in (
+      region before now action one.0.letters other.0.letters one.1.letters other.1.letters,
       record {
-        closed = region_is_region before now action letters letters' are.letters are'.letters;
-        least = region_is_least before now action letters letters' are.letters are'.letters;
+        closed = region_is_region before now action one.0.letters other.0.letters one.1.letters other.1.letters;
+        least = region_is_least before now action one.0.letters other.0.letters one.1.letters other.1.letters;
       },
     )
 
