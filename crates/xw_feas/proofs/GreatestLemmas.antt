@@ -12,7 +12,7 @@ use Rattle.xw_words.specs.Dictionary.{Dictionary}
 use Rattle.xw_feas.specs.Board.{Board, light_at}
 use Rattle.xw_feas.specs.Feasible.{Family, IsSupported, base_words, base_words_at, may_stand}
 use Rattle.xw_feas.specs.Greatest.{IsGreatest, IsFeasibleFamily}
-use Rattle.xw_feas.proofs.Parts.{mapped_in, filtered_in, all_from, all_gives, any_from, any_gives, parts_of, part_picked}
+use Rattle.xw_feas.proofs.Elements.{contains_mapped, contains_filtered, all_from, all_gives, any_from, any_gives, parts_of, part_picked}
 use Rattle.xw_feas.proofs.Support.{any_below, any_below-from, any_below-gives}
 
 pub greatest_is_feasible : (board : Board) (dictionary : Dictionary) (family : Family) → IsGreatest board dictionary family → IsFeasibleFamily board dictionary family
@@ -122,7 +122,7 @@ module _ (board : Board) (dictionary : Dictionary) where
         let last : light ≡ n = omega (arith, below, past) in
         subst (λ l. Contains (base_below n ++ map (λ w. (n, w)) (base_words_at board dictionary n)) (l, word)) (sym last)
         (Contains-append_right (base_below n) (map (λ w. (n, w)) (base_words_at board dictionary n)) (n, word)
-        (mapped_in (λ w. (n, w)) (base_words_at board dictionary n) word (subst (λ l. Contains (base_words_at board dictionary l) word) last there)))
+        (contains_mapped (λ w. (n, w)) (base_words_at board dictionary n) word (subst (λ l. Contains (base_words_at board dictionary l) word) last there)))
   ]
 
   light_of_base : (light : ℕ) (word : List ℕ) → Contains (base_words_at board dictionary light) word → light < lights
@@ -145,7 +145,7 @@ module _ (board : Board) (dictionary : Dictionary) where
     in_part : (light : ℕ) (word : List ℕ) → family.words light word ≡ true → Contains (part_of family) (light, word)
     in_part light word h =
         let base = supported.words_are_base light word h in
-        filtered_in (λ placed. family.words placed.0 placed.1) all_words (light, word) (base_in lights light word (light_of_base light word base) base) h
+        contains_filtered (λ placed. family.words placed.0 placed.1) all_words (light, word) (base_in lights light word (light_of_base light word base) base) h
 
     letter_in_part : (cell letter : ℕ) → family.letters cell letter ≡ true → is_letter (part_of family) cell letter ≡ true
     letter_in_part cell letter h = and_from _ _ (supported.letters_agree cell letter h) (false_when _ (λ lacking.

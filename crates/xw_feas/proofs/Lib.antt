@@ -18,6 +18,6 @@ pub mod PassesLemmas
 pub mod WriteLemmas
 pub mod PlacingLemmas
 pub mod GreatestLemmas
-pub mod Parts
+pub mod Elements
 pub mod PlacedLemmas
 pub mod WellFormedLemmas

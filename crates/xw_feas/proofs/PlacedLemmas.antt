@@ -22,16 +22,10 @@ use Rattle.xw_feas.specs.declared.edit.Refusal.TheVariants as refusals
 use Rattle.xw_feas.specs.PlacedWord.{IsPlaced, WordsArePlaced}
 use Rattle.xw_feas.specs.State.{with_letters, placed_in, spelled_in}
 use Rattle.xw_feas.proofs.BoardLemmas.{length-lights}
+use Rattle.xw_feas.proofs.Elements.{slice_get-set_other}
 use Rattle.xw_feas.proofs.WordsLemmas.{named_within}
 
 -- ---- one letter
-
-get-set_other : {X : Type 0} (xs : List X) (at index : ℕ) (x : X) → (index ≡ at → ⊥) → slice_get (set xs at x) index ≡ slice_get xs index
-get-set_other [] at index x apart = refl
-get-set_other (first ∷ xs) zero zero x apart = absurd (apart refl)
-get-set_other (first ∷ xs) zero (suc index) x apart = refl
-get-set_other (first ∷ xs) (suc at) zero x apart = refl
-get-set_other (first ∷ xs) (suc at) (suc index) x apart = get-set_other xs at index x (λ e. apart (ap suc e))
 
 -- the letter is in its cell
 letter_here : (grid : Grid) (cell : Cell) (letter : ℕ) → length grid.squares ≡ grid.width * grid.height → is_inside grid cell ≡ true → entry (with_entry grid cell (Some letter)) cell ≡ Some letter
@@ -49,7 +43,7 @@ square_elsewhere grid cell other letter inside apart =
     elim (cases_Bool (is_inside grid other)) [
       | inl here ↦
           ap (λ b. cond b (slice_get squares (index_of grid other)) None) here
-          ∙ get-set_other grid.squares (index_of grid cell) (index_of grid other) (Open letter)
+          ∙ slice_get-set_other grid.squares (index_of grid cell) (index_of grid other) (Open letter)
           (λ same. apart (sym (cell_at-index_of grid other here) ∙ ap (cell_at grid) same ∙ cell_at-index_of grid cell inside))
           ∙ sym (ap (λ b. cond b (slice_get grid.squares (index_of grid other)) None) here)
       | inr out ↦

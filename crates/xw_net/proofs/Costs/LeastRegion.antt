@@ -9,7 +9,7 @@ use Rattle.xw_feas.specs.Board.{board_of, entry, light_at}
 use Rattle.xw_feas.specs.Feasible.{IsFeasibleLetter}
 use Rattle.xw_feas.specs.State.{State, Action}
 use Rattle.xw_feas.proofs.GreatestLemmas.{greatest_exists}
-use Rattle.xw_feas.proofs.Parts.{all_from, all_gives, any_from, any_gives, parts_of, part_picked, filtered_in}
+use Rattle.xw_feas.proofs.Elements.{all_from, all_gives, any_from, any_gives, parts_of, part_picked, contains_filtered}
 use Rattle.xw_net.specs.Region.{edited_cells, changes_words, IsSettled, StandsIn, StandsInEither, IsRegion, cost, light_cost, IsWithinCost}
 use Rattle.xw_net.specs.RegionLaws.{IsLeastRegion, LeastRegionExists, LeastRegionBounds}
 use Rattle.xw_net.specs.Sums.{sum_below}
@@ -83,14 +83,14 @@ module _ (all : List (List ℕ)) (seed : List ℕ → Bool) (link : List ℕ →
 
         part_seeds : has_seeds (filter member all) ≡ true
         part_seeds = all_from (λ l. if_then (seed l) (among (filter member all) l)) all (λ l there.
-            if_then-from (seed l) (among (filter member all) l) (λ seeded. among_from (filter member all) l (filtered_in member all l there (seeds l there seeded))))
+            if_then-from (seed l) (among (filter member all) l) (λ seeded. among_from (filter member all) l (contains_filtered member all l there (seeds l there seeded))))
 
         part_links : has_links (filter member all) ≡ true
         part_links = all_from (λ l. list_all (λ o. if_then (among (filter member all) l && link l o) (among (filter member all) o)) all) all (λ l there.
             all_from (λ o. if_then (among (filter member all) l && link l o) (among (filter member all) o)) all (λ o there'.
             if_then-from (among (filter member all) l && link l o) (among (filter member all) o) (λ h.
             let both = and_parts (among (filter member all) l) (link l o) h in
-            among_from (filter member all) o (filtered_in member all o there' (links l o there there' (picked l (among_gives (filter member all) l both.0)) both.1)))))
+            among_from (filter member all) o (contains_filtered member all o there' (links l o there there' (picked l (among_gives (filter member all) l both.0)) both.1)))))
 
 -- ---- the least region of an edit
 

@@ -23,7 +23,8 @@ use Rattle.xw_net.specs.Change.{Fields, IsChange, indices_listed}
 use Rattle.xw_net.specs.Begin.{is_fill}
 use Rattle.xw_net.specs.Region.{cells_named, edited_cells}
 use Rattle.xw_net.proofs.Edits.WrittenCells.{list_open}
-use Rattle.xw_net.proofs.Edits.KeptByEdits.{by_fault-Ok, contains_mapped, grid_of_after}
+use Rattle.xw_feas.proofs.Elements.{contains_mapped}
+use Rattle.xw_net.proofs.Edits.KeptByEdits.{by_fault-Ok, grid_of_after}
 use Rattle.xw_net.proofs.Edits.ChangeFacts.{written_indices}
 
 -- the square of a cell of a grid

@@ -1,6 +1,6 @@
 -- What an edit keeps: the squares of the cells it does not write, and the known words of other
 -- lengths.
-use Rattle.std.proofs.Common.{◌≡◌, ℕ, zero, suc, ◌*◌, Bool, true, false, cond, not, List, [], ◌∷◌, map, length, get_or, set, eqb, Some, None, refl, sym, ◌∙◌, ap, subst, arith, inl, inr}
+use Rattle.std.proofs.Common.{◌≡◌, ℕ, ◌*◌, Bool, true, false, cond, not, List, [], ◌∷◌, map, length, get_or, eqb, Some, None, refl, sym, ◌∙◌, ap, subst, arith, inl, inr}
 use Rattle.std.specs.Prelude.{Option, Result, Ok, Err, Contains, slice_get, position, filter}
 use Rattle.std.proofs.lemmas.Bool.{cases_lt, cases_Bool, eqb-true, false≢true}
 use Rattle.std.proofs.lemmas.List.{get_or-map, length-map}
@@ -30,22 +30,9 @@ use Rattle.xw_feas.specs.declared.edit.Refusal.TheVariants as refusals
 use Rattle.xw_feas.specs.Board.{board_of, entry, is_open}
 use Rattle.xw_feas.specs.State.{State, Action, letter_set, cell_cleared, word_placed, list_written, block_toggled, bar_toggled, symmetry_chosen, word_added, word_struck, after, grid_after, with_grid, with_words, by_fault, write_list, with_letters, place_word, placed_in, spelled_in, add_word, strike_word}
 use Rattle.xw_feas.proofs.BoardLemmas.{is_open-square, entry-square}
+use Rattle.xw_feas.proofs.Elements.{contains_first, contains_later, contains_mapped, contains_filtered, slice_get-set_other}
 use Rattle.xw_net.specs.Region.{cells_named, same_entry, cells_changed, edited_cells}
 use Rattle.xw_net.proofs.Edits.WrittenCells.{StaysOrOpen, LeavesOpen, list_leaves}
-
--- a write keeps the other elements
-slice_get-set_other : {X : Type 0} (xs : List X) (at index : ℕ) (x : X) → (index ≡ at → ⊥) → slice_get (set xs at x) index ≡ slice_get xs index
-slice_get-set_other [] at index x apart = refl
-slice_get-set_other (y ∷ ys) zero zero x apart = absurd (apart refl)
-slice_get-set_other (y ∷ ys) zero (suc index) x apart = refl
-slice_get-set_other (y ∷ ys) (suc at) zero x apart = refl
-slice_get-set_other (y ∷ ys) (suc at) (suc index) x apart = slice_get-set_other ys at index x (λ e. apart (omega (arith, e)))
-
-pub contains_first : {X : Type 0} (x : X) (xs : List X) → Contains (x ∷ xs) x
-contains_first x xs = (0, omega arith, refl)
-
-pub contains_later : {X : Type 0} (x y : X) (xs : List X) → Contains xs x → Contains (y ∷ xs) x
-contains_later x y xs (k, below, at) = (suc k, omega arith, at)
 
 -- ---- the grid
 
@@ -98,20 +85,6 @@ word_kept grid new name bytes ok = by_index (index_named (lights_of grid) name) 
   by_index : (found : Option ℕ) → placed_in grid found bytes ≡ Ok new → IsWrittenAt grid new (map (index_of grid) (cells_named grid found))
   by_index None h = cc
   by_index (Some index) h = by_word (get_or (lights_of grid) index no_light) (position is_bad_letter bytes) h
-
--- an element that passes a filter is in the result
-pub contains_filtered : {X : Type 0} (test : X → Bool) (xs : List X) (x : X) → Contains xs x → test x ≡ true → Contains (filter test xs) x
-contains_filtered test [] x (k, below, at) passes = absurd (omega arith)
-contains_filtered test (y ∷ ys) x (zero, below, at) passes = rw (at, passes) (contains_first x (filter test ys))
-contains_filtered test (y ∷ ys) x (suc k, below, at) passes =
-    let later = contains_filtered test ys x (k, omega arith, at) passes in
-    elim (cases_Bool (test y)) [
-      | inl also ↦ rw also (contains_later x y (filter test ys) later)
-      | inr fails ↦ rw fails later
-    ]
-
-pub contains_mapped : {X Y : Type 0} (f : X → Y) (xs : List X) (x : X) → Contains xs x → Contains (map f xs) (f x)
-contains_mapped f xs x (k, below, at) = (k, omega (arith, below, length-map xs f), get_or-map f xs k x (f x) below ∙ ap f at)
 
 block_kept : (grid new : Grid) (cell : Cell) → IsGrid grid → toggle_block grid cell ≡ Ok new → IsWrittenAt grid new (map (index_of grid) (orbit_of grid cell))
 block_kept grid new cell is ok = by_tests (is_inside grid cell) _ refl ok where
