@@ -18,6 +18,12 @@ function sizeFor(lengths, columns, grid, { width, height }) {
   return SIZES.find(fits) ?? SIZES.at(-1);
 }
 
+// Whether a clue ends with the lengths of its words, as in “(3,5)”, “(2-4, 6)”, “(1’1,4)” or “(3 wds.)”. A number of three digits or more, as of
+// a year, is no length.
+export function hasEnumeration(clue) {
+  return /\(\s*\d{1,2}(\s*[-‐–—,;.'’/\s]\s*\d{1,2})*([\s,;]+(wds?|words?|letters?|hyph|hyphenated|abbr)\.?)*\s*\)[\s.]*$/i.test(clue);
+}
+
 export class Printer {
   #editor;
   #sheet;
@@ -104,7 +110,9 @@ export class Printer {
       clues.append(make('h2', '', title));
       for (const light of board.lights.filter((one) => one.direction === direction)) {
         const clue = make('p', '');
-        clue.append(make('b', '', light.number), ` ${this.#text(`clue ${light.name}`)} `, make('span', 'length', `(${light.cells.length})`));
+        const text = this.#text(`clue ${light.name}`);
+        clue.append(make('b', '', light.number), ` ${text} `);
+        if (!hasEnumeration(text)) clue.append(make('span', 'length', `(${light.cells.length})`));
         clues.append(clue);
       }
     }

@@ -600,6 +600,21 @@ const CASES = {
     expect((await page.rows()).join() === rows.join(), 'a file that is refused has changed the grid');
   },
 
+  async 'clues that have their enumerations'() {
+    const clues = ['Ice cream (3,5)', 'Plain', 'Hyphened (2-1)', 'Two of them (3 wds.)', 'Year of a revolution (1789)', 'Aside (see 1 Down)'];
+    const body = 'size 3 3\n' + clues.map((clue, at) => `text clue ${at < 3 ? at + 1 : 1} ${at < 3 ? 1 : at - 2} ${at < 3 ? 'across' : 'down'} ${clue}\n`).join('');
+    writeFileSync(join(room, 'enumerations.xw'), body);
+    await openFile(join(room, 'enumerations.xw'));
+    await page.statusIs(/is open/);
+    await browser.value('window.print = () => {}');
+    await browser.press('Control+p');
+    await browser.click('#print-dialog [value=print]');
+    await browser.until("document.querySelector('#sheet .clues')");
+    const printed = await browser.value("[...document.querySelectorAll('#sheet .clues p')].map((clue) => clue.textContent.replace(/^\\d+ /, '').trim())");
+    const wanted = ['Ice cream (3,5)', 'Plain (3)', 'Hyphened (2-1)', 'Two of them (3 wds.)', 'Year of a revolution (1789) (3)', 'Aside (see 1 Down) (3)'];
+    expect(printed.join('|') === wanted.join('|'), `printed: ${printed.join('|')}`);
+  },
+
   async 'printing'() {
     await begin(1);
     await browser.press('Control+f');
