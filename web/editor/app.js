@@ -10,6 +10,7 @@ import { dropList, keepList, keepSession, keptList, keptSession, onOtherKeeper }
 import { refusalText, refuse, say, useStatusLine } from './messages.js';
 import { PATTERNS, blankRows, recordOf, rowsOf } from './patterns.js';
 import { Printer } from './print.js';
+import { Reasons } from './reasons.js';
 import { strangeCharacter } from './record.js';
 import { WordsView, titleOf } from './words.js';
 
@@ -39,7 +40,7 @@ async function edit(lines, options) {
   const refused = await editor.edit(lines, options);
   if (!refused) {
     if (options?.isWhole !== false || $('status').dataset.tone === 'bad') say('');
-    explainSoon();
+    reasons.soon();
     return null;
   }
   // what the page showed before the engine answered is taken back; after a failure the restart says so
@@ -75,7 +76,7 @@ async function editText(field, linesOf) {
 
 async function place(word) {
   const { light } = editor;
-  editor.edited = editor.cursor;
+  editor.edited = { cell: editor.cursor, direction: light.direction };
   const cells = light.cells.filter((index, at) => editor.board.cells[index].letter !== word[at]).map((index) => editor.board.cells[index].coordinates);
   const pencil = new Set([...editor.pencil].filter((cell) => !cells.includes(cell)));
   return edit([`place ${light.name} ${word}`], { pencil });
@@ -83,74 +84,6 @@ async function place(word) {
 
 async function strike(word) {
   if (!(await edit([`strike ${word}`]))) say(`${word} is struck: it fits nothing in this session; undo takes it back`, 'good');
-}
-
-// Why no word is left.
-
-async function why() {
-  clearTimeout(explaining);
-  if (filler.isRunning) return;
-  const { board } = editor;
-  const cell = board.cells[editor.cursor];
-  const through = (index) => (index === null || !board.cells[index] ? [] : board.through(index));
-  const isDead = (light) => light.count === 0 && !board.isEntered(light);
-  if (!board.lights.some(isDead)) return say(cell.block ? '' : 'every light has a word left', 'good');
-  const first = [...through(editor.edited), ...through(editor.cursor)].filter(isDead);
-  const lights = [...new Set(first.length ? first : board.lights.filter(isDead).slice(0, 4))];
-  if (!editor.commands.has('why')) return refuse(`no word is left for ${lights.slice(0, 2).map(titleOf).join(' and ')}: take a letter back`);
-  const { record } = editor;
-  const answers = await editor.ask(...lights.map((light) => `why ${light.name}`));
-  if (record !== editor.record) return;
-  const reasons = answers.map((lines, at) => reasonOf(lights[at], lines)).filter(Boolean);
-  // the shortest reason, and of those the one that lies most within its light
-  reasons.sort((a, b) => a.letters.length - b.letters.length || b.own - a.own);
-  if (reasons.length) showReason(reasons[0]);
-}
-
-// The cells and letters of a reason, from the lines of `why`, and how many of the cells are of the light itself.
-function reasonOf(light, lines) {
-  if (!lines) return null;
-  const words = lines.map((line) => line.split(' '));
-  const cells = words.map(([, row, column]) => editor.board.index(Number(row), Number(column)));
-  return { light, cells, letters: words.map((word) => word[3]), own: cells.filter((cell) => light.cells.includes(cell)).length };
-}
-
-const MOST_NAMED = 8;
-
-function showReason({ light, cells, letters }) {
-  if (cells.length === 0) {
-    grid.showReason([]);
-    refuse(`${titleOf(light)} has no word in this list even without letters: the blocks and the list are the reason`);
-    return;
-  }
-  grid.showReason(cells);
-  const named = `${letters.slice(0, MOST_NAMED).join(', ')}${letters.length > MOST_NAMED ? ' …' : ''}`;
-  const cause = letters.length === 1 ? `the ${named} alone` : `these ${letters.length} letters together: ${named}`;
-  refuse(`${titleOf(light)} has no word, by ${cause}. Change ${letters.length === 1 ? 'it' : 'any one of them'}`);
-}
-
-let explaining = null;
-// how long after an edit into a dead end its reason is shown, in milliseconds
-const PATIENCE = 700;
-
-// After an edit that leads into a dead end: says so, marks the lights that no word matches, and after a moment shows the reason.
-function explainSoon() {
-  clearTimeout(explaining);
-  const { board } = editor;
-  if (!board.lights.some((light) => light.count === 0 && !board.isEntered(light))) return;
-  if (board.entered === 0) {
-    refuse('the list has no words for these lights yet: add blocks (.) or bars, or load a longer list');
-    return;
-  }
-  refuse('a dead end: no word is left for some lights. Click a red cell, or press ?, for the reason');
-  if (editor.commands.has('unmatched')) markUnmatched().catch(() => {});
-  if (editor.commands.has('why')) explaining = setTimeout(() => why().catch(() => {}), PATIENCE);
-}
-
-async function markUnmatched() {
-  const { record } = editor;
-  const [lines] = await editor.ask('unmatched');
-  if (record === editor.record) grid.showUnmatched((lines ?? []).map((line) => line.split(' ').slice(0, 2).join(' ')));
 }
 
 async function hardest() {
@@ -172,7 +105,7 @@ const toGrid = () => grid.focus();
 const grid = new GridView(editor, $('grid'), {
   edit,
   mayEdit,
-  why: () => why().catch(() => {}),
+  why: () => reasons.ask().catch(() => {}),
   filter: () => {
     showTab('words');
     $('filter').focus();
@@ -183,6 +116,7 @@ const grid = new GridView(editor, $('grid'), {
   },
   chosen: showChosen,
 });
+const reasons = new Reasons(editor, grid, () => !filler.isRunning);
 const words = new WordsView(
   editor,
   {
@@ -354,7 +288,7 @@ async function begin(rows, sym) {
   if (!mayEdit()) return;
   await editor.replace(await editor.engine.call('read', { record: recordOf(rows, sym) }));
   say('a new puzzle; undo goes back to the old one', 'good');
-  explainSoon();
+  reasons.soon();
   grid.focus();
 }
 
@@ -372,7 +306,7 @@ async function step(isBack) {
   const done = await (isBack ? editor.undo() : editor.redo());
   if (!done) return say(isBack ? 'there is nothing to undo' : 'there is nothing to redo');
   say('');
-  explainSoon();
+  reasons.soon();
 }
 
 const ACTIONS = {
@@ -542,7 +476,7 @@ async function start() {
   grid.focus();
   if (session) say('your puzzle is as you left it', 'good');
   else say(list.name ? 'type a letter, or choose File ▸ New' : 'load a word list first: File ▸ Load a word list, or drop the file here');
-  explainSoon();
+  reasons.soon();
 }
 
 start().catch((error) => {

@@ -17,10 +17,12 @@ export class Editor extends EventTarget {
   pencil = new Set();
   // names of the lights to fill; all if there are none
   chosen = new Set();
-  // where the last edit was
+  // where the last entry was: { cell, direction }; null after other edits
   edited = null;
-  // cells of a reason, and cells of lights that no word matches, by index
+  // cells of a reason, by index, and the name of the light that they leave no word
   reason = new Set();
+  reasonLight = '';
+  // cells of lights that no word matches, by index
   unmatched = new Set();
   commands = new Set();
   list = { name: '', words: 0, scored: false, best: 0, least: 0, bytes: new Uint8Array() };
@@ -129,8 +131,7 @@ export class Editor extends EventTarget {
       await this.#goTo(this.record);
       return refused;
     }
-    this.reason = new Set();
-    this.unmatched = new Set();
+    this.#unmark();
     if (pencil) this.pencil = pencil;
     this.#show(lines, told, isWhole);
     if (!isWhole) await this.#idle();
@@ -193,10 +194,16 @@ export class Editor extends EventTarget {
     }
     const told = await this.engine.call('edit', { lines: [], isWhole: true });
     this.record = after;
-    this.reason = new Set();
-    this.unmatched = new Set();
+    this.#unmark();
     this.board.takeWhole(told);
     this.#afterWhole();
+  }
+
+  // What was said of a dead end is over.
+  #unmark() {
+    this.reason = new Set();
+    this.reasonLight = '';
+    this.unmatched = new Set();
   }
 
   get canUndo() {

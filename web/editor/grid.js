@@ -14,8 +14,8 @@ export class GridView {
   #cells = [];
   // what each cell shows
   #painted = [];
-  // what lies over the light of the cursor and over the one that crosses it
-  #bands = ['light-band', 'crossing-band'].map((name) => Object.assign(document.createElement('div'), { className: name }));
+  // what lies over the light of the cursor, over the one that crosses it, and around the light of a reason
+  #bands = ['light-band', 'crossing-band', 'reason-band'].map((name) => Object.assign(document.createElement('div'), { className: name }));
   #typing = new TypingField((key) => this.#actionOf({ key, shiftKey: false })?.());
   // cells whose letters are entered but not shown yet, by index
   #undrawn = new Set();
@@ -171,6 +171,7 @@ export class GridView {
     this.#marked = cursor;
     this.#cover(this.#bands[0], editor.light);
     this.#cover(this.#bands[1], editor.crossing);
+    this.#cover(this.#bands[2], board.byName.get(editor.reasonLight));
     if (this.#typing.isActive) this.#lay(this.#typing.element, cursor, 1, 1);
     this.#root.setAttribute('aria-activedescendant', this.#cells[cursor]?.root.id ?? '');
   }
@@ -223,8 +224,10 @@ export class GridView {
     mark('letter drawn');
   }
 
-  showReason(cells) {
+  // Frames the cells of a reason, and the light that they leave no word.
+  showReason(cells, light = null) {
     this.#editor.reason = new Set(cells);
+    this.#editor.reasonLight = light?.name ?? '';
     this.isExplained = true;
     this.draw();
   }
@@ -232,7 +235,7 @@ export class GridView {
   // Shows the lights that no word matches.
   showUnmatched(names) {
     const { board } = this.#editor;
-    this.#editor.unmatched = new Set(names.flatMap((name) => board.byName.get(name).cells));
+    this.#editor.unmatched = new Set(names.flatMap((name) => board.byName.get(name)?.cells ?? []));
     this.isExplained = true;
     this.draw();
   }
@@ -323,7 +326,7 @@ export class GridView {
     const index = editor.cursor;
     const sent = this.#send([`set ${cell.coordinates} ${letter}`], { isWhole: false });
     if (typedAt) mark('letter typed', { startTime: typedAt });
-    editor.edited = index;
+    editor.edited = { cell: index, direction: editor.direction };
     editor.pencil.delete(cell.coordinates);
     cell.letter = letter;
     this.#step(1);
@@ -346,7 +349,7 @@ export class GridView {
     }
     if (!this.actions.mayEdit()) return;
     this.#send([`clear ${cell.coordinates}`], { isWhole: false });
-    editor.edited = index;
+    editor.edited = { cell: index, direction: editor.direction };
     editor.pencil.delete(cell.coordinates);
     cell.letter = '';
     if (step) this.#step(step);
@@ -374,7 +377,7 @@ export class GridView {
     const free = lettered.filter((index) => !board.cells[index][other] || !board.isEntered(board.cells[index][other]));
     const cells = free.length ? free : lettered;
     if (cells.length === 0) return;
-    editor.edited = editor.cursor;
+    editor.edited = { cell: editor.cursor, direction: editor.direction };
     this.#send(editor.commands.has('erase') ? [`erase ${light.name}`] : cells.map((index) => `clear ${board.cells[index].coordinates}`));
   }
 
@@ -402,7 +405,7 @@ export class GridView {
 
   #escape() {
     this.#unchoose();
-    if (this.#editor.reason.size) this.showReason([]);
+    if (this.#editor.reasonLight) this.showReason([]);
     this.tool = null;
     this.actions.escape();
   }

@@ -97,7 +97,7 @@ export class Browser {
   }
 
   // Waits until an expression is true.
-  async until(expression, most = 15000) {
+  async until(expression, most = 60000) {
     const end = Date.now() + most;
     for (;;) {
       const value = await this.value(expression);

@@ -477,6 +477,23 @@ const CASES = {
     await page.factsAre(/built-in list/);
   },
 
+  async 'a reason beside the last entry'() {
+    if (!KNOWN.has('why')) return;
+    await begin(2);
+    await browser.click('#cell-1-7');
+    if (await browser.value("document.querySelector('.cursor').classList.contains('down')")) await browser.press('Enter');
+    await browser.type('jazzquake');
+    await page.statusIs(/has no word/, 60000);
+    const told = await page.status();
+    await picture('reason');
+    const [, number] = /^(\d+) Down has no word/.exec(told) ?? [];
+    expect(number >= 6 && number <= 14, `it does not cross 6 Across: ${told}`);
+    const box = (selector) => browser.value(`(({ x, y, width, height }) => ({ x, y, width, height }))(document.querySelector('${selector}').getBoundingClientRect())`);
+    const [frame, cell] = [await box('.reason-band'), await box(`#cell-1-${Number(number) + 1}`)];
+    expect(Math.abs(frame.x - cell.x) < 2 && Math.abs(frame.y - cell.y) < 2 && frame.height > 2 * cell.height, `the frame is not around ${number} Down`);
+    expect(await page.has(`1-${Number(number) + 1}`, 'reason'), `no letter of ${number} Down is framed: ${told}`);
+  },
+
   async 'a failure of the engine'() {
     await begin(1);
     await browser.type('rote');

@@ -1,0 +1,108 @@
+// Dead ends: which lights have no word left, and which letters together are the reason.
+import { refuse, say } from './messages.js';
+import { titleOf } from './words.js';
+
+// how long after an edit into a dead end its reason is shown, in milliseconds
+const PATIENCE = 700;
+// the most lights that are asked for their reason, and the most letters of one that are named
+const MOST_ASKED = 9;
+const MOST_NAMED = 8;
+
+export class Reasons {
+  #editor;
+  #grid;
+  #timer = null;
+
+  // `isIdle` tells whether the engine is free for questions.
+  constructor(editor, grid, isIdle) {
+    this.#editor = editor;
+    this.#grid = grid;
+    this.isIdle = isIdle;
+  }
+
+  #isDead = (light) => light.count === 0 && !this.#editor.board.isEntered(light);
+
+  // After an edit that leads into a dead end: says so, marks the lights that no word matches, and after a moment shows the reason.
+  soon() {
+    clearTimeout(this.#timer);
+    const { board, commands } = this.#editor;
+    if (!board.lights.some(this.#isDead)) return;
+    if (board.entered === 0) {
+      refuse('the list has no words for these lights yet: add blocks (.) or bars, or load a longer list');
+      return;
+    }
+    refuse('a dead end: no word is left for some lights. Click a red cell, or press ?, for the reason');
+    this.mark();
+    if (commands.has('why')) this.#timer = setTimeout(() => this.#explainEntry(), PATIENCE);
+  }
+
+  // The dead end may be over when its moment comes.
+  #explainEntry() {
+    const lights = this.#afterEntry();
+    if (lights.length) this.#explain(lights).catch(() => {});
+  }
+
+  // Shows the reason for the lights of the cursor, if they have no word, or else for others.
+  ask() {
+    const { board, cursor } = this.#editor;
+    const here = board.cells[cursor].block ? [] : board.through(cursor).filter(this.#isDead);
+    return this.#explain(here.length ? here : this.#afterEntry());
+  }
+
+  // Marks the lights that no word matches.
+  mark() {
+    if (this.#editor.commands.has('unmatched')) this.#markUnmatched().catch(() => {});
+  }
+
+  async #markUnmatched() {
+    const { record } = this.#editor;
+    const [lines] = await this.#editor.ask('unmatched');
+    if (record === this.#editor.record) this.#grid.showUnmatched((lines ?? []).map((line) => line.split(' ').slice(0, 2).join(' ')));
+  }
+
+  // The lights without a word that are asked after an entry: those that cross its light, the nearest first, then that light. If these have
+  // words, others.
+  #afterEntry() {
+    const { board, edited } = this.#editor;
+    const light = edited && board.cells[edited.cell]?.[edited.direction];
+    const other = edited?.direction === 'across' ? 'down' : 'across';
+    const near = [...(light?.cells ?? [])].sort((a, b) => Math.abs(a - edited.cell) - Math.abs(b - edited.cell));
+    const asked = [...near.map((cell) => board.cells[cell][other]), light].filter((one) => one && this.#isDead(one));
+    return asked.length ? asked : board.lights.filter(this.#isDead);
+  }
+
+  async #explain(lights) {
+    clearTimeout(this.#timer);
+    if (!this.isIdle()) return;
+    const editor = this.#editor;
+    if (!lights.length) return say('every light has a word left', 'good');
+    if (!editor.commands.has('why')) return refuse(`no word is left for ${lights.slice(0, 2).map(titleOf).join(' and ')}: take a letter back`);
+    const { record } = editor;
+    const asked = lights.slice(0, MOST_ASKED);
+    const answers = await editor.ask(...asked.map((light) => `why ${light.name}`));
+    if (record !== editor.record) return;
+    const reasons = answers.map((lines, at) => this.#reasonOf(asked[at], lines)).filter(Boolean);
+    // one with letters in its own light, so that both are seen together; of these the shortest, and of those the one that lies most in its light
+    reasons.sort((a, b) => Math.min(b.own, 1) - Math.min(a.own, 1) || a.letters.length - b.letters.length || b.own - a.own);
+    if (reasons.length) this.#show(reasons[0]);
+  }
+
+  // The cells and letters of a reason, from the lines of `why`, and how many of the cells are of the light itself.
+  #reasonOf(light, lines) {
+    if (!lines) return null;
+    const words = lines.map((line) => line.split(' '));
+    const cells = words.map(([, row, column]) => this.#editor.board.index(Number(row), Number(column)));
+    return { light, cells, letters: words.map((word) => word[3]), own: cells.filter((cell) => light.cells.includes(cell)).length };
+  }
+
+  #show({ light, cells, letters }) {
+    this.#grid.showReason(cells, light);
+    if (cells.length === 0) {
+      refuse(`${titleOf(light)} has no word in this list even without letters: the blocks and the list are the reason`);
+      return;
+    }
+    const named = `${letters.slice(0, MOST_NAMED).join(', ')}${letters.length > MOST_NAMED ? ' …' : ''}`;
+    const cause = letters.length === 1 ? `the ${named} alone` : `these ${letters.length} letters together: ${named}`;
+    refuse(`${titleOf(light)} has no word, by ${cause}. Change ${letters.length === 1 ? 'it' : 'any one of them'}`);
+  }
+}
