@@ -12,6 +12,7 @@ import { PATTERNS, blankRows, recordOf, rowsOf } from './patterns.js';
 import { Printer } from './print.js';
 import { Reasons } from './reasons.js';
 import { strangeCharacter } from './record.js';
+import { leftOutText, wordCount } from './word-list.js';
 import { WordsView, titleOf } from './words.js';
 
 const $ = (id) => document.getElementById(id);
@@ -166,7 +167,7 @@ function showFacts() {
   const { board, list } = editor;
   const lacking = board.lights.filter((light) => !board.isEntered(light)).length;
   const letters = lacking ? `${board.entered} of ${board.open} letters` : 'filled';
-  const known = list.name ? `${list.name}, ${list.words.toLocaleString('en')} words` : 'no word list';
+  const known = list.name ? `${list.name}, ${wordCount(list.words)}` : 'no word list';
   put($('facts'), 'textContent', `${board.width} × ${board.height} · ${letters} · ${known}`);
   put($('undo'), 'disabled', !editor.canUndo);
   put($('redo'), 'disabled', !editor.canRedo);
@@ -234,12 +235,13 @@ async function listOpened() {
 }
 
 function showList() {
-  const { name, words: count, scored, best, least } = editor.list;
+  const { name, words: count, scored, best, leftOut, least } = editor.list;
   const none = 'No word list is loaded, so no word is known: load one, or add words.';
-  $('list-name').textContent = name ? `${name}: ${count.toLocaleString('en')} words` : none;
+  const facts = [`${name}: ${wordCount(count)}`, leftOutText(leftOut, least)];
+  $('list-name').textContent = name ? facts.filter(Boolean).join('; ') : none;
   $('least-row').hidden = !scored;
   if (scored) {
-    $('least').max = Math.max(best, Number($('least').max));
+    $('least').max = best;
     $('least').value = least;
     $('least-shown').textContent = least;
   }

@@ -25,7 +25,7 @@ export class Editor extends EventTarget {
   // cells of lights that no word matches, by index
   unmatched = new Set();
   commands = new Set();
-  list = { name: '', words: 0, scored: false, best: 0, least: 0, bytes: new Uint8Array() };
+  list = { name: '', words: 0, scored: false, best: 0, leftOut: {}, least: 0, bytes: new Uint8Array() };
   // states: { record, pencil, cursor, direction }
   #past = [];
   #future = [];
@@ -56,7 +56,8 @@ export class Editor extends EventTarget {
   async #open(list, record) {
     const opened = await this.engine.call('open', { list: list.bytes, least: list.least, record });
     this.commands = new Set(opened.commands);
-    this.list = { ...list, words: opened.words, scored: opened.scored, best: opened.best };
+    const { words, scored, best, leftOut } = opened;
+    this.list = { ...list, words, scored, best, leftOut };
     this.record = opened.record;
     this.board.takeWhole(opened);
     this.#afterWhole();

@@ -1,5 +1,6 @@
 // The engine in a worker: it answers the messages of engine.js, edits in order and ahead of queries that wait.
 import { Fault, Xw, load } from '../xw.js';
+import { readList } from './word-list.js';
 
 // Texts are bytes to the engine. The page reads them as Windows-1252, the character set of .puz files, in which each byte is a character.
 const latin = new TextDecoder('windows-1252');
@@ -39,35 +40,6 @@ function whole() {
   };
 }
 
-// The words of a list that has a score on each line, the best first; those below the least score are left out.
-function byScore(text, least) {
-  const scored = [];
-  for (const line of text.split('\n')) {
-    const found = /^\s*([A-Za-z][^;,\t]*)[;,\t]\s*(\d+)/.exec(line);
-    if (found) scored.push([found[1], Number(found[2])]);
-  }
-  scored.sort((a, b) => b[1] - a[1]);
-  const kept = scored.filter(([, score]) => score >= least);
-  scores = new Map(kept.map(([word, score]) => [word.replace(/[^A-Za-z]/g, '').toUpperCase(), score]).reverse());
-  return new TextEncoder().encode(kept.map(([word]) => word).join('\n'));
-}
-
-function isScored(text) {
-  const lines = text.slice(0, 20000).split('\n').slice(0, 200).filter((line) => line.trim());
-  return lines.length > 0 && lines.filter((line) => /^[^;,\t]+[;,\t]\s*\d+/.test(line)).length > lines.length / 2;
-}
-
-// How many words the engine takes from a list: those of 2 to 255 letters, each once. A line with a byte of 128 or more is skipped.
-function countWords(list) {
-  const words = new Set();
-  for (const line of latin.decode(list).split('\n')) {
-    if (/[^\x00-\x7f]/.test(line)) continue;
-    const word = line.replace(/[^A-Za-z]/g, '').toUpperCase();
-    if (word.length >= 2 && word.length <= 255) words.add(word);
-  }
-  return words.size;
-}
-
 // The commands that a module may not know yet.
 const NEWER = { choices: 'choices 1 across 0', why: 'why 999999 across', unmatched: 'unmatched', erase: 'erase 999999 across' };
 
@@ -82,7 +54,10 @@ const SLICE = 4;
 // that are counted by then.
 function probe({ light, words }) {
   const end = performance.now() + SLICE;
-  const [, , row, column, letters] = asked('lights').find((line) => line.startsWith(`${light} `)).split(' ');
+  const line = asked('lights').find((one) => one.startsWith(`${light} `));
+  // an edit was ahead of this query, and the light is gone
+  if (!line) return {};
+  const [, , row, column, letters] = line.split(' ');
   const [down, right] = light.endsWith('down') ? [1, 0] : [0, 1];
   const cells = Array.from(letters, (letter, at) => ({ coordinates: `${Number(row) + down * at} ${Number(column) + right * at}`, letter }));
   const answers = {};
@@ -106,18 +81,16 @@ const calls = {
     module = await load(bytes);
   },
 
-  // Opens a session over a list, and replays a record.
+  // Opens a session over a list, and replays a record. If it cannot, the session before stays.
   open({ list, least, record }) {
-    const text = latin.decode(list);
-    const scored = isScored(text);
-    scores = new Map();
-    const words = scored ? byScore(text, least) : list;
-    const other = Xw.open(module, { list: words, record: encode(record) });
+    const { words, scores: scoresRead, ...told } = readList(list, least);
+    if (list.length && !words.length) throw new Fault('NoWord');
+    const other = Xw.open(module, { list: words.join('\n'), record: encode(record) });
     xw?.close();
     xw = other;
+    scores = scoresRead;
     ask('watch on');
-    const best = scored ? Math.max(0, ...scores.values()) : 0;
-    return { reports: other.reports, commands: known(), words: countWords(words), scored, best, record: latin.decode(xw.record()), ...whole() };
+    return { reports: other.reports, commands: known(), words: words.length, ...told, record: latin.decode(xw.record()), ...whole() };
   },
 
   // The record of a puzzle file, or of a record itself. The session is not touched.

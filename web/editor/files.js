@@ -1,5 +1,6 @@
 // Files: what is opened, dropped and saved.
 import { refusalText, refuse, say } from './messages.js';
+import { leftOutText, readList, wordCount } from './word-list.js';
 
 const latin = new TextDecoder('windows-1252');
 const PENCIL = '# pencil ';
@@ -62,12 +63,12 @@ export class Files {
     say(`reading ${name} …`);
     const fault = await this.#editor.useList({ name, bytes, least });
     if (fault) {
-      refuse(`${name}: ${refusalText(fault)}`);
+      refuse(`${name}: ${[refusalText(fault), fault === 'NoWord' && whyLeftOut(bytes, least)].filter(Boolean).join('; ')}`);
       return false;
     }
-    const { words, scored } = this.#editor.list;
-    if (!words) refuse(`${name}: there is no word in this file`);
-    else say(`${name}: ${words.toLocaleString('en')} words${scored ? ', the best scores first' : ''}`, 'good');
+    const { words, scored, leftOut } = this.#editor.list;
+    const facts = [`${wordCount(words)}${scored ? ', the best scores first' : ''}`, leftOutText(leftOut, least)];
+    say(`${name}: ${facts.filter(Boolean).join('; ')}`, 'good');
     await this.actions.listOpened();
     return true;
   }
@@ -143,6 +144,8 @@ export class Files {
     });
   }
 }
+
+const whyLeftOut = (bytes, least) => leftOutText(readList(bytes, least).leftOut, least);
 
 function encodeLatin(text) {
   const codes = new Map(Array.from({ length: 256 }, (_, code) => [latin.decode(new Uint8Array([code])), code]));

@@ -40,6 +40,7 @@ export const REFUSALS = {
   Field: 'a text cannot be spelled in this format: an empty clue, or one with spaces at an end',
   Circled: 'a text file cannot hold circles: save .puz instead',
   NoCommand: 'this is no session: a line of the file is no command',
+  NoWord: 'there is no word that the list can take',
   Engine: 'the engine failed and was started again; the grid is kept',
   Restart: 'the engine was started again',
 };

@@ -477,6 +477,86 @@ const CASES = {
     await page.factsAre(/built-in list/);
   },
 
+  async 'a list of 300,000 words with scores'() {
+    const path = join(room, 'many-scores.txt');
+    const letter = (number, at) => 'etaoinshrd'[Math.floor(number / 10 ** at) % 10];
+    const line = (_, number) => `${Array.from({ length: 6 }, (__, at) => letter(number, at)).join('')};${number % 101}`;
+    writeFileSync(path, Array.from({ length: 300000 }, line).join('\n'));
+    await begin(1);
+    await openFile(path);
+    await page.factsAre(/many-scores.txt, 300,000 words/, 60000);
+    await page.statusIs(/^many-scores.txt: 300,000 words, the best scores first$/);
+    await menu('built-in');
+    await page.factsAre(/built-in list/);
+  },
+
+  async 'lines of a list that are left out'() {
+    const open = async (name, bytes, told) => {
+      writeFileSync(join(room, name), bytes);
+      await openFile(join(room, name));
+      await page.statusIs(/words/);
+      expect((await page.status()) === `${name}: ${told}`, `${name}: the page says: ${await page.status()}`);
+      expect((await browser.value("document.getElementById('list-name').textContent")) === `${name}: ${told.replace(', the best scores first', '')}`, 'the tab says otherwise');
+    };
+    await begin(6);
+    await open('marked.txt', '\ufeffcat\r\ncot\r\n\r\ncut', '3 words');
+    await open('accents.txt', 'caf\u00e9\ncat\nna\u00efve\ndon\u2019t\ncot\n', '2 words; 3 lines left out: 2 with accents, 1 with signs that are not ASCII');
+    await open('latin.txt', Buffer.from('caf\u00e9\ncat\ncot\n', 'latin1'), '2 words; 1 line left out: 1 with accents');
+    await openFile(join(room, 'accents.txt'));
+    await page.statusIs(/2 words/);
+    writeFileSync(join(room, 'french.txt'), 'for\u00eat\n\u00e9t\u00e9\n');
+    await openFile(join(room, 'french.txt'));
+    await page.statusIs(/^french.txt: there is no word that the list can take; 2 lines left out: 2 with accents$/);
+    await page.factsAre(/accents.txt, 2 words/);
+    await open('short.txt', 'a\ncat\nCat\ncot\n', '2 words; 2 lines left out: 1 with fewer than 2 letters, 1 that repeats a word');
+    const scored = '\ufeffcat;10\ncot;-5\ncut;50\near;-1\n\u00e9t\u00e9;90\nword list\noar;20\ntea;70';
+    await open('scores.txt', scored, '4 words, the best scores first; 4 lines left out: 1 with accents, 1 without a score, 2 with scores below 0');
+    await browser.click('#tab-puzzle');
+    await browser.value("document.getElementById('least').value = 50, document.getElementById('least').dispatchEvent(new Event('change'))");
+    await page.statusIs(/2 words, .* 4 with scores below 50/);
+    await menu('new');
+    await browser.value("document.getElementById('new-width').value = 3, document.getElementById('new-height').value = 1");
+    await browser.click('#new-blank');
+    await browser.click('#tab-words');
+    await browser.until("[...document.querySelectorAll('#candidates li')].map((row) => row.dataset.word).join() === 'TEA,CUT'");
+    await menu('built-in');
+    await page.factsAre(/built-in list/);
+  },
+
+  async 'a new puzzle while words are counted'() {
+    await begin(1);
+    await browser.click('#cell-1-12');
+    await browser.until("document.getElementById('light-name').textContent === '10 Across'");
+    // the next count waits until the worker has the edit that takes the light away
+    await browser.value(`(() => {
+      const post = Worker.prototype.postMessage;
+      Worker.prototype.postMessage = function (message, transfer) {
+        if (message.call === 'probe' && !window.late) {
+          window.late = message;
+          this.addEventListener('message', ({ data }) => {
+            if (data.id === message.id) window.lateAnswer = data;
+          });
+          return;
+        }
+        post.call(this, message, transfer);
+        if (!window.late || !message.sent.lines?.some((line) => line.startsWith('size 5 5'))) return;
+        Worker.prototype.postMessage = post;
+        post.call(this, window.late);
+      };
+    })()`);
+    await browser.click('#cell-1-13');
+    await browser.until('window.late');
+    await menu('new');
+    await browser.click('.pattern:nth-child(6)');
+    await browser.until('window.lateAnswer');
+    expect(!(await browser.value('window.lateAnswer.fault')), 'the count fails');
+    await page.factsAre(/^5 × 5/);
+    await browser.type('a');
+    await browser.until("/size 5 5[^]*set 1 2 A/.test(localStorage.getItem('xw-editor'))");
+    expect(!/fail/.test(await page.status()), await page.status());
+    expect((await page.row(1)) === '#A..#', `the grid is ${await page.rows()}`);
+  },
+
   async 'a reason beside the last entry'() {
     if (!KNOWN.has('why')) return;
     await begin(2);
