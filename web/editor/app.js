@@ -1,22 +1,25 @@
 // The page: it joins the views with the session.
+import { Claim } from './claim.js';
 import { CluesView } from './clues.js';
 import { DetailsView } from './details.js';
+import { EarlierView } from './earlier.js';
 import { Editor } from './editor.js';
 import { Files } from './files.js';
 import { Filler } from './fill.js';
 import { GridView } from './grid.js';
 import { whenIdle } from './idle.js';
-import { dropList, keepList, keepSession, keptList, keptSession, onOtherKeeper } from './keep.js';
-import { refusalText, refuse, say, useStatusLine } from './messages.js';
+import { dropList, keepList, keptList, keptSession } from './keep.js';
+import { endWarning, refusalText, refuse, say, useStatusLine, warn } from './messages.js';
 import { PATTERNS, blankRows, recordOf, rowsOf } from './patterns.js';
 import { Printer } from './print.js';
 import { Reasons } from './reasons.js';
 import { strangeCharacter } from './record.js';
+import { Shelf } from './shelf.js';
 import { leftOutText, wordCount } from './word-list.js';
 import { WordsView, titleOf } from './words.js';
 
 const $ = (id) => document.getElementById(id);
-useStatusLine($('status'));
+useStatusLine($('status'), $('warnings'));
 
 // What make-page puts into the page: gzip in base64.
 async function embedded(id) {
@@ -224,14 +227,25 @@ function opened() {
 }
 
 async function listOpened() {
+  showList();
+  await storeList();
+}
+
+let isListKept = true;
+
+// Keeps the list, if this tab is the one that keeps.
+async function storeList() {
   const { name, bytes, least } = editor.list;
+  isListKept = shelf.isKeeping;
+  if (!isListKept) return;
+  const isBuiltIn = bytes === builtIn.bytes;
+  endWarning('list');
   try {
-    if (bytes === builtIn.bytes) await dropList();
+    if (isBuiltIn) await dropList();
     else await keepList({ name, bytes, least });
   } catch {
-    refuse('the browser does not keep this list: load it again next time');
+    if (!isBuiltIn) warn('list', `The browser does not keep the list ${name}: load it again next time.`);
   }
-  showList();
 }
 
 function showList() {
@@ -288,10 +302,25 @@ $('new-blank').addEventListener('click', () => {
 async function begin(rows, sym) {
   $('new-dialog').close();
   if (!mayEdit()) return;
-  await editor.replace(await editor.engine.call('read', { record: recordOf(rows, sym) }));
+  await editor.replace({ record: await editor.engine.call('read', { record: recordOf(rows, sym) }) });
   say('a new puzzle; undo goes back to the old one', 'good');
   reasons.soon();
   grid.focus();
+}
+
+// Opens an earlier puzzle in place of the one that is here.
+async function reopen(session) {
+  if (!mayEdit()) return;
+  await editor.replace(session);
+  say('the earlier puzzle is open; undo goes back to what was here', 'good');
+  reasons.soon();
+  grid.focus();
+}
+
+function showEarlier() {
+  const { length } = shelf.earlier;
+  $('earlier').disabled = !length;
+  $('earlier').textContent = length ? `Earlier puzzles (${length})…` : 'Earlier puzzles…';
 }
 
 $('print-dialog').addEventListener('close', () => {
@@ -313,6 +342,7 @@ async function step(isBack) {
 
 const ACTIONS = {
   new: () => $('new-dialog').showModal(),
+  earlier: () => earlier.show(),
   open: () => pick('.puz,.txt,.xw,.dict'),
   'save-puz': () => files.save('puz'),
   'save-text': () => files.save('text'),
@@ -384,6 +414,14 @@ $('symmetry').addEventListener('change', async () => {
   grid.focus();
 });
 
+// Keys go to the grid after a dialog that was opened from the menu, whose item is hidden again.
+for (const dialog of document.querySelectorAll('dialog')) {
+  dialog.addEventListener('close', () => {
+    const { activeElement } = document;
+    if (activeElement === document.body || dialog.contains(activeElement)) grid.focus();
+  });
+}
+
 // The menu.
 
 const menu = document.querySelector('.menu [role=menu]');
@@ -410,31 +448,23 @@ menu.addEventListener('keydown', (event) => {
   if (step || event.key === 'Escape') event.preventDefault();
 });
 
-// The session is kept at each change.
-
-function keep() {
-  isKept = true;
-  const { record, pencil, cursor, direction } = editor;
-  if (!keepSession({ record, pencil: [...pencil], cursor, direction })) refuse('the browser keeps nothing: save the session as a file');
-}
-
-let isKept = true;
-editor.addEventListener('step', () => {
-  if (isKept) {
-    whenIdle(() => {
-      keep();
-      showFacts();
-    });
-  }
-  isKept = false;
-});
-addEventListener('pagehide', () => isKept || keep());
+editor.addEventListener('step', () => whenIdle(showFacts));
 editor.addEventListener('whole', () => {
   showFacts();
   showChosen();
 });
 
-onOtherKeeper(() => refuse('the editor is open in another tab, and the browser keeps the puzzle of that one: save this one as a file'));
+// What the browser keeps.
+
+const claim = new Claim();
+const shelf = new Shelf(editor, claim, () => files.saveSession());
+const earlier = new EarlierView($('earlier-dialog'), $('earlier-list'), shelf, (session) => reopen(session).catch(unforeseen));
+shelf.addEventListener('change', showEarlier);
+shelf.addEventListener('held', () => {
+  if (!isListKept) storeList();
+  // the button of the warning is gone
+  if (document.activeElement === document.body) grid.focus();
+});
 
 function unforeseen(error) {
   refuse(`that failed: ${error.message}; the grid is kept`);
@@ -450,14 +480,15 @@ function showLicence() {
   $('licence-text').textContent = $('list-licence').textContent.replaceAll('&lt;', '<').replaceAll('&amp;', '&');
 }
 
-// Begins with what the browser keeps; what of it the engine refuses is left out, and said.
+// Begins with what the browser keeps, with the built-in list if the engine refuses the other, and with a new puzzle if it refuses that one,
+// which is then an earlier one.
 async function beginOn(module, list, session) {
-  const first = recordOf(rowsOf(PATTERNS[0]), PATTERNS[0].sym);
-  const kept = [session?.record ?? first, session?.pencil ?? []];
-  const tries = [[list, ...kept], [builtIn, ...kept], [builtIn, first, []]];
-  for (const [words, record, pencil] of tries) {
+  const first = { record: recordOf(rowsOf(PATTERNS[0]), PATTERNS[0].sym), pencil: [] };
+  const tries = [[list, session ?? first], [builtIn, session ?? first], [builtIn, first]];
+  for (const [words, state] of tries) {
     try {
-      await editor.begin(module, words, record, pencil);
+      await editor.begin(module, words, state);
+      if (session && state === first) shelf.putAside(session);
       return;
     } catch (fault) {
       if (!fault.status) throw fault;
@@ -467,18 +498,29 @@ async function beginOn(module, list, session) {
   throw new Error('the engine refuses to begin');
 }
 
+// What is said at the start.
+function greet(session) {
+  const { length } = shelf.earlier;
+  const others = length ? `; File ▸ Earlier puzzles has ${length} more` : '';
+  if (session) say(`your puzzle is as you left it${others}`, 'good');
+  else say(editor.list.name ? `type a letter, or choose File ▸ New${others}` : 'load a word list first: File ▸ Load a word list, or drop the file here');
+}
+
 async function start() {
   builtIn = { name: $('list') ? 'built-in list' : '', bytes: $('list') ? await embedded('list') : new Uint8Array(), least: 0 };
   showLicence();
   const [list, session] = [(await keptList()) ?? builtIn, keptSession()];
   await beginOn(await embedded('module'), list, session);
   showList();
+  showEarlier();
   const cell = editor.board.cells[session?.cursor] ? session.cursor : 0;
   editor.moveTo(cell, session?.direction ?? 'across');
   grid.focus();
-  if (session) say('your puzzle is as you left it', 'good');
-  else say(list.name ? 'type a letter, or choose File ▸ New' : 'load a word list first: File ▸ Load a word list, or drop the file here');
-  reasons.soon();
+  greet(session);
+  claim.begin();
+  // a reason would take the place of what was said of earlier puzzles
+  if (shelf.earlier.length) reasons.mark();
+  else reasons.soon();
 }
 
 start().catch((error) => {

@@ -1,7 +1,7 @@
 // The session: edits go to the engine in order, and each is kept in a history of records.
 import { Board } from './board.js';
 import { Engine } from './engine.js';
-import { parseRecord, transition } from './record.js';
+import { bodyOf, parseRecord, transition } from './record.js';
 import { refusalText, refuse } from './messages.js';
 import { whenIdle } from './idle.js';
 
@@ -26,11 +26,15 @@ export class Editor extends EventTarget {
   unmatched = new Set();
   commands = new Set();
   list = { name: '', words: 0, scored: false, best: 0, leftOut: {}, least: 0, bytes: new Uint8Array() };
-  // states: { record, pencil, cursor, direction }
+  // names the puzzle, which edits change and another file or pattern takes the place of
+  puzzle = newPuzzleName();
+  // states: { puzzle, record, pencil, cursor, direction }
   #past = [];
   #future = [];
   #now = null;
   #last = Promise.resolve();
+  // for each thing that is not done yet the lines that it sends, or null if it is no edit
+  #due = [];
   // how many things are to be done after the present one, and what ends a wait for an idle page
   #queued = 0;
   #hurry = null;
@@ -45,12 +49,33 @@ export class Editor extends EventTarget {
     this.dispatchEvent(new CustomEvent(name, { detail }));
   }
 
-  async begin(module, list, record, pencil = []) {
+  async begin(module, list, { record, pencil, puzzle }) {
     this.module = module;
     await this.engine.call('load', { bytes: module });
     await this.#open(list, record);
     this.pencil = new Set(pencil);
+    if (puzzle) this.puzzle = puzzle;
     this.#now = this.#state(this.record);
+  }
+
+  // The state as the browser keeps it: with the edits that are under way.
+  get state() {
+    const end = this.#due.indexOf(null);
+    const lines = (end < 0 ? this.#due : this.#due.slice(0, end)).flat();
+    return this.#state([this.record, ...lines.map((line) => `${line}\n`)].join(''));
+  }
+
+  get isBusy() {
+    return this.#due.length > 0;
+  }
+
+  // Gives the puzzles of the history other names, so that another tab's of the same name are not taken for them.
+  rename() {
+    const names = new Map();
+    const nameOf = (name) => names.get(name) ?? names.set(name, newPuzzleName()).get(name);
+    for (const state of [...this.#past, ...this.#future]) state.puzzle = nameOf(state.puzzle);
+    this.puzzle = nameOf(this.puzzle);
+    if (this.#now) this.#now = { ...this.#now, puzzle: this.puzzle };
   }
 
   async #open(list, record) {
@@ -97,17 +122,19 @@ export class Editor extends EventTarget {
   }
 
   #state(record) {
-    return { record, pencil: [...this.pencil], cursor: this.cursor, direction: this.direction };
+    return { puzzle: this.puzzle, record, pencil: [...this.pencil], cursor: this.cursor, direction: this.direction };
   }
 
-  // Does one thing after another, each to its end.
-  inOrder(action) {
+  // Does one thing after another, each to its end. `lines` are those of an edit.
+  inOrder(action, lines = null) {
     this.#queued++;
+    this.#due.push(lines);
     this.#hurry?.();
-    const done = this.#last.then(() => this.#restarting).then(() => {
+    const begun = this.#last.then(() => this.#restarting).then(() => {
       this.#queued--;
       return action();
     });
+    const done = begun.finally(() => this.#due.shift());
     this.#last = done.catch(() => {});
     return done;
   }
@@ -121,7 +148,7 @@ export class Editor extends EventTarget {
       } catch (fault) {
         return fault.status ?? 'Engine';
       }
-    });
+    }, lines);
   }
 
   async #edit(lines, { isWhole = true, pencil = null }) {
@@ -180,7 +207,14 @@ export class Editor extends EventTarget {
       if (this.#past.length > MOST_STEPS) this.#past.shift();
       this.#future = [];
     }
+    this.#arrive(now);
+  }
+
+  // Tells of a puzzle that another one takes the place of, as `leave`, and of the step.
+  #arrive(now) {
+    const before = this.#now;
     this.#now = now;
+    if (before.puzzle !== now.puzzle) this.#tell('leave', before);
     this.#tell('step');
   }
 
@@ -229,7 +263,6 @@ export class Editor extends EventTarget {
       if (!state) return false;
       to().push(this.#now);
       await this.#take(state);
-      this.#tell('step');
       return true;
     });
   }
@@ -239,17 +272,21 @@ export class Editor extends EventTarget {
     this.cursor = state.cursor;
     this.direction = state.direction;
     await this.#goTo(state.record);
-    this.#now = { ...state, record: this.record };
+    this.puzzle = state.puzzle;
+    this.edited = null;
+    this.#arrive({ ...state, record: this.record });
   }
 
-  // Goes to a record as one step, such as that of a file.
-  replace(record, pencil = []) {
+  // Goes to another puzzle as one step, such as that of a file.
+  replace({ record, pencil = [], puzzle = newPuzzleName() }) {
     return this.inOrder(async () => {
       this.pencil = new Set(pencil);
       this.chosen.clear();
       await this.#goTo(record);
+      this.puzzle = puzzle;
       this.cursor = Math.max(0, this.board.cells.findIndex((cell) => !cell.block));
       this.direction = 'across';
+      this.edited = null;
       this.#step();
       this.#tell('whole');
     });
@@ -320,5 +357,7 @@ export class Editor extends EventTarget {
   }
 }
 
-const bodyWithoutWords = (record) => record.split('\n').filter((line) => !/^(add|strike|watch) /.test(line)).join('\n');
-const isSame = (one, other) => bodyWithoutWords(one) === bodyWithoutWords(other);
+const isSame = (one, other) => bodyOf(one).join('\n') === bodyOf(other).join('\n');
+
+// A name that no other puzzle has.
+const newPuzzleName = () => `${Date.now().toString(36)}-${Math.random().toString(36).slice(2)}`;

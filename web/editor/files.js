@@ -1,21 +1,13 @@
 // Files: what is opened, dropped and saved.
+import { SESSION_HEAD, hasCommands, kindOf } from './kinds.js';
 import { refusalText, refuse, say } from './messages.js';
 import { leftOutText, readList, wordCount } from './word-list.js';
 
 const latin = new TextDecoder('windows-1252');
 const PENCIL = '# pencil ';
 
-const MAGIC = 'ACROSS&DOWN';
-
-// What a file is: `puzzle` (.puz or text), `session` or `list`.
-export function kindOf(name, bytes) {
-  const head = latin.decode(bytes.subarray(0, 4096));
-  if (head.slice(2, 2 + MAGIC.length) === MAGIC || /\.puz$/i.test(name)) return 'puzzle';
-  if (/^(\u00ef\u00bb\u00bf)?\s*<across puzzle>/i.test(head)) return 'puzzle';
-  if (/\.xw$/i.test(name)) return 'session';
-  const first = head.split('\n').find((line) => line.trim() && !line.startsWith('#')) ?? '';
-  return /^\s*(size \d+ \d+|(add|strike) [A-Za-z]+|sym [a-z]+|(block|circle) \d+ \d+|set \d+ \d+ [A-Za-z]|text \S+ .*)\s*$/.test(first) ? 'session' : 'list';
-}
+// the most bytes of a file that is opened; larger ones are none of those that the page knows
+const MOST_BYTES = 1 << 27;
 
 export class Files {
   #editor;
@@ -28,44 +20,69 @@ export class Files {
   // Opens a file of any kind. Returns whether it could.
   async open(file) {
     if (!this.actions.mayEdit()) return false;
-    const bytes = new Uint8Array(await file.arrayBuffer());
-    const kind = kindOf(file.name, bytes);
-    if (kind === 'list') return this.openList(file.name, bytes);
+    const bytes = await this.#bytesOf(file);
+    if (!bytes) return false;
     try {
-      if (kind === 'puzzle') await this.#openPuzzle(bytes);
-      else await this.#openSession(latin.decode(bytes));
+      switch (kindOf(file.name, bytes)) {
+        case 'list':
+          return await this.openList(file.name, bytes);
+        case 'puzzle':
+          await this.#editor.replace({ record: await this.#editor.engine.call('read', { puzzle: bytes }) });
+          break;
+        case 'session':
+          if (!(await this.#openSession(file.name, latin.decode(bytes)))) return false;
+          break;
+        case 'empty':
+          return this.#refuse(`${file.name} is empty: nothing is opened`);
+        default:
+          return this.#refuse(`${file.name} is no puzzle (.puz or text), no session and no word list: nothing is opened`);
+      }
     } catch (fault) {
       if (!fault.status) throw fault;
-      refuse(`${file.name}: ${refusalText(fault.status)}`);
-      return false;
+      return this.#refuse(`${file.name}: ${refusalText(fault.status)}`);
     }
     this.actions.opened(file.name);
     say(`${file.name} is open; undo goes back to what was here`, 'good');
     return true;
   }
 
-  async #openPuzzle(bytes) {
-    await this.#editor.replace(await this.#editor.engine.call('read', { puzzle: bytes }));
+  #refuse(text) {
+    refuse(text);
+    return false;
+  }
+
+  // The bytes of a file, or null if there are too many or the file cannot be read, as a folder cannot.
+  async #bytesOf(file) {
+    if (file.size > MOST_BYTES) {
+      refuse(`${file.name} is too large to be a puzzle, a session or a word list: nothing is opened`);
+      return null;
+    }
+    try {
+      return new Uint8Array(await file.arrayBuffer());
+    } catch {
+      refuse(`${file.name} cannot be read`);
+      return null;
+    }
   }
 
   // Only the grid and the texts of a session are tried without the list, since words of the list are not known there.
-  async #openSession(text) {
+  async #openSession(name, marked) {
+    const text = marked.replace(/^\u00ef\u00bb\u00bf/, '');
+    if (!hasCommands(text)) return this.#refuse(`${name} is a session without commands: nothing is opened`);
     const lines = text.split('\n').map((line) => line.replace(/\r$/, ''));
     const words = lines.filter((line) => /^\s*(add|strike)\s/.test(line));
     const read = await this.#editor.engine.call('read', { record: text });
     const body = read.split('\n').filter((line) => !/^(add|strike) /.test(line));
     const pencil = lines.find((line) => line.startsWith(PENCIL))?.slice(PENCIL.length).split(', ').filter(Boolean) ?? [];
-    await this.#editor.replace([...words, ...body].join('\n'), pencil);
+    await this.#editor.replace({ record: [...words, ...body].join('\n'), pencil });
+    return true;
   }
 
   async openList(name, bytes, least = 0) {
     if (!this.actions.mayEdit()) return false;
     say(`reading ${name} …`);
     const fault = await this.#editor.useList({ name, bytes, least });
-    if (fault) {
-      refuse(`${name}: ${[refusalText(fault), fault === 'NoWord' && whyLeftOut(bytes, least)].filter(Boolean).join('; ')}`);
-      return false;
-    }
+    if (fault) return this.#refuse(`${name}: ${[refusalText(fault), fault === 'NoWord' && whyLeftOut(bytes, least)].filter(Boolean).join('; ')}`);
     const { words, scored, leftOut } = this.#editor.list;
     const facts = [`${wordCount(words)}${scored ? ', the best scores first' : ''}`, leftOutText(leftOut, least)];
     say(`${name}: ${facts.filter(Boolean).join('; ')}`, 'good');
@@ -115,8 +132,9 @@ export class Files {
 
   saveSession() {
     const { record, pencil } = this.#editor;
-    const text = pencil.size ? `${PENCIL}${[...pencil].join(', ')}\n${record}` : record;
-    this.#give(encodeLatin(text), this.#name('xw'));
+    const lines = record.split('\n').filter((line) => line !== SESSION_HEAD);
+    const head = pencil.size ? [SESSION_HEAD, `${PENCIL}${[...pencil].join(', ')}`] : [SESSION_HEAD];
+    this.#give(encodeLatin([...head, ...lines].join('\n')), this.#name('xw'));
   }
 
   #give(bytes, name) {

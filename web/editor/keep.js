@@ -1,6 +1,7 @@
-// What the browser keeps between visits: the session at each change, and the word list.
+// What the browser keeps between visits: the puzzle at each change, earlier puzzles, and the word list.
 
 const NAME = 'xw-editor';
+const EARLIER = 'xw-editor-earlier';
 const STORE = 'kept';
 
 function database() {
@@ -26,29 +27,71 @@ async function within(mode, action) {
   }
 }
 
-// Keeps the session: its record, and what the page adds to it. It is written before the call returns, so that nothing is lost if the page goes.
-// Returns whether the browser keeps it.
-export function keepSession(session) {
+// What is kept under a name, as text; null if there is nothing.
+function keptText(name) {
   try {
-    localStorage.setItem(NAME, JSON.stringify(session));
+    return localStorage.getItem(name);
+  } catch {
+    return null;
+  }
+}
+
+function keepText(name, text) {
+  try {
+    localStorage.setItem(name, text);
     return true;
   } catch {
     return false;
   }
 }
 
-// Tells when the editor in another tab keeps its session in place of this one.
-export function onOtherKeeper(action) {
-  addEventListener('storage', ({ key }) => key === NAME && action());
-}
+const isSessionState = (session) => typeof session?.record === 'string';
 
-export function keptSession() {
+function parsed(text) {
   try {
-    const session = JSON.parse(localStorage.getItem(NAME));
-    return typeof session?.record === 'string' ? session : null;
+    return JSON.parse(text);
   } catch {
     return null;
   }
+}
+
+// what is kept of the session, as this page last read or wrote it
+let seenText = null;
+
+// Keeps the session: its record, and what the page adds to it. It is written before the call returns, so that nothing is lost if the page goes.
+// Returns whether the browser keeps it.
+export function keepSession(session) {
+  const text = JSON.stringify(session);
+  if (!keepText(NAME, text)) return false;
+  seenText = text;
+  return true;
+}
+
+export function keptSession() {
+  seenText = keptText(NAME);
+  const session = parsed(seenText);
+  return isSessionState(session) ? session : null;
+}
+
+// Whether the kept session is the one that this page last read or wrote.
+export const isSessionAsSeen = () => keptText(NAME) === seenText;
+
+// Tells when another tab keeps its session in place of this one.
+export function onOtherKeeper(action) {
+  addEventListener('storage', ({ key, newValue }) => key === NAME && newValue && action());
+}
+
+// The sessions of earlier puzzles, the latest first.
+export function earlierSessions() {
+  const sessions = parsed(keptText(EARLIER));
+  return Array.isArray(sessions) ? sessions.filter(isSessionState) : [];
+}
+
+export const keepEarlier = (sessions) => keepText(EARLIER, JSON.stringify(sessions));
+
+// Tells when another tab changes the earlier puzzles.
+export function onEarlierChanged(action) {
+  addEventListener('storage', ({ key }) => key === EARLIER && action());
 }
 
 export async function keepList(list) {

@@ -48,17 +48,33 @@ export const REFUSALS = {
 export const refusalText = (name) => REFUSALS[name] ?? `refused: ${name}`;
 
 let line;
-let clearing;
+let warnings;
 
-export function useStatusLine(element) {
+export function useStatusLine(element, warningsElement) {
   line = element;
+  warnings = warningsElement;
 }
 
 // Says something; `tone` is '', 'good' or 'bad'.
 export function say(text, tone = '') {
-  clearTimeout(clearing);
   line.textContent = text;
   line.dataset.tone = tone;
 }
 
 export const refuse = (text) => say(text, 'bad');
+
+// Warnings, which stay until what they warn of is over. Each has a name, and may have a button: { label, title, action }.
+
+const warningOf = (name) => [...warnings.children].find((warning) => warning.dataset.name === name);
+
+export function warn(name, text, button = null) {
+  if (warningOf(name)?.firstChild.data === text) return;
+  endWarning(name);
+  const warning = document.createElement('p');
+  warning.dataset.name = name;
+  warning.append(text);
+  if (button) warning.append(Object.assign(document.createElement('button'), { type: 'button', textContent: button.label, title: button.title, onclick: button.action }));
+  warnings.append(warning);
+}
+
+export const endWarning = (name) => warningOf(name)?.remove();

@@ -87,9 +87,9 @@ function takeText(texts, name, rest) {
   texts.set(field, name === 'more' ? (texts.get(field) ?? '') + spelled : spelled);
 }
 
-// The lines of a record that make its grid and its texts, without those of words and of the watch.
+// The lines of a record that make its grid and its texts, without notes and those of words and of the watch.
 export function bodyOf(record) {
-  return record.split('\n').filter((line) => line && !/^(add|strike|watch) /.test(line));
+  return record.split('\n').filter((line) => line && !/^(#|(add|strike|watch) )/.test(line));
 }
 
 const without = (some, others) => [...some].filter((one) => !others.has(one));

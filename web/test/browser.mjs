@@ -12,6 +12,7 @@ const CODES = {
 
 export class Browser {
   #process;
+  #host;
   #folder;
   #socket;
   #id = 0;
@@ -39,13 +40,33 @@ export class Browser {
       });
       this.#process.on('exit', () => reject(new Error(`${program} ended: ${told}`)));
     });
-    const { host } = new URL(url);
-    const targets = await (await fetch(`http://${host}/json/list`)).json();
-    await this.#connect(targets.find((target) => target.type === 'page').webSocketDebuggerUrl);
+    this.#host = new URL(url).host;
+    await this.#attach(({ type }) => type === 'page');
+  }
+
+  // Connects to the first target that passes a test.
+  async #attach(isWanted) {
+    const targets = await (await fetch(`http://${this.#host}/json/list`)).json();
+    await this.#connect(targets.find(isWanted).webSocketDebuggerUrl);
     for (const domain of ['Page', 'Runtime', 'Log', 'DOM']) await this.send(`${domain}.enable`);
     this.faults = [];
     this.on('Runtime.exceptionThrown', ({ exceptionDetails }) => this.faults.push(exceptionDetails.exception?.description ?? exceptionDetails.text));
     this.on('Log.entryAdded', ({ entry }) => entry.level === 'error' && this.faults.push(entry.text));
+  }
+
+  // Another tab of this browser, with the same calls. Its `close` closes the tab.
+  async tab() {
+    const other = new Browser();
+    const { targetId } = await this.send('Target.createTarget', { url: 'about:blank' });
+    other.#host = this.#host;
+    await other.#attach(({ id }) => id === targetId);
+    other.close = () => this.send('Target.closeTarget', { targetId });
+    return other;
+  }
+
+  // Brings the tab to the front. Those behind it have no frames, and are seldom idle.
+  front() {
+    return this.send('Page.bringToFront');
   }
 
   async #connect(url) {

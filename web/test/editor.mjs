@@ -83,6 +83,11 @@ async function fresh() {
   await ready();
 }
 
+async function reload() {
+  await browser.go(PAGE.href);
+  await ready();
+}
+
 async function menu(name) {
   await browser.click('#file');
   await browser.click(`[data-do="${name}"]`);
@@ -418,6 +423,20 @@ const CASES = {
     expect((await browser.value("document.getElementById('title').value")) === 'Kept', 'the title is lost');
   },
 
+  async 'a reload in the middle of a word'() {
+    await begin(1);
+    const loaded = new Promise((resolve) => browser.on('Page.loadEventFired', resolve));
+    // the page goes before the engine has answered
+    await browser.value(`(() => {
+      const press = (key) => document.getElementById('grid').dispatchEvent(new KeyboardEvent('keydown', { key, bubbles: true, cancelable: true }));
+      for (const key of 'tone') press(key);
+      location.reload();
+    })()`);
+    await loaded;
+    await ready();
+    expect((await page.row(1)).startsWith('TONE'), `the row is ${await page.row(1)}`);
+  },
+
   async 'words added and struck, repeats and unlisted words'() {
     await begin(6);
     await browser.type('zzq');
@@ -523,6 +542,49 @@ const CASES = {
     await page.factsAre(/built-in list/);
   },
 
+  async 'files that are refused by name'() {
+    await begin(6);
+    await browser.type('co');
+    await page.factsAre(/· 2 of/);
+    const rows = await page.rows();
+    const prose = 'It was the best of times, it was the worst of times, it was the age of\nwisdom, it was the age of foolishness, it was the epoch of belief, it was\nthe epoch of incredulity.\n';
+    const files = {
+      'none.puz': '', 'none.txt': '', 'none.xw': '', 'blank.txt': '\n\n \n', 'notes.xw': '# xw session 1\n\n# no more\n', 'prose.txt': prose,
+      'some.puz': 'cat\ncot\n', 'numbers.csv': '1,2\n3,4\n', 'folder.txt': null,
+      'puzzle.ipuz': JSON.stringify({ version: 'http://ipuz.org/v2', kind: ['http://ipuz.org/crossword#1'], dimensions: { width: 2, height: 1 }, puzzle: [[1, 2]], solution: [['A', 'B']] }, null, 1),
+      'paper.pdf': '%PDF-1.4\n1 0 obj\n<< /Type /Catalog /Pages 2 0 R >>\nendobj\n2 0 obj\n<< /Type /Pages /Kids [] /Count 0 >>\nendobj\ntrailer\n<< /Root 1 0 R >>\nstartxref\n9\n%%EOF\n',
+      'picture.png': Buffer.from('89504e470d0a1a0a0000000d49484452000000010000000108060000001f15c489', 'hex'),
+    };
+    for (const [name, bytes] of Object.entries(files)) {
+      if (bytes === null) mkdirSync(join(room, name));
+      else writeFileSync(join(room, name), bytes);
+      await hush();
+      const data = { items: [], files: [join(room, name)], dragOperationsMask: 1 };
+      for (const type of ['dragEnter', 'dragOver', 'drop']) await browser.send('Input.dispatchDragEvent', { type, x: 300, y: 300, data });
+      await browser.until("document.getElementById('status').textContent");
+      const told = await page.status();
+      expect(told.startsWith(name) && (await browser.value("document.getElementById('status').dataset.tone")) === 'bad', `${name} is not refused: ${told}`);
+      expect((await page.rows()).join() === rows.join(), `${name} changes the grid`);
+      await page.factsAre(/built-in list/);
+    }
+    rmSync(join(room, 'folder.txt'), { recursive: true });
+  },
+
+  async 'sessions with and without their first line'() {
+    const body = 'size 3 3\nblock 2 2\nsym half\nset 1 1 T\nset 1 2 O\nset 1 3 E\n';
+    const files = { 'head.txt': `# xw session 1\n${body}`, 'older.txt': body, 'noted.txt': `# a note\r\n\r\n${body.replaceAll('\n', '\r\n')}`, 'marked.txt': `\ufeff# xw session 1\n${body}`, 'head.xw': `# xw session 1\n${body}` };
+    for (const [name, text] of Object.entries(files)) {
+      await begin(6);
+      writeFileSync(join(room, name), text);
+      await openFile(join(room, name));
+      await page.statusIs(/./);
+      expect((await page.status()).startsWith(`${name} is open`), await page.status());
+      expect((await page.rows()).join() === 'TOE,.#.,...', `the grid is ${await page.rows()}`);
+    }
+    const lines = (await saved('crossword.xw', () => menu('save-session'))).toString().split('\n');
+    expect(lines[0] === '# xw session 1' && lines.filter((line) => line.startsWith('# xw')).length === 1, `the file begins with ${lines[0]}`);
+  },
+
   async 'a new puzzle while words are counted'() {
     await begin(1);
     await browser.click('#cell-1-12');
@@ -555,6 +617,125 @@ const CASES = {
     await browser.until("/size 5 5[^]*set 1 2 A/.test(localStorage.getItem('xw-editor'))");
     expect(!/fail/.test(await page.status()), await page.status());
     expect((await page.row(1)) === '#A..#', `the grid is ${await page.rows()}`);
+  },
+
+  async 'earlier puzzles'() {
+    await fresh();
+    await begin(1);
+    await browser.type('tone');
+    await page.factsAre(/· 4 of/);
+    await begin(6);
+    await browser.press('Control+z');
+    await page.factsAre(/^15 × 15 · 4 of/);
+    // it is here again, and the blank one is not worth keeping
+    await browser.until("document.getElementById('earlier').disabled");
+    await browser.press('Control+y');
+    await page.factsAre(/^5 × 5/);
+    await browser.type('co');
+    await browser.until("/size 5 5[^]*set 1 3 O/.test(localStorage.getItem('xw-editor'))");
+    await reload();
+    await page.statusIs(/Earlier puzzles has 1 more/);
+    await menu('earlier');
+    await browser.until("document.querySelectorAll('#earlier-list .pattern').length === 1");
+    await picture('earlier');
+    await browser.click('#earlier-list .pattern');
+    await page.factsAre(/^15 × 15 · 4 of/);
+    expect((await page.row(1)).startsWith('TONE'), 'the letters are lost');
+    await browser.until("/size 15 15[^]*set 1 4 E/.test(localStorage.getItem('xw-editor'))");
+    await reload();
+    await menu('earlier');
+    expect((await browser.value("document.querySelector('#earlier-list').textContent")).includes('5 × 5'), 'the other puzzle is lost');
+    // thrown away when the dialog closes, but not if it was only a slip
+    await browser.click('#earlier-list .throw-away');
+    await browser.click('#earlier-list .throw-away');
+    await browser.click('#earlier-dialog [value=close]');
+    await menu('earlier');
+    await browser.click('#earlier-list .throw-away');
+    await browser.press('Escape');
+    await browser.until("document.activeElement.id === 'grid'");
+    await menu('earlier');
+    await browser.click('#earlier-list .throw-away');
+    await browser.click('#earlier-dialog [value=close]');
+    await browser.until("document.getElementById('earlier').disabled");
+    await reload();
+    expect(await browser.value("document.getElementById('earlier').disabled"), 'the puzzle is not thrown away');
+    expect((await page.row(1)).startsWith('TONE'), 'the puzzle that is here is thrown away');
+  },
+
+  async 'two tabs'() {
+    await fresh();
+    await begin(1);
+    await browser.type('tone');
+    await keptIs(/set 1 4 E/);
+    // a tab is told what another one stores
+    await browser.value("window.stored = [], addEventListener('storage', ({ key }) => window.stored.push(key))");
+    const other = await browser.tab();
+    const warning = (tab) => tab.until("/another tab/i.test(document.getElementById('warnings').textContent)");
+    try {
+      await other.view(1400, 900);
+      await other.go(PAGE.href);
+      await warning(other);
+      await other.click('#cell-1-1');
+      await other.type('st');
+      await other.until("document.querySelector('#cell-1-1 .letter').textContent === 'S' && document.querySelector('#cell-1-2 .letter').textContent === 'T'");
+      await other.press('Control+p');
+      await other.click('#print-dialog [value=cancel]');
+      // a message in place of the one before
+      await other.press('Control+s');
+      await other.until("/not saved/.test(document.getElementById('status').textContent)");
+      await warning(other);
+      await other.value('new Promise((resolve) => requestIdleCallback(() => requestIdleCallback(() => resolve(true))))');
+      expect(!/set 1 1 S|set 1 2 T/.test(await other.value("localStorage.getItem('xw-editor')")), 'the second tab writes');
+      expect((await browser.value('window.stored.length')) === 0, 'the second tab stores something');
+      if (pictures) writeFileSync(join(pictures, 'two-tabs.png'), await other.picture());
+      await browser.front();
+      await browser.click('#cell-2-1');
+      await browser.type('a');
+      await keptIs(/set 2 1 A/);
+      // the second tab is told to keep its own
+      await other.front();
+      await other.click('#warnings button');
+      await warning(browser);
+      await other.until("!document.getElementById('warnings').textContent && document.activeElement.id === 'grid'");
+      await keptIs(/set 1 1 S/);
+      expect(await browser.value("JSON.parse(localStorage.getItem('xw-editor-earlier')).some(({ record }) => /set 2 1 A/.test(record))"), 'the puzzle of the first tab is lost');
+      await browser.front();
+      await browser.click('#cell-3-1');
+      await browser.type('b');
+      await browser.until("document.querySelector('#cell-3-1 .letter').textContent === 'B'");
+      await other.front();
+      await other.click('#cell-1-3');
+      await other.type('z');
+      await keptIs(/set 1 3 Z/);
+      expect(!(await browser.value("localStorage.getItem('xw-editor')")).includes('set 3 1 B'), 'the first tab writes again');
+    } finally {
+      await other.close();
+      await browser.front();
+    }
+    await browser.click('#warnings button');
+    await browser.until("!document.getElementById('warnings').textContent");
+    await keptIs(/set 3 1 B/);
+    expect(await browser.value("JSON.parse(localStorage.getItem('xw-editor-earlier')).some(({ record }) => /set 1 3 Z/.test(record))"), 'the puzzle of the second tab is lost');
+    await reload();
+    expect(!(await browser.value("document.getElementById('warnings').textContent")), 'a tab that is alone is warned');
+
+    function keptIs(pattern) {
+      return browser.until(`${pattern}.test(localStorage.getItem('xw-editor'))`);
+    }
+  },
+
+  async 'a browser that keeps nothing'() {
+    await begin(1);
+    await browser.value('window.setItem = Storage.prototype.setItem, Storage.prototype.setItem = () => { throw new Error("no room"); }');
+    await browser.type('t');
+    await browser.until("/keeps nothing/.test(document.getElementById('warnings').textContent)");
+    await browser.press('Control+s');
+    await page.statusIs(/not saved/);
+    expect(await browser.value("/keeps nothing/.test(document.getElementById('warnings').textContent)"), 'the next message takes the warning away');
+    await browser.value('Storage.prototype.setItem = window.setItem');
+    await browser.click('#cell-1-2');
+    await browser.type('o');
+    await browser.until("!document.getElementById('warnings').textContent && /set 1 2 O/.test(localStorage.getItem('xw-editor'))");
   },
 
   async 'a reason beside the last entry'() {

@@ -1,0 +1,40 @@
+// What a file is, by its bytes and its name.
+import { isWordList, listText } from './word-list.js';
+
+const MAGIC = 'ACROSS&DOWN';
+// how many bytes tell whether a file is a word list
+const SAMPLE = 1 << 18;
+// the first line of a session that the program or this page saved
+export const SESSION_HEAD = '# xw session 1';
+
+// What a line of a session begins with. Those of older versions have no head.
+const COMMANDS = [
+  'size \\d+ \\d+', '(add|strike) [A-Za-z]+', 'sym [a-z]+', '(block|circle|clear) \\d+ \\d+', 'bar \\d+ \\d+ (right|below)', 'set \\d+ \\d+ [A-Za-z]',
+  '(place|erase) \\d+ (across|down)( [A-Za-z]+)?', '(text|more) \\S+.*', 'watch (on|off)',
+];
+const COMMAND = new RegExp(`^[ \\t]*(${COMMANDS.join('|')})[ \\t]*$`);
+
+const isNote = (line) => !line.trim() || line.trimStart().startsWith('#');
+
+// Whether the lines of a session have a command.
+export const hasCommands = (text) => text.split('\n').some((line) => !isNote(line));
+
+function isSession(name, head) {
+  const lines = head.split(/\r?\n/);
+  if (/\.xw$/i.test(name) || lines[0].trim() === SESSION_HEAD) return true;
+  return COMMAND.test(lines.find((line) => !isNote(line)) ?? '');
+}
+
+const isSixteenBits = (bytes) => (bytes[0] === 0xff && bytes[1] === 0xfe) || (bytes[0] === 0xfe && bytes[1] === 0xff);
+
+// What a file is: `puzzle` (.puz or text), `session`, `list`, `empty`, or `other`.
+export function kindOf(name, bytes) {
+  if (!bytes.length) return 'empty';
+  const head = new TextDecoder('windows-1252').decode(bytes.subarray(0, 4096)).replace(/^\u00ef\u00bb\u00bf/, '');
+  if (head.slice(2, 2 + MAGIC.length) === MAGIC || /\.puz$/i.test(name)) return 'puzzle';
+  if (/^\s*<across puzzle>/i.test(head)) return 'puzzle';
+  if (isSession(name, head)) return 'session';
+  // a text of bytes has no NUL, and pictures and archives have one soon
+  if (head.includes('\0') && !isSixteenBits(bytes)) return 'other';
+  return isWordList(listText(bytes.subarray(0, SAMPLE))) ? 'list' : 'other';
+}
