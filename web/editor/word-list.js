@@ -45,6 +45,7 @@ export function isWordList(text) {
 // Why a line is left out.
 const WHY = {
   accents: () => 'with accents',
+  letters: () => 'with letters other than A to Z',
   signs: () => 'with signs that are not ASCII',
   unscored: () => 'without a score',
   low: (count, least) => (count === 1 ? `with a score below ${least}` : `with scores below ${least}`),
@@ -53,9 +54,16 @@ const WHY = {
   repeated: (count) => (count === 1 ? 'that repeats a word' : 'that repeat words'),
 };
 
+// What of a spelling is not ASCII: letters, accents, or signs only.
+function beyondAscii(spelling) {
+  const letters = spelling.normalize('NFD').replace(/[^\p{L}\p{M}]/gu, '');
+  if (/[^\x00-\x7f]/.test(letters.replace(/\p{M}/gu, ''))) return 'letters';
+  return /\p{M}/u.test(letters) ? 'accents' : 'signs';
+}
+
 // What keeps a spelling from being a word of the list, or null.
 function reasonToLeave(spelling, letters, score, isScored, least) {
-  if (/[^\x00-\x7f]/.test(spelling)) return /[^\x00-\x7f]/.test(spelling.replace(/[^\p{L}\p{M}]/gu, '')) ? 'accents' : 'signs';
+  if (/[^\x00-\x7f]/.test(spelling)) return beyondAscii(spelling);
   if (isScored && score === null) return 'unscored';
   if (isScored && score < least) return 'low';
   if (letters.length < 2) return 'short';

@@ -519,7 +519,7 @@ const CASES = {
     };
     await begin(6);
     await open('marked.txt', '\ufeffcat\r\ncot\r\n\r\ncut', '3 words');
-    await open('accents.txt', 'caf\u00e9\ncat\nna\u00efve\ndon\u2019t\ncot\n', '2 words; 3 lines left out: 2 with accents, 1 with signs that are not ASCII');
+    await open('accents.txt', 'caf\u00e9\ncat\nna\u00efve\ndon\u2019t\ncot\nstra\u00dfe\n', '2 words; 4 lines left out: 2 with accents, 1 with letters other than A to Z, 1 with signs that are not ASCII');
     await open('latin.txt', Buffer.from('caf\u00e9\ncat\ncot\n', 'latin1'), '2 words; 1 line left out: 1 with accents');
     await openFile(join(room, 'accents.txt'));
     await page.statusIs(/2 words/);
