@@ -26,7 +26,7 @@ export class Editor extends EventTarget {
   unmatched = new Set();
   commands = new Set();
   list = { name: '', words: 0, scored: false, best: 0, leftOut: {}, least: 0, bytes: new Uint8Array() };
-  // names the puzzle, which edits change and another file or pattern takes the place of
+  // names the puzzle: edits keep the name, another file or pattern has another one
   puzzle = newPuzzleName();
   // states: { puzzle, record, pencil, cursor, direction }
   #past = [];
@@ -210,7 +210,7 @@ export class Editor extends EventTarget {
     this.#arrive(now);
   }
 
-  // Tells of a puzzle that another one takes the place of, as `leave`, and of the step.
+  // Tells of a puzzle that is replaced, as `leave`, and of the step.
   #arrive(now) {
     const before = this.#now;
     this.#now = now;

@@ -28,7 +28,7 @@ export class Shelf extends EventTarget {
   #claim;
   #isKept = true;
   #isTaking = false;
-  // sessions that another puzzle took the place of, and that the browser does not keep yet
+  // sessions that were replaced, and that the browser does not keep yet
   #aside = [];
 
   constructor(editor, claim, saveSession) {
@@ -95,7 +95,7 @@ export class Shelf extends EventTarget {
     return true;
   }
 
-  // Keeps a session that another puzzle takes the place of.
+  // Keeps a session that another puzzle replaces.
   putAside(session) {
     if (isUntouched(session.record)) return;
     this.#aside = [{ ...session, left: Date.now() }, ...withoutPuzzles(this.#aside, [session])];
