@@ -1,6 +1,9 @@
 """Runs with a broken input or a full output."""
+import os
+import subprocess
+
 from samples import PLAIN
-from steps import FAILED, absent, compare, end, write
+from steps import FAILED, absent, compare, differs, end, exists, holds, run, write
 
 
 def fails(words, fault, typed=b"", can_be_read=True):
@@ -15,6 +18,31 @@ def fails(words, fault, typed=b"", can_be_read=True):
     return step
 
 
+def cannot_read(words, fault):
+    return fails(words, fault, can_be_read=False)
+
+
+def breaks_off(room, program):
+    """Runs a session on a terminal that is closed after an answer: the next read fails."""
+    terminal, line = os.openpty()
+    process = subprocess.Popen(
+        ["xw", "edit", "--from", "plain", "--save", "saved.xw", "--to", "kept.puz"],
+        executable=program,
+        cwd=room,
+        env={},
+        stdin=line,
+        stdout=subprocess.PIPE,
+        stderr=subprocess.PIPE,
+    )
+    os.write(terminal, b"add CAT\n")
+    compare("answer", process.stdout.read(3), b"ok\n")
+    os.close(terminal)
+    os.close(line)
+    ended = (*process.communicate(timeout=10), process.returncode)
+    compare("output, messages and status", ended, (b"", b"xw: input fault\n", FAILED))
+    assert b"add CAT\n" in (room / "saved.xw").read_bytes()
+
+
 def is_saved_up_to_the_fault(room, program):
     """Checks that no line is executed after an answer that could not be written."""
     saved = (room / "saved.xw").read_bytes()
@@ -23,10 +51,37 @@ def is_saved_up_to_the_fault(room, program):
 
 TWO_WORDS = b"add CAT\nadd DOG\n"
 
+# The puzzle is filled, so that it could be written after the fault; the commands leave it filled.
+FILLED = [write("plain", PLAIN), write("kept.puz", b"old")]
+
+
+def no_puzzle_after(fault, failing, *typed):
+    """Checks that no puzzle is written after a fault, neither a new file nor over an old one."""
+    return [
+        *FILLED,
+        *(failing(f"edit --from plain --to {name}", fault, *typed) for name in ("new.puz", "new.txt", "kept.puz")),
+        holds("kept.puz", b"old"),
+        absent("new.puz"),
+        absent("new.txt"),
+        run("edit --from plain --to kept.puz"),
+        differs("kept.puz", b"old"),
+    ]
+
+
 CASES = {
-    "input_fault": [fails("edit --to unwritten.puz", "input fault", can_be_read=False), absent("unwritten.puz")],
-    "output_fault": [fails("edit --to unwritten.puz", "output fault", TWO_WORDS), absent("unwritten.puz")],
+    "input_fault": no_puzzle_after("input fault", cannot_read),
+    "output_fault": no_puzzle_after("output fault", fails, TWO_WORDS),
+    # One that comes only with the last answer, which is flushed at the end.
+    "output_fault, of the last answer": no_puzzle_after("output fault", fails, b"show\n"),
     "output_fault_of_a_check": [write("checked", PLAIN), fails("check checked", "output fault")],
     # The session is saved although the output failed.
-    "output_fault_of_a_flush": [fails("edit --save saved.xw", "output fault", TWO_WORDS), is_saved_up_to_the_fault],
+    "output_fault_of_a_flush": [
+        *FILLED,
+        fails("edit --from plain --save saved.xw --to kept.puz", "output fault", TWO_WORDS),
+        is_saved_up_to_the_fault,
+        holds("kept.puz", b"old"),
+    ],
+    "input_fault_of_a_session": [*FILLED, cannot_read("edit --from plain --save saved.xw --to kept.puz", "input fault"), exists("saved.xw"), holds("kept.puz", b"old")],
+    # A fault after lines that were answered.
+    "input_fault, after answers": [*FILLED, breaks_off, holds("kept.puz", b"old")],
 }

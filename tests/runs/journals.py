@@ -5,19 +5,21 @@ import resource
 import signal
 import subprocess
 
-from samples import PLAIN
-from steps import ACCEPTED, FAILED, FORMAT, REFUSED, USAGE, absent, compare, end, holds, link, run, write
+from samples import ALL_TEXTS, PLAIN, STARTED, TEXT
+from steps import ACCEPTED, FAILED, FIRST, FORMAT, REFUSED, USAGE, absent, compare, end, exists, holds, link, remove, run, write
 
 from runs.devices import fails
-from runs.replacing import folder, is_link, is_no_file, set_mode
+from runs.replacing import folder, has_mode, is_link, is_no_file, set_mode
 
+# Lines that are typed, and the journal that they make.
 BEGUN = b"size 2 1\nset 1 1 A\n"
+KEPT = FIRST + BEGUN
 
 
 def record(*letters, words=b"", title=b"", watch=b"off"):
-    """The record of a grid of 2 columns and 1 row with these letters: docs/commands.md, "The record of a session"."""
+    """A file with the record of a grid of 2 columns and 1 row with these letters: docs/commands.md, "The record of a session"."""
     texts = b"text title " + title + b"\ntext author \ntext copyright \ntext notes \n"
-    return words + b"size 2 1\nsym none\n" + b"".join(letters) + texts + b"watch " + watch + b"\n"
+    return FIRST + words + b"size 2 1\nsym none\n" + b"".join(letters) + texts + b"watch " + watch + b"\n"
 
 
 class Session:
@@ -28,9 +30,12 @@ class Session:
         self.process = subprocess.Popen(["xw", *words.split()], executable=program, cwd=room, env={}, bufsize=0, **pipes)
         self.output = os.fdopen(os.dup(self.process.stdout.fileno()), "rb")
 
+    def send(self, line):
+        self.process.stdin.write(line + b"\n")
+
     def ask(self, line, answer):
         """Sends a line, and reads its answer."""
-        self.process.stdin.write(line + b"\n")
+        self.send(line)
         compare(f"answer to {line}", b"".join(self.output.readline() for _ in answer.split(b"\n")[:-1]), answer)
 
     def close(self):
@@ -51,7 +56,7 @@ class Session:
         return rest
 
 
-def grows(*exchanges, words="edit --journal mine.xw", begun=b""):
+def grows(*exchanges, words="edit --journal mine.xw", begun=FIRST):
     """Sends lines, and checks after each answer what has come to the journal before it; then kills the program, and resumes."""
 
     def step(room, program):
@@ -66,12 +71,11 @@ def grows(*exchanges, words="edit --journal mine.xw", begun=b""):
     return step
 
 
-def set_limit():
-    resource.setrlimit(resource.RLIMIT_FSIZE, (20, 20))
+def has_no_room(limit, words, typed=b"", output=b"", errors=b"xw: mine.xw: cannot write\n", status=FAILED, is_signalled=False):
+    """Runs the program with a limit to the length of files, whose signal is ignored or not."""
 
-
-def has_no_room(words, typed, output, status, errors, is_signalled):
-    """Runs the program under a limit of file size, with its signal ignored or not."""
+    def set_limit():
+        resource.setrlimit(resource.RLIMIT_FSIZE, (limit, limit))
 
     def step(room, program):
         ended = end(
@@ -93,16 +97,23 @@ def is_locked(how):
     return step
 
 
-def is_locked_by_another(room, program):
-    """A second program is refused, and the first goes on."""
-    session = Session(room, program)
-    session.ask(b"size 2 1", b"ok\n")
-    for words in ("edit --journal mine.xw", "edit --journal ./mine.xw --save mine.new", "edit --journal mine.link"):
-        name = words.split()[2]
-        run(words, b"size 9 9\n", errors=f"xw: {name}: in use\n".encode(), status=FAILED)(room, program)
-    compare("journal", (room / "mine.xw").read_bytes(), b"size 2 1\n")
-    session.ask(b"set 1 1 A", b"ok\n")
-    compare("end", session.end(), (b"", b"", ACCEPTED))
+def is_locked_by_another(*typed):
+    """A second program is refused, and the first goes on. `typed` is what the first gets before."""
+
+    def step(room, program):
+        session = Session(room, program)
+        for line in [*typed, b"title"]:
+            session.ask(line, b"ok\n")
+        before = (room / "mine.xw").read_bytes()
+        for words in ("edit --journal mine.xw", "edit --journal ./mine.xw --save mine.new", "edit --journal mine.link"):
+            name = words.split()[2]
+            run(words, b"size 9 9\n", errors=f"xw: {name}: in use\n".encode(), status=FAILED)(room, program)
+        compare("journal", (room / "mine.xw").read_bytes(), before)
+        session.ask(b"set 1 1 A", b"ok\n")
+        compare("journal", (room / "mine.xw").read_bytes(), before + b"set 1 1 A\n")
+        compare("end", session.end(), (b"", b"", ACCEPTED))
+
+    return step
 
 
 def pipe(name):
@@ -130,15 +141,81 @@ def rights_kept(room, program):
     else:
         steps = [
             cannot_write("closed/shut.xw"),
-            holds("closed/shut.xw", BEGUN),
+            holds("closed/shut.xw", KEPT),
             # Lines can be appended, but no new file can be made in the folder at the end.
             run("edit --journal closed/open.xw", typed, output, errors=b"xw: closed/open.xw: cannot write\n", status=FAILED),
-            holds("closed/open.xw", BEGUN + typed),
+            holds("closed/open.xw", KEPT + typed),
+            # Nor one that begins with the first line.
+            cannot_write("closed/plain.xw"),
+            holds("closed/plain.xw", BEGUN),
             cannot_write("closed/new.xw"),
             absent("closed/new.xw"),
         ]
     for step in [*steps, set_mode("closed", 0o755)]:
         step(room, program)
+
+
+def loses_its_journal(*changes, line=b"set 1 1 A", words="edit --journal mine.xw", kept=b"set 1 2 B\n"):
+    """Changes what the name of the journal leads to. Then the program answers queries, and ends at the next line that is a change, before
+    its answer, or if there is none at the end of its input. It never writes to another file of that name; what is there then is `kept`, or
+    no file."""
+
+    def step(room, program):
+        session = Session(room, program, words)
+        session.ask(b"size 2 1", b"ok\n")
+        for change in changes:
+            change(room, program)
+        session.ask(b"show", b"- -\nok\n")
+        if line:
+            session.send(line)
+        compare("end", session.end(), REPLACED)
+        compare("mine.xw", (room / "mine.xw").read_bytes() if (room / "mine.xw").exists() else None, kept)
+
+    return step
+
+
+def loses_by_a_search(room, program):
+    """The letters of a search are a change, and a search that finds none is no change."""
+    session = Session(room, program, "edit --journal mine.xw")
+    session.ask(b"size 2 1", b"ok\n")
+    session.ask(b"add AB", b"ok\n")
+    remove("mine.xw")(room, program)
+    session.ask(b"fill 0", b"limit\nok\n")
+    session.send(b"fill 9")
+    compare("end", session.end(), REPLACED)
+
+
+def loses_its_journal_at_the_end(words):
+    def step(room, program):
+        session = Session(room, program, words)
+        session.ask(b"show", b"A T\nok\n")
+        remove("mine.xw")(room, program)
+        compare("end", session.end(), REPLACED)
+
+    return step
+
+
+def is_begun_by(name, data):
+    def step(room, program):
+        found = (room / name).read_bytes()
+        assert found.startswith(data), f"{name}: {found!r}"
+
+    return step
+
+
+def finds_its_journal_again(room, program):
+    """The name of a journal may lead elsewhere between two changes."""
+    session = Session(room, program)
+    session.ask(b"size 2 1", b"ok\n")
+    rename("mine.xw", "away.xw")(room, program)
+    session.ask(b"show", b"- -\nok\n")
+    rename("away.xw", "mine.xw")(room, program)
+    session.ask(b"set 1 1 A", b"ok\n")
+    compare("end", session.end(), (b"", b"", ACCEPTED))
+
+
+def rename(name, to):
+    return lambda room, program: (room / name).rename(room / to)
 
 
 def stops(lines, *errors, status=FORMAT):
@@ -153,8 +230,37 @@ def stops(lines, *errors, status=FORMAT):
     ]
 
 
+def stops_at_puzzles(*puzzles, made):
+    """A puzzle file is no journal, nor is one that the program writes."""
+    steps = [step for data in puzzles for step in [write("mine.xw", data), is_no_journal("mine.xw"), holds("mine.xw", data)]]
+    return [*steps, run("edit --to a.puz", made, b"ok\n" * made.count(b"\n")), is_no_journal("a.puz")]
+
+
+def is_no_journal(name):
+    """Checks that the program does not take a file as its journal, and leaves it as it is."""
+
+    def step(room, program):
+        before = (room / name).read_bytes()
+        run(f"edit --journal {name}", b"show\n", errors=f"xw: {name}: line 1: Command\n".encode(), status=FORMAT)(room, program)
+        holds(name, before)(room, program)
+
+    return step
+
+
 A_B = record(b"set 1 1 A\n", b"set 1 2 B\n")
 CUT = b"xw: mine.xw: a cut line was dropped\n"
+
+# The first lines of a journal that is longer than a small puzzle file, and lines that fill a grid.
+LONG = FIRST + b"# " + b"a note " * 100 + b"\n"
+FILLED = b"size 2 1\nplace 1 across AT\n"
+
+# Room for a journal with the lines that fill a grid, and for its puzzle, but not for the record.
+ROOM = 80
+
+# What a fill of a square with AS, AT, SO and TO comes to in a journal.
+SEARCHED = b"# begin\nset 1 1 A\nset 1 2 S\nset 2 1 T\nset 2 2 O\n# end\n"
+
+REPLACED = b"", b"xw: mine.xw: replaced\n", FAILED
 
 CASES = {
     "first_journal": [
@@ -168,6 +274,45 @@ CASES = {
         holds("mine.xw", A_B),
     ],
     "empty_journal": [write("mine.xw", b""), run("edit --journal mine.xw", BEGUN, b"ok\nok\n"), holds("mine.xw", record(b"set 1 1 A\n"))],
+    # The first line comes with the opening, before any answer.
+    "first_line": [
+        grows((b"circles", b"ok\n", b"")),
+        run("edit --journal mine.xw", b"circles\n", b"ok\n"),
+        write("mine.xw", b""),
+        grows((b"circles", b"ok\n", b"")),
+        write("mine.xw", FIRST),
+        grows((b"circles", b"ok\n", b""), (b"size 2 1", b"ok\n", b"size 2 1\n")),
+        run("edit --journal mine.xw", b"show\n", b"- -\nok\n"),
+    ],
+    # Lines of commands without it are a journal too, which gets it when it is opened, by a new file with the same rights.
+    "first_line_added": [
+        write("mine.xw", b"# a note\n\n size 2  1\r\nset 1 1 a\n"),
+        set_mode("mine.xw", 0o600),
+        link("mine.link", "mine.xw"),
+        grows((b"show", b"A -\nok\n", b""), begun=FIRST + b"# a note\n\n size 2  1\r\nset 1 1 a\n", words="edit --journal mine.link"),
+        has_mode("mine.xw", 0o600),
+        is_link("mine.link"),
+        absent(".xw-0.new"),
+        grows((b"set 1 2 B", b"ok\n", b"set 1 2 B\n"), begun=FIRST + b"# a note\n\n size 2  1\r\nset 1 1 a\n"),
+        run("edit --journal mine.xw", b"show\n", b"A B\nok\n"),
+        holds("mine.xw", A_B),
+        has_mode("mine.xw", 0o600),
+    ],
+    "first_line_added, to no command": [write("mine.xw", b"\n# a note\n"), grows((b"circles", b"ok\n", b""), begun=FIRST + b"\n# a note\n")],
+    # The new file is locked as well.
+    "first_line_added, in use": [link("mine.link", "mine.xw"), write("mine.xw", b"size 2 1\n"), is_locked_by_another(), absent("mine.new")],
+    "first_line_added, without room for it": [
+        write("mine.xw", BEGUN),
+        has_no_room(len(BEGUN) + 1, "edit --journal mine.xw --to new.puz"),
+        holds("mine.xw", BEGUN),
+        absent("new.puz"),
+        absent(".xw-0.new"),
+    ],
+    "first_line, without room for it": [
+        has_no_room(len(FIRST) - 1, "edit --journal mine.xw"),
+        run("edit --journal mine.xw", BEGUN, b"ok\nok\n"),
+        holds("mine.xw", record(b"set 1 1 A\n")),
+    ],
     "refused_lines_at_the_end": [
         run("edit --journal mine.xw", BEGUN + b"frob\n", b"ok\nok\nno Command\n", status=REFUSED),
         holds("mine.xw", record(b"set 1 1 A\n")),
@@ -201,14 +346,29 @@ CASES = {
             (b"size 2 1", b"ok\n", b"size 2 1\n"),
             (b"fill 0", b"limit\nok\n", b""),
             (b"set 1 1 A", b"ok\n", b"set 1 1 A\n"),
-            (b"fill 9", b"filled\nok\n", b"set 1 2 B\n"),
+            (b"fill 9", b"filled\nok\n", b"# begin\nset 1 2 B\n# end\n"),
             (b"fill 9", b"filled\nok\n", b""),
             (b"clear 1 2", b"ok\n", b"clear 1 2\n"),
-            (b"autofill 9", b"filled\nok\n", b"set 1 2 B\n"),
+            (b"autofill 9", b"filled\nok\n", b"# begin\nset 1 2 B\n# end\n"),
+            (b"set 1 2 C", b"ok\n", b"set 1 2 C\n"),
+            (b"fill 9", b"nofill\nok\n", b""),
+            (b"autofill 9", b"nofill\nok\n", b""),
+            (b"set 1 2 B", b"ok\n", b"set 1 2 B\n"),
             words="edit --dict words.txt --journal mine.xw",
         ),
         run("edit --journal mine.xw", b"show\n", b"A B\nok\n"),
         holds("mine.xw", A_B),
+    ],
+    # The letters of a search stand together, in reading order; those that stood before are not among them.
+    "letters_of_a_search, in reading order": [
+        write("words.txt", b"AS\nAT\nSO\nTO\n"),
+        grows(
+            (b"size 2 2", b"ok\n", b"size 2 2\n"),
+            (b"set 2 1 T", b"ok\n", b"set 2 1 T\n"),
+            (b"fill 9", b"filled\nok\n", b"# begin\nset 1 1 A\nset 1 2 S\nset 2 2 O\n# end\n"),
+            words="edit --dict words.txt --journal mine.xw",
+        ),
+        run("edit --journal mine.xw", b"show\n", b"A S\nT O\nok\n"),
     ],
     "line_before_its_answer, synced": [
         grows((b"size 2 1", b"ok\n", b"size 2 1\n"), (b"set 1 1 A", b"ok\n", b"set 1 1 A\n"), words="edit --journal mine.xw --sync"),
@@ -222,49 +382,108 @@ CASES = {
     ],
     # A last line without a line feed is dropped, a command or not.
     "cut_line_dropped": [
-        write("mine.xw", BEGUN + b"set 1 2 B"),
+        write("mine.xw", KEPT + b"set 1 2 B"),
         run("edit --journal mine.xw", b"show\n", b"A -\nok\n", errors=CUT),
         holds("mine.xw", record(b"set 1 1 A\n")),
     ],
     "cut_line_dropped, no command": [
-        write("mine.xw", BEGUN + b"set 1 2 "),
+        write("mine.xw", KEPT + b"set 1 2 "),
         run("edit --journal mine.xw", b"show\n", b"A -\nok\n", errors=CUT),
         holds("mine.xw", record(b"set 1 1 A\n")),
     ],
     "cut_line_dropped, no other": [
-        write("mine.xw", b"siz"),
+        write("mine.xw", FIRST + b"siz"),
         run("edit --journal mine.xw", BEGUN, b"ok\nok\n", errors=CUT),
         holds("mine.xw", record(b"set 1 1 A\n")),
     ],
-    "cut_line_dropped, new lines after the whole ones": [write("mine.xw", BEGUN + b"set 1 2 "), grows((b"set 1 2 C", b"ok\n", b"set 1 2 C\n"), begun=BEGUN)],
+    "cut_line_dropped, new lines after the whole ones": [write("mine.xw", KEPT + b"set 1 2 "), grows((b"set 1 2 C", b"ok\n", b"set 1 2 C\n"), begun=KEPT)],
     # The lines are done as those of --resume.
     "lines_refused": [
-        write("mine.xw", b"size 2 1\nset 9 9 A\n\n# a note\nset 1 1 7\nset 1 1 A\nset"),
+        write("mine.xw", FIRST + b"size 2 1\nset 9 9 A\n\n# a note\nset 1 1 7\nset 1 1 A\nset"),
         run(
             "edit --journal mine.xw",
             b"show\n",
             b"A -\nok\n",
-            errors=b"xw: mine.xw: line 2: OutOfGrid\nxw: mine.xw: line 5: BadLetter\n" + CUT,
+            errors=b"xw: mine.xw: line 3: OutOfGrid\nxw: mine.xw: line 6: BadLetter\n" + CUT,
             status=REFUSED,
         ),
-        holds("mine.xw", record(b"set 1 1 A\n")),
+        holds("mine.xw", FIRST + b"size 2 1\nset 9 9 A\n\n# a note\nset 1 1 7\nset 1 1 A\n"),
     ],
     "no_command, Command": stops(b"size 2 1\nfrob\nset 1 1 A\n", b"xw: mine.xw: line 2: Command\n"),
     "no_command, Arguments": stops(b"size 2 1\nset\n", b"xw: mine.xw: line 2: Arguments\n"),
     "no_command, Escape": stops(b"text title \\x\n", b"xw: mine.xw: line 1: Escape\n"),
     "no_command, after a refused line": stops(b"set 9 9 A\nset 99 9 A\nadd\n", b"xw: mine.xw: line 2: OutOfGrid\n", b"xw: mine.xw: line 3: Arguments\n"),
-    "no_command, before a cut line": stops(b"frob\nset 1 1", b"xw: mine.xw: line 1: Command\n"),
+    "no_command, before a cut line": stops(FIRST + b"frob\nset 1 1", b"xw: mine.xw: line 2: Command\n"),
     "no_command, a line that is too long": stops(b"title " + b"T" * 4091 + b"\n", b"xw: mine.xw: line 1: LineTooLong\n"),
+    # Files that are no journals, such as a puzzle: not a byte of them changes.
+    "no_journal, a puzzle": stops_at_puzzles(PLAIN, STARTED, ALL_TEXTS, made=b"size 2 1\nplace 1 across AT\n"),
+    "no_journal, a puzzle as text": [*stops(TEXT, b"xw: mine.xw: line 1: Command\n"), *stops(TEXT[:-1], b"xw: mine.xw: line 1: Command\n")],
+    "no_journal, a word list": [*stops(b"cat\ncot\n", b"xw: mine.xw: line 1: Command\n"), *stops(b"cat\ncot", b"xw: mine.xw: line 1: Command\n")],
+    # Lines of commands of which the last one is cut, in a file that does not begin with the first line.
+    "no_journal, Cut": [
+        *stops(b"size 2 1", b"xw: mine.xw: line 1: Cut\n"),
+        *stops(BEGUN + b"set 1 2 B", b"xw: mine.xw: line 3: Cut\n"),
+        *stops(b"\n# a note\n" + BEGUN + b"title", b"xw: mine.xw: line 5: Cut\n"),
+        *stops(BEGUN + b"# a note", b"xw: mine.xw: line 3: Cut\n"),
+        # The first line stands elsewhere, or is another one.
+        *stops(b"\n" + KEPT + b"title", b"xw: mine.xw: line 5: Cut\n"),
+        *stops(b"# xw session 2\n" + BEGUN + b"title", b"xw: mine.xw: line 4: Cut\n"),
+        *stops(b"# xw session 10\ntitle", b"xw: mine.xw: line 2: Cut\n"),
+        *stops(b"# xw session 11", b"xw: mine.xw: line 1: Cut\n"),
+        *stops(b"# another note", b"xw: mine.xw: line 1: Cut\n"),
+    ],
     # Another program that has the file locked, in whatever way.
-    "in_use": [write("mine.xw", BEGUN), is_locked(fcntl.LOCK_EX), is_locked(fcntl.LOCK_SH), holds("mine.xw", BEGUN)],
+    "in_use": [
+        write("mine.xw", KEPT),
+        is_locked(fcntl.LOCK_EX),
+        is_locked(fcntl.LOCK_SH),
+        holds("mine.xw", KEPT),
+        # Neither the first line is written, nor a cut line dropped.
+        *(step for data in (b"", BEGUN, KEPT + b"set") for step in (write("mine.xw", data), is_locked(fcntl.LOCK_EX), holds("mine.xw", data))),
+    ],
     "in_use, by another session": [
         link("mine.link", "mine.xw"),
-        is_locked_by_another,
+        is_locked_by_another(b"size 2 1"),
         absent("mine.new"),
         holds("mine.xw", record(b"set 1 1 A\n")),
         is_link("mine.link"),
     ],
     "in_use no longer, after a kill": [grows((b"size 2 1", b"ok\n", b"size 2 1\n")), run("edit --journal mine.xw", b"show\n", b"- -\nok\n")],
+    # A journal whose name leads to no file any more, or to another one. What was answered stands in the file that it had.
+    "replaced, by nothing": [
+        loses_its_journal(rename("mine.xw", "away.xw"), kept=None),
+        is_begun_by("away.xw", FIRST + b"size 2 1\n"),
+        loses_its_journal(remove("mine.xw"), kept=None),
+        loses_its_journal(remove("mine.xw"), line=b"", kept=None),
+        loses_its_journal(remove("mine.xw"), words="edit --journal mine.xw --sync", kept=None),
+    ],
+    "replaced, by another file": [
+        loses_its_journal(rename("mine.xw", "away.xw"), write("mine.xw", b"set 1 2 B\n")),
+        is_begun_by("away.xw", FIRST + b"size 2 1\n"),
+        remove("mine.xw"),
+        loses_its_journal(write("other.xw", b"set 1 2 B\n"), rename("other.xw", "mine.xw")),
+        remove("mine.xw"),
+        loses_its_journal(write("other.xw", b"set 1 2 B\n"), rename("other.xw", "mine.xw"), line=b""),
+        absent(".xw-0.new"),
+    ],
+    "replaced, by a search": [loses_by_a_search],
+    "replaced, through a link": [
+        write("one.xw", b""),
+        write("two.xw", b"set 1 2 B\n"),
+        link("mine.xw", "one.xw"),
+        loses_its_journal(remove("mine.xw"), link("mine.xw", "two.xw")),
+        is_begun_by("one.xw", FIRST + b"size 2 1\n"),
+        holds("two.xw", b"set 1 2 B\n"),
+    ],
+    # The other files: the session is saved, and no puzzle is written.
+    "replaced, with other files": [
+        write("mine.xw", FIRST + FILLED),
+        write("kept.puz", b"old"),
+        loses_its_journal_at_the_end("edit --journal mine.xw --save new.xw --to kept.puz"),
+        holds("new.xw", record(b"set 1 1 A\n", b"set 1 2 T\n")),
+        holds("kept.puz", b"old"),
+    ],
+    "replaced, and there again": [finds_its_journal_again, holds("mine.xw", record(b"set 1 1 A\n"))],
     # Anything but a regular file is refused, and a pipe is not waited for.
     "no_file, a folder": [folder("mine.xw"), cannot_write("mine.xw"), is_no_file("mine.xw")],
     "no_file, a pipe": [pipe("mine.xw"), cannot_write("mine.xw"), is_no_file("mine.xw")],
@@ -281,45 +500,105 @@ CASES = {
     ],
     "rights_kept": [
         folder("closed"),
-        write("closed/shut.xw", BEGUN),
-        write("closed/open.xw", BEGUN),
+        write("closed/shut.xw", KEPT),
+        write("closed/open.xw", KEPT),
+        write("closed/plain.xw", BEGUN),
         set_mode("closed/shut.xw", 0o444),
         set_mode("closed", 0o555),
         rights_kept,
     ],
-    # A write that fails ends the run before its answer does; what the limit let through is a cut line.
+    # A write that fails ends the run before its answer does, and what it wrote is taken back. No puzzle is written, though there is room for it.
     "no_room": [
-        has_no_room(
-            "edit --journal mine.xw --to new.puz", BEGUN + b"set 1 2 B\nset 1 2 C\n", b"ok\nok\n", FAILED, b"xw: mine.xw: cannot write\n", False
-        ),
+        write("mine.xw", LONG + FILLED),
+        has_no_room(len(LONG + FILLED) + 1, "edit --journal mine.xw --to new.puz", b"show\nset 1 2 B\nset 1 2 C\n", b"A T\nok\n"),
         absent("new.puz"),
-        holds("mine.xw", BEGUN + b"s"),
-        run("edit --journal mine.xw", b"show\n", b"A -\nok\n", errors=CUT),
+        holds("mine.xw", LONG + FILLED),
+        run("edit --journal mine.xw --to new.puz", b"show\n", b"A T\nok\n"),
+        exists("new.puz"),
     ],
-    # The signal of the limit is a kill.
+    "no_room, after lines that had room": [
+        has_no_room(len(KEPT) + 1, "edit --journal mine.xw --sync", BEGUN + b"set 1 2 B\n", b"ok\nok\n"),
+        holds("mine.xw", KEPT),
+        run("edit --journal mine.xw", b"show\n", b"A -\nok\n"),
+    ],
+    # Of a search, too: it is undone whole.
+    "no_room, for a search": [
+        write("words.txt", b"AS\nAT\nSO\nTO\n"),
+        *(
+            step
+            for room in range(1, len(SEARCHED))
+            for step in (
+                write("mine.xw", FIRST + b"size 2 2\n"),
+                has_no_room(
+                    len(FIRST + b"size 2 2\n") + room,
+                    "edit --dict words.txt --journal mine.xw",
+                    b"fill 9\nshow\n",
+                    errors=b"xw: words.txt: 4 added, 0 skipped\nxw: mine.xw: cannot write\n",
+                ),
+                holds("mine.xw", FIRST + b"size 2 2\n"),
+            )
+        ),
+        run("edit --journal mine.xw", b"show\n", b"- -\n- -\nok\n"),
+    ],
+    # The signal of the limit is a kill: what it let through is a cut line.
     "no_room, with a signal": [
-        has_no_room("edit --journal mine.xw", BEGUN + b"set 1 2 B\n", b"ok\nok\n", -signal.SIGXFSZ, b"", True),
-        holds("mine.xw", BEGUN + b"s"),
+        has_no_room(len(KEPT) + 1, "edit --journal mine.xw", BEGUN + b"set 1 2 B\n", b"ok\nok\n", b"", -signal.SIGXFSZ, True),
+        holds("mine.xw", KEPT + b"s"),
         run("edit --journal mine.xw", b"show\n", b"A -\nok\n", errors=CUT),
     ],
-    # A journal that cannot be replaced at the end keeps its lines, and no puzzle is written.
+    # Or a search of which some letters are there, and which is dropped whole.
+    "no_room, with a signal, for a search": [
+        write("words.txt", b"AS\nAT\nSO\nTO\n"),
+        has_no_room(
+            len(FIRST + b"size 2 2\n") + 35,
+            "edit --dict words.txt --journal mine.xw",
+            b"size 2 2\nfill 9\n",
+            b"ok\n",
+            b"xw: words.txt: 4 added, 0 skipped\n",
+            -signal.SIGXFSZ,
+            True,
+        ),
+        holds("mine.xw", FIRST + b"size 2 2\n" + SEARCHED[:35]),
+        run("edit --journal mine.xw", b"show\n", b"- -\n- -\nok\n", errors=CUT),
+        holds("mine.xw", record().replace(b"size 2 1", b"size 2 2")),
+    ],
+    # A journal that cannot be replaced at the end keeps its lines, and no puzzle is written, though there is room for it.
     "no_room_at_the_end": [
-        has_no_room("edit --journal mine.xw --to new.puz", BEGUN, b"ok\nok\n", FAILED, b"xw: mine.xw: cannot write\n", False),
+        has_no_room(ROOM, "edit --journal mine.xw --to new.puz", FILLED, b"ok\nok\n"),
         absent("new.puz"),
         absent(".xw-0.new"),
-        holds("mine.xw", BEGUN),
+        holds("mine.xw", FIRST + FILLED),
+        has_no_room(ROOM, "edit --resume mine.xw --to new.puz", errors=b"", status=ACCEPTED),
+        exists("new.puz"),
+        run("edit --journal mine.xw", b"show\n", b"A T\nok\n"),
+        holds("mine.xw", record(b"set 1 1 A\n", b"set 1 2 T\n")),
     ],
     # A run that does not come to the end of its input leaves the journal as it is.
     "input_fault": [
-        write("mine.xw", BEGUN),
-        fails("edit --journal mine.xw --save new.xw", "input fault", can_be_read=False),
-        holds("mine.xw", BEGUN),
-        holds("new.xw", record(b"set 1 1 A\n")),
+        write("mine.xw", LONG + FILLED),
+        write("kept.puz", b"old"),
+        *(
+            step
+            for name in ("kept.puz", "new.puz")
+            for step in (
+                fails(f"edit --journal mine.xw --save new.xw --to {name}", "input fault", can_be_read=False),
+                holds("mine.xw", LONG + FILLED),
+                holds("new.xw", record(b"set 1 1 A\n", b"set 1 2 T\n")),
+            )
+        ),
+        holds("kept.puz", b"old"),
+        absent("new.puz"),
     ],
     "output_fault": [
-        fails("edit --journal mine.xw --save new.xw", "output fault", b"size 2 1\nsize 3 1\n"),
-        holds("mine.xw", b"size 2 1\n"),
-        holds("new.xw", record()),
+        write("mine.xw", LONG + FILLED),
+        write("kept.puz", b"old"),
+        fails("edit --journal mine.xw --save new.xw --to kept.puz", "output fault", b"set 1 2 S\nset 1 2 M\n"),
+        holds("mine.xw", LONG + FILLED + b"set 1 2 S\n"),
+        holds("new.xw", record(b"set 1 1 A\n", b"set 1 2 S\n")),
+        holds("kept.puz", b"old"),
+        fails("edit --journal mine.xw --to new.puz", "output fault", b"set 1 2 N\nset 1 2 M\n"),
+        holds("mine.xw", LONG + FILLED + b"set 1 2 S\nset 1 2 N\n"),
+        absent("new.puz"),
     ],
     # The other files are written as without a journal.
     "other_files": [
@@ -335,7 +614,7 @@ CASES = {
     ],
     "other_files, a session that is not saved": [
         run("edit --journal mine.xw --save no/such/folder.xw", BEGUN, b"ok\nok\n", errors=b"xw: no/such/folder.xw: cannot write\n", status=FAILED),
-        holds("mine.xw", BEGUN),
+        holds("mine.xw", KEPT),
     ],
     # A word list that cannot be read ends the run before the journal is made.
     "other_files, a word list that is not there": [

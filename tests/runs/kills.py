@@ -1,17 +1,20 @@
-"""Sessions with a journal that are killed at random moments: a short run of tools/kill-journal."""
+"""Sessions with a journal that are killed at random moments, and ones without room for it: short runs of two tools."""
 import pathlib
 import subprocess
 import sys
 
-TOOL = pathlib.Path(__file__).resolve().parents[2] / "tools/kill-journal"
+TOOLS = pathlib.Path(__file__).resolve().parents[2] / "tools"
 
 
-def loses_nothing(kills, seed):
+def loses_nothing(tool, runs, seed):
     def step(room, program):
-        ended = subprocess.run([sys.executable, TOOL, str(kills), str(seed), program], capture_output=True, text=True, timeout=60)
+        ended = subprocess.run([sys.executable, TOOLS / tool, str(runs), str(seed), program], capture_output=True, text=True, timeout=60)
         assert ended.returncode == 0, ended.stdout + ended.stderr
 
     return step
 
 
-CASES = {"nothing_lost": [loses_nothing(50, 2)]}
+CASES = {
+    "nothing_lost": [loses_nothing("kill-journal", 50, 2)],
+    "nothing_lost, without room": [loses_nothing("fill-disk", 50, 2)],
+}

@@ -5,7 +5,7 @@ import re
 
 from refusing import STATE, each_call, each_line, without_memory
 from samples import CIRCLED, CORNERS_MARKED, PLAIN, TEXT, WITH_NOTES, WRONG_SUM
-from steps import write
+from steps import FIRST, write
 
 MANUAL = pathlib.Path(__file__).resolve().parents[2] / "docs/commands.md"
 
@@ -163,6 +163,7 @@ watch on
 """
 
 OLD = b"old\n"
+REFUSED_LINE = b"add CAT\nadd CAT\ntitle Mine\n"
 FILES = {
     "few": b"as\nat\nSO;50\n\nto\nin\nabode\neased\nas\n",
     "many": MANY.encode(),
@@ -176,7 +177,7 @@ FILES = {
     "misshapen": TEXT.replace(b"\td\n", b""),
     "misspelt": TEXT.replace(b"SO", b"S?"),
     "mine.xw": BEGUN,
-    "refused.xw": b"add CAT\nadd CAT\ntitle Mine\n",
+    "refused.xw": REFUSED_LINE,
     "broken.xw": b"add CAT\nfrob\ntitle Mine\n",
 }
 
@@ -232,24 +233,68 @@ CALLS = {
     "two_starts": ("edit --from plain --resume mine.xw", [], {}),
     "one_file_to_write": ("edit --to new --save new", [], {}),
     "the_list_to_write": ("edit --dict few --to few", [], {}),
+    "the_list_to_write_by_another_path": ("edit --dict few --to ./few", [], {}),
+    "one_file_to_write_by_another_path": ("edit --to new --save ./new", [], {}),
+    "the_puzzle_to_save_over": ("edit --from plain --save plain", [], {"plain": PLAIN}),
+    "a_puzzle_to_save_as": ("edit --save new.puz", [], NEW_PUZ),
+    "saving_a_session_with_a_refused_line": ("edit --resume new.xw --save new.xw", [b"watch on"], {"new.xw": REFUSED_LINE, "new.xw~": None}),
 }
 
 # Lines of a journal, and those that it is given; each is done without memory.
-BEGUN_JOURNAL = b"add AT\nadd SO\nsize 2 1\nset 9 9 A\n"
-TYPED = [b"set 1 1 S", b"show", b"strike AT"]
-GROWN_JOURNAL = BEGUN_JOURNAL + b"set 1 1 S\nstrike AT\n"
+BEGUN_LINES = b"add AT\nadd SO\nsize 2 1\n"
+BEGUN_JOURNAL = FIRST + BEGUN_LINES
+TYPED = [b"set 1 1 S", b"show", b"strike AT", b"fill 9"]
+GROWN = b"set 1 1 S\nstrike AT\n"
+FILLED = GROWN + b"# begin\nset 1 2 O\n# end\n"
+NOT_THERE = b"set 9 9 A\n"
 
 # The same with a journal: what it may hold besides its old lines and those of the whole session.
 JOURNALED = {
-    "a_new_journal": ("edit --dict few --journal new.xw", [b"watch on", b"show"], {"new.xw": None}, {"new.xw": (b"", b"watch on\n")}),
-    "a_journal": ("edit --journal new.xw --sync", TYPED, {"new.xw": BEGUN_JOURNAL}, {"new.xw": (GROWN_JOURNAL,)}),
-    "a_cut_journal": ("edit --journal new.xw", TYPED, {"new.xw": BEGUN_JOURNAL + b"add"}, {"new.xw": (BEGUN_JOURNAL, GROWN_JOURNAL)}),
+    "a_new_journal": ("edit --dict few --journal new.xw", [b"watch on", b"show"], {"new.xw": None}, {"new.xw": (b"", FIRST, FIRST + b"watch on\n")}),
+    "a_journal": (
+        "edit --journal new.xw --sync",
+        TYPED,
+        {"new.xw": BEGUN_JOURNAL},
+        {"new.xw": (BEGUN_JOURNAL + GROWN, BEGUN_JOURNAL + FILLED)},
+    ),
+    "a_journal_with_a_refused_line": (
+        "edit --journal new.xw",
+        TYPED,
+        {"new.xw": BEGUN_JOURNAL + NOT_THERE},
+        {"new.xw": (BEGUN_JOURNAL + NOT_THERE + GROWN, BEGUN_JOURNAL + NOT_THERE + FILLED)},
+    ),
+    "a_journal_without_its_first_line": (
+        "edit --journal new.xw",
+        TYPED,
+        {"new.xw": BEGUN_LINES},
+        {"new.xw": (BEGUN_JOURNAL, BEGUN_JOURNAL + GROWN, BEGUN_JOURNAL + FILLED)},
+    ),
+    "a_cut_journal": (
+        "edit --journal new.xw",
+        TYPED,
+        {"new.xw": BEGUN_JOURNAL + b"add"},
+        {"new.xw": (BEGUN_JOURNAL, BEGUN_JOURNAL + GROWN, BEGUN_JOURNAL + FILLED)},
+    ),
+    "a_cut_search": (
+        "edit --journal new.xw",
+        TYPED,
+        {"new.xw": BEGUN_JOURNAL + b"# begin\nset 1 1 A\nset"},
+        {"new.xw": (BEGUN_JOURNAL, BEGUN_JOURNAL + GROWN, BEGUN_JOURNAL + FILLED)},
+    ),
+    "a_cut_first_line": ("edit --journal new.xw", [b"watch on"], {"new.xw": FIRST[:7]}, {"new.xw": (b"", FIRST, FIRST + b"watch on\n")}),
+    "a_file_that_is_no_journal": ("edit --journal cut.xw", [b"record"], {"cut.xw": BEGUN_LINES + b"title"}),
     "a_journal_with_a_line_that_is_no_command": ("edit --journal broken.xw", [b"record"], {}, {}),
     "a_journal_that_is_a_folder": ("edit --journal .", [b"record"], {}, {}),
     "a_journal_that_is_the_list": ("edit --dict few --journal few", [], {}, {}),
+    "a_journal_that_is_not_there_twice": ("edit --journal new.xw --to ./new.xw", [], {"new.xw": None}, {}),
     "a_journal_and_a_start": ("edit --resume mine.xw --journal new.xw", [], {"new.xw": None}, {}),
     "sync_alone": ("edit --sync", [], {}, {}),
-    "a_journal_and_a_puzzle": ("edit --journal new.xw --save new.too --to new.txt", [b"watch on"], {"new.xw": None, "new.too": None, **NEW_TEXT}, {"new.xw": (b"", b"watch on\n")}),
+    "a_journal_and_a_puzzle": (
+        "edit --journal new.xw --save new.too --to new.txt",
+        [b"watch on"],
+        {"new.xw": None, "new.too": None, **NEW_TEXT},
+        {"new.xw": (b"", FIRST, FIRST + b"watch on\n")},
+    ),
 }
 
 
@@ -300,4 +345,6 @@ CASES = {
     **{f"refused_in_{name}": [*WRITTEN, each_call(words, typed, files)] for name, (words, typed, files) in CALLS.items()},
     **{f"refused_in_{name}": [*WRITTEN, each_call(*call)] for name, call in JOURNALED.items()},
     "refused_in_a_journal_in_use": [*WRITTEN, while_locked("mine.xw", each_call("edit --journal mine.xw", [b"record"]))],
+    "refused_in_saving_into_a_journal": [*WRITTEN, while_locked("mine.xw", each_call("edit --save mine.xw", [b"record"]))],
+    "refused_in_converting_into_a_journal": [*WRITTEN, while_locked("mine.xw", each_call("convert plain mine.xw"))],
 }

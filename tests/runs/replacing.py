@@ -1,8 +1,13 @@
 """Replacing files: a file is replaced whole, or stays unchanged."""
 import os
+import re
+import resource
+import shutil
+import signal
+import subprocess
 
 from samples import PLAIN, TEXT
-from steps import FAILED, compare, holds, link, run, write
+from steps import FAILED, absent, compare, end, holds, link, run, write
 
 OLD = b"what stood there"
 
@@ -56,6 +61,67 @@ def rights_kept(room, program):
         step(room, program)
 
 
+def names_taken(count):
+    """Files with the first names of new files."""
+
+    def step(room, program):
+        for number in range(count):
+            (room / f".xw-{number}.new").write_bytes(OLD)
+
+    return step
+
+
+def names_left(count):
+    def step(room, program):
+        for number in range(count):
+            compare(f".xw-{number}.new", (room / f".xw-{number}.new").read_bytes(), OLD)
+        compare("names", sorted(path.name for path in room.glob(".xw-*")), sorted(f".xw-{number}.new" for number in range(count)))
+
+    return step
+
+
+def has_mode_of_the_mask(mask, mode):
+    """A file that was not there has the rights that the mask of the user leaves."""
+
+    def step(room, program):
+        end(room, program, "convert plain.puz unmasked", input=b"", stdout=subprocess.PIPE, umask=mask)
+        has_mode("unmasked", mode)(room, program)
+        (room / "unmasked").unlink()
+
+    return step
+
+
+def is_killed(words, typed=b""):
+    """Ends the program in the middle of a file, by the signal of a limit, so that the new file is left."""
+
+    def step(room, program):
+        set_limit = lambda: resource.setrlimit(resource.RLIMIT_FSIZE, (20, 20))
+        ended = end(room, program, words, input=typed, stdout=subprocess.PIPE, preexec_fn=set_limit)
+        compare("status", ended.returncode, -signal.SIGXFSZ)
+
+    return step
+
+
+def is_synced(words, typed, name, new=r"\.xw-0\.new"):
+    """Checks by strace, where it is installed, that the bytes of a file come to the device before it has its name, and then its name."""
+
+    def step(room, program):
+        if not shutil.which("strace"):
+            return
+        calls = "trace=rename,renameat,renameat2,fsync,fdatasync"
+        tracing = ["strace", "-qq", "-f", "-y", "-e", calls, "-o", "calls", program, *words.split()]
+        ended = subprocess.run(tracing, cwd=room, input=typed, capture_output=True, timeout=60)
+        if b"ptrace" in ended.stderr or ended.returncode == 1:
+            return
+        compare("status", ended.returncode, 0)
+        found = (room / "calls").read_text()
+        here = re.escape(str(room.resolve()))
+        order = rf"sync\(\d+<{here}/{new}>.*rename[a-z0-9]*\([^\n]*{re.escape(name)}\"[^\n]*= 0\n.*sync\(\d+<{here}>[^\n]*= 0\n"
+        assert re.search(order, found, re.S), f"calls: {found}"
+
+    return step
+
+
 CASES = {
     # Links are followed: the target is replaced and keeps its mode, and the link stays. A dangling link gets its target
     # created. A loop of links is refused.
@@ -88,6 +154,46 @@ CASES = {
         holds("beside/a", TEXT),
         holds("beside/.xw-0.new", OLD),
         is_none("beside/.xw-1.new"),
+    ],
+    # However many there are.
+    "names_of_others_left, a thousand": [
+        write("plain.puz", PLAIN),
+        names_taken(1000),
+        replace("new"),
+        holds("new", TEXT),
+        run("edit --save mine.xw", b"size 2 1\n", b"ok\n"),
+        run("edit --resume mine.xw --save mine.xw", b"set 1 1 A\nshow\n", b"ok\nA -\nok\n"),
+        run("edit --journal kept.xw", b"size 2 1\n", b"ok\n"),
+        run("edit --resume kept.xw", b"show\n", b"- -\nok\n"),
+        names_left(1000),
+    ],
+    # A new file has no other rights than the old one, at no time.
+    "rights_from_the_start": [
+        write("plain.puz", PLAIN),
+        write("private", OLD),
+        set_mode("private", 0o600),
+        is_killed("convert plain.puz private"),
+        holds("private", OLD),
+        has_mode(".xw-0.new", 0o600),
+        lambda room, program: (room / ".xw-0.new").unlink(),
+        is_killed("edit --save private", b"size 2 1\n"),
+        has_mode(".xw-0.new", 0o600),
+        lambda room, program: (room / ".xw-0.new").unlink(),
+        replace("private"),
+        holds("private", TEXT),
+        has_mode("private", 0o600),
+        absent(".xw-0.new"),
+        # Rights that the mask of the user would take away are kept, too.
+        set_mode("private", 0o666),
+        replace("private"),
+        has_mode("private", 0o666),
+    ],
+    "rights_from_the_start, of a new file": [write("plain.puz", PLAIN), has_mode_of_the_mask(0o077, 0o600), has_mode_of_the_mask(0o022, 0o644)],
+    "synced": [
+        write("plain.puz", PLAIN),
+        is_synced("convert plain.puz new", b"", "new"),
+        is_synced("edit --save mine.xw", b"size 2 1\n", "mine.xw"),
+        is_synced("edit --journal kept.xw", b"size 2 1\n", "kept.xw"),
     ],
     "rights_kept": [
         write("plain.puz", PLAIN),

@@ -1,6 +1,6 @@
 """Sessions that are saved and resumed."""
 from samples import PLAIN
-from steps import FAILED, FORMAT, REFUSED, USAGE, absent, compare, differs, holds, run, write
+from steps import FAILED, FIRST, FORMAT, REFUSED, USAGE, absent, compare, differs, holds, run, write
 
 
 def resumed(lines, typed, **wanted):
@@ -14,6 +14,9 @@ BEGUN = run(
     b"size 3 3\nsym half\nbar 1 1 right\nset 2 2 A\nadd CAT\ntitle Mine\ncircle 1 2\nclue 1 down Told\n",
     output=b"ok\n" * 8,
 )
+
+# The record of a grid of 2 columns and 1 row with a letter.
+A_RECORD = b"size 2 1\nsym none\nset 1 1 A\ntext title \ntext author \ntext copyright \ntext notes \nwatch off\n"
 
 # Resumes that session, checks its contents, and toggles blocks with their images there and back.
 GOES_ON = run(
@@ -65,6 +68,10 @@ CASES = {
         status=REFUSED,
     ),
     "lines_resumed, none refused": resumed(b"size 2 1\n\nwatch on\n", b"show\n", output=b"- -\nok\n"),
+    # The first line of a saved session is a note.
+    "lines_resumed, with the first line": resumed(FIRST + b"size 2 1\nset 9 9 A\nset 1 1 A", b"show\n", output=b"A -\nok\n", errors=b"xw: mine.xw: line 3: OutOfGrid\n", status=REFUSED),
+    "lines_resumed, the first line alone": resumed(FIRST, b"circles\n", output=b"ok\n"),
+    "lines_resumed, a part of the first line": resumed(FIRST[:-4], b"circles\n", output=b"ok\n"),
     "lines_resumed, none there": resumed(b"", b"frob\n", output=b"no Command\n", status=REFUSED),
     # A line has at most 4,096 bytes, not counting its LF but counting its CR.
     "long_lines_resumed, 4,096 bytes": resumed(b" " * 4088 + b"add CAT\r\nadd DOG\r\n", b"match D..\n", output=b"DOG\nok\n"),
@@ -99,6 +106,16 @@ CASES = {
         absent("new.xw"),
     ],
     "session_goes_on": [BEGUN, goes_on_as_saved],
+    # A saved session is the first line and the record; the command `record` does not list the first line.
+    "first_line": [
+        run("edit --save mine.xw", b"size 2 1\nset 1 1 A\nrecord\n", b"ok\nok\n" + A_RECORD + b"ok\n"),
+        holds("mine.xw", FIRST + A_RECORD),
+        write("old.xw", A_RECORD),
+        run("edit --resume old.xw --save old.xw", b"record\n", A_RECORD + b"ok\n"),
+        holds("old.xw", FIRST + A_RECORD),
+        # Into a session the file may be typed.
+        run("edit", FIRST + A_RECORD + b"show\n", b"ok\n" * 8 + b"A -\nok\n"),
+    ],
     "nothing_to_resume": [
         run(
             "edit --resume gone.xw --save gone.xw",

@@ -1,0 +1,292 @@
+"""Calls that would write one file over another: they are refused, by whatever path they name it."""
+import fcntl
+import os
+import threading
+
+from samples import PLAIN, TEXT
+from steps import ACCEPTED, FAILED, FIRST, USAGE, absent, compare, holds, link, run, write
+
+from runs.journals import Session, record
+from runs.replacing import folder, is_link
+
+OLD = b"what stood there"
+
+
+def is_refused(words, message):
+    """The call is wrong usage: it reads no input, and writes nothing."""
+    return run(f"edit {words}", b"size 2 1\n", errors=f"xw: {message}\n".encode(), status=USAGE)
+
+
+def is_over_list(words, name):
+    return is_refused(words, f"{name}: the word list cannot be the file to write")
+
+
+def is_in_one(words, name):
+    return is_refused(words, f"{name}: the puzzle and the session cannot be written into one file")
+
+
+def is_shared(words, name):
+    return is_refused(words, f"{name}: the journal cannot be another file of the call")
+
+
+def is_over_puzzle(words, name):
+    return is_refused(words, f"{name}: the session cannot be written over the puzzle to start with")
+
+
+def is_as_puz(words, name):
+    return is_refused(words, f"{name}: the session cannot be written as .puz")
+
+
+def is_no_puzzle(name):
+    """The file is none that `--to` wrote."""
+
+    def step(room, program):
+        found = (room / name).read_bytes() if (room / name).exists() else b""
+        assert b"<GRID>" not in found and b"ACROSS&DOWN" not in found, f"{name}: {found!r}"
+
+    return step
+
+
+def with_whole_path(step, words, name):
+    """A step on a call in which `HERE` is the folder of the case."""
+
+    def stepped(room, program):
+        here = str(room.resolve())
+        step(words.replace("HERE", here), name.replace("HERE", here))(room, program)
+
+    return stepped
+
+
+def hard_link(name, to):
+    return lambda room, program: os.link(room / to, room / name)
+
+
+def changes_before_the_end(words, *changes, errors, status, typed=(b"size 2 1", b"place 1 across AT")):
+    """Does something to the files once the session runs, and then ends its input."""
+
+    def step(room, program):
+        session = Session(room, program, words)
+        for line in typed:
+            session.ask(line, b"ok\n")
+        for change in changes:
+            change(room, program)
+        compare("end", session.end(), (b"", errors, status))
+
+    return step
+
+
+def while_locked(name, *steps):
+    """Does steps while this process has a file locked, as the journal of another program."""
+
+    def step(room, program):
+        with open(room / name, "rb") as file:
+            fcntl.flock(file, fcntl.LOCK_EX)
+            for each in steps:
+                each(room, program)
+
+    return step
+
+
+def while_journaled(*steps):
+    """Does steps while a program has mine.xw as its journal, which goes on after them."""
+
+    def step(room, program):
+        session = Session(room, program)
+        session.ask(b"size 2 1", b"ok\n")
+        for each in steps:
+            each(room, program)
+        session.ask(b"set 1 1 A", b"ok\n")
+        compare("end", session.end(), (b"", b"", ACCEPTED))
+        holds("mine.xw", record(b"set 1 1 A\n"))(room, program)
+
+    return step
+
+
+def is_in_use(words, name, typed=b"size 9 9\n"):
+    return run(words, typed, errors=f"xw: {name}: in use\n".encode(), status=FAILED)
+
+
+def is_piped(words, wanted):
+    """Runs the program while a thread reads the pipe `pipe`, which is opened and written once."""
+
+    def step(room, program):
+        found = []
+        reader = threading.Thread(target=lambda: found.append((room / "pipe").read_bytes()), daemon=True)
+        reader.start()
+        run(words)(room, program)
+        reader.join(10)
+        compare("what the pipe had", found, [wanted])
+
+    return step
+
+
+USERS = [
+    is_in_use("edit --save mine.xw", "mine.xw"),
+    is_in_use("edit --to ./mine.xw", "./mine.xw"),
+    is_in_use("edit --resume mine.xw --save mine.link", "mine.link"),
+    is_in_use("edit --journal other.xw --save mine.xw", "mine.xw"),
+    is_in_use("edit --save new.xw --to mine.xw", "mine.xw"),
+    is_in_use("convert plain.puz mine.xw", "mine.xw"),
+    is_in_use("convert plain.puz mine.link", "mine.link"),
+    absent("new.xw"),
+]
+
+CASES = {
+    # Files that are not there yet: their folder is one, and their last name.
+    "not_there_yet, by another path": [
+        folder("inner"),
+        is_shared("--journal j --to ./j", "j"),
+        is_shared("--journal ./j --save j", "./j"),
+        is_shared("--journal inner/../j --to j", "inner/../j"),
+        is_shared("--journal j --dict .//j", "j"),
+        with_whole_path(is_shared, "--journal HERE/j --to j", "HERE/j"),
+        is_in_one("--to y --save ./y", "./y"),
+        is_in_one("--to inner/y --save inner/../inner/y", "inner/../inner/y"),
+        with_whole_path(is_in_one, "--to y --save HERE/y", "HERE/y"),
+        is_over_list("--dict d --to ./d", "./d"),
+        is_over_list("--dict ./d --save d", "d"),
+        absent("j"),
+        absent("y"),
+        absent("inner/y"),
+    ],
+    "not_there_yet, through a link to nothing": [
+        folder("inner"),
+        link("l", "gone"),
+        link("inner/l", "../gone"),
+        link("k", "l"),
+        is_shared("--journal l --to gone", "l"),
+        is_shared("--journal gone --save k", "gone"),
+        is_in_one("--to inner/l --save gone", "gone"),
+        is_in_one("--to gone --save ./k", "./k"),
+        is_in_one("--to l --save inner/l", "inner/l"),
+        is_over_list("--dict gone --to l", "l"),
+        absent("gone"),
+        is_link("l"),
+        is_link("k"),
+    ],
+    "not_there_yet, in a folder with two names": [
+        folder("inner"),
+        link("other", "inner"),
+        is_shared("--journal inner/j --to other/j", "inner/j"),
+        is_in_one("--to inner/y --save other/y", "other/y"),
+        absent("inner/j"),
+        absent("inner/y"),
+    ],
+    # Names that are not one file.
+    "not_there_yet, two files": [
+        folder("inner"),
+        folder("other"),
+        link("l", "inner/y"),
+        run("edit --to y --save inner/y", b"size 2 1\nplace 1 across AT\nclue 1 across a\n", b"ok\nok\nok\n"),
+        holds("inner/y", record(b"set 1 1 A\n", b"set 1 2 T\n").replace(b"watch", b"text clue 1 1 across a\nwatch")),
+        run("edit --journal other/y --save l --to inner/z", b"size 2 1\nplace 1 across AT\nclue 1 across a\n", b"ok\nok\nok\n"),
+        is_link("l"),
+    ],
+    # What becomes one file only while the session runs is seen before it is replaced.
+    "one_file_at_the_end, by a link": [
+        changes_before_the_end(
+            "edit --to t --save s",
+            link("t", "s"),
+            errors=b"xw: s: the puzzle and the session cannot be written into one file\n",
+            status=USAGE,
+        ),
+        is_link("t"),
+        is_no_puzzle("s"),
+    ],
+    "one_file_at_the_end, by a hard link": [
+        write("s", OLD),
+        changes_before_the_end(
+            "edit --to t --save s",
+            hard_link("t", "s"),
+            errors=b"xw: s: the puzzle and the session cannot be written into one file\n",
+            status=USAGE,
+        ),
+        holds("t", OLD),
+    ],
+    "one_file_at_the_end, the list": [
+        write("d", b"AT\n"),
+        changes_before_the_end(
+            "edit --dict d --to t",
+            link("t", "d"),
+            errors=b"xw: d: 1 added, 0 skipped\nxw: t: the word list cannot be the file to write\n",
+            status=USAGE,
+        ),
+        holds("d", b"AT\n"),
+        is_link("t"),
+    ],
+    "one_file_at_the_end, the journal": [
+        changes_before_the_end(
+            "edit --journal j --to t",
+            link("t", "j"),
+            errors=b"xw: j: the journal cannot be another file of the call\n",
+            status=USAGE,
+        ),
+        is_link("t"),
+        is_no_puzzle("j"),
+    ],
+    # The session is not written over the puzzle that it began with, nor into a file that is called a puzzle.
+    "over_the_puzzle": [
+        write("plain", PLAIN),
+        link("one", "plain"),
+        hard_link("two", "plain"),
+        is_over_puzzle("--from plain --save plain", "plain"),
+        is_over_puzzle("--from plain --save ./plain", "./plain"),
+        is_over_puzzle("--from plain --save one", "one"),
+        is_over_puzzle("--from one --save plain", "plain"),
+        is_over_puzzle("--from one --save two --to three", "two"),
+        with_whole_path(is_over_puzzle, "--from plain --save HERE/plain", "HERE/plain"),
+        holds("plain", PLAIN),
+        is_link("one"),
+        absent("three"),
+        # The puzzle may be.
+        run("edit --from plain --to plain"),
+        holds("plain", TEXT),
+    ],
+    "over_the_puzzle, before it is read": [write("plain", b"frob"), is_over_puzzle("--from plain --save plain", "plain"), holds("plain", b"frob")],
+    "as_puz": [
+        write("old.puz", PLAIN),
+        is_as_puz("--save new.puz", "new.puz"),
+        is_as_puz("--save old.puz", "old.puz"),
+        is_as_puz("--save .puz", ".puz"),
+        is_as_puz("--save new.PUZ", "new.PUZ"),
+        is_as_puz("--save inner/new.Puz --to new.txt", "inner/new.Puz"),
+        is_as_puz("--journal mine.xw --save new.puz", "new.puz"),
+        is_as_puz("--resume gone.xw --save new.puz", "new.puz"),
+        holds("old.puz", PLAIN),
+        absent("new.puz"),
+        absent("new.txt"),
+        absent("mine.xw"),
+        # Other names are none.
+        run("edit --save puz", b"size 2 1\n", b"ok\n"),
+        run("edit --save new.puz.xw", b"size 2 1\n", b"ok\n"),
+        run("edit --save new.puzz", b"size 2 1\n", b"ok\n"),
+        holds("puz", record()),
+    ],
+    # A file that another program has as its journal is not replaced.
+    "in_use": [
+        write("plain.puz", PLAIN),
+        write("mine.xw", FIRST + b"size 2 1\n"),
+        link("mine.link", "mine.xw"),
+        while_locked("mine.xw", *USERS),
+        holds("mine.xw", FIRST + b"size 2 1\n"),
+        run("edit --resume mine.xw --save mine.xw", b"set 1 1 A\n", b"ok\n"),
+        holds("mine.xw", record(b"set 1 1 A\n")),
+    ],
+    "in_use, by another session": [write("plain.puz", PLAIN), link("mine.link", "mine.xw"), while_journaled(*USERS), is_link("mine.link")],
+    # A session may be read while it is a journal, and files beside it may be written.
+    "in_use, but read": [
+        while_journaled(
+            run("edit --resume mine.xw --save other.xw", b"show\n", b"- -\nok\n"),
+            holds("other.xw", record()),
+        )
+    ],
+    # Anything but a regular file is written in place, as before.
+    "no_file": [
+        write("plain.puz", PLAIN),
+        lambda room, program: os.mkfifo(room / "pipe"),
+        is_piped("convert plain.puz pipe", TEXT),
+        is_piped("edit --from plain.puz --to pipe", TEXT),
+        run("convert plain.puz /dev/stdout", output=TEXT),
+        run("edit --from plain.puz --to /dev/null"),
+    ],
+}

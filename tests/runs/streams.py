@@ -1,0 +1,150 @@
+"""Standard streams that are closed, and signals."""
+import os
+import signal
+import subprocess
+import time
+
+from samples import PLAIN, TEXT
+from steps import ACCEPTED, FAILED, FIRST, compare, holds, run, write
+
+from runs.journals import CUT, Session, record
+
+# How long the program may take to write what is waited for.
+SECONDS = 10
+
+
+def start(room, program, words, closed, **streams):
+    """Starts the program with some of its streams closed."""
+
+    def close():
+        for number in closed:
+            os.close(number)
+
+    return subprocess.Popen(["xw", *words.split()], executable=program, cwd=room, env={}, bufsize=0, preexec_fn=close, **streams)
+
+
+def wait_until(is_so, what):
+    deadline = time.monotonic() + SECONDS
+    while not is_so():
+        assert time.monotonic() < deadline, f"{what} has not come after {SECONDS} seconds"
+        time.sleep(0.001)
+
+
+def journals_without_output(closed, begun=FIRST):
+    """Kills a session whose output is closed, and whose answers stand nowhere."""
+
+    def step(room, program):
+        process = start(room, program, "edit --journal mine.xw", closed, stdin=subprocess.PIPE)
+        kept = begun
+        for line in (b"size 2 1\n", b"set 1 1 A\n", b"set 1 2 B\n"):
+            process.stdin.write(line)
+            kept += line
+            wait_until(lambda: (room / "mine.xw").exists() and line in (room / "mine.xw").read_bytes(), f"the line {line}")
+        process.kill()
+        process.wait()
+        process.stdin.close()
+        compare("journal", (room / "mine.xw").read_bytes(), kept)
+
+    return step
+
+
+def has_no_input(words, errors=b"xw: input fault\n", status=FAILED):
+    """Runs the program with its input closed."""
+
+    def step(room, program):
+        process = start(room, program, words, [0], stdout=subprocess.PIPE, stderr=subprocess.PIPE)
+        output, messages = process.communicate(timeout=SECONDS)
+        compare("output, messages and status", (output, messages, process.returncode), (b"", errors, status))
+
+    return step
+
+
+def goes_without(closed, words, typed, output, errors, status=ACCEPTED):
+    """Runs the program with its output or its messages closed; what it writes to the other."""
+
+    def step(room, program):
+        pipes = {name: subprocess.PIPE for number, name in ((1, "stdout"), (2, "stderr")) if number not in closed}
+        process = start(room, program, words, closed, stdin=subprocess.PIPE, **pipes)
+        found = process.communicate(typed, timeout=SECONDS)
+        compare("output, messages and status", (*found, process.returncode), (output, errors, status))
+
+    return step
+
+
+def journals_without_messages(wanted):
+    """Kills a session whose messages are closed, once it has answered."""
+
+    def step(room, program):
+        process = start(room, program, "edit --journal mine.xw", [2], stdin=subprocess.PIPE, stdout=subprocess.PIPE)
+        process.stdin.write(b"set 1 1 A\n")
+        compare("answer", process.stdout.read(3), b"ok\n")
+        process.kill()
+        process.wait()
+        process.stdin.close()
+        process.stdout.close()
+        compare("journal", (room / "mine.xw").read_bytes(), wanted + b"set 1 1 A\n")
+
+    return step
+
+
+def ends_by(number):
+    """Sends a signal to a session that waits for its next line."""
+
+    def step(room, program):
+        for words, saved in (("edit --journal mine.xw --save new.xw --to new.txt", FIRST + b"size 2 1\n"), ("edit --save new.xw --to new.txt", None)):
+            session = Session(room, program, words)
+            session.ask(b"size 2 1", b"ok\n")
+            session.process.send_signal(number)
+            compare("end", session.end(), (b"", b"", -number))
+            if saved:
+                holds("mine.xw", saved)(room, program)
+            compare("other files", ((room / "new.xw").exists(), (room / "new.txt").exists()), (False, False))
+
+    return step
+
+
+CASES = {
+    # No answer is written into a file that the program opens.
+    "closed, output of a journal": [
+        journals_without_output([1]),
+        run("edit --journal mine.xw", b"show\n", b"A B\nok\n"),
+        holds("mine.xw", record(b"set 1 1 A\n", b"set 1 2 B\n")),
+    ],
+    "closed, output and messages of a journal": [journals_without_output([1, 2]), run("edit --journal mine.xw", b"show\n", b"A B\nok\n")],
+    # No message is written into one either.
+    "closed, messages of a journal": [
+        write("mine.xw", FIRST + b"size 2 1\nset 9 9 A\nset 1 1"),
+        journals_without_messages(FIRST + b"size 2 1\nset 9 9 A\n"),
+    ],
+    "closed, messages": [
+        write("words.txt", b"cat\n"),
+        goes_without([2], "edit --dict words.txt --save new.xw", b"size 2 1\n", b"ok\n", None),
+        holds("new.xw", record()),
+        holds("words.txt", b"cat\n"),
+        write("plain.puz", PLAIN),
+        goes_without([2], "convert plain.puz plain.txt", b"", b"", None),
+        holds("plain.txt", TEXT),
+    ],
+    # A journal, or a session to start with, is not taken for the input.
+    "closed, input": [
+        has_no_input("edit"),
+        has_no_input("edit --save new.xw"),
+        write("mine.xw", FIRST + b"size 2 1\nset 1 1 A\n"),
+        has_no_input("edit --journal mine.xw --save new.xw --to new.puz"),
+        holds("mine.xw", FIRST + b"size 2 1\nset 1 1 A\n"),
+        holds("new.xw", record(b"set 1 1 A\n")),
+        has_no_input("edit --resume mine.xw --save other.xw"),
+        holds("other.xw", record(b"set 1 1 A\n")),
+        # A new journal has its first line only, if any.
+        has_no_input("edit --journal first.xw"),
+        run("edit --journal first.xw", b"size 2 1\n", b"ok\n"),
+        holds("first.xw", record()),
+    ],
+    "closed, input of a cut journal": [
+        write("mine.xw", FIRST + b"size 2 1\nset 1 1"),
+        has_no_input("edit --journal mine.xw", errors=CUT + b"xw: input fault\n"),
+        holds("mine.xw", FIRST + b"size 2 1\n"),
+    ],
+    # No signal is handled: the program ends, and what was answered is in the journal. Without one the session is lost.
+    **{f"signal {name.name}": [ends_by(name)] for name in (signal.SIGINT, signal.SIGTERM, signal.SIGHUP, signal.SIGKILL)},
+}
