@@ -1,9 +1,22 @@
 """Runs with a broken input or a full output."""
-import os
+import socket
+import struct
 import subprocess
+import time
 
 from samples import PLAIN
 from steps import FAILED, absent, compare, differs, end, exists, holds, run, write
+
+
+# How long the program may take to do what is waited for.
+SECONDS = 10
+
+
+def wait_until(is_so, what):
+    deadline = time.monotonic() + SECONDS
+    while not is_so():
+        assert time.monotonic() < deadline, f"{what} has not come after {SECONDS} seconds"
+        time.sleep(0.001)
 
 
 def fails(words, fault, typed=b"", can_be_read=True):
@@ -23,23 +36,20 @@ def cannot_read(words, fault):
 
 
 def breaks_off(room, program):
-    """Runs a session on a terminal that is closed after an answer: the next read fails."""
-    terminal, line = os.openpty()
-    process = subprocess.Popen(
-        ["xw", "edit", "--from", "plain", "--save", "saved.xw", "--to", "kept.puz"],
-        executable=program,
-        cwd=room,
-        env={},
-        stdin=line,
-        stdout=subprocess.PIPE,
-        stderr=subprocess.PIPE,
-    )
-    os.write(terminal, b"add CAT\n")
-    compare("answer", process.stdout.read(3), b"ok\n")
-    os.close(terminal)
-    os.close(line)
-    ended = (*process.communicate(timeout=10), process.returncode)
-    compare("output, messages and status", ended, (b"", b"xw: input fault\n", FAILED))
+    """Runs a session over a connection that is reset after an answer, so that the next read fails."""
+    with socket.create_server(("127.0.0.1", 0)) as server, socket.create_connection(server.getsockname()) as sending:
+        receiving, _ = server.accept()
+        with receiving, open(room / "answers", "wb") as output:
+            words = ["xw", "edit", "--from", "plain", "--save", "saved.xw", "--to", "kept.puz"]
+            streams = {"stdin": receiving, "stdout": output, "stderr": subprocess.PIPE}
+            process = subprocess.Popen(words, executable=program, cwd=room, env={}, **streams)
+        sending.sendall(b"add CAT\n")
+        wait_until(lambda: (room / "answers").read_bytes(), "an answer")
+        # Not to linger is to reset.
+        sending.setsockopt(socket.SOL_SOCKET, socket.SO_LINGER, struct.pack("ii", 1, 0))
+    messages = process.communicate(timeout=SECONDS)[1]
+    compare("messages and status", (messages, process.returncode), (b"xw: input fault\n", FAILED))
+    compare("answers", (room / "answers").read_bytes(), b"ok\n")
     assert b"add CAT\n" in (room / "saved.xw").read_bytes()
 
 

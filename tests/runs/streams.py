@@ -2,15 +2,12 @@
 import os
 import signal
 import subprocess
-import time
 
 from samples import PLAIN, TEXT
 from steps import ACCEPTED, FAILED, FIRST, compare, holds, run, write
 
+from runs.devices import SECONDS, wait_until
 from runs.journals import CUT, Session, record
-
-# How long the program may take to write what is waited for.
-SECONDS = 10
 
 
 def start(room, program, words, closed, **streams):
