@@ -20,13 +20,6 @@ def start(room, program, words, closed, **streams):
     return subprocess.Popen(["xw", *words.split()], executable=program, cwd=room, env={}, bufsize=0, preexec_fn=close, **streams)
 
 
-def wait_until(is_so, what):
-    deadline = time.monotonic() + SECONDS
-    while not is_so():
-        assert time.monotonic() < deadline, f"{what} has not come after {SECONDS} seconds"
-        time.sleep(0.001)
-
-
 def journals_without_output(closed, begun=FIRST):
     """Kills a session whose output is closed, and whose answers stand nowhere."""
 
