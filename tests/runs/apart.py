@@ -61,7 +61,7 @@ def hard_link(name, to):
     return lambda room, program: os.link(room / to, room / name)
 
 
-def changes_before_the_end(words, *changes, errors, status, typed=(b"size 2 1", b"place 1 across AT")):
+def changes_before_the_end(words, *changes, errors, status, typed=(b"size 2 1", b"place 1 across AT", b"clue 1 across a")):
     """Does something to the files once the session runs, and then ends its input."""
 
     def step(room, program):

@@ -1,10 +1,12 @@
-"""Standard streams that are closed, and signals."""
+"""Standard streams that are closed or do not block, and signals."""
+import fcntl
 import os
 import signal
 import subprocess
+import time
 
 from samples import PLAIN, TEXT
-from steps import ACCEPTED, FAILED, FIRST, compare, holds, run, write
+from steps import ACCEPTED, FAILED, FIRST, compare, end, holds, run, write
 
 from runs.devices import SECONDS, wait_until
 from runs.journals import CUT, Session, record
@@ -93,6 +95,55 @@ def ends_by(number):
     return step
 
 
+def does_not_block(stream):
+    fcntl.fcntl(stream, fcntl.F_SETFL, fcntl.fcntl(stream, fcntl.F_GETFL) | os.O_NONBLOCK)
+
+
+def breaks_off_without_input(room, program):
+    """An input that does not block, and has a line and no end."""
+    read, write = os.pipe()
+    does_not_block(read)
+    os.write(write, b"size 2 1\n")
+    ended = end(room, program, "edit --journal mine.xw --save new.xw", stdin=read, stdout=subprocess.PIPE)
+    for stream in (read, write):
+        os.close(stream)
+    compare("output, messages and status", (ended.stdout, ended.stderr, ended.returncode), (b"ok\n", b"xw: input fault\n", FAILED))
+    holds("mine.xw", FIRST + b"size 2 1\n")(room, program)
+    holds("new.xw", record())(room, program)
+
+
+def breaks_off_without_room(room, program):
+    """An output that does not block, and is not read."""
+    read, write = os.pipe()
+    does_not_block(write)
+    ended = end(room, program, "edit --journal mine.xw", input=b"size 200 200\ncells\nset 1 1 A\n", stdout=write)
+    for stream in (read, write):
+        os.close(stream)
+    compare("messages and status", (ended.stderr, ended.returncode), (b"xw: output fault\n", FAILED))
+    holds("mine.xw", FIRST + b"size 200 200\n")(room, program)
+
+
+def searches_on(room, program):
+    """Closes the pipes of a session that searches: there are fifteen lights that do not cross, and fourteen words for them."""
+    session = Session(room, program)
+    lines = ["size 5 29", *(f"block {row} {col}" for row in range(2, 29, 2) for col in range(1, 6)), *(f"add ABCD{chr(65 + at)}" for at in range(14))]
+    for line in lines:
+        session.ask(line.encode(), b"ok\n")
+    before = (room / "mine.xw").read_bytes()
+    session.send(b"fill 999999999999999999")
+    session.close()
+    try:
+        for _ in range(2):
+            time.sleep(0.1)
+            run("edit --journal mine.xw", errors=b"xw: mine.xw: in use\n", status=FAILED)(room, program)
+            compare("whether it runs", session.process.poll(), None)
+    finally:
+        session.process.kill()
+        session.process.wait()
+    holds("mine.xw", before)(room, program)
+    run("edit --journal mine.xw", b"circles\n", b"ok\n")(room, program)
+
+
 CASES = {
     # No answer is written into a file that the program opens.
     "closed, output of a journal": [
@@ -135,6 +186,11 @@ CASES = {
         has_no_input("edit --journal mine.xw", errors=CUT + b"xw: input fault\n"),
         holds("mine.xw", FIRST + b"size 2 1\n"),
     ],
+    # A stream that does not block is a fault where the program would have to wait.
+    "not_blocking, input": [breaks_off_without_input],
+    "not_blocking, output": [breaks_off_without_room],
+    # A search goes on when nobody waits for its answer, and the journal stays locked so long.
+    "search_without_a_front_end": [searches_on],
     # No signal is handled: the program ends, and what was answered is in the journal. Without one the session is lost.
     **{f"signal {name.name}": [ends_by(name)] for name in (signal.SIGINT, signal.SIGTERM, signal.SIGHUP, signal.SIGKILL)},
 }
