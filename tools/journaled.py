@@ -1,5 +1,6 @@
 """Random sessions with a journal, for tools/kill-journal and tools/fill-disk."""
 import re
+import signal
 import subprocess
 
 # The first line of a journal.
@@ -118,10 +119,11 @@ class Journaled:
                 if not more:
                     break
                 output += more
-            process.kill()
-            errors, status = process.stderr.read(), 0
-            process.wait()
+            if output:
+                process.kill()
+            errors, status = process.stderr.read(), process.wait()
             close(process)
+            status = 0 if status == -signal.SIGKILL else status
         return output, errors, status
 
     def check(self, lines, known, found):

@@ -337,7 +337,7 @@ CASES = {
             (b"record", b"add AB\nsize 2 1\ncircle 1 2\nsym none\nset 1 1 A\ntext title Mine\ntext author \ntext copyright \ntext notes \nwatch on\nok\n", b""),
         ),
         run("edit --journal mine.xw", b"show\nmatch ..\ncircles\ntexts\n", b"A -\nok\nAB\nok\n1 2\nok\ntitle Mine\nok\n"),
-        holds("mine.xw", b"add AB\nsize 2 1\ncircle 1 2\nsym none\nset 1 1 A\ntext title Mine\ntext author \ntext copyright \ntext notes \nwatch on\n"),
+        holds("mine.xw", FIRST + b"add AB\nsize 2 1\ncircle 1 2\nsym none\nset 1 1 A\ntext title Mine\ntext author \ntext copyright \ntext notes \nwatch on\n"),
     ],
     # A search is kept as the letters that it entered: neither a word list nor a search is needed to do it again.
     "letters_of_a_search": [
@@ -350,10 +350,11 @@ CASES = {
             (b"fill 9", b"filled\nok\n", b""),
             (b"clear 1 2", b"ok\n", b"clear 1 2\n"),
             (b"autofill 9", b"filled\nok\n", b"# begin\nset 1 2 B\n# end\n"),
-            (b"set 1 2 C", b"ok\n", b"set 1 2 C\n"),
+            (b"place 1 across BB", b"ok\n", b"place 1 across BB\n"),
+            (b"clear 1 2", b"ok\n", b"clear 1 2\n"),
             (b"fill 9", b"nofill\nok\n", b""),
             (b"autofill 9", b"nofill\nok\n", b""),
-            (b"set 1 2 B", b"ok\n", b"set 1 2 B\n"),
+            (b"place 1 across AB", b"ok\n", b"place 1 across AB\n"),
             words="edit --dict words.txt --journal mine.xw",
         ),
         run("edit --journal mine.xw", b"show\n", b"A B\nok\n"),
