@@ -1,4 +1,5 @@
 """Random sessions with a journal, for tools/kill-journal and tools/fill-disk."""
+import contextlib
 import re
 import signal
 import subprocess
@@ -111,8 +112,9 @@ class Journaled:
             output, errors = process.communicate(b"record\n")
             status = process.returncode
         else:
-            process.stdin.write(b"record\n")
-            process.stdin.flush()
+            with contextlib.suppress(BrokenPipeError):
+                process.stdin.write(b"record\n")
+                process.stdin.flush()
             output = b""
             while not answers_of(output):
                 more = process.stdout.read1()
@@ -143,7 +145,5 @@ class Journaled:
 
 def close(process):
     for stream in (process.stdin, process.stdout, process.stderr):
-        try:
+        with contextlib.suppress(BrokenPipeError):
             stream.close()
-        except BrokenPipeError:
-            pass

@@ -95,6 +95,17 @@ def ends_by(number):
     return step
 
 
+def is_not_read(room, program):
+    """An output that nobody reads any more."""
+    read, write = os.pipe()
+    os.close(read)
+    ended = end(room, program, "edit --journal mine.xw --save new.xw", input=b"size 2 1\nset 1 1 A\n", stdout=write)
+    os.close(write)
+    compare("messages and status", (ended.stderr, ended.returncode), (b"xw: output fault\n", FAILED))
+    holds("mine.xw", FIRST + b"size 2 1\n")(room, program)
+    holds("new.xw", record())(room, program)
+
+
 def does_not_block(stream):
     fcntl.fcntl(stream, fcntl.F_SETFL, fcntl.fcntl(stream, fcntl.F_GETFL) | os.O_NONBLOCK)
 
@@ -186,6 +197,8 @@ CASES = {
         has_no_input("edit --journal mine.xw", errors=CUT + b"xw: input fault\n"),
         holds("mine.xw", FIRST + b"size 2 1\n"),
     ],
+    # No signal of a pipe without a reader ends the program: the session is saved.
+    "not_read, output": [is_not_read],
     # A stream that does not block is a fault where the program would have to wait.
     "not_blocking, input": [breaks_off_without_input],
     "not_blocking, output": [breaks_off_without_room],
