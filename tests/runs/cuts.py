@@ -79,10 +79,10 @@ CASES = {
         holds("mine.xw", record(b"set 1 1 A\n", b"set 1 2 B\n")),
     ],
     "search, whole, before a cut line": drops(TWO + b"# begin\nset 1 1 A\nset 1 2 B\n# end\n", b"clear 1 1", b"A B\nok\n"),
-    # To --resume these lines are notes, and a last line without a line feed is a line.
+    # A journal can be resumed, too.
     "search, resumed": [
-        write("mine.xw", TWO + b"# begin\nset 1 1 A\nset 1 2 B"),
+        write("mine.xw", TWO + b"# begin\nset 1 1 A\nset 1 2 B\n# end\n"),
         run("edit --resume mine.xw", b"show\n", b"A B\nok\n"),
-        holds("mine.xw", TWO + b"# begin\nset 1 1 A\nset 1 2 B"),
+        holds("mine.xw", TWO + b"# begin\nset 1 1 A\nset 1 2 B\n# end\n"),
     ],
 }

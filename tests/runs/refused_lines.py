@@ -54,10 +54,15 @@ CASES = {
     # A session that is saved into its own file.
     "saved": [
         write("mine.xw", MINE),
-        set_mode("mine.xw", 0o600),
         run("edit --resume mine.xw --save mine.xw", b"set 1 1 A\n", b"ok\n", errors=UNKNOWN + backed_up("mine.xw"), status=REFUSED),
         holds("mine.xw", record(b"set 1 1 A\n", words=b"add OX\n")),
         holds("mine.xw~", MINE),
+    ],
+    # The old file that is kept is no more public than it was.
+    "saved, a private file": [
+        write("mine.xw", MINE),
+        set_mode("mine.xw", 0o600),
+        run("edit --resume mine.xw --save mine.xw", errors=UNKNOWN + backed_up("mine.xw"), status=REFUSED),
         has_mode("mine.xw", 0o600),
         has_mode("mine.xw~", 0o600),
     ],
