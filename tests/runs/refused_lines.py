@@ -1,7 +1,7 @@
 """Files with lines that are refused, as words of another list: the file that has them is not lost."""
-from steps import FAILED, FIRST, REFUSED, absent, exists, holds, link, remove, run, write
+from steps import FAILED, FIRST, REFUSED, absent, compare, exists, holds, link, remove, run, write
 
-from runs.journals import record
+from runs.journals import Session, record
 from runs.replacing import has_mode, is_link, set_mode
 
 # A session over a list with the words AT and SO, of which it strikes one.
@@ -14,6 +14,13 @@ UNKNOWN = b"xw: mine.xw: line 2: Unknown\n"
 
 def backed_up(name):
     return f"xw: {name}: refused lines; the old file is kept as {name}~\n".encode()
+
+
+def loses_its_journal(room, program):
+    session = Session(room, program)
+    session.ask(b"show", b"- -\nok\n")
+    remove("mine.xw")(room, program)
+    compare("end", session.end(), (b"", UNKNOWN + b"xw: mine.xw: replaced\n", FAILED))
 
 
 # The record without the line that was refused.
@@ -43,6 +50,8 @@ CASES = {
         run("edit --journal mine.xw", b"strike AT\nset 1 1 A\n", b"no Unknown\nok\n", status=REFUSED),
         holds("mine.xw", record(b"set 1 1 A\n")),
     ],
+    # It is looked for at the end all the same, though it is not replaced then.
+    "journal, that is not there any more": [write("mine.xw", MINE), loses_its_journal, absent("mine.xw")],
     # The other files are written all the same.
     "journal, with other files": [
         write("mine.xw", MINE),
