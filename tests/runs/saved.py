@@ -69,7 +69,13 @@ CASES = {
     ),
     "lines_resumed, none refused": resumed(b"size 2 1\n\nwatch on\n", b"show\n", output=b"- -\nok\n"),
     # The first line of a saved session is a note.
-    "lines_resumed, with the first line": resumed(FIRST + b"size 2 1\nset 9 9 A\nset 1 1 A\n", b"show\n", output=b"A -\nok\n", errors=b"xw: mine.xw: line 3: OutOfGrid\n", status=REFUSED),
+    "lines_resumed, with the first line": resumed(
+        FIRST + b"size 2 1\nset 9 9 A\nset 1 1 A\n",
+        b"show\n",
+        output=b"A -\nok\n",
+        errors=b"xw: mine.xw: line 3: OutOfGrid\n",
+        status=REFUSED,
+    ),
     "lines_resumed, the first line alone": resumed(FIRST, b"circles\n", output=b"ok\n"),
     "lines_resumed, a part of the first line": resumed(FIRST[:-4], b"circles\n", output=b"ok\n"),
     "lines_resumed, none there": resumed(b"", b"frob\n", output=b"no Command\n", status=REFUSED),
