@@ -1,5 +1,5 @@
 -- The file of a journal that was cut.
-use Rattle.std.proofs.Common.{◌≡◌, ℕ, ◌+◌, Bool, true, codes, suc, List, [], ◌∷◌, ◌++◌, length, take, Some, refl, sym, ◌∙◌, ap, subst, inl, inr, arith}
+use Rattle.std.proofs.Common.{◌≡◌, ℕ, ◌+◌, true, codes, suc, List, ◌∷◌, ◌++◌, length, take, refl, sym, ◌∙◌, ap, inl, inr, arith}
 use Rattle.std.specs.Prelude.{◌⊎◌, ◌&&◌, bytes_eq, nat_lt}
 use Rattle.std.proofs.lemmas.Bool.{lt-ltb}
 use Rattle.std.proofs.Math.Seq.{take-append_seam}
@@ -11,7 +11,7 @@ use Rattle.xw_session.specs.State.{State}
 use Rattle.xw_journal.specs.File.{first_line, is_part, kept_lines}
 use Rattle.xw_journal.specs.Group.{complete}
 use Rattle.xw_session_laws.specs.Replay.{replayed_lines}
-use Rattle.xw_session_laws.specs.Journals.{IsJournaled, AreFirstLines, KeepsFirstLines, JournalFilesAreCutAtLines}
+use Rattle.xw_session_laws.specs.Journals.{IsJournaled, KeepsFirstLines, JournalFilesAreCutAtLines}
 use Rattle.xw_session_laws.proofs.JournalCut.{fronts, journal_cut}
 
 part_of : (whole front tail : List ℕ) (next : ℕ) → whole ≡ front ++ next ∷ tail → (bytes_eq front (take (length front) whole) && nat_lt (length front) (length whole)) ≡ true

@@ -1,7 +1,6 @@
-use Rattle.std.proofs.Common.{inl, inr, IfErr}
+use Rattle.std.proofs.Common.{inl, inr}
 use Rattle.std.proofs.lemmas.Result.{err_from_is_err_and}
 use Rattle.xw_cli.proofs.Failures.{cut_journal}
-use Rattle.xw_cli.specs.Performed.{IsCutJournal}
 use Rattle.xw_cli.proofs.perform.answer_journaled.Goals as goal
 
 pub returns-in_err-status-clause-err : goal.returns-in_err-status-clause-err

@@ -1,9 +1,6 @@
-use Rattle.std.proofs.Common.{◌≡◌, ◌∙◌, sym, ap, subst, take, drop, List, ℕ, Some, None}
-use Rattle.std.specs.Prelude.{Option, IfNone}
-use Rattle.std.specs.Option.{unwrap_or}
+use Rattle.std.proofs.Common.{◌∙◌, sym, ap, take, drop}
 use Rattle.std.proofs.lemmas.List.{take-append-drop}
-use Rattle.xw_lines.specs.Cut.{ended_lines, lines_of, HasNoLf}
-use Rattle.xw_journal.specs.Group.{complete as complete_lines}
+use Rattle.xw_lines.specs.Cut.{lines_of}
 use Rattle.xw_journal.proofs.Groups.{scanned-more, scanned-kept}
 use Rattle.xw_journal.proofs.group.complete.Goals as goal
 

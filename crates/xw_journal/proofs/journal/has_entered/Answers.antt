@@ -1,7 +1,7 @@
-use Rattle.std.proofs.Common.{rules, ◌≡◌, ◌<◌, ◌*◌, ◌∙◌, sym, ap, subst, inl, inr, take, length, Some, true, false, arith}
+use Rattle.std.proofs.Common.{rules, ◌≡◌, ◌<◌, ◌*◌, ◌∙◌, sym, ap, subst, inl, inr, true, false, arith}
 use Rattle.std.specs.Prelude.{flat_map, is_some}
 use Rattle.std.proofs.lemmas.List.{take_all}
-use Rattle.xw_grid.specs.Grid.{Grid, cell_at, cells, entry}
+use Rattle.xw_grid.specs.Grid.{cell_at, cells, entry}
 use Rattle.xw_grid.proofs.GridLemmas.{length-cells}
 use Rattle.xw_journal.specs.Journal.{entered_at, is_same_entry}
 use Rattle.xw_journal.proofs.Entered.{entry_before, is_none, none_at, none_so_far, some_at, some_entered}

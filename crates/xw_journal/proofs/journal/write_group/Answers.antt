@@ -1,4 +1,4 @@
-use Rattle.std.proofs.Common.{rules, ◌≡◌, ◌≢◌, ◌∙◌, sym, ap, subst, List, ℕ, [], ◌∷◌, ◌++◌, append_assoc, refl, true}
+use Rattle.std.proofs.Common.{rules, subst, ◌++◌}
 use Rattle.std.specs.Prelude.{codes}
 use Rattle.std.proofs.lemmas.Result.{err_from_is_err_and}
 use Rattle.xw_lines.proofs.SendsLemmas.{sends-then, stops-within}
