@@ -5,7 +5,7 @@ from runs.journals import CUT, SEARCHED, grows, record
 
 # The parts of a journal: what each command wrote, and the rows of the grid after it.
 WORD, SQUARE = b"title One\n", b"size 2 2\n"
-PARTS = [(WORD, None), (SQUARE, b"- -\n- -\n"), (SEARCHED, b"A S\nT O\n"), (b"clear 2 2\n", b"A S\nT -\n"), (b"# begin\nset 2 2 O\n# end\n", b"A S\nT O\n")]
+PARTS = [(WORD, None), (SQUARE, b"- -\n- -\n"), (SEARCHED, b"A S\nT O\n"), (b"clear 2 2\n", b"A S\nT -\n"), (b"# xw begin\nset 2 2 O\n# xw end\n", b"A S\nT O\n")]
 EMPTY = b"- " * 14 + b"-\n"
 
 
@@ -66,23 +66,23 @@ CASES = {
     "whole_or_not_at_all": [is_whole_or_not_at_all],
     "first_line": is_begun(*(FIRST[:length] for length in range(len(FIRST)))),
     # The letters of a search without the line that ends them.
-    "search, no letter": drops(TWO, b"# begin\n", b"- -\nok\n"),
-    "search, one letter": drops(TWO, b"# begin\nset 1 1 A\n", b"- -\nok\n"),
-    "search, a cut letter": drops(TWO, b"# begin\nset 1 1 A\nset 1 2", b"- -\nok\n"),
-    "search, all letters": drops(TWO, b"# begin\nset 1 1 A\nset 1 2 B\n", b"- -\nok\n"),
-    "search, a cut end": drops(TWO, b"# begin\nset 1 1 A\nset 1 2 B\n# end", b"- -\nok\n"),
-    "search, after a whole one": drops(TWO + b"# begin\nset 1 1 A\n# end\n", b"# begin\nset 1 2 B\n# e", b"A -\nok\n"),
+    "search, no letter": drops(TWO, b"# xw begin\n", b"- -\nok\n"),
+    "search, one letter": drops(TWO, b"# xw begin\nset 1 1 A\n", b"- -\nok\n"),
+    "search, a cut letter": drops(TWO, b"# xw begin\nset 1 1 A\nset 1 2", b"- -\nok\n"),
+    "search, all letters": drops(TWO, b"# xw begin\nset 1 1 A\nset 1 2 B\n", b"- -\nok\n"),
+    "search, a cut end": drops(TWO, b"# xw begin\nset 1 1 A\nset 1 2 B\n# xw end", b"- -\nok\n"),
+    "search, after a whole one": drops(TWO + b"# xw begin\nset 1 1 A\n# xw end\n", b"# xw begin\nset 1 2 B\n# e", b"A -\nok\n"),
     # Whole searches, and notes, which a user may have written.
     "search, whole": [
-        write("mine.xw", TWO + b"# begin\nset 1 1 A\nset 1 2 B\n# end\n# a note\n"),
+        write("mine.xw", TWO + b"# xw begin\nset 1 1 A\nset 1 2 B\n# xw end\n# a note\n"),
         run("edit --journal mine.xw", b"show\n", b"A B\nok\n"),
         holds("mine.xw", record(b"set 1 1 A\n", b"set 1 2 B\n")),
     ],
-    "search, whole, before a cut line": drops(TWO + b"# begin\nset 1 1 A\nset 1 2 B\n# end\n", b"clear 1 1", b"A B\nok\n"),
+    "search, whole, before a cut line": drops(TWO + b"# xw begin\nset 1 1 A\nset 1 2 B\n# xw end\n", b"clear 1 1", b"A B\nok\n"),
     # A journal can be resumed, too.
     "search, resumed": [
-        write("mine.xw", TWO + b"# begin\nset 1 1 A\nset 1 2 B\n# end\n"),
+        write("mine.xw", TWO + b"# xw begin\nset 1 1 A\nset 1 2 B\n# xw end\n"),
         run("edit --resume mine.xw", b"show\n", b"A B\nok\n"),
-        holds("mine.xw", TWO + b"# begin\nset 1 1 A\nset 1 2 B\n# end\n"),
+        holds("mine.xw", TWO + b"# xw begin\nset 1 1 A\nset 1 2 B\n# xw end\n"),
     ],
 }

@@ -258,7 +258,7 @@ FILLED = b"size 2 1\nplace 1 across AT\n"
 ROOM = 80
 
 # What a fill of a square with AS, AT, SO and TO comes to in a journal.
-SEARCHED = b"# begin\nset 1 1 A\nset 1 2 S\nset 2 1 T\nset 2 2 O\n# end\n"
+SEARCHED = b"# xw begin\nset 1 1 A\nset 1 2 S\nset 2 1 T\nset 2 2 O\n# xw end\n"
 
 REPLACED = b"", b"xw: mine.xw: replaced\n", FAILED
 
@@ -346,10 +346,10 @@ CASES = {
             (b"size 2 1", b"ok\n", b"size 2 1\n"),
             (b"fill 0", b"limit\nok\n", b""),
             (b"set 1 1 A", b"ok\n", b"set 1 1 A\n"),
-            (b"fill 9", b"filled\nok\n", b"# begin\nset 1 2 B\n# end\n"),
+            (b"fill 9", b"filled\nok\n", b"# xw begin\nset 1 2 B\n# xw end\n"),
             (b"fill 9", b"filled\nok\n", b""),
             (b"clear 1 2", b"ok\n", b"clear 1 2\n"),
-            (b"autofill 9", b"filled\nok\n", b"# begin\nset 1 2 B\n# end\n"),
+            (b"autofill 9", b"filled\nok\n", b"# xw begin\nset 1 2 B\n# xw end\n"),
             (b"place 1 across BB", b"ok\n", b"place 1 across BB\n"),
             (b"clear 1 2", b"ok\n", b"clear 1 2\n"),
             (b"fill 9", b"nofill\nok\n", b""),
@@ -366,7 +366,7 @@ CASES = {
         grows(
             (b"size 2 2", b"ok\n", b"size 2 2\n"),
             (b"set 2 1 T", b"ok\n", b"set 2 1 T\n"),
-            (b"fill 9", b"filled\nok\n", b"# begin\nset 1 1 A\nset 1 2 S\nset 2 2 O\n# end\n"),
+            (b"fill 9", b"filled\nok\n", b"# xw begin\nset 1 1 A\nset 1 2 S\nset 2 2 O\n# xw end\n"),
             words="edit --dict words.txt --journal mine.xw",
         ),
         run("edit --journal mine.xw", b"show\n", b"A S\nT O\nok\n"),

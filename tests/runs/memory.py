@@ -245,7 +245,7 @@ BEGUN_LINES = b"add AT\nadd SO\nsize 2 1\n"
 BEGUN_JOURNAL = FIRST + BEGUN_LINES
 TYPED = [b"set 1 1 S", b"show", b"strike AT", b"fill 9"]
 GROWN = b"set 1 1 S\nstrike AT\n"
-FILLED = GROWN + b"# begin\nset 1 2 O\n# end\n"
+FILLED = GROWN + b"# xw begin\nset 1 2 O\n# xw end\n"
 NOT_THERE = b"set 9 9 A\n"
 
 # The same with a journal: what it may hold besides its old lines and those of the whole session.
@@ -278,7 +278,7 @@ JOURNALED = {
     "a_cut_search": (
         "edit --journal new.xw",
         TYPED,
-        {"new.xw": BEGUN_JOURNAL + b"# begin\nset 1 1 A\nset"},
+        {"new.xw": BEGUN_JOURNAL + b"# xw begin\nset 1 1 A\nset"},
         {"new.xw": (BEGUN_JOURNAL, BEGUN_JOURNAL + GROWN, BEGUN_JOURNAL + FILLED)},
     ),
     "a_cut_first_line": ("edit --journal new.xw", [b"watch on"], {"new.xw": FIRST[:7]}, {"new.xw": (b"", FIRST, FIRST + b"watch on\n")}),

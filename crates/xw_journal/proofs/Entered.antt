@@ -76,7 +76,7 @@ some_at was grid cell some other none =
       by_entry (Some letter) some e = cc
 
 -- a group that is not empty
-pub group_is : (commands : List Command) → commands ≢ [] → codes "# begin\n" ++ (command_lines commands ++ codes "# end\n") ≡ grouped commands
+pub group_is : (commands : List Command) → commands ≢ [] → codes "# xw begin\n" ++ (command_lines commands ++ codes "# xw end\n") ≡ grouped commands
 group_is [] some = absurd (some refl)
 group_is (command ∷ commands) some = refl
 

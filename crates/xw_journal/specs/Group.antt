@@ -6,16 +6,16 @@ use Rattle.xw_session.specs.Record.{command_lines}
 
 -- the comment before a group
 abbrev pub begin_line : List ℕ
-begin_line = codes "# begin"
+begin_line = codes "# xw begin"
 
 -- the comment behind a group
 abbrev pub end_line : List ℕ
-end_line = codes "# end"
+end_line = codes "# xw end"
 
 -- commands as a group; nothing if there are none
 abbrev pub grouped : List Command → List ℕ
 grouped [] = []
-grouped (command ∷ commands) = codes "# begin\n" ++ (command_lines (command ∷ commands) ++ codes "# end\n")
+grouped (command ∷ commands) = codes "# xw begin\n" ++ (command_lines (command ∷ commands) ++ codes "# xw end\n")
 
 abbrev pub begins_group : List ℕ → Bool
 begins_group line = bytes_eq line begin_line

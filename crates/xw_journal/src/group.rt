@@ -6,10 +6,10 @@ ghost use Rattle.xw_journal.specs.Group.{complete as complete_lines, open_after 
 use xw_lines::run::next_lf;
 
 /// The comment before a group.
-pub const BEGIN: &[u8] = b"# begin";
+pub const BEGIN: &[u8] = b"# xw begin";
 
 /// The comment behind a group.
-pub const END: &[u8] = b"# end";
+pub const END: &[u8] = b"# xw end";
 
 /// Returns where a group begins that has no end, after one more line. `begun` is where one begins before this line, and `from` where
 /// this line begins.

@@ -76,12 +76,12 @@ abbrev after_fill : State
 after_fill = record before_fill { position = record before_fill.position { grid = record before_fill.position.grid { squares = Open (Some 67) ∷ Open (Some 65) ∷ Open (Some 84) ∷ [] } } }
 
 -- a search is journaled as the letters that it entered, in one group
-fill_journaled : journal_text before_fill.position.grid (codes "fill 9") Accepted after_fill.position.grid ≡ codes "# begin\nset 1 1 C\nset 1 3 T\n# end\n"
+fill_journaled : journal_text before_fill.position.grid (codes "fill 9") Accepted after_fill.position.grid ≡ codes "# xw begin\nset 1 1 C\nset 1 3 T\n# xw end\n"
 unfolding digits
 fill_journaled = refl
 
 -- they lead to the grid after the search
-fill_made_again : replayed_lines before_fill (lines_of (codes "# begin\nset 1 1 C\nset 1 3 T\n# end\n")) ≡ Some after_fill
+fill_made_again : replayed_lines before_fill (lines_of (codes "# xw begin\nset 1 1 C\nset 1 3 T\n# xw end\n")) ≡ Some after_fill
 fill_made_again = refl
 
 -- any other change is journaled as its line, and nothing else is
@@ -102,10 +102,10 @@ no_fill_journaled = refl
 cut_line_dropped : kept_lines (codes "# xw session 1\nset 1 1 C\nset 1 ") ≡ codes "# xw session 1" ∷ codes "set 1 1 C" ∷ []
 cut_line_dropped = refl
 
-cut_group_dropped : kept_lines (codes "# xw session 1\nwatch on\n# begin\nset 1 1 C\nset 1 3 T\n") ≡ codes "# xw session 1" ∷ codes "watch on" ∷ []
+cut_group_dropped : kept_lines (codes "# xw session 1\nwatch on\n# xw begin\nset 1 1 C\nset 1 3 T\n") ≡ codes "# xw session 1" ∷ codes "watch on" ∷ []
 cut_group_dropped = refl
 
-whole_group_kept : kept_lines (codes "# xw session 1\n# begin\nset 1 1 C\n# end\nset 1") ≡ codes "# xw session 1" ∷ codes "# begin" ∷ codes "set 1 1 C" ∷ codes "# end" ∷ []
+whole_group_kept : kept_lines (codes "# xw session 1\n# xw begin\nset 1 1 C\n# xw end\nset 1") ≡ codes "# xw session 1" ∷ codes "# xw begin" ∷ codes "set 1 1 C" ∷ codes "# xw end" ∷ []
 whole_group_kept = refl
 
 -- a file without the first line has all its lines

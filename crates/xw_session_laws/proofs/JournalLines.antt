@@ -167,17 +167,17 @@ group_lines commands = begin_line ∷ (map line_without_lf commands ++ end_line 
 
 pub group_apart : (command : Command) (commands : List Command) → AreRecorded (command ∷ commands) → grouped (command ∷ commands) ≡ with_lfs (group_lines (command ∷ commands)) []
 group_apart command commands recorded =
-    ap (λ xs. codes "# begin\n" ++ (xs ++ codes "# end\n")) (lines_apart (command ∷ commands) recorded)
-    ∙ ap (λ xs. codes "# begin\n" ++ xs) (lfs_joined (map line_without_lf (command ∷ commands)) (end_line ∷ []) [])
+    ap (λ xs. codes "# xw begin\n" ++ (xs ++ codes "# xw end\n")) (lines_apart (command ∷ commands) recorded)
+    ∙ ap (λ xs. codes "# xw begin\n" ++ xs) (lfs_joined (map line_without_lf (command ∷ commands)) (end_line ∷ []) [])
 
 pub group_plain : (commands : List Command) → AreRecorded commands → AllHaveNoLf (group_lines commands)
 group_plain commands recorded =
     (begin_plain, plain_joined (map line_without_lf commands) (end_line ∷ []) (no_lf_in commands recorded) (end_plain, tt)) where
       begin_plain : HasNoLf begin_line
-      begin_plain = (λ z. cc, (λ z. cc, (λ z. cc, (λ z. cc, (λ z. cc, (λ z. cc, (λ z. cc, tt)))))))
+      begin_plain = (λ z. cc, (λ z. cc, (λ z. cc, (λ z. cc, (λ z. cc, (λ z. cc, (λ z. cc, (λ z. cc, (λ z. cc, (λ z. cc, tt))))))))))
 
       end_plain : HasNoLf end_line
-      end_plain = (λ z. cc, (λ z. cc, (λ z. cc, (λ z. cc, (λ z. cc, tt)))))
+      end_plain = (λ z. cc, (λ z. cc, (λ z. cc, (λ z. cc, (λ z. cc, (λ z. cc, (λ z. cc, (λ z. cc, tt))))))))
 
 group_done : (state next : State) (commands : List Command) → AreRecorded commands → replayed state commands ≡ Some next → replayed_lines state (group_lines commands) ≡ Some next
 group_done state next commands recorded done =

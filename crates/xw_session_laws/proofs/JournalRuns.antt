@@ -80,8 +80,8 @@ letters_unmarked (command ∷ letters) recorded ((at, letter, is), sets) =
 group_unmarked : (letters : List Command) → AreRecorded letters → AreSets letters → IsUnmarked (grouped letters)
 group_unmarked [] recorded sets = refl
 group_unmarked (command ∷ letters) recorded sets =
-    joined (codes "# begin\n") (command_lines (command ∷ letters) ++ codes "# end\n") refl
-    (joined (command_lines (command ∷ letters)) (codes "# end\n") (letters_unmarked (command ∷ letters) recorded sets) refl)
+    joined (codes "# xw begin\n") (command_lines (command ∷ letters) ++ codes "# xw end\n") refl
+    (joined (command_lines (command ∷ letters)) (codes "# xw end\n") (letters_unmarked (command ∷ letters) recorded sets) refl)
 
 text_unmarked : (state : State) (line text : List ℕ) (next : State) → AreBytes line → Leaves state line text next → IsUnmarked text
 text_unmarked state line text next are (inl (none, same)) = subst IsUnmarked (sym none) refl
