@@ -5,11 +5,7 @@ import subprocess
 import time
 
 from samples import PLAIN
-from steps import FAILED, absent, compare, differs, end, exists, holds, run, write
-
-
-# How long the program may take to do what is waited for.
-SECONDS = 10
+from steps import FAILED, SECONDS, absent, compare, differs, end, exists, holds, run, write
 
 
 def wait_until(is_so, what):

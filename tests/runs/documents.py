@@ -6,9 +6,8 @@ import subprocess
 import sys
 
 from documents import TOP, Manual, Unreadable, answers_in, block, blocks, compare_answers, lines_in, session_of, status_of, text_of, typed
-from steps import ACCEPTED, FORMAT, LeftOut, call, compare
+from steps import ACCEPTED, FORMAT, SECONDS, LeftOut, call, compare
 
-from runs.devices import SECONDS
 
 # A fill of an open grid of 5 by 5.
 WORDS = b"shade\nladed\nalong\ngorse\nsneer\nslags\nhalon\nadore\ndense\nedger\n"

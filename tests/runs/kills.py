@@ -3,12 +3,14 @@ import pathlib
 import subprocess
 import sys
 
+from steps import SECONDS
+
 TOOLS = pathlib.Path(__file__).resolve().parents[2] / "tools"
 
 
 def loses_nothing(tool, runs, seed):
     def step(room, program):
-        ended = subprocess.run([sys.executable, TOOLS / tool, str(runs), str(seed), program], capture_output=True, text=True, timeout=60)
+        ended = subprocess.run([sys.executable, TOOLS / tool, str(runs), str(seed), program], capture_output=True, text=True, timeout=SECONDS)
         assert ended.returncode == 0, ended.stdout + ended.stderr
 
     return step

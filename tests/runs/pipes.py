@@ -5,10 +5,7 @@ import select
 import subprocess
 import time
 
-from steps import ACCEPTED, REFUSED, compare
-
-# How long a session may take.
-SECONDS = 10
+from steps import ACCEPTED, REFUSED, SECONDS, compare
 
 
 def read_to(stream, deadline, is_whole):

@@ -7,7 +7,7 @@ import signal
 import subprocess
 
 from samples import PLAIN, TEXT
-from steps import FAILED, absent, compare, end, holds, link, run, write
+from steps import FAILED, SECONDS, absent, compare, end, holds, link, run, write
 
 OLD = b"what stood there"
 
@@ -110,7 +110,7 @@ def is_synced(words, typed, name, new=r"\.xw-0\.new"):
             return
         calls = "trace=rename,renameat,renameat2,fsync,fdatasync"
         tracing = ["strace", "-qq", "-f", "-y", "-e", calls, "-o", "calls", program, *words.split()]
-        ended = subprocess.run(tracing, cwd=room, input=typed, capture_output=True, timeout=60)
+        ended = subprocess.run(tracing, cwd=room, input=typed, capture_output=True, timeout=SECONDS)
         if b"ptrace" in ended.stderr or ended.returncode == 1:
             return
         compare("status", ended.returncode, 0)

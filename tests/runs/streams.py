@@ -6,9 +6,9 @@ import subprocess
 import time
 
 from samples import PLAIN, TEXT
-from steps import ACCEPTED, FAILED, FIRST, compare, end, holds, run, write
+from steps import ACCEPTED, FAILED, FIRST, SECONDS, compare, end, holds, run, write
 
-from runs.devices import SECONDS, wait_until
+from runs.devices import wait_until
 from runs.journals import CUT, Session, record
 
 
