@@ -39,7 +39,8 @@ FILLS = {"filled": "filled", "nofill": "there is no fill", "limit": "no fill was
 PROPOSALS = {"done": "every light is entered", "try": "{2}? enter places it", "dead": "no word fits here",
              "noword": "no word here leaves every light a word"}
 MOST_PLACED, MOST_TRIED = 10000, 5000
-ENCODING = "latin-1"  # one character for each byte, whatever encoding the texts of a log have
+# The encoding of texts in .puz files. A byte without a character is kept too.
+TEXTS = {"encoding": "cp1252", "errors": "surrogateescape"}
 
 
 class Refused(Exception):
@@ -206,7 +207,7 @@ class Board:
         """Writes a new log and renames it over the old one. Returns whether that worked."""
         new = f"{self.log_file}.new"
         try:
-            pathlib.Path(new).write_text("".join(f"{command}\n" for command in itertools.chain(*self.log)), ENCODING)
+            pathlib.Path(new).write_text("".join(f"{command}\n" for command in itertools.chain(*self.log)), **TEXTS)
             os.replace(new, self.log_file)
             self.message = f"saved: {self.log_file}"
             return True
@@ -274,7 +275,7 @@ def press_in_terminal(board):
 
 
 def press_from_file(board, file):
-    for key in pathlib.Path(file).read_text(ENCODING).split():
+    for key in pathlib.Path(file).read_text(**TEXTS).split():
         if board.open:
             board.press(key)
     print(*(line.rstrip() for line in board.screen()), sep="\n")
@@ -284,7 +285,7 @@ def first_commands(options):
     """The commands of the saved log, or those of a new grid."""
     if not os.path.exists(options.log):
         return ["size " + options.size.replace("x", " "), f"sym {options.sym}"]
-    lines = pathlib.Path(options.log).read_text(ENCODING).split("\n")
+    lines = pathlib.Path(options.log).read_text(**TEXTS).split("\n")
     return [line for line in lines if line.strip() and not line.lstrip().startswith("#")]
 
 
@@ -300,7 +301,7 @@ def main():
     options = parser.parse_args()
     call = [options.xw, "edit", *(["--dict", options.dict] if options.dict else [])]
     try:
-        with Session(call, stdin=subprocess.PIPE, stdout=subprocess.PIPE, encoding=ENCODING) as session:
+        with Session(call, stdin=subprocess.PIPE, stdout=subprocess.PIPE, **TEXTS) as session:
             board = Board(session, options.log, first_commands(options))
             board.begin()
             if options.keys:

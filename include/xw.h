@@ -1,14 +1,36 @@
 /*
- * xw: a crossword construction engine. Link libxw.a. docs/embedding.md has an example.
+ * xw: a crossword construction engine. docs/embedding.md has a whole program. Link libxw.so or libxw.a.
  *
- * A session is a struct xw. Make it of zero bytes before xw_open, do not copy it while it is open, and change nothing in
- * it. Each session is used by one thread at a time.
+ * SESSIONS. A session is a struct xw of yours. Set all its bytes to zero, open it, send lines, read answers, close it:
  *
- * A pointer to bytes is never null, also where the length is 0. The bytes given to a call and its other arguments do not
- * overlap. A call keeps none of them.
+ *     struct xw xw = {0};
+ *     uint32_t status = xw_open(&xw, list, list_length, puzzle, puzzle_length);
+ *     if (status != XW_ACCEPTED)
+ *         return fail(xw_status_name(status));
+ *     xw_line(&xw, line, line_length);
+ *     size_t length = xw_answer(&xw, buffer, sizeof buffer);
+ *     xw_close(&xw);
  *
- * A call other than xw_answer and xw_close returns a status. What it answers is then read by xw_answer. Any bytes may be
- * given: what a call refuses has a status of its own.
+ * The fields are private. Do not change them, and do not copy the struct while the session is open. To keep them out of your own headers,
+ * use the struct as an opaque handle. The name is enough to pass pointers around:
+ *
+ *     typedef struct xw session;                        in your header, which need not include xw.h
+ *     session *opened = calloc(1, sizeof(struct xw));   in the file that opens sessions
+ *     xw_close(opened), free(opened);                   in the file that closes them
+ *
+ * POINTERS. No pointer may be null, even if the length is 0: pass the address of any byte. The ranges of bytes given to one call do not
+ * overlap each other or the struct. A call reads or writes only the bytes that it is given, and keeps no pointer to them. A range may
+ * have any bytes and needs no NUL at its end.
+ *
+ * THREADS. A session is used by one thread at a time. Different sessions may be used by different threads at once.
+ *
+ * MEMORY. The library calls malloc, realloc and free. It opens no file and prints nothing. If an allocation fails, the call returns
+ * XW_MEMORY. A session that was open is still open: free some memory and repeat the call, or save by xw_record and close.
+ *
+ * TEXTS. Titles, clues and notes are bytes. Solving programs read those of a .puz file as Windows-1252, so convert your strings.
+ *
+ * STATUSES. Each call returns one of enum xw_status, except xw_answer, xw_close and xw_version. A later library may return others: treat an
+ * unknown one as a refusal.
  */
 #ifndef XW_H
 #define XW_H
@@ -21,7 +43,10 @@
 extern "C" {
 #endif
 
-/* An open session, or none if all bytes are zero. */
+/* The version of this header: 1,000,000 for each major version, 1,000 for each minor one, and 1 for each patch. 0.2.0 is 2000. */
+#define XW_LIBRARY_VERSION 2000
+
+/* An open session, or none if all bytes are zero. The fields are private. */
 struct xw {
     struct {
         uint8_t *at;
@@ -35,7 +60,7 @@ enum xw_status {
     XW_ACCEPTED = 0,
     /* the line was refused, or some lines of a record were: the answer has the name */
     XW_REFUSED = 1,
-    /* the line is blank or a note, which has no answer */
+    /* the line is blank or a comment, which has no answer */
     XW_SILENT = 2,
     /* there is no open session */
     XW_CLOSED = 3,
@@ -76,44 +101,112 @@ enum xw_status {
 };
 
 /*
- * Opens a session over the words of a list, a word a line, on the puzzle in the bytes of a .puz or text file or, if there
- * are none, on an empty grid of 15 rows and columns. XW_ACCEPTED, XW_FULL, why the puzzle is not read, XW_MEMORY, or
- * XW_OPEN; in all cases but the first nothing changes.
+ * Opens a session.
+ *
+ * `list` is a word list, one word on each line (docs/formats.md, "Word lists"). `puzzle` is a .puz or text file; if it has no bytes, the
+ * session starts with an empty grid of 15 rows and columns. Lines of the list that are not words are skipped. The answer is empty.
+ *
+ * Returns
+ *   XW_ACCEPTED                      the session is open; close it by xw_close
+ *   XW_OPEN                          the struct has an open session already, which stays as it was: close it first
+ *   XW_FULL                          the list has more than 1,048,576 words of one length: use a shorter list
+ *   XW_SHORT to XW_GEXT_SUM          the puzzle is not read: show xw_status_name
+ *   XW_MEMORY                        an allocation failed
+ * In all cases but the first the struct stays as it was.
+ *
+ * Time: it grows with the list. 280,000 words in alphabetical order take 0.1 to 0.2 s.
  */
 uint32_t xw_open(struct xw *xw, const uint8_t *list, size_t list_length, const uint8_t *puzzle, size_t puzzle_length);
 
 /*
- * Replays the lines of a record, up to the first that is not a command. The answer has a line for each refused one,
- * "xw: record: line N: NAME", and at last one for the line that is not a command. XW_ACCEPTED, XW_REFUSED, XW_NO_COMMAND,
- * or XW_MEMORY: some lines may then have been done.
+ * Replays the lines of a record, such as xw_record makes and `xw edit --save` writes. It stops after the first line that is not a command.
+ * The answer has a line "xw: record: line N: NAME" for each refused line, and for the line that is not a command.
+ *
+ * Returns
+ *   XW_ACCEPTED       all lines were accepted
+ *   XW_REFUSED        some were refused, and have no effect: show the answer
+ *   XW_NO_COMMAND     a line is not a command, so this is not a record. The lines before it were executed: close the session
+ *   XW_CLOSED         there is no open session
+ *   XW_MEMORY         an allocation failed. Some lines may have been executed: close the session and start again
+ *
+ * Time: the sum over its lines.
  */
 uint32_t xw_resume(struct xw *xw, const uint8_t *record, size_t record_length);
 
 /*
- * Answers one line, which has no line feed at its end: docs/commands.md. The answer is what `xw edit` writes. XW_ACCEPTED,
- * XW_REFUSED, XW_SILENT, or XW_MEMORY if the answer could not be kept: the line may then have been done.
+ * Answers one line of commands, without a line feed at its end (docs/commands.md). The answer is what `xw edit` prints: lines and then
+ * "ok", or "no NAME", each with a line feed.
+ *
+ * Returns
+ *   XW_ACCEPTED       the answer ends with "ok"
+ *   XW_REFUSED        the answer is "no NAME", and nothing has changed. docs/front-ends.md says what each name means to a user
+ *   XW_SILENT         the line is blank or a comment, and the answer is empty
+ *   XW_CLOSED         there is no open session
+ *   XW_MEMORY         there was no memory for the answer, which is empty. The line may have been executed: send `show`
+ * If there is no memory for the command itself, it is refused like any other: XW_REFUSED, and "no Memory".
+ *
+ * Time: an edit of a letter takes some hundredths of a millisecond. A search takes as long as its number of placements allows, and cannot be
+ * stopped while it runs: send `autofill` with 1,000 to 3,000 placements, 0.1 to 0.3 s, again and again (docs/embedding.md, "Searches").
  */
 uint32_t xw_line(struct xw *xw, const uint8_t *line, size_t line_length);
 
-/* Makes the answer the puzzle as a .puz file. XW_ACCEPTED, why it cannot be written, or XW_MEMORY; then the answer is empty. */
+/*
+ * Makes a .puz file of the puzzle. The answer has its bytes.
+ *
+ * Returns
+ *   XW_ACCEPTED                      the answer is the file
+ *   XW_BARRED to XW_FIELD            the format cannot hold the puzzle, for example because a cell is empty; keep it by xw_record
+ *   XW_CLOSED                        there is no open session
+ *   XW_MEMORY                        an allocation failed
+ * In all cases but the first the answer is empty.
+ *
+ * Time: it grows with the cells and the texts, and is some milliseconds for the largest grid.
+ */
 uint32_t xw_puz(struct xw *xw);
 
-/* Makes the answer the puzzle as a text file, as xw_puz. */
+/*
+ * Makes a text file of the puzzle, as xw_puz. It also returns XW_CIRCLED: a text file has no circles.
+ */
 uint32_t xw_text(struct xw *xw);
 
-/* Makes the answer the record of the session, which xw_resume replays. XW_ACCEPTED, or XW_MEMORY; then the answer is empty. */
+/*
+ * Makes the record of the session: lines of commands. Replaying them by xw_resume, in a new session over the same word list, restores the
+ * session. A record holds what no puzzle file can, such as bars and empty cells. To save it, write it to a new file, and rename that over
+ * the old one.
+ *
+ * Returns
+ *   XW_ACCEPTED       the answer is the record
+ *   XW_CLOSED         there is no open session
+ *   XW_MEMORY         an allocation failed; the answer is empty
+ *
+ * Time: it grows with the word list, the cells and the texts.
+ */
 uint32_t xw_record(struct xw *xw);
 
 /*
- * Copies the answer to the last call into `out`, as much of it as there is room for, and returns its whole length. So a
- * call with no room tells the length. Without an open session the answer is empty.
+ * Copies the answer to the last call into `out`, as much of it as there is room for, and returns its whole length. If this is more than
+ * `out_length`, call again with more room: the answer stays until the next other call. It has no NUL at its end. Without an open session it
+ * is empty, and the length is 0.
+ *
+ * Time: that of copying the bytes.
  */
 size_t xw_answer(struct xw *xw, uint8_t *out, size_t out_length);
 
-/* Closes a session and frees all that it holds. The struct is zero again. Does nothing without an open session. */
+/*
+ * Closes the session and frees all that it holds. All bytes of the struct that matter are zero again, so it can be opened again. Without an
+ * open session it does nothing, so it can be called twice.
+ */
 void xw_close(struct xw *xw);
 
-/* The name of a status, as the program spells it. */
+/*
+ * Copies the version of the library into `out`, as much of it as there is room for, and returns its whole length. The text is that of
+ * `xw --version`, such as "xw 0.2.0 (protocol 1)", without a line feed or a NUL. It needs no session.
+ *
+ * This is the version of the library that is loaded. XW_LIBRARY_VERSION is that of the header.
+ */
+size_t xw_version(uint8_t *out, size_t out_length);
+
+/* The name of a status, as the program spells it, or "Unknown". The string is constant. */
 static inline const char *xw_status_name(uint32_t status) {
     static const char *const names[] = {
         "Accepted", "Refused", "Silent", "Closed", "Open", "Memory", "NoCommand", "Full", "Short", "Magic", "Version",

@@ -1,6 +1,6 @@
 // The crossword engine in JavaScript: an ES module for browsers and Node. docs/embedding.md has an example.
 //
-//   const module = await load('xw.wasm');
+//   const module = await load();
 //   const xw = Xw.open(module, { list, puzzle, record });
 //   xw.line('words 1 across 3')  →  { lines: ['55', 'CAB'], ok: true, refusal: null }
 //   xw.puz(), xw.text(), xw.record()  →  the bytes of a file
@@ -13,22 +13,83 @@ export const STATUSES = [
   'Barred', 'NotFilled', 'Field', 'Circled',
 ];
 
-// A call that was not done. `status` is one of STATUSES; `answer` has the lines that were written, if any.
+// A call that was not done. `status` is one of STATUSES, and `answer` has the lines that were written, if any. Or `status` is `Character`,
+// and `answer` is a character that texts cannot have.
 export class Fault extends Error {
-  constructor(status, answer = '') {
-    super(answer ? `${status}\n${answer}` : status);
+  constructor(status, answer = '', message = answer ? `${status}\n${answer}` : status) {
+    super(message);
     this.name = 'Fault';
     this.status = status;
     this.answer = answer;
   }
 }
 
-// Compiles the module: from its bytes, or from where it can be fetched.
-export async function load(source) {
-  if (source instanceof ArrayBuffer || ArrayBuffer.isView(source)) return WebAssembly.compile(source);
-  const response = await fetch(source);
-  if (!response.ok) throw new Error(`${source}: ${response.status}`);
-  return WebAssembly.compile(await response.arrayBuffer());
+// The characters of the bytes 80 to 9F in Windows-1252, as browsers read it: a byte without a character is a control character. All other
+// bytes are the characters of the same number. So each byte is one character, and bytes that are read and written again are the same.
+// TextDecoder is not used, since some versions of Node take windows-1252 for ISO-8859-1.
+const HIGH = '€\x81‚ƒ„…†‡ˆ‰Š‹Œ\x8dŽ\x8f\x90‘’“”•–—˜™š›œ\x9džŸ';
+const HIGH_BYTES = new Map(Array.from(HIGH, (character, at) => [character, 0x80 + at]));
+
+const isPlain = (unit) => unit < 0x80 || (unit > 0x9f && unit < 0x100);
+
+// The bytes of a string in Windows-1252. Throws a Fault with the status `Character` if the string has another character.
+export function toBytes(text) {
+  const bytes = new Uint8Array(text.length);
+  for (let at = 0; at < text.length; at++) {
+    const unit = text.charCodeAt(at);
+    const byte = isPlain(unit) ? unit : HIGH_BYTES.get(text[at]);
+    if (byte === undefined) throw strange(text.codePointAt(at));
+    bytes[at] = byte;
+  }
+  return bytes;
+}
+
+function strange(code) {
+  const character = String.fromCodePoint(code);
+  const name = `U+${code.toString(16).toUpperCase().padStart(4, '0')}`;
+  return new Fault('Character', character, `${character} (${name}) is not a character of Windows-1252`);
+}
+
+// The string that bytes are in Windows-1252. It has one character for each byte.
+export function toText(bytes) {
+  let text = '';
+  for (let at = 0; at < bytes.length; at += 8192) text += String.fromCharCode.apply(null, bytes.subarray(at, at + 8192));
+  return text.replace(/[\x80-\x9f]/g, (character) => HIGH[character.charCodeAt(0) - 0x80]);
+}
+
+// Whether a value has a type of the language, also if it comes from another frame.
+const isA = (value, type) => Object.prototype.toString.call(value) === `[object ${type}]`;
+
+// The bytes of a Uint8Array, an ArrayBuffer or a string.
+function bytesOf(source, name) {
+  return typeof source === 'string' ? toBytes(source) : rawBytesOf(source, `${name} is not a string, a Uint8Array or an ArrayBuffer`);
+}
+
+function rawBytesOf(source, fault) {
+  if (isA(source, 'Uint8Array')) return source;
+  if (isA(source, 'ArrayBuffer')) return new Uint8Array(source);
+  throw new TypeError(fault);
+}
+
+// Compiles the module: from its bytes, or from a place. That is a URL, or in Node also a path. By default it is xw.wasm beside this file.
+export async function load(source = new URL('xw.wasm', import.meta.url)) {
+  const isBytes = isA(source, 'ArrayBuffer') || ArrayBuffer.isView(source);
+  return WebAssembly.compile(isBytes ? source : await bytesAt(source));
+}
+
+// A name that bundlers for the web do not follow.
+const NODE_FILES = 'node:fs/promises';
+
+async function bytesAt(place) {
+  const name = String(place);
+  // Node does not fetch files
+  if (globalThis.process?.versions?.node && !/^(https?|data|blob):/.test(name)) {
+    const { readFile } = await import(/* webpackIgnore: true */ /* @vite-ignore */ NODE_FILES);
+    return readFile(name.startsWith('file:') ? new URL(name) : name);
+  }
+  const response = await fetch(place);
+  if (!response.ok) throw new Error(`${place}: ${response.status}`);
+  return response.arrayBuffer();
 }
 
 // An allocator over the memory of an instance. Blocks come in classes of size; each is preceded by its size, and a block that is given
@@ -138,11 +199,6 @@ class Heap {
   }
 }
 
-const BYTES = new Uint8Array();
-const encoder = new TextEncoder();
-const decoder = new TextDecoder();
-const bytesOf = (text) => (typeof text === 'string' ? encoder.encode(text) : text);
-
 // A session. Each has a memory of its own.
 export class Xw {
   // The size of struct xw.
@@ -155,12 +211,14 @@ export class Xw {
   #input = { at: 0, length: 0 };
   #output = { at: 0, length: 0 };
 
-  // Opens a session over a word list, on a puzzle (the bytes of a .puz or text file), and replays a record. Each is bytes or a string, and may
-  // be left out. `record` may have lines that are refused: `reports` then names them. Throws a Fault if it cannot.
-  static open(module, { list = BYTES, puzzle = BYTES, record = BYTES } = {}) {
+  // Opens a session over a word list, on a puzzle (a .puz or text file), and replays a record. Each is a Uint8Array, an ArrayBuffer or a
+  // string in Windows-1252, and may be left out. `record` may have lines that are refused: `reports` then names them. Throws a Fault if it
+  // cannot.
+  static open(module, { list = '', puzzle = '', record = '' } = {}) {
+    const [lists, puzzles, records] = [bytesOf(list, 'list'), bytesOf(puzzle, 'puzzle'), bytesOf(record, 'record')];
     const xw = new Xw(module);
-    xw.#open(bytesOf(list), bytesOf(puzzle));
-    xw.reports = xw.#resume(bytesOf(record));
+    xw.#open(lists, puzzles);
+    xw.reports = xw.#resume(records);
     return xw;
   }
 
@@ -195,7 +253,7 @@ export class Xw {
 
   #resume(record) {
     const status = this.#send('xw_resume', record);
-    const reports = decoder.decode(this.#answer());
+    const reports = toText(this.#answer());
     if (status !== 'Accepted' && status !== 'Refused') throw new Fault(status, reports);
     return reports;
   }
@@ -203,6 +261,10 @@ export class Xw {
   // Calls a function of the module on the handle, and returns its status.
   #call(name, ...numbers) {
     return STATUSES[this.#calls[name](BigInt(this.#handle), ...numbers.map(BigInt))];
+  }
+
+  #expectOpen() {
+    if (!this.#calls) throw new Fault('Closed');
   }
 
   #send(name, bytes) {
@@ -238,21 +300,25 @@ export class Xw {
 
   // Answers a line in bytes, and returns the status and the answer as `xw edit` writes it.
   answer(line) {
-    const status = this.#send('xw_line', line);
-    if (status === 'Memory' || status === 'Closed') throw new Fault(status);
+    const bytes = rawBytesOf(line, 'the line is not a Uint8Array or an ArrayBuffer');
+    this.#expectOpen();
+    const status = this.#send('xw_line', bytes);
+    if (status === 'Memory') throw new Fault(status);
     return { status, answer: this.#answer() };
   }
 
-  // Answers a line. `lines` are those before `ok`, and `refusal` is the name after `no`. A blank line or a note is ok.
+  // Answers a line in Windows-1252. `lines` are those before `ok`, and `refusal` is the name after `no`. A blank line or a note is ok.
   line(text) {
-    const { status, answer } = this.answer(encoder.encode(text));
-    const lines = decoder.decode(answer).split('\n');
+    if (typeof text !== 'string') throw new TypeError('the line is not a string');
+    const { status, answer } = this.answer(toBytes(text));
+    const lines = toText(answer).split('\n');
     // what ends the answer: `ok` or `no NAME`, and the text after the last line feed
     const end = lines.splice(-2)[0];
     return { lines, ok: status !== 'Refused', refusal: status === 'Refused' ? end.slice('no '.length) : null };
   }
 
   #file(name) {
+    this.#expectOpen();
     this.#expect(this.#call(name));
     return this.#answer();
   }
@@ -272,8 +338,8 @@ export class Xw {
     return this.#file('xw_record');
   }
 
-  // Closes the session. Its memory is free once the object is.
+  // Closes the session, and lets its memory go. Every later call throws a Fault with the status `Closed`, except `close`, which does nothing.
   close() {
-    this.#calls.xw_close(BigInt(this.#handle));
+    this.#calls = this.#heap = null;
   }
 }

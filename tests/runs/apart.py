@@ -106,14 +106,14 @@ def is_in_use(words, name, typed=b"size 9 9\n"):
     return run(words, typed, errors=f"xw: {name}: in use\n".encode(), status=FAILED)
 
 
-def is_piped(words, wanted):
+def is_piped(words, wanted, errors=b""):
     """Runs the program while a thread reads the pipe `pipe`, which is opened and written once."""
 
     def step(room, program):
         found = []
         reader = threading.Thread(target=lambda: found.append((room / "pipe").read_bytes()), daemon=True)
         reader.start()
-        run(words)(room, program)
+        run(words, errors=errors)(room, program)
         reader.join(10)
         compare("what the pipe had", found, [wanted])
 
@@ -284,9 +284,9 @@ CASES = {
     "no_file": [
         write("plain.puz", PLAIN),
         lambda room, program: os.mkfifo(room / "pipe"),
-        is_piped("convert plain.puz pipe", TEXT),
+        is_piped("convert plain.puz pipe", TEXT, b"xw: pipe: written as text\n"),
         is_piped("edit --from plain.puz --to pipe", TEXT),
-        run("convert plain.puz /dev/stdout", output=TEXT),
+        run("convert plain.puz /dev/stdout", output=TEXT, errors=b"xw: /dev/stdout: written as text\n"),
         run("edit --from plain.puz --to /dev/null"),
     ],
 }

@@ -27,7 +27,7 @@ Usage: xw <COMMAND>
 Commands:
   edit     Answer the commands on standard input, a line each
   convert  Read a puzzle file and write it in another format
-  check    Read a puzzle file and tell its format, size and number of lights
+  check    Read puzzle files and tell their format, size and number of lights
   help     Print this message or the help of the given subcommand(s)
 
 Options:
@@ -69,12 +69,12 @@ Options:
   -h, --help     Print help
 """
 
-CHECK_HELP = b"""Read a puzzle file and tell its format, size and number of lights
+CHECK_HELP = b"""Read puzzle files and tell their format, size and number of lights
 
-Usage: xw check [OPTIONS] <FILE>
+Usage: xw check [OPTIONS] <FILE>...
 
 Arguments:
-  <FILE>  The puzzle to read, .puz or text
+  <FILE>...  The puzzles to read, .puz or text
 
 Options:
       --explain  Tell where a fault of a file is, in one more line
@@ -153,8 +153,10 @@ WRONG = {
     "convert": missing(["<FROM>", "<TO>"], "convert <FROM> <TO>"),
     "convert a": missing(["<TO>"], "convert <FROM> <TO>"),
     "convert a b c": extra("c", "convert [OPTIONS] <FROM> <TO>"),
-    "check": missing(["<FILE>"], "check <FILE>"),
-    "check a b": extra("b", "check [OPTIONS] <FILE>"),
+    "check": missing(["<FILE>..."], "check <FILE>..."),
+    "check --frob a b": wrong(
+        "unexpected argument '--frob' found\n\n  tip: to pass '--frob' as a value, use '-- --frob'", "check [OPTIONS] <FILE>..."
+    ),
 }
 
 CASES = {

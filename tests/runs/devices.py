@@ -80,6 +80,7 @@ CASES = {
     # One that comes only with the last answer, which is flushed at the end.
     "output_fault, of the last answer": no_puzzle_after("output fault", fails, b"show\n"),
     "output_fault_of_a_check": [write("checked", PLAIN), fails("check checked", "output fault")],
+    "output_fault_of_a_check, of several files": [write("checked", PLAIN), fails("check checked gone checked", "output fault")],
     # The session is saved although the output failed.
     "output_fault_of_a_flush": [
         *FILLED,

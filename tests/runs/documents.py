@@ -1,9 +1,11 @@
 """The sessions, the Python and the calls of the documents, read from them."""
+import functools
 import os
 import pathlib
 import re
 import subprocess
 import sys
+from types import SimpleNamespace
 
 from documents import TOP, Manual, Unreadable, answers_in, block, blocks, compare_answers, lines_in, session_of, status_of, text_of, typed
 from steps import ACCEPTED, FORMAT, SECONDS, LeftOut, call, compare
@@ -49,10 +51,29 @@ def python_runs(name):
         (room / "xw").symlink_to(program)
         ended = subprocess.run([sys.executable, "-c", code], cwd=room, env={"PATH": str(room)}, capture_output=True, timeout=SECONDS)
         commands = re.findall(r'\bask\("([^"]*)"\)', code)
-        plain = call(room, program, "edit --dict words.txt", "".join(f"{command}\n" for command in commands).encode())
+        plain = call(room, program, "edit --dict words.txt", "".join(f"{command}\n" for command in commands).encode("cp1252"))
         answers = [(answer[-1], answer[:-1]) for answer in answers_in(plain.stdout)]
         assert commands and len(answers) == len(commands), f"{name}: {commands}"
         compare(name, (lines_in(ended.stdout), ended.stderr), ([" ".join(map(str, answers))], plain.stderr))
+
+    return step
+
+
+def python_keeps_accents(name):
+    """The Python of a document sends and reads texts in Windows-1252."""
+
+    def step(room, program):
+        code = "\n".join(line for _, line in block(name, "import subprocess"))
+        (room / "words.txt").write_bytes(WORDS)
+        (room / "xw").symlink_to(program)
+        title = "title Caf\u00e9 \u2019"
+        # after the answers of the code: one that it reads, and one whose bytes are copied
+        more = f"import sys\nprint(ask({title!r}), ask('texts'))\nprint('texts', file=xw.stdin, flush=True)\n"
+        more += "sys.stdout.flush()\nsys.stdout.buffer.write(xw.stdout.buffer.readline())\n"
+        ended = subprocess.run([sys.executable, "-c", code + "\n" + more], cwd=room, env={"PATH": str(room)}, capture_output=True, timeout=SECONDS)
+        told, sent = ended.stdout.split(b"\n")[1:3]
+        compare(f"{name}: read", told.decode(), str(("ok", [])) + " " + str(("ok", [title])))
+        compare(f"{name}: sent", sent, title.encode("cp1252"))
 
     return step
 
@@ -62,15 +83,28 @@ class Refused(Exception):
 
 
 def loop_runs(room, program):
-    """Runs the loop of docs/front-ends.md on answers, on a refusal, and on a program that ends without an answer."""
-    code = "\n".join(line for _, line in block("docs/front-ends.md", "def ask(command):"))
-    streams = {"cwd": room, "text": True, "stdin": subprocess.PIPE, "stdout": subprocess.PIPE}
-    with subprocess.Popen(["xw", "edit"], executable=program, **streams) as session:
-        names = {"program": session, "Refused": Refused}
-        exec(code, names)
-        answers = [names["ask"](command) for command in ("add AT", "size 2 1", "words 1 across")]
-        compare("answers", answers, [[], [], ["1", "AT"]])
+    """Runs the loop of docs/front-ends.md on answers, on texts, on a refusal, and on a program that ends without an answer."""
+    begin, loop = ("\n".join(line for _, line in block("docs/front-ends.md", first)) for first in ("program = ", "def ask(command):"))
+    (room / "words.txt").write_bytes(b"at\n")
+    popen = functools.partial(subprocess.Popen, executable=program, cwd=room, stderr=subprocess.DEVNULL)
+    names = {"subprocess": SimpleNamespace(Popen=popen, PIPE=subprocess.PIPE), "Refused": Refused}
+    exec(begin + "\n" + loop, names)
+    with names["program"] as session:
+        answers = [names["ask"](command) for command in ("size 2 1", "words 1 across")]
+        compare("answers", answers, [[], ["1", "AT"]])
         compare("refusal", raised(names["ask"], "frob"), (Refused, ("Command",)))
+        # each byte comes back, also those that Windows-1252 has no character for
+        title = bytes(byte for byte in range(0x21, 0x100) if byte != 0x5C)
+        session.stdin.buffer.write(b"title " + title + b"\n")
+        session.stdin.buffer.flush()
+        compare("bytes sent", session.stdout.readline(), "ok\n")
+        (line,) = names["ask"]("texts")
+        compare("bytes read", line.encode("cp1252", "surrogateescape"), b"title " + title)
+        compare("an accent", (names["ask"]("title Caf\u00e9"), names["ask"]("texts")), ([], ["title Caf\u00e9"]))
+        compare("sent again", (names["ask"](line), names["ask"]("texts")), ([], [line]))
+        compare("another character", raised(names["ask"], "title \u0416")[0], UnicodeEncodeError)
+        compare("after that", names["ask"]("texts"), [line])
+    streams = {"cwd": room, "encoding": "cp1252", "stdin": subprocess.PIPE, "stdout": subprocess.PIPE}
     with subprocess.Popen(["sh", "-c", "read line"], **streams) as names["program"]:
         compare("end", raised(names["ask"], "show"), (EOFError, ()))
 
@@ -108,6 +142,37 @@ def has_options(room, program):
         lines = [line for _, line in MANUAL.usages if line.startswith(f"xw {subcommand} ")]
         help_text = call(room, program, f"{subcommand} --help").stdout.decode()
         compare(f"options of xw {subcommand}", options_in(" ".join(lines)), options_in(help_text) - {"--help"})
+
+
+def page_is_whole(room, program):
+    """The manual page has the options of the help, the commands of docs/commands.md, and the exit statuses."""
+    page = text_of("docs/xw.1").replace("\\-", "-")
+    for subcommand in ("edit", "convert", "check"):
+        help_text = call(room, program, f"{subcommand} --help").stdout.decode()
+        missing = options_in(help_text) - {"--help"} - options_in(page)
+        assert not missing, f"docs/xw.1 does not have {sorted(missing)}"
+    table = page[page.index("lB lx.") : page.index(".TE")]
+    cells = re.findall(r"^(?:T\{\n)?(.*?)(?:\nT\})?@T\{\n.*?\nT\}$", table, re.M | re.S)
+    forms = [form for heading in re.findall("^### ([a-z].*)$", text_of("docs/commands.md"), re.M) for form in heading.split(", ")]
+    compare("commands of docs/xw.1", [form for cell in cells for form in cell.removeprefix("lB lx.\n").split("\n.br\n")], forms)
+    statuses = page[page.index(".SH EXIT STATUS") : page.index(".SH FILES")]
+    compare("exit statuses of docs/xw.1", re.findall(r"^\.B (\d)$", statuses, re.M), list("01234"))
+
+
+def completions_are_whole(room, program):
+    """The completions for bash are the options of the help, and files after an option that takes one."""
+    for words in ("", "edit --", "convert -", "check -", "edit --dict "):
+        typed = ["xw", *words.split(" ")]
+        code = '. "$0"; COMP_WORDS=("$@"); COMP_CWORD=$(($# - 1)); _xw; echo "${COMPREPLY[@]}"'
+        asked = ["bash", "-c", code, TOP / "tools/xw.bash", *typed]
+        offered = subprocess.run(asked, capture_output=True, timeout=SECONDS, check=True).stdout.decode().split()
+        if words == "":
+            wanted = {"edit", "convert", "check", "--version", "--help"}
+        elif words.endswith(" "):
+            wanted = set()
+        else:
+            wanted = options_in(call(room, program, f"{words.split()[0]} --help").stdout.decode())
+        compare(f"completions of xw {words}", set(offered), wanted)
 
 
 def options_in(text):
@@ -161,10 +226,13 @@ CASES = {
     "all_examples_run": [all_run],
     **{f"session of {name}": [session_runs(name)] for name in SESSIONS},
     **{f"python of {name}": [python_runs(name)] for name in PYTHON},
+    **{f"accents in the python of {name}": [python_keeps_accents(name)] for name in PYTHON},
     "loop of docs/front-ends.md": [loop_runs],
     "board of docs/front-ends.md": [board_runs],
     "version of docs/front-ends.md": [version_stands],
     "options of docs/commands.md": [has_options],
+    "manual page": [page_is_whole],
+    "completions for bash": [completions_are_whole],
     "calls of docs/commands.md, accepted": [calls_accepted],
     "calls of docs/commands.md, with what they print": [puzzle_made, calls_print],
 }

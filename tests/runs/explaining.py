@@ -1,6 +1,6 @@
 """Runs with `--explain`, which prints the location of a fault."""
 from samples import CIRCLED, PLAIN, TEXT, WRONG_SUM
-from steps import FORMAT, run, write
+from steps import FAILED, FORMAT, USAGE, run, write
 
 
 def told(data, fault, location):
@@ -22,7 +22,51 @@ def is_not_written(file, typed, fault, location=None):
     ]
 
 
+def fails(words, errors, reason=None, typed=b"", output=b""):
+    """Checks the message for a file that the system refuses, without and with the reason."""
+    more = f"xw: {reason}\n" if reason else ""
+    return [
+        run(words, typed, output, errors.encode(), FAILED),
+        run(f"{words} --explain", typed, output, (errors + more).encode(), FAILED),
+    ]
+
+
+def makes(folder):
+    return lambda room, program: (room / folder).mkdir()
+
+
 CASES = {
+    # The errors of the system, as the C library names them.
+    "device_told, no file": [
+        *fails("check gone", "xw: gone: cannot read\n", "No such file or directory"),
+        *fails("convert gone new.txt", "xw: gone: cannot read\n", "No such file or directory"),
+        *fails("edit --dict gone", "xw: gone: cannot read\n", "No such file or directory"),
+        *fails("edit --from gone", "xw: gone: cannot read\n", "No such file or directory"),
+        *fails("edit --resume gone", "xw: gone: cannot read\n", "No such file or directory"),
+    ],
+    "device_told, no folder": [
+        write("plain.puz", PLAIN),
+        *fails("convert plain.puz no/such/folder.puz", "xw: no/such/folder.puz: cannot write\n", "No such file or directory"),
+        *fails("edit --save no/such/folder", "xw: no/such/folder: cannot write\n", "No such file or directory"),
+        *fails("edit --journal no/such/folder", "xw: no/such/folder: cannot write\n", "No such file or directory"),
+    ],
+    "device_told, a folder": [
+        makes("folder"),
+        write("plain.puz", PLAIN),
+        *fails("check folder", "xw: folder: cannot read\n", "Is a directory"),
+        *fails("check plain.puz/inside", "xw: plain.puz/inside: cannot read\n", "Not a directory"),
+        *fails("edit --save folder", "xw: folder: cannot write\n", "Is a directory"),
+        # The program refuses it, and not the system.
+        *fails("edit --journal folder", "xw: folder: cannot write\n"),
+    ],
+    "device_told, a full device": [
+        write("plain.puz", PLAIN),
+        *fails("convert plain.puz /dev/full", "xw: /dev/full: cannot write\n", "No space left on device"),
+    ],
+    # Other failures have no second line.
+    "device_told, wrong usage": [
+        run("edit --explain --dict a --to a", errors=b"xw: a: the word list cannot be the file to write\n", status=USAGE),
+    ],
     # A `.puz` file that is cut off at several offsets.
     "puz_faults_told, notes": told(PLAIN[:71], "NoNul", "notes"),
     "puz_faults_told, clue": told(PLAIN[:66], "NoNul", "clue 2 (1 down)"),

@@ -302,9 +302,9 @@ CASES = {
     # The new file is locked as well.
     "first_line_added, in use": [link("mine.link", "mine.xw"), write("mine.xw", b"size 2 1\n"), is_locked_by_another(), absent("mine.new")],
     "first_line_added, without room for it": [
-        write("mine.xw", BEGUN),
-        has_no_room(len(BEGUN) + 1, "edit --journal mine.xw --to new.puz"),
-        holds("mine.xw", BEGUN),
+        write("mine.xw", FILLED),
+        has_no_room(len(FILLED) + 1, "edit --journal mine.xw --to new.puz"),
+        holds("mine.xw", FILLED),
         absent("new.puz"),
         absent(".xw-0.new"),
     ],

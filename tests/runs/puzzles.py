@@ -1,5 +1,5 @@
 """Runs on puzzle files."""
-from samples import CIRCLED, PLAIN, STARTED, TEXT
+from samples import CIRCLED, PLAIN, STARTED, TEXT, WRONG_SUM
 from steps import FAILED, FORMAT, REFUSED, absent, holds, run, write
 
 CASES = {
@@ -8,6 +8,33 @@ CASES = {
         run("check checked", output=b"puz 2x2 4 lights\n"),
         write("checked", TEXT),
         run("check checked", output=b"text 2x2 4 lights\n"),
+    ],
+    # With several files each line names its file. A fault is told, and the next file is checked.
+    "puzzles_checked_in_turn": [
+        write("monday.puz", PLAIN),
+        write("monday.txt", TEXT),
+        write("sum.puz", WRONG_SUM),
+        run("check monday.puz monday.txt", output=b"monday.puz: puz 2x2 4 lights\nmonday.txt: text 2x2 4 lights\n"),
+        run("check monday.puz monday.puz", output=b"monday.puz: puz 2x2 4 lights\n" * 2),
+        run(
+            "check sum.puz monday.puz",
+            output=b"monday.puz: puz 2x2 4 lights\n",
+            errors=b"xw: sum.puz: BadSum\n",
+            status=FORMAT,
+        ),
+        run(
+            "check gone monday.puz sum.puz --explain monday.txt",
+            output=b"monday.puz: puz 2x2 4 lights\nmonday.txt: text 2x2 4 lights\n",
+            errors=b"xw: gone: cannot read\nxw: No such file or directory\nxw: sum.puz: BadSum\nxw: file checksum\n",
+            status=FAILED,
+        ),
+        run(
+            "check sum.puz gone sum.puz",
+            errors=b"xw: sum.puz: BadSum\nxw: gone: cannot read\nxw: sum.puz: BadSum\n",
+            status=FAILED,
+        ),
+        # Standard input is one of the files.
+        run("check monday.puz -", TEXT, b"monday.puz: puz 2x2 4 lights\n-: text 2x2 4 lights\n"),
     ],
     # One light is reported as `1 lights`. A file name of fewer than four bytes gives a text file.
     "one_light_checked": [
@@ -24,6 +51,19 @@ CASES = {
         holds("again.PUZ", PLAIN),
         run("convert started .puz"),
         holds(".puz", PLAIN),
+    ],
+    # A name that asks for no format is told, but not that of a file that is not written.
+    "text_told": [
+        write("plain", PLAIN),
+        run("convert plain new", errors=b"xw: new: written as text\n"),
+        holds("new", TEXT),
+        run("convert plain new.tex", errors=b"xw: new.tex: written as text\n"),
+        run("convert plain txt", errors=b"xw: txt: written as text\n"),
+        run("convert plain .txt"),
+        run("convert plain new.TxT"),
+        run("convert plain no/such/folder", errors=b"xw: no/such/folder: cannot write\n", status=FAILED),
+        run("edit --from plain --to other"),
+        holds("other", TEXT),
     ],
     "barred_grid_is_not_written": [
         write("barred.puz", PLAIN),
@@ -99,7 +139,7 @@ CASES = {
     # A name that ends in `puz` without a dot gives a text file. A session opened on a file has no symmetry.
     "opened_without_symmetry": [
         write("opened", PLAIN),
-        run("convert opened xpuz"),
+        run("convert opened xpuz", errors=b"xw: xpuz: written as text\n"),
         holds("xpuz", TEXT),
         run("edit --from xpuz", b"clear 1 1\nblock 1 1\nshow\n", output=b"ok\nok\n# T\nS O\nok\n"),
     ],

@@ -101,9 +101,37 @@ def is_not_read(room, program):
     os.close(read)
     ended = end(room, program, "edit --journal mine.xw --save new.xw", input=b"size 2 1\nset 1 1 A\n", stdout=write)
     os.close(write)
-    compare("messages and status", (ended.stderr, ended.returncode), (b"xw: output fault\n", FAILED))
+    compare("messages and status", (ended.stderr, ended.returncode), (b"", FAILED))
     holds("mine.xw", FIRST + b"size 2 1\n")(room, program)
     holds("new.xw", record())(room, program)
+
+
+def ends_unread(words):
+    """Runs a call whose only output nobody reads."""
+
+    def step(room, program):
+        read, write = os.pipe()
+        os.close(read)
+        ended = end(room, program, words, input=b"", stdout=write)
+        os.close(write)
+        compare(f"messages and status of xw {words}", (ended.stderr, ended.returncode), (b"", FAILED))
+
+    return step
+
+
+def stops_reading(room, program):
+    """Reads the beginning of a long answer, and closes the pipe while the rest of it is written."""
+    with subprocess.Popen(
+        ["xw", "edit", "--save", "new.xw"], executable=program, cwd=room, env={}, stdin=subprocess.PIPE, stdout=subprocess.PIPE, stderr=subprocess.PIPE
+    ) as process:
+        process.stdin.write(b"size 200 200\ncells\n")
+        process.stdin.flush()
+        compare("answer", process.stdout.read(3), b"ok\n")
+        process.stdout.close()
+        process.stdin.close()
+        compare("messages", process.stderr.read(), b"")
+        compare("status", process.wait(timeout=SECONDS), FAILED)
+    assert (room / "new.xw").exists()
 
 
 def does_not_block(stream):
@@ -199,6 +227,8 @@ CASES = {
     ],
     # No signal of a pipe without a reader ends the program: the session is saved.
     "not_read, output": [is_not_read],
+    "not_read, rest of the output": [stops_reading],
+    "not_read, output of other calls": [write("plain.puz", PLAIN), ends_unread("check plain.puz"), ends_unread("check plain.puz gone"), ends_unread("--help"), ends_unread("--version")],
     # A stream that does not block is a fault where the program would have to wait.
     "not_blocking, input": [breaks_off_without_input],
     "not_blocking, output": [breaks_off_without_room],

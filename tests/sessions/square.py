@@ -96,6 +96,81 @@ ok
 1
 SO
 ok
+@ square_entered_and_cleared
+> watch on
+ok
+> set 1 2 T
+cell 1 2 T
+ok
+> clear 1 2
+cell 1 2 ST
+ok
+@ words_placed_on_the_watch
+> watch on
+ok
+> place 1 across AT
+cell 1 2 T
+ok
+> words 2 down
+1
+TO
+ok
+> place 1 across xy
+cell 1 1 -
+cell 1 2 -
+cell 2 1 -
+cell 2 2 -
+ok
+> place 1 across SOS
+no PlaceLength
+> place 2 across SO
+no NoLight
+> place 1 across AS
+cell 1 1 A
+cell 1 2 S
+cell 2 1 ST
+cell 2 2 O
+ok
+> words 2 down
+1
+SO
+ok
+@ square_reshaped_and_reworded
+> watch on
+ok
+> block 2 2
+cell 1 1 AIST
+cell 1 2 NOST
+cell 2 1 NOST
+ok
+> words 1 across
+5
+AS
+AT
+SO
+TO
+IN
+ok
+> words 3 across
+no NoLight
+> block 2 2
+cell 1 1 A
+cell 1 2 ST
+cell 2 1 ST
+cell 2 2 O
+ok
+> strike SO
+cell 1 2 T
+cell 2 1 T
+ok
+> words 1 across
+1
+AT
+ok
+> add SO
+cell 1 2 ST
+cell 2 1 ST
+ok
 @ square_emptied_and_restored
 > watch on
 ok
@@ -704,6 +779,58 @@ ok
 ok
 > choices 3 across 5
 ok
+@ choices_from_a_word: They begin at the word, or at the first feasible word after it.
+> choices 1 across 9 AS
+AS 1
+AT 1
+ok
+> choices 1 across 9 at
+AT 1
+ok
+> choices 1 across 1 AS
+AS 1
+ok
+> choices 1 across 0 AT
+ok
+> choices 1 across 9 SO
+ok
+> choices 1 across 9 TO
+ok
+> choices 3 across 9 AS
+SO 1
+TO 1
+ok
+> strike AS
+ok
+> choices 1 across 9 AS
+AT 1
+ok
+> add AS
+ok
+> add AD
+ok
+> choices 1 across 9 AT
+AT 1
+ok
+> choices 1 across 9 AD
+ok
+> place 1 across XX
+ok
+> choices 1 across 9 TO
+ok
+> choices 1 across 9 ZZ
+no Unknown
+> clear 1 1
+ok
+> clear 1 2
+ok
+> place 1 across AT
+ok
+> choices 1 across 9 TO
+AT 1
+ok
+> choices 1 across 0 TO
+ok
 @ choices_change_nothing
 > watch on
 ok
@@ -806,6 +933,20 @@ no Arguments
 > choices 1 across x
 no Arguments
 > choices 1 across 1 1
+no BadLetter
+> choices 9 across 1 A1
+no NoLight
+> choices 1 across 1 A1X
+no BadLetter
+> choices 1 across 1 A
+no PlaceLength
+> choices 1 across 1 ABA
+no PlaceLength
+> choices 1 across 1 XX
+no Unknown
+> choices 1 across x AS
+no Arguments
+> choices 1 across 1 AS AT
 no Arguments
 > choice 1 across 1
 no Command

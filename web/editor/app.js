@@ -2,24 +2,41 @@
 import { Claim } from './claim.js';
 import { CluesView } from './clues.js';
 import { DetailsView } from './details.js';
-import { EarlierView } from './earlier.js';
 import { Editor } from './editor.js';
 import { Files } from './files.js';
 import { Filler } from './fill.js';
+import { Fills } from './fills.js';
 import { GridView } from './grid.js';
+import { Helpers } from './helpers.js';
 import { whenIdle } from './idle.js';
-import { dropList, keepList, keptList, keptSession } from './keep.js';
-import { endWarning, refusalText, refuse, say, useStatusLine, warn } from './messages.js';
+import { keepAddress, keptAddress, whyNotKept } from './keep.js';
+import { LibraryView, sketchOf } from './library.js';
+import { Lists } from './lists.js';
+import { ListsView } from './lists-view.js';
+import { Faults } from './faults.js';
+import { endWarning, endingMessage, refusalText, refuse, say, useMessages, warn } from './messages.js';
 import { PATTERNS, blankRows, recordOf, rowsOf } from './patterns.js';
 import { Printer } from './print.js';
 import { Reasons } from './reasons.js';
-import { strangeCharacter } from './record.js';
+import { escapeText, nearestText, parseRecord, strangeCharacter, textLines } from './record.js';
 import { Shelf } from './shelf.js';
-import { leftOutText, wordCount } from './word-list.js';
+import { StandingView } from './standing.js';
+import { foldedText, leftOutText, readList, wordCount } from './word-list.js';
+import { ThemesView } from './themes-view.js';
 import { WordsView, titleOf } from './words.js';
 
+// An element of the page, of whatever kind it is.
+/** @type {(id: string) => any} */
 const $ = (id) => document.getElementById(id);
-useStatusLine($('status'), $('warnings'));
+// What a selector finds, in the page or in a part of it.
+/** @type {(selector: string, part?: ParentNode) => HTMLElement & Record<string, any>} */
+const first = (selector, part = document) => part.querySelector(selector);
+/** @type {(selector: string, part?: ParentNode) => (HTMLElement & Record<string, any>)[]} */
+const all = (selector, part = document) => [...part.querySelectorAll(selector)].map((element) => /** @type {HTMLElement} */ (element));
+// The element that an event is about, within those that a selector finds; or null.
+/** @type {(event: Event, selector: string) => HTMLElement & Record<string, any>} */
+const pressed = ({ target }, selector) => /** @type {Element} */ (target).closest(selector);
+useMessages({ line: $('status'), toast: $('toast'), history: $('history'), warnings: $('warnings') });
 
 // What make-page puts into the page: gzip in base64.
 async function embedded(id) {
@@ -29,8 +46,11 @@ async function embedded(id) {
 }
 
 const workerURL = URL.createObjectURL(new Blob([$('worker').textContent], { type: 'text/javascript' }));
-const editor = new Editor(() => new Worker(workerURL));
+const makeWorker = () => new Worker(workerURL);
+const editor = new Editor(makeWorker);
+const helpers = new Helpers(editor, makeWorker);
 let builtIn;
+let lists;
 
 // Edits, and what is said of a refusal.
 
@@ -41,66 +61,92 @@ function mayEdit() {
 
 async function edit(lines, options) {
   if (!mayEdit()) return 'Filling';
+  const endMessage = endingMessage();
   const refused = await editor.edit(lines, options);
   if (!refused) {
-    if (options?.isWhole !== false || $('status').dataset.tone === 'bad') say('');
+    if (options?.isWhole !== false || $('status').dataset.tone === 'bad') endMessage();
     reasons.soon();
     return null;
   }
   // what the page showed before the engine answered is taken back; after a failure the restart says so
   if (refused === 'Engine' || refused === 'Restart') return refused;
-  refuse(options?.isBlock && refused === 'Occupied' ? occupied() : refusalText(refused));
+  // a block over letters is another thing to try
+  if (!(options?.isBlock && refused === 'Occupied')) refuse(refusalText(refused));
   return refused;
 }
 
-// Which letter is in the way of a block.
-function occupied() {
-  const { board, cursor, sym } = editor;
-  const [row, column] = [board.rowOf(cursor), board.columnOf(cursor)];
-  const [down, right] = [board.height + 1 - row, board.width + 1 - column];
-  const images = {
-    half: [[down, right]], leftright: [[row, right]], updown: [[down, column]], quarter: [[column, down], [down, right], [right, row]], none: [],
-  };
-  const at = images[sym].find(([r, c]) => board.cells[board.index(r, c)].letter);
-  return at ? `the letter at row ${at[0]}, column ${at[1]} is in the way of the block's image` : refusalText('Occupied');
+// Sets a text to what an element holds. The engine gets near characters for those that it cannot keep.
+async function editText(element, field) {
+  const typed = element.value;
+  const { near, count } = nearestText(typed);
+  element.dataset.kept = typed;
+  const originals = new Map(editor.originals);
+  if (count) originals.set(field, typed);
+  else originals.delete(field);
+  const refused = await edit(textLines(field, escapeText(near)), { originals });
+  if (!refused && count) say(`“${strangeCharacter(typed)}” stays here and in .ipuz; a .puz gets: ${near}`);
 }
 
-// Sets a text to what a field holds. A text that is refused stays in the field, which is marked.
-async function editText(field, linesOf) {
-  const strange = strangeCharacter(field.value);
-  field.classList.toggle('refused', strange !== null);
-  field.setAttribute('aria-invalid', strange !== null);
-  if (strange !== null) {
-    refuse(`“${strange}” is not in the character set of .puz files, Windows-1252: the text is not taken yet`);
-    return;
-  }
-  field.dataset.kept = field.value;
-  await edit(linesOf(field.value));
-}
-
-async function place(word) {
-  const { light } = editor;
+// Places a word in the light of the cursor. `needs` names the crossing lights whose letters in pencil are in its way, if there are some: those
+// letters are cleared, or with no name those of all crossing lights.
+async function place(word, needs = null) {
+  const { light, board } = editor;
   editor.edited = { cell: editor.cursor, direction: light.direction };
   const cells = light.cells.filter((index, at) => editor.board.cells[index].letter !== word[at]).map((index) => editor.board.cells[index].coordinates);
   const pencil = new Set([...editor.pencil].filter((cell) => !cells.includes(cell)));
-  return edit([`place ${light.name} ${word}`], { pencil });
+  const cleared = needs ? pencilledAcross(light, needs) : [];
+  const refused = await edit([...cleared.map((cell) => `clear ${cell}`), `place ${light.name} ${word}`], { pencil });
+  if (!refused && cleared.length) say(`${word} is entered; ${cleared.length} letters in pencil that crossed it are cleared: fill again (Ctrl F)`);
+  return refused;
+}
+
+// The coordinates of the letters in pencil of the lights that cross a light, or of the named ones.
+function pencilledAcross(light, names) {
+  const { board, pencil } = editor;
+  const crossing = light.cells.flatMap((cell) => board.through(cell)).filter((one) => one !== light && (!names.length || names.includes(one.name)));
+  const cells = new Set(crossing.flatMap((one) => one.cells).filter((cell) => !light.cells.includes(cell)));
+  return [...cells].map((cell) => board.cells[cell]).filter((cell) => cell.letter && pencil.has(cell.coordinates)).map((cell) => cell.coordinates);
 }
 
 async function strike(word) {
-  if (!(await edit([`strike ${word}`]))) say(`${word} is struck: it fits nothing in this session; undo takes it back`, 'good');
+  if (!(await edit([`strike ${word}`]))) say(`${word} is hidden in this puzzle; undo takes it back`, 'good');
+}
+
+// Puts a word that was added or hidden in this puzzle into the personal list.
+function keepWord(word, isHidden) {
+  const line = `${isHidden ? '-' : ''}${word}`;
+  return changeLists((now) => now.withPersonal([now.personal.trimEnd(), line].filter(Boolean).join('\n')));
+}
+
+async function add(word) {
+  if (!(await edit([`add ${word}`]))) say(`${word} is added to this puzzle`, 'good');
+  toGrid();
 }
 
 async function hardest() {
   const [lines] = await editor.ask('suggest');
   const [what, number, direction] = (lines?.[0] ?? '').split(' ');
-  if (what === 'done') return say('every light is entered', 'good');
-  const light = editor.board.byName.get(`${number} ${direction}`);
+  if (what === 'done') return showLeft();
+  // of several parts one may be dead: the tightest light is one of another part
+  const alive = editor.board.lights.filter((one) => one.count > 0 && !editor.board.isEntered(one)).sort((a, b) => a.count - b.count);
+  const light = what === 'dead' && alive.length ? alive[0] : editor.board.byName.get(`${number} ${direction}`);
   if (!light) return;
   const empty = light.cells.find((index) => !editor.board.cells[index].letter);
   editor.moveTo(empty ?? light.cells[0], light.direction);
   grid.focus();
-  if (what === 'try') say(`${titleOf(light)} has ${light.count === 1 ? 'one word' : `${light.count} words`} left, the fewest`);
+  if (what === 'try' || (what === 'dead' && light.count)) say(`${titleOf(light)} has ${light.count === 1 ? 'one word' : `${light.count} words`} left, the fewest`);
   else refuse(what === 'dead' ? `${titleOf(light)} has no word left` : `each word of ${titleOf(light)} leaves another light without one`);
+}
+
+// In an entered grid: goes to what is left to do, or says that nothing is.
+function showLeft() {
+  const left = faults.first;
+  const lacking = editor.board.lights.filter((light) => !editor.board.texts.has(`clue ${light.name}`)).length;
+  if (!left) return say(lacking ? `every light is entered; ${lacking === 1 ? 'one has' : `${lacking} have`} no clue yet` : 'done: every light is entered, listed and has a clue', 'good');
+  const light = editor.board.byName.get(left.light);
+  editor.moveTo(light.cells[0], light.direction);
+  grid.focus();
+  return refuse(`every light is entered, but ${left.text}: ${titleOf(light)}`);
 }
 
 // The views.
@@ -120,6 +166,15 @@ const grid = new GridView(editor, $('grid'), {
   },
   chosen: showChosen,
 });
+const faults = new Faults(editor, grid);
+new StandingView(editor, $('standing'), faults, {
+  add: (word) => add(word),
+  erase: () => grid.eraseLight().then(toGrid),
+  go: (light) => {
+    editor.moveTo(light.cells[0], light.direction);
+    toGrid();
+  },
+});
 const reasons = new Reasons(editor, grid, () => !filler.isRunning);
 const words = new WordsView(
   editor,
@@ -137,16 +192,26 @@ const details = new DetailsView(
     panel: $('puzzle'), title: $('title'), author: $('author'), copyright: $('copyright'), notes: $('notes'), checks: $('checks'), counts: $('counts'),
     lengths: $('lengths'), frequency: $('frequency'), wordForm: $('word-form'), word: $('word'), changed: $('changed'),
   },
-  { edit, text: editText, toGrid, toClue },
+  { edit, text: editText, toGrid, toClue, keepWord },
 );
-const filler = new Filler(editor, showFill);
+const themes = new ThemesView(
+  editor,
+  helpers,
+  {
+    dialog: $('themes-dialog'), entries: $('themes-entries'), style: $('themes-style'), sym: $('themes-sym'), size: $('themes-size'), show: $('themes-show'),
+    told: $('themes-told'), grids: $('themes-grids'),
+  },
+  (record) => beginWith(record).catch(unforeseen),
+);
+const fills = new Fills(editor, { box: $('fills'), list: $('fills-list') }, mayEdit);
+const filler = new Filler(editor, helpers, { show: showFill, explain: () => whenIdle(() => reasons.ask().catch(() => {})), found: () => fills.add() });
 const printer = new Printer(editor, $('sheet'));
-const files = new Files(editor, { mayEdit, toGrid, toClue, opened, listOpened });
+const files = new Files(editor, { mayEdit, toGrid, toClue, opened, changeLists });
 files.takeDrops(document.body);
 
 function showChosen() {
   const { size } = editor.chosen;
-  $('fill').textContent = size ? `Fill ${size} ${size === 1 ? 'light' : 'lights'}` : 'Fill all';
+  $('fill-label').textContent = size ? `Fill ${size} ${size === 1 ? 'light' : 'lights'}` : 'Fill all';
 }
 
 function showFill(progress) {
@@ -158,11 +223,14 @@ function showFill(progress) {
     return;
   }
   $('progress').value = progress.part;
-  say(`filling … ${progress.placements.toLocaleString('en')} placements tried; Esc stops`);
+  say(`filling … ${progress.placements.toLocaleString('en')} placements tried; Esc stops`, 'busy');
 }
 
 function showTool() {
-  for (const button of document.querySelectorAll('[data-tool]')) button.setAttribute('aria-pressed', button.dataset.tool === grid.tool);
+  const label = first(`[data-tool=${grid.tool}] span`);
+  $('more').lastElementChild.textContent = label ? label.textContent : 'Tools';
+  $('more').setAttribute('aria-pressed', String(Boolean(label)));
+  for (const button of all('[data-tool]')) button.setAttribute('aria-pressed', String(button.dataset.tool === grid.tool));
   $('grid').dataset.tool = grid.tool ?? '';
 }
 
@@ -176,8 +244,18 @@ function showFacts() {
   put($('redo'), 'disabled', !editor.canRedo);
   put($('symmetry'), 'value', editor.sym);
   put($('symmetry').querySelector('[value=quarter]'), 'disabled', board.width !== board.height);
+  showDone(lacking);
   const title = board.texts.get('title');
   put(document, 'title', title ? `${title} – xw` : 'xw: a crossword editor');
+}
+
+// What comes after a fill.
+function showDone(lacking) {
+  const { lights, texts } = editor.board;
+  const clued = lights.filter((light) => texts.has(`clue ${light.name}`)).length;
+  put($('done'), 'hidden', lacking > 0 || !lights.length);
+  const clues = clued === lights.length ? ', and have clues' : `. Clues: ${clued} of ${lights.length}`;
+  put($('done-text'), 'textContent', `All ${lights.length} words are in${clues}`);
 }
 
 // Sets what differs, since the browser draws anew what is set.
@@ -197,7 +275,7 @@ const TABS = ['words', 'clues', 'puzzle'];
 function showTab(name) {
   for (const tab of TABS) {
     $(tab).hidden = tab !== name;
-    $(`tab-${tab}`).setAttribute('aria-selected', tab === name);
+    $(`tab-${tab}`).setAttribute('aria-selected', String(tab === name));
     $(`tab-${tab}`).tabIndex = tab === name ? 0 : -1;
   }
   if (name === 'puzzle') details.refresh().catch(() => {});
@@ -226,46 +304,67 @@ function opened() {
   grid.focus();
 }
 
-async function listOpened() {
+// Uses the word lists that a function makes of those in use, if the engine takes them, and keeps them. `name` and `bytes` are those of a list that
+// is opened. Returns whether they are in use.
+async function changeLists(changed, name = '', bytes = new Uint8Array()) {
+  if (!mayEdit()) return false;
+  const other = changed(lists);
+  const fault = await editor.useList(other.chosen);
+  if (fault) {
+    const why = fault === 'NoWord' ? leftOutText(readList(bytes, other.least).leftOut, other.least) : '';
+    refuse(`${name || 'the lists'}: ${[refusalText(fault), why].filter(Boolean).join('; ')}`);
+    showList();
+    return false;
+  }
+  lists = other;
+  const { scored } = editor.list;
+  say(`${editor.list.name || 'no list'}: ${[`${wordCount(editor.list.words)}${scored ? ', the best scores first' : ''}`, ...listFacts()].join('; ')}`, 'good');
   showList();
-  await storeList();
+  await storeLists();
+  return true;
 }
 
-let isListKept = true;
-
-// Keeps the list, if this tab is the one that keeps.
-async function storeList() {
-  const { name, bytes, least } = editor.list;
-  isListKept = shelf.isKeeping;
-  if (!isListKept) return;
-  const isBuiltIn = bytes === builtIn.bytes;
+async function storeLists() {
   endWarning('list');
   try {
-    if (isBuiltIn) await dropList();
-    else await keepList({ name, bytes, least });
-  } catch {
-    if (!isBuiltIn) warn('list', `The browser does not keep the list ${name}: load it again next time.`);
+    await lists.keep();
+  } catch (fault) {
+    warn('list', `The word lists are not kept: ${whyNotKept(fault)}. Load them again next time.`);
   }
 }
 
+// What was left out of the lists, or changed.
+function listFacts() {
+  const { leftOut, least, folded } = editor.list;
+  return [foldedText(folded), leftOutText(leftOut, least)].filter(Boolean);
+}
+
 function showList() {
-  const { name, words: count, scored, best, leftOut, least } = editor.list;
-  const none = 'No word list is loaded, so no word is known: load one, or add words.';
-  const facts = [`${name}: ${wordCount(count)}`, leftOutText(leftOut, least)];
-  $('list-name').textContent = name ? facts.filter(Boolean).join('; ') : none;
+  const { name, words: count, scored, best, least } = editor.list;
+  const none = 'No word list is in use, so no word is known: load one, or add words.';
+  $('list-name').textContent = name ? [`${name}: ${wordCount(count)}`, ...listFacts()].join('; ') : none;
   $('least-row').hidden = !scored;
   if (scored) {
     $('least').max = best;
     $('least').value = least;
     $('least-shown').textContent = least;
   }
+  listsView.show(lists);
   showFacts();
 }
+
+const listsView = new ListsView(
+  {
+    list: $('lists'), summary: $('personal-summary'), edit: $('personal-edit'), export: $('personal-export'), dialog: $('personal-dialog'), text: $('personal-text'),
+    count: $('personal-count'),
+  },
+  { change: (changed) => changeLists(changed).catch(unforeseen), export: (text) => files.saveText(text, 'my-words.txt') },
+);
 
 $('least').addEventListener('input', () => {
   $('least-shown').textContent = $('least').value;
 });
-$('least').addEventListener('change', () => files.openList(editor.list.name, editor.list.bytes, Number($('least').value)));
+$('least').addEventListener('change', () => changeLists((now) => now.atLeast(Number($('least').value))));
 
 $('picker').addEventListener('change', async () => {
   for (const file of [...$('picker').files]) await files.open(file);
@@ -281,13 +380,8 @@ function pick(accept) {
 
 for (const pattern of PATTERNS) {
   const rows = rowsOf(pattern);
-  const button = document.createElement('button');
-  button.type = 'button';
-  button.className = 'pattern';
-  const block = (column, row) => `<rect x="${column}" y="${row}" width="1" height="1"/>`;
-  const blocks = rows.flatMap((row, at) => [...row].flatMap((cell, column) => (cell === '#' ? [block(column, at)] : [])));
-  button.innerHTML = `<svg viewBox="0 0 ${rows[0].length} ${rows.length}" aria-hidden="true">${blocks.join('')}</svg>`;
-  button.append(pattern.name);
+  const button = Object.assign(document.createElement('button'), { type: 'button', className: 'pattern' });
+  button.append(sketchOf(parseRecord(recordOf(rows, pattern.sym))), pattern.name);
   button.addEventListener('click', () => begin(rows, pattern.sym));
   $('patterns').append(button);
 }
@@ -299,57 +393,84 @@ $('new-blank').addEventListener('click', () => {
   begin(blankRows(width, height), 'half');
 });
 
-async function begin(rows, sym) {
+function begin(rows, sym) {
   $('new-dialog').close();
+  return beginWith(recordOf(rows, sym));
+}
+
+// Begins a puzzle with a record.
+async function beginWith(record) {
   if (!mayEdit()) return;
-  await editor.replace({ record: await editor.engine.call('read', { record: recordOf(rows, sym) }) });
+  await editor.replace({ record: await editor.engine.call('read', { record }) });
   say('a new puzzle; undo goes back to the old one', 'good');
   reasons.soon();
   grid.focus();
 }
 
-// Opens an earlier puzzle in place of the one that is here.
-async function reopen(session) {
+// Opens a puzzle of the library, or a version, in place of what is here, which stays in the library.
+async function reopen(session, isVersion) {
   if (!mayEdit()) return;
+  if (isVersion && session.puzzle === editor.puzzle) shelf.addVersion();
   await editor.replace(session);
-  say('the earlier puzzle is open; undo goes back to what was here', 'good');
+  say(`the ${isVersion ? 'version' : 'puzzle'} is open; undo goes back to what was here`, 'good');
   reasons.soon();
   grid.focus();
 }
 
-function showEarlier() {
-  const { length } = shelf.earlier;
-  $('earlier').disabled = !length;
-  $('earlier').textContent = length ? `Earlier puzzles (${length})…` : 'Earlier puzzles…';
+// Says whether the browser keeps the puzzle, or why it does not.
+function showKept(why) {
+  put($('kept'), 'textContent', why ? `Not kept: ${why}` : 'Kept in this browser');
+  put($('kept').dataset, 'state', why ? 'not' : 'kept');
 }
 
+// What is chosen in the dialog.
+function takePrinting() {
+  const chosen = (name) => $('print-dialog').querySelector(`[name=${name}]:checked`).value;
+  Object.assign(printer, { parts: chosen('parts'), paper: chosen('paper'), hasLengths: $('print-lengths').checked, address: $('print-address').value });
+}
+
+function showPreview() {
+  takePrinting();
+  $('preview').replaceChildren(...printer.pages());
+}
+
+$('print-dialog').addEventListener('input', showPreview);
 $('print-dialog').addEventListener('close', () => {
-  const dialog = $('print-dialog');
-  if (dialog.returnValue !== 'print') return;
-  const chosen = (name) => dialog.querySelector(`[name=${name}]:checked`).value;
-  printer.print(chosen('parts'), chosen('paper'));
+  $('preview').replaceChildren();
+  keepAddress($('print-address').value);
+  if ($('print-dialog').returnValue === 'print') printer.print();
 });
 
 // What buttons and keys do.
 
 async function step(isBack) {
   if (!mayEdit()) return;
+  const endMessage = endingMessage();
   const done = await (isBack ? editor.undo() : editor.redo());
   if (!done) return say(isBack ? 'there is nothing to undo' : 'there is nothing to redo');
-  say('');
+  endMessage();
   reasons.soon();
 }
 
 const ACTIONS = {
   new: () => $('new-dialog').showModal(),
-  earlier: () => earlier.show(),
-  open: () => pick('.puz,.txt,.xw,.dict'),
+  library: () => library.show(),
+  themes: () => themes.show(),
+  open: () => pick('.puz,.ipuz,.txt,.xw,.dict'),
+  save: () => files.saveAny(),
   'save-puz': () => files.save('puz'),
+  'save-ipuz': async () => files.saveIpuz(),
   'save-text': () => files.save('text'),
+  'clues-csv': async () => files.saveClues('csv'),
+  'clues-html': async () => files.saveClues('html'),
   'save-session': () => files.saveSession(),
   list: () => pick('.txt,.dict,.csv,.tsv'),
-  'built-in': () => files.openList(builtIn.name, builtIn.bytes),
-  print: () => $('print-dialog').showModal(),
+  'built-in': () => changeLists((now) => now.onlyBuiltIn()),
+  print: () => {
+    $('print-address').value = keptAddress();
+    showPreview();
+    $('print-dialog').showModal();
+  },
   undo: () => step(true),
   redo: () => step(false),
   fill: () => filler.run(false),
@@ -357,20 +478,21 @@ const ACTIONS = {
   stop: () => filler.stop(),
   hardest,
   help: () => $('help-dialog').showModal(),
+  'next-clue': async () => toClue(null),
 };
 
 document.addEventListener('click', (event) => {
-  const pressed = event.target.closest('[data-do]');
-  if (pressed) ACTIONS[pressed.dataset.do]()?.catch?.(unforeseen);
-  const tool = event.target.closest('[data-tool].tool');
+  const button = pressed(event, '[data-do]');
+  if (button) ACTIONS[button.dataset.do]()?.catch?.(unforeseen);
+  const tool = pressed(event, '[data-tool].tool');
   if (!tool) return;
   grid.tool = grid.tool === tool.dataset.tool ? null : tool.dataset.tool;
   showTool();
   grid.focus();
 });
 
-const CONTROL_KEYS = { o: 'open', s: 'save-puz', p: 'print', f: 'fill', g: 'another', j: 'hardest' };
-const isText = (element) => element.matches('input:not([type=range], #typing), textarea');
+const CONTROL_KEYS = { o: 'open', s: 'save', p: 'print', f: 'fill', g: 'another', j: 'hardest' };
+const isText = (element) => /** @type {Element} */ (element).matches('input:not([type=range], #typing), textarea');
 
 document.addEventListener('keydown', (event) => {
   const key = event.key.toLowerCase();
@@ -404,7 +526,7 @@ function actionOf(event, key) {
 }
 
 function nextPane() {
-  const panes = [$('grid'), document.querySelector('[role=tab][aria-selected=true]'), $('file')];
+  const panes = [$('grid'), first('[role=tab][aria-selected=true]'), $('file')];
   const here = panes.findIndex((pane) => pane === document.activeElement);
   panes[(here + 1) % panes.length].focus();
 }
@@ -415,32 +537,50 @@ $('symmetry').addEventListener('change', async () => {
 });
 
 // Keys go to the grid after a dialog that was opened from the menu, whose item is hidden again.
-for (const dialog of document.querySelectorAll('dialog')) {
+for (const dialog of all('dialog')) {
   dialog.addEventListener('close', () => {
-    const { activeElement } = document;
+    const activeElement = /** @type {HTMLElement} */ (document.activeElement);
     if (activeElement === document.body || dialog.contains(activeElement)) grid.focus();
   });
 }
 
 // The menu.
 
-const menu = document.querySelector('.menu [role=menu]');
+const menu = first('.menu [role=menu]');
+
+// What a button shows and hides: the tools in a narrow window, and the messages.
+function showPart(button, part, isOpen) {
+  part.classList.toggle('open', isOpen);
+  if (part === $('history')) part.hidden = !isOpen;
+  button.setAttribute('aria-expanded', isOpen);
+}
+
+for (const [button, part] of [[$('more'), $('tools')], [$('messages'), $('history')]]) {
+  button.addEventListener('click', () => showPart(button, part, button.getAttribute('aria-expanded') !== 'true'));
+  document.addEventListener('click', (event) => {
+    if (!button.contains(event.target) && (!part.contains(event.target) || pressed(event, 'button'))) showPart(button, part, false);
+  });
+}
+$('toast-close').addEventListener('click', () => {
+  say('');
+  grid.focus();
+});
 
 function showMenu(isOpen) {
   menu.hidden = !isOpen;
   $('file').setAttribute('aria-expanded', isOpen);
-  if (isOpen) menu.querySelector('button').focus();
+  if (isOpen) first('button', menu).focus();
 }
 
 $('file').addEventListener('click', () => showMenu(menu.hidden));
 menu.addEventListener('click', () => showMenu(false));
 document.addEventListener('pointerdown', (event) => {
-  if (!event.target.closest('.menu')) showMenu(false);
+  if (!pressed(event, '.menu')) showMenu(false);
 });
 menu.addEventListener('keydown', (event) => {
-  const items = [...menu.querySelectorAll('button')];
+  const items = all('button', menu);
   const step = { ArrowDown: 1, ArrowUp: -1 }[event.key];
-  if (step) items[(items.indexOf(document.activeElement) + step + items.length) % items.length].focus();
+  if (step) items[(items.indexOf(/** @type {HTMLElement} */ (document.activeElement)) + step + items.length) % items.length].focus();
   if (event.key === 'Escape' || event.key === 'Tab') {
     showMenu(false);
     $('file').focus();
@@ -449,6 +589,7 @@ menu.addEventListener('keydown', (event) => {
 });
 
 editor.addEventListener('step', () => whenIdle(showFacts));
+editor.addEventListener('leave', () => words.clearFilter());
 editor.addEventListener('whole', () => {
   showFacts();
   showChosen();
@@ -458,10 +599,9 @@ editor.addEventListener('whole', () => {
 
 const claim = new Claim();
 const shelf = new Shelf(editor, claim, () => files.saveSession());
-const earlier = new EarlierView($('earlier-dialog'), $('earlier-list'), shelf, (session) => reopen(session).catch(unforeseen));
-shelf.addEventListener('change', showEarlier);
+const library = new LibraryView($('library-dialog'), $('library-list'), shelf, (session, isVersion) => reopen(session, isVersion).catch(unforeseen));
+shelf.addEventListener('kept', (/** @type {CustomEvent} */ { detail }) => showKept(detail));
 shelf.addEventListener('held', () => {
-  if (!isListKept) storeList();
   // the button of the warning is gone
   if (document.activeElement === document.body) grid.focus();
 });
@@ -470,6 +610,8 @@ function unforeseen(error) {
   refuse(`that failed: ${error.message}; the grid is kept`);
   console.error(error);
 }
+// after a click on a button of a warning, letters go to the grid again
+$('warnings').addEventListener('click', () => grid.focus());
 addEventListener('unhandledrejection', ({ reason }) => unforeseen(reason));
 
 function showLicence() {
@@ -481,13 +623,15 @@ function showLicence() {
 }
 
 // Begins with what the browser keeps, with the built-in list if the engine refuses the other, and with a new puzzle if it refuses that one,
-// which is then an earlier one.
-async function beginOn(module, list, session) {
+// which stays in the library.
+async function beginOn(module, session) {
   const first = { record: recordOf(rowsOf(PATTERNS[0]), PATTERNS[0].sym), pencil: [] };
-  const tries = [[list, session ?? first], [builtIn, session ?? first], [builtIn, first]];
+  const own = Lists.builtIn(builtIn, lists.personal);
+  const tries = [[lists, session ?? first], [own, session ?? first], [own, first]];
   for (const [words, state] of tries) {
     try {
-      await editor.begin(module, words, state);
+      await editor.begin(module, words.chosen, state);
+      lists = words;
       if (session && state === first) shelf.putAside(session);
       return;
     } catch (fault) {
@@ -499,31 +643,53 @@ async function beginOn(module, list, session) {
 }
 
 // What is said at the start.
-function greet(session) {
-  const { length } = shelf.earlier;
-  const others = length ? `; File ▸ Earlier puzzles has ${length} more` : '';
+function greet(session, count) {
+  const others = count ? `; File ▸ Puzzles has ${count} more` : '';
   if (session) say(`your puzzle is as you left it${others}`, 'good');
   else say(editor.list.name ? `type a letter, or choose File ▸ New${others}` : 'load a word list first: File ▸ Load a word list, or drop the file here');
 }
 
+// The keys of a Mac have other names.
+function nameKeys() {
+  if (!/Mac|iP(ad|hone)/.test(navigator.platform)) return;
+  for (const key of all('kbd')) key.textContent = key.textContent.replace('Ctrl ', '⌘');
+  for (const element of all('[title*="Ctrl "]')) element.title = element.title.replace('Ctrl ', '⌘');
+}
+
+// What the page needs of a browser, as what it is for; null if all is there.
+function lacking() {
+  const needs = [
+    ['WebAssembly', 'it cannot run the engine (WebAssembly)'], ['DecompressionStream', 'it cannot unpack the engine (DecompressionStream)'],
+    ['Worker', 'it has no workers'], ['HTMLDialogElement', 'it has no dialogs'],
+  ];
+  return needs.find(([name]) => !(name in globalThis))?.[1] ?? null;
+}
+
 async function start() {
-  builtIn = { name: $('list') ? 'built-in list' : '', bytes: $('list') ? await embedded('list') : new Uint8Array(), least: 0 };
+  const why = lacking();
+  if (why) return cannotRun(why);
+  nameKeys();
+  builtIn = { name: $('list') ? 'built-in list' : '', bytes: $('list') ? await embedded('list') : new Uint8Array() };
   showLicence();
-  const [list, session] = [(await keptList()) ?? builtIn, keptSession()];
-  await beginOn(await embedded('module'), list, session);
+  lists = await Lists.kept(builtIn);
+  const session = await shelf.first();
+  await beginOn(await embedded('module'), session);
   showList();
-  showEarlier();
   const cell = editor.board.cells[session?.cursor] ? session.cursor : 0;
   editor.moveTo(cell, session?.direction ?? 'across');
   grid.focus();
-  greet(session);
-  claim.begin();
-  // a reason would take the place of what was said of earlier puzzles
-  if (shelf.earlier.length) reasons.mark();
+  const others = await shelf.others();
+  greet(session, others);
+  globalThis.isRunning = true;
+  shelf.begin();
+  // a reason would take the place of what was said of other puzzles
+  if (others) reasons.mark();
   else reasons.soon();
 }
 
 start().catch((error) => {
   refuse(`the page cannot start: ${error.message}`);
+  // as a module with a 64-bit memory is one to a browser that does not know these
+  if (error instanceof WebAssembly.CompileError || /CompileError/.test(error.message)) cannotRun(`it does not know the engine's code (${error.message})`);
   console.error(error);
 });

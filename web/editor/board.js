@@ -1,13 +1,25 @@
 // The grid as the engine last told it.
 
+// `left` has the feasible letters of a cell, and `right` and `below` say whether a bar is there.
+/**
+ * @typedef {{
+ *   coordinates: string, block: boolean, letter: string, left: string, number: string, right: boolean, below: boolean, circle: boolean,
+ *   across: Light | null, down: Light | null,
+ * }} Cell
+ */
+// `cells` are indices; `count` is how many words the light has left.
+/** @typedef {{ name: string, number: string, direction: 'across' | 'down', cells: number[], count: number }} Light */
+
 export class Board {
   width = 0;
   height = 0;
-  // for each cell, in reading order: { coordinates, block, letter, left, number, right, below, circle, across, down }, where `left` has its feasible
-  // letters, `right` and `below` are whether a bar is there, and `across` and `down` are lights
+  /** @type {Cell[]} in reading order */
   cells = [];
-  // in order: { name, number, direction, cells, count }, where `cells` has indices
+  /** @type {Light[]} */
   lights = [];
+  /** @type {Map<string, Light>} */
+  byName = new Map();
+  /** @type {Map<string, string>} as commands spell them, by field */
   texts = new Map();
 
   index(row, column) {
@@ -107,6 +119,11 @@ export class Board {
   // The first cell without a letter in reading order, or -1.
   firstEmpty() {
     return this.cells.findIndex((cell) => !cell.block && !cell.letter);
+  }
+
+  // Whether the grid has neither blocks nor bars yet.
+  get isOpenGrid() {
+    return !this.cells.some((cell) => cell.block || cell.right || cell.below);
   }
 
   get entered() {

@@ -1,23 +1,26 @@
-// Which tab keeps its puzzle in the browser: the one that holds a lock. Pages from disk have locks too.
+// Which tab keeps a puzzle: the one that holds a lock of the puzzle's name. Pages from disk have locks too.
 
-const LOCK = 'xw-editor';
-// marks in a tab that the page before in this tab held the lock, which it may still be giving back
+const LOCK = 'xw-editor/';
+// marks in a tab that the page before in this tab held the lock of a puzzle, which it may still be giving back
 const HELD_BEFORE = 'xw-editor-held';
 
 export class Claim extends EventTarget {
-  // whether this tab keeps its puzzle; not yet at the start
+  // the puzzle that this tab has, and whether it keeps it
+  puzzle = '';
   isHeld = false;
   #release = null;
   // rises with each request, so that the end of an earlier one says nothing
   #turn = 0;
 
-  // Takes the lock if no other tab holds it. Tells `held`, or `other` if another tab does. A page that is loaded again in its tab waits for the
-  // lock of the page before it.
-  async begin() {
-    const wasHeld = takeMark();
+  // Takes the lock of a puzzle if no other tab holds it, and gives back the one of the puzzle before. Tells `held`, or `other` if another tab
+  // holds it. A page that is loaded again in its tab waits for the lock of the page before it.
+  async begin(puzzle) {
+    this.#giveBack();
+    this.puzzle = puzzle;
+    const wasHeld = takeMark() === puzzle;
     if (!navigator.locks) return this.#hold();
     const isHeld = await this.#request({ ifAvailable: true });
-    if (!isHeld && wasHeld) await this.#request({});
+    if (!isHeld && wasHeld && this.puzzle === puzzle) await this.#request({});
   }
 
   // Takes the lock from the tab that holds it.
@@ -26,7 +29,7 @@ export class Claim extends EventTarget {
     await this.#request({ steal: true });
   }
 
-  // Gives the place to another tab, which keeps its puzzle now.
+  // Leaves the puzzle to another tab, which keeps it now.
   yield() {
     this.#release?.();
     this.#lose();
@@ -34,18 +37,32 @@ export class Claim extends EventTarget {
 
   // Gives the lock back when the page goes.
   leave() {
-    if (this.isHeld) setMark();
+    if (this.isHeld) setMark(this.puzzle);
+    this.#giveBack();
+  }
+
+  #giveBack() {
     this.isHeld = false;
     this.#turn++;
     this.#release?.();
+    this.#release = null;
+  }
+
+  // The names of the puzzles that tabs hold.
+  static async held() {
+    if (!navigator.locks?.query) return new Set();
+    const { held } = await navigator.locks.query();
+    return new Set(held.filter(({ name }) => name.startsWith(LOCK)).map(({ name }) => name.slice(LOCK.length)));
   }
 
   // Asks for the lock, and returns whether it is there.
   #request(options) {
     const turn = ++this.#turn;
+    const isNow = () => turn === this.#turn;
     return new Promise((resolve) => {
-      const asked = navigator.locks.request(LOCK, options, (lock) => {
+      const asked = navigator.locks.request(LOCK + this.puzzle, options, (lock) => {
         resolve(Boolean(lock));
+        if (!isNow()) return undefined;
         if (!lock) return this.#lose();
         const end = new Promise((release) => {
           this.#release = release;
@@ -56,8 +73,9 @@ export class Claim extends EventTarget {
       // another tab has taken the lock, or this page may have none
       asked.catch(({ name }) => {
         resolve(name !== 'AbortError');
-        if (name !== 'AbortError') this.#hold();
-        else if (turn === this.#turn) this.#lose();
+        if (!isNow()) return;
+        if (name === 'AbortError') this.#lose();
+        else this.#hold();
       });
     });
   }
@@ -75,17 +93,17 @@ export class Claim extends EventTarget {
 
 function takeMark() {
   try {
-    const isMarked = sessionStorage.getItem(HELD_BEFORE) !== null;
+    const mark = sessionStorage.getItem(HELD_BEFORE);
     sessionStorage.removeItem(HELD_BEFORE);
-    return isMarked;
+    return mark;
   } catch {
-    return false;
+    return null;
   }
 }
 
-function setMark() {
+function setMark(puzzle) {
   try {
-    sessionStorage.setItem(HELD_BEFORE, '1');
+    sessionStorage.setItem(HELD_BEFORE, puzzle);
   } catch {
     // then the page that is loaded next may say that another tab holds the lock
   }

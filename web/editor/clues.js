@@ -1,5 +1,4 @@
 // The tab of clues: one list of all lights, with a field for each.
-import { escapeText, textLines, unescapeText } from './record.js';
 import { titleOf } from './words.js';
 
 export class CluesView {
@@ -31,9 +30,7 @@ export class CluesView {
     if (names !== this.names) this.#make(names);
     for (const light of board.lights) {
       const { field } = this.#fields.get(light.name);
-      const text = unescapeText(board.texts.get(`clue ${light.name}`) ?? '');
-      // a text that was refused stays to be mended
-      if (field.classList.contains('refused')) continue;
+      const text = this.#editor.textOf(`clue ${light.name}`);
       if (document.activeElement !== field || field.dataset.kept !== text) field.value = text;
       field.dataset.kept = text;
     }
@@ -117,7 +114,6 @@ export class CluesView {
     const step = { Enter: event.shiftKey ? -1 : 1, ArrowDown: 1, ArrowUp: -1 }[event.key];
     if (event.key === 'Escape') {
       event.target.value = event.target.dataset.kept;
-      event.target.classList.remove('refused');
       this.actions.toGrid();
     }
     if (!step || event.isComposing) return;
@@ -147,7 +143,7 @@ export class CluesView {
     const light = this.#editor.board.byName.get(field.dataset.light);
     if (!light) return;
     const { coordinates } = this.#editor.board.cells[light.cells[0]];
-    this.actions.text(field, (text) => textLines(`clue ${coordinates} ${light.direction}`, escapeText(text)));
+    this.actions.text(field, `clue ${coordinates} ${light.direction}`);
   }
 }
 

@@ -1,6 +1,7 @@
 // The tab of the puzzle: its texts, counts, repeats and words.
-import { escapeText, parseRecord, textLines, unescapeText } from './record.js';
-import { refusalText, refuse, say } from './messages.js';
+import { parseRecord } from './record.js';
+import { refuse, say } from './messages.js';
+import { warningsOf } from './rules.js';
 import { titleOf } from './words.js';
 
 // how long after an edit counts are asked for, in milliseconds
@@ -34,8 +35,7 @@ export class DetailsView {
   #takeTexts() {
     for (const field of ['title', 'author', 'copyright', 'notes']) {
       const element = this.#elements[field];
-      if (element.classList.contains('refused')) continue;
-      const text = unescapeText(this.#editor.board.texts.get(field) ?? '');
+      const text = this.#editor.textOf(field);
       // what is being typed stays when the answer to an earlier edit comes
       if (document.activeElement === element && element.dataset.text === text) continue;
       element.dataset.text = text;
@@ -49,7 +49,7 @@ export class DetailsView {
     const element = this.#elements[field];
     if (element.value === element.dataset.kept) return;
     element.value = element.value.trim();
-    this.actions.text(element, (text) => textLines(field, escapeText(text)));
+    this.actions.text(element, field);
   }
 
   #soon() {
@@ -93,8 +93,8 @@ export class DetailsView {
     }
     for (const line of unlisted) {
       const [number, direction, word] = line.split(' ');
-      const item = check(`${word} is not in the list: ${titleOf({ number, direction })}`, `${number} ${direction}`);
-      item.append(button('Add it', { add: word }));
+      const item = check(`${word} is not in your lists: ${titleOf({ number, direction })}`, `${number} ${direction}`);
+      item.append(button('Add it', { add: word }), button('Erase it', { erase: `${number} ${direction}` }));
       items.push(item);
     }
     const lacking = board.lights.filter((light) => !board.texts.has(`clue ${light.name}`));
@@ -110,6 +110,11 @@ export class DetailsView {
     }
     const dead = board.lights.filter((light) => light.count === 0 && !board.isEntered(light));
     if (dead.length) items.unshift(check(`${dead.length} lights have no word left`, dead[0].name));
+    for (const warning of warningsOf(board)) {
+      const item = element('li', '', 'warning');
+      item.append(button(`⚠ ${warning.text}`, warning.cell === undefined ? { light: warning.light ?? '' } : { cell: warning.cell }));
+      items.push(item);
+    }
     if (!items.length) items.push(element('li', 'Nothing is missing: no repeat, no unlisted word, no empty cell, a clue for each light.', 'good'));
     this.#elements.checks.replaceChildren(...items);
   }
@@ -117,8 +122,8 @@ export class DetailsView {
   #showChanged() {
     const { added, struck } = parseRecord(this.#editor.record);
     const items = [
-      ...added.filter((word) => !struck.includes(word)).map((word) => changed(`+ ${word}`, 'Strike', { strike: word })),
-      ...struck.filter((word) => !added.includes(word)).map((word) => changed(`− ${word}`, 'Add again', { add: word })),
+      ...added.filter((word) => !struck.includes(word)).map((word) => changed(`+ ${word}`, ['Hide', { strike: word }], ['To my words', { keep: word }])),
+      ...struck.filter((word) => !added.includes(word)).map((word) => changed(`− ${word}`, ['Add again', { add: word }], ['Hide always', { hide: word }])),
     ];
     this.#elements.changed.replaceChildren(...items);
     this.#elements.changed.hidden = items.length === 0;
@@ -137,12 +142,14 @@ export class DetailsView {
     const [command, word] = line.split(' ');
     const refused = await this.actions.edit([line]);
     if (refused) return;
-    say(command === 'add' ? `${word} is in the list of this session` : `${word} is struck: it fits nothing in this session`, 'good');
+    say(command === 'add' ? `${word} is added to this puzzle` : `${word} is hidden in this puzzle`, 'good');
   }
 
   #click(pressed) {
     if (!pressed) return;
-    const { add, strike, light, cell, tab } = pressed.dataset;
+    const { add, strike, erase, keep, hide, light, cell, tab } = pressed.dataset;
+    if (keep ?? hide) return this.actions.keepWord(keep ?? hide, Boolean(hide));
+    if (erase) return this.actions.edit([`erase ${erase}`]);
     if (add) return this.#edit(`add ${add}`);
     if (strike) return this.#edit(`strike ${strike}`);
     if (cell) this.#editor.moveTo(Number(cell));
@@ -173,9 +180,10 @@ function check(text, light, tab = '') {
   return item;
 }
 
-function changed(text, name, data) {
-  const item = element('li', text);
-  item.append(button(name, data));
+// A word that was added or struck, with buttons: each a name and what it does.
+function changed(text, ...buttons) {
+  const item = element('li', '');
+  item.append(element('span', text), ...buttons.map(([name, data]) => button(name, data)));
   return item;
 }
 

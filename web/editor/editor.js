@@ -1,9 +1,23 @@
 // The session: edits go to the engine in order, and each is kept in a history of records.
 import { Board } from './board.js';
 import { Engine } from './engine.js';
-import { bodyOf, parseRecord, transition } from './record.js';
+import { bodyOf, nearestText, parseRecord, transition, unescapeText } from './record.js';
 import { refusalText, refuse } from './messages.js';
 import { whenIdle } from './idle.js';
+
+// A step of the history, as the browser keeps it too.
+/**
+ * @typedef {{
+ *   puzzle: string, record: string, pencil: string[], originals: [string, string][], cursor: number, direction: 'across' | 'down',
+ * }} State
+ */
+// The word lists in use as one.
+/**
+ * @typedef {{
+ *   name: string, words: number, scored: boolean, best: number, leftOut: Record<string, number>, folded: number, least: number,
+ *   sources: Uint8Array[], personal: string,
+ * }} WordList
+ */
 
 const MOST_STEPS = 5000;
 
@@ -11,10 +25,14 @@ export class Editor extends EventTarget {
   board = new Board();
   // the cell under the cursor, and the direction of its light
   cursor = 0;
+  /** @type {'across' | 'down'} */
   direction = 'across';
   sym = 'none';
   // cells whose letters a fill entered, by coordinates; another fill may change them
+  /** @type {Set<string>} */
   pencil = new Set();
+  // what was typed into fields, as commands spell them, where it has characters that the engine cannot keep; the engine has near ones
+  originals = new Map();
   // names of the lights to fill; all if there are none
   chosen = new Set();
   // where the last entry was: { cell, direction }; null after other edits
@@ -22,15 +40,19 @@ export class Editor extends EventTarget {
   // cells of a reason, by index, and the name of the light that they leave no word
   reason = new Set();
   reasonLight = '';
-  // cells of lights that no word matches, by index
+  // cells of lights that no word matches, and of words that are not in the list or stand twice, by index
   unmatched = new Set();
+  faulty = new Set();
   commands = new Set();
-  list = { name: '', words: 0, scored: false, best: 0, leftOut: {}, least: 0, bytes: new Uint8Array() };
+  /** @type {WordList} */
+  list = { name: '', words: 0, scored: false, best: 0, leftOut: {}, folded: 0, least: 0, sources: [], personal: '' };
   // names the puzzle: edits keep the name, another file or pattern has another one
   puzzle = newPuzzleName();
-  // states: { puzzle, record, pencil, cursor, direction }
+  /** @type {State[]} */
   #past = [];
+  /** @type {State[]} */
   #future = [];
+  /** @type {State | null} */
   #now = null;
   #last = Promise.resolve();
   // for each thing that is not done yet the lines that it sends, or null if it is no edit
@@ -49,11 +71,13 @@ export class Editor extends EventTarget {
     this.dispatchEvent(new CustomEvent(name, { detail }));
   }
 
-  async begin(module, list, { record, pencil, puzzle }) {
+  async begin(module, list, { record, pencil, puzzle, originals = [] }) {
     this.module = module;
     await this.engine.call('load', { bytes: module });
     await this.#open(list, record);
     this.pencil = new Set(pencil);
+    this.originals = new Map(originals);
+    this.#tell('whole');
     if (puzzle) this.puzzle = puzzle;
     this.#now = this.#state(this.record);
   }
@@ -69,20 +93,20 @@ export class Editor extends EventTarget {
     return this.#due.length > 0;
   }
 
-  // Gives the puzzles of the history other names, so that another tab's of the same name are not taken for them.
+  // Gives the puzzle another name, also in the history, so that another tab's of the same name is not taken for it.
   rename() {
-    const names = new Map();
-    const nameOf = (name) => names.get(name) ?? names.set(name, newPuzzleName()).get(name);
-    for (const state of [...this.#past, ...this.#future]) state.puzzle = nameOf(state.puzzle);
-    this.puzzle = nameOf(this.puzzle);
-    if (this.#now) this.#now = { ...this.#now, puzzle: this.puzzle };
+    const [before, name] = [this.puzzle, newPuzzleName()];
+    for (const state of [...this.#past, ...this.#future]) if (state.puzzle === before) state.puzzle = name;
+    this.puzzle = name;
+    if (this.#now) this.#now = { ...this.#now, puzzle: name };
   }
 
   async #open(list, record) {
-    const opened = await this.engine.call('open', { list: list.bytes, least: list.least, record });
+    const { sources, personal, least } = list;
+    const opened = await this.engine.call('open', { sources, personal, least, record });
     this.commands = new Set(opened.commands);
-    const { words, scored, best, leftOut } = opened;
-    this.list = { ...list, words, scored, best, leftOut };
+    const { words, scored, best, leftOut, folded } = opened;
+    this.list = { ...list, words, scored, best, leftOut, folded };
     this.record = opened.record;
     this.board.takeWhole(opened);
     this.#afterWhole();
@@ -121,8 +145,18 @@ export class Editor extends EventTarget {
     return row <= this.board.height && column <= this.board.width ? this.board.cells[this.board.index(row, column)] : null;
   }
 
+  /** @returns {State} */
   #state(record) {
-    return { puzzle: this.puzzle, record, pencil: [...this.pencil], cursor: this.cursor, direction: this.direction };
+    return { puzzle: this.puzzle, record, pencil: [...this.pencil], originals: [...this.originals], cursor: this.cursor, direction: this.direction };
+  }
+
+  // The text of a field (`title` or `clue N DIR`) as it was typed.
+  textOf(field) {
+    const { board } = this;
+    const text = unescapeText(board.texts.get(field) ?? '');
+    const light = field.startsWith('clue ') ? board.byName.get(field.slice('clue '.length)) : null;
+    const original = this.originals.get(light ? `clue ${board.cells[light.cells[0]].coordinates} ${light.direction}` : field);
+    return original !== undefined && nearestText(original).near === text ? original : text;
   }
 
   // Does one thing after another, each to its end. `lines` are those of an edit.
@@ -141,6 +175,11 @@ export class Editor extends EventTarget {
 
   // Sends lines as one step of the history. If one is refused, all are taken back, and its name is returned.
   // The answer is shown before the record is read.
+  /**
+   * @param {string[]} lines
+   * @param {{ isWhole?: boolean, pencil?: Set<string> | null, originals?: Map<string, string> | null }} options
+   * @returns {Promise<string | null>}
+   */
   edit(lines, options = {}) {
     return this.inOrder(async () => {
       try {
@@ -151,7 +190,7 @@ export class Editor extends EventTarget {
     }, lines);
   }
 
-  async #edit(lines, { isWhole = true, pencil = null }) {
+  async #edit(lines, { isWhole = true, pencil = null, originals = null }) {
     const told = await this.engine.call('edit', { lines, isWhole });
     const refused = told.answers.find(({ refusal }) => refusal)?.refusal ?? null;
     if (refused) {
@@ -161,6 +200,7 @@ export class Editor extends EventTarget {
     }
     this.#unmark();
     if (pencil) this.pencil = pencil;
+    if (originals) this.originals = originals;
     this.#show(lines, told, isWhole);
     if (!isWhole) await this.#idle();
     this.record = await this.engine.call('record');
@@ -191,18 +231,21 @@ export class Editor extends EventTarget {
     this.#tell('letters', { cells, engine: told.engine });
   }
 
-  // Takes a line `set R C L` or `clear R C`, and returns the index of the cell.
+  // Takes a line `set R C L` or `clear R C`, and returns the index of the cell. What was typed there since stays.
   #takeLetter(line) {
     const [, row, column, letter = ''] = line.split(' ');
     const index = this.board.index(Number(row), Number(column));
-    this.board.cells[index].letter = letter;
+    const isSame = (other) => other === `clear ${row} ${column}` || other.startsWith(`set ${row} ${column} `);
+    const isLater = this.#due.some((lines, at) => at > 0 && lines?.some(isSame));
+    if (!isLater) this.board.cells[index].letter = letter;
     this.pencil.delete(`${row} ${column}`);
     return index;
   }
 
   #step() {
     const now = this.#state(this.record);
-    if (now.record !== this.#now.record || now.pencil.join() !== this.#now.pencil.join()) {
+    const isSameState = ['record', 'pencil', 'originals'].every((part) => String(now[part]) === String(this.#now[part] ?? ''));
+    if (!isSameState) {
       this.#past.push(this.#now);
       if (this.#past.length > MOST_STEPS) this.#past.shift();
       this.#future = [];
@@ -210,12 +253,12 @@ export class Editor extends EventTarget {
     this.#arrive(now);
   }
 
-  // Tells of a puzzle that is replaced, as `leave`, and of the step.
+  // Tells of a puzzle that is replaced, as `leave`, and of the step, with the state before it.
   #arrive(now) {
     const before = this.#now;
     this.#now = now;
     if (before.puzzle !== now.puzzle) this.#tell('leave', before);
-    this.#tell('step');
+    this.#tell('step', before);
   }
 
   // Leads the engine to a record, and checks that it is there.
@@ -269,6 +312,7 @@ export class Editor extends EventTarget {
 
   async #take(state) {
     this.pencil = new Set(state.pencil);
+    this.originals = new Map(state.originals);
     this.cursor = state.cursor;
     this.direction = state.direction;
     await this.#goTo(state.record);
@@ -278,9 +322,10 @@ export class Editor extends EventTarget {
   }
 
   // Goes to another puzzle as one step, such as that of a file.
-  replace({ record, pencil = [], puzzle = newPuzzleName() }) {
+  replace({ record, pencil = [], originals = [], puzzle = newPuzzleName() }) {
     return this.inOrder(async () => {
       this.pencil = new Set(pencil);
+      this.originals = new Map(originals);
       this.chosen.clear();
       await this.#goTo(record);
       this.puzzle = puzzle;
@@ -319,6 +364,14 @@ export class Editor extends EventTarget {
       this.#tell('whole');
       this.#step();
     });
+  }
+
+  // The cell and its images under the symmetry, as the engine toggles a block there.
+  /** @returns {Promise<import('./board.js').Cell[]>} */
+  async orbit(index) {
+    const { board: { width, height, cells }, sym } = this;
+    const found = await this.engine.call('orbit', { width, height, sym, coordinates: cells[index].coordinates });
+    return found.map((coordinates) => this.cellAt(coordinates)).filter(Boolean);
   }
 
   // Asks lines that change nothing; returns the lines of each answer, or null where it was refused.
@@ -360,4 +413,4 @@ export class Editor extends EventTarget {
 const isSame = (one, other) => bodyOf(one).join('\n') === bodyOf(other).join('\n');
 
 // A name that no other puzzle has.
-const newPuzzleName = () => `${Date.now().toString(36)}-${Math.random().toString(36).slice(2)}`;
+export const newPuzzleName = () => `${Date.now().toString(36)}-${Math.random().toString(36).slice(2)}`;

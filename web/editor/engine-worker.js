@@ -1,6 +1,7 @@
 // The engine in a worker: it answers the messages of engine.js, edits in order and ahead of queries that wait.
 import { Fault, Xw, load } from '../xw.js';
-import { readList } from './word-list.js';
+import { crossingPatterns, gridFrom } from './themes.js';
+import { joinLists } from './word-list.js';
 
 // Texts are bytes to the engine. The page reads them as Windows-1252, the character set of .puz files, in which each byte is a character.
 const latin = new TextDecoder('windows-1252');
@@ -76,16 +77,130 @@ function leftAfter(light, word, cells) {
   return left.length ? Math.min(...left) : 'done';
 }
 
+// A light as `lights` tells it, with its cells; or null.
+function lightNamed(lines, name) {
+  const line = lines.find((one) => one.startsWith(`${name} `));
+  if (!line) return null;
+  const [, direction, row, column, letters] = line.split(' ');
+  const [down, right] = direction === 'down' ? [1, 0] : [0, 1];
+  const cells = Array.from(letters, (letter, at) => ({ coordinates: `${Number(row) + down * at} ${Number(column) + right * at}`, letter }));
+  return { name, direction, letters, cells };
+}
+
+// The letters that the words of a light have in a cell, with the other letters of that light as they stand; null for all.
+function lettersAt({ cells }, coordinates) {
+  const at = cells.findIndex((cell) => cell.coordinates === coordinates);
+  const pattern = cells.map(({ letter }, index) => (index === at ? '.' : letter)).join('');
+  return /[A-Z]/.test(pattern) ? new Set(asked(`match ${pattern}`).map((word) => word[at])) : null;
+}
+
+// The words that an entered light could have: those that fit what crosses it as it stands, and those that would if its crossing lights were
+// without their letters in pencil, each with the names of the crossing lights that it needs changed. All is put back before the call ends.
+function alternatives({ light, pencil }) {
+  const lines = asked('lights');
+  const here = lightNamed(lines, light);
+  if (!here) return { fit: [], others: [] };
+  const across = here.direction === 'down';
+  const isOwn = (cell) => here.cells.some(({ coordinates }) => coordinates === cell.coordinates);
+  const crossing = lines.map((line) => line.split(' ')).filter(([, direction]) => (direction === 'across') === across);
+  const crossed = crossing.map(([number, direction]) => lightNamed(lines, `${number} ${direction}`)).filter(({ cells }) => cells.some(isOwn));
+  const marked = new Set(pencil);
+  const open = crossed.flatMap(({ cells }) => cells.filter((cell) => cell.letter !== '.' && marked.has(cell.coordinates) && !isOwn(cell)));
+  const allowed = crossed.map((other) => ({ name: other.name, at: here.cells.findIndex((cell) => other.cells.some(({ coordinates }) => coordinates === cell.coordinates)) }))
+    .map(({ name, at }, index) => ({ name, at, letters: lettersAt(crossed[index], here.cells[at].coordinates) }));
+  const wordsNow = () => asked(`words ${light}`).slice(1).filter((word) => word !== here.letters);
+  const clear = (cells) => cells.forEach(({ coordinates }) => ask(`clear ${coordinates}`));
+  clear(here.cells);
+  const fit = wordsNow();
+  clear(open);
+  const known = new Set(fit);
+  const wide = open.length ? wordsNow().filter((word) => !known.has(word)).slice(0, MOST_JUDGED) : [];
+  for (const { coordinates, letter } of [...open, ...here.cells]) if (letter !== '.') ask(`set ${coordinates} ${letter}`);
+  const needs = (word) => allowed.filter(({ at, letters }) => letters && !letters.has(word[at])).map(({ name }) => name);
+  // those first that change the fewest words; no name means letters farther off
+  const changes = (other) => other.needs.length || Infinity;
+  const others = wide.map((word) => ({ word, needs: needs(word) })).sort((a, b) => (changes(a) === changes(b) ? 0 : changes(a) - changes(b))).slice(0, MOST_OTHERS);
+  const told = [...fit, ...others.map(({ word }) => word)];
+  return { fit, others, scores: scores.size ? told.map((word) => scores.get(word) ?? null) : null };
+}
+
+// Whether the grid has a fill without the letters of some cells, as far as so many placements tell. All is put back before the call ends.
+function fillsWithout({ cells, most }) {
+  const lettersNow = () => latin.decode(xw.record()).split('\n').filter((line) => line.startsWith('set '));
+  const before = lettersNow();
+  for (const coordinates of cells) ask(`clear ${coordinates}`);
+  const [answer] = asked(`autofill ${most} 0`);
+  const [was, is] = [new Set(before), lettersNow()];
+  for (const line of is) if (!was.has(line)) ask(`clear ${line.split(' ').slice(1, 3).join(' ')}`);
+  for (const coordinates of before.filter((line) => !is.includes(line))) ask(coordinates);
+  return answer === 'filled';
+}
+
+// A session without words, in which grids are tried.
+let scratch;
+
+// The cells of a block and its images under a symmetry, as the engine toggles them.
+function orbit({ width, height, sym, coordinates }) {
+  scratch ??= Xw.open(module);
+  for (const line of [`size ${width} ${height}`, `sym ${sym}`, `block ${coordinates}`]) scratch.line(line);
+  return scratch.line('show').lines.flatMap((row, at) => [...row].flatMap((entry, column) => (entry === '#' ? [`${at + 1} ${column / 2 + 1}`] : [])));
+}
+
+// A slice of a search in a worker that helps: what it answers, and if there is a fill, the lines of its letters.
+function search({ line }) {
+  const { lines, refusal } = ask(line);
+  const answer = refusal ?? lines[0];
+  return { answer, letters: answer === 'filled' ? latin.decode(xw.record()).split('\n').filter((one) => one.startsWith('set ')) : [] };
+}
+
+// Grids from so many seeds, in a worker that helps: those whose crossing lights have words one by one, and one that has not.
+function grids({ wanted, seed, tries }) {
+  const fits = new Map();
+  const isFit = (pattern) => {
+    if (!fits.has(pattern)) fits.set(pattern, asked(`match ${pattern}`).length > 0);
+    return fits.get(pattern);
+  };
+  const made = Array.from({ length: tries }, (_, at) => gridFrom(wanted, seed + at)).filter(Boolean);
+  const fit = made.filter((grid) => crossingPatterns(grid).every(isFit));
+  return { fit, spare: made.find((grid) => !fit.includes(grid)) ?? null };
+}
+
+// What the words say of a grid, in a worker that helps: the patterns of its lights that no word matches, the fewest words of a light, and whether
+// searches of so many placements fill it.
+function judge({ lines, most }) {
+  for (const line of lines) ask(line);
+  const numbers = [...counts()];
+  const fewest = asked('lights').reduce((least, line, at) => (line.slice(line.lastIndexOf(' ')).includes('.') ? Math.min(least, numbers[at]) : least), Infinity);
+  const unmatched = asked('unmatched').map((line) => line.slice(line.lastIndexOf(' ') + 1));
+  let fill = fewest ? 'limit' : 'nofill';
+  for (let seed = 1; seed <= JUDGED_SEEDS && fill === 'limit'; seed++) [fill] = asked(`autofill ${most} ${seed}`);
+  return { unmatched, fewest, fill };
+}
+
+// From how many seeds a search tells whether a grid fills.
+const JUDGED_SEEDS = 2;
+
+// The most words that are judged which need other words changed, and the most that are told.
+const MOST_JUDGED = 2000;
+const MOST_OTHERS = 100;
+
+// The word list for the engine, with a grade from 0 to 100 for each word that has a score.
+function graded(words, scoresRead, best) {
+  if (!scoresRead.size) return words.join('\n');
+  const share = best > 100 ? 100 / best : 1;
+  return words.map((word) => `${word};${Math.round(share * scoresRead.get(word))}`).join('\n');
+}
+
 const calls = {
   async load({ bytes }) {
     module = await load(bytes);
   },
 
-  // Opens a session over a list, and replays a record. If it cannot, the session before stays.
-  open({ list, least, record }) {
-    const { words, scores: scoresRead, ...told } = readList(list, least);
-    if (list.length && !words.length) throw new Fault('NoWord');
-    const other = Xw.open(module, { list: words.join('\n'), record: encode(record) });
+  // Opens a session over word lists, and replays a record. If it cannot, the session before stays.
+  open({ sources, personal, least, record }) {
+    const { words, scores: scoresRead, ...told } = joinLists(sources, personal, least);
+    if (sources.length && !words.length) throw Object.assign(new Error('no word'), { status: 'NoWord', answer: '' });
+    const other = Xw.open(module, { list: graded(words, scoresRead, told.best), record: encode(record) });
     xw?.close();
     xw = other;
     scores = scoresRead;
@@ -119,7 +234,18 @@ const calls = {
     return { words: words.join('\n'), scores: scores.size ? words.map((word) => scores.get(word) ?? null) : null };
   },
 
+  // The scores of words, or null for those that have none.
+  grades({ words }) {
+    return words.map((word) => scores.get(word) ?? null);
+  },
+
   probe,
+  alternatives,
+  fillsWithout,
+  orbit,
+  search,
+  grids,
+  judge,
 
   record() {
     return latin.decode(xw.record());
@@ -139,7 +265,7 @@ async function answer({ id, call, sent }) {
 }
 
 // Calls are answered in order. But those that leave all as it was wait until no other is there, so that a key is answered ahead of them.
-const QUERIES = new Set(['ask', 'words', 'probe']);
+const QUERIES = new Set(['ask', 'words', 'probe', 'alternatives', 'fillsWithout', 'grades']);
 
 let last = Promise.resolve();
 const queries = [];

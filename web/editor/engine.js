@@ -12,7 +12,9 @@ export class EngineFault extends Error {
 const isBroken = (status) => status === 'Engine' || status === 'Memory' || status === 'Closed';
 
 export class Engine {
+  /** @type {() => Worker} */
   #make;
+  /** @type {Worker} */
   #worker;
   #waiting = new Map();
   #id = 0;
@@ -24,10 +26,15 @@ export class Engine {
     this.start();
   }
 
-  start() {
+  // Ends the worker. Calls that it has not answered fail.
+  stop() {
     this.#worker?.terminate();
     for (const { reject } of this.#waiting.values()) reject(new EngineFault({ status: 'Restart', answer: '' }));
     this.#waiting.clear();
+  }
+
+  start() {
+    this.stop();
     this.#worker = this.#make();
     this.#worker.addEventListener('message', ({ data }) => this.#take(data));
     this.#worker.addEventListener('error', (event) => this.onBreak(event.message));

@@ -1,10 +1,14 @@
 // Files: what is opened, dropped and saved.
+import { csvOf, htmlOf } from './clue-sheet.js';
+import { ipuzOf, recordOfIpuz } from './ipuz.js';
 import { SESSION_HEAD, hasCommands, kindOf } from './kinds.js';
 import { refusalText, refuse, say } from './messages.js';
-import { leftOutText, readList, wordCount } from './word-list.js';
+import { enumerated } from './print.js';
+import { strangeCharacter } from './record.js';
 
 const latin = new TextDecoder('windows-1252');
 const PENCIL = '# pencil ';
+const ORIGINALS = '# originals ';
 
 // the most bytes of a file that is opened; larger ones are none of those that the page knows
 const MOST_BYTES = 1 << 27;
@@ -29,21 +33,33 @@ export class Files {
         case 'puzzle':
           await this.#editor.replace({ record: await this.#editor.engine.call('read', { puzzle: bytes }) });
           break;
+        case 'ipuz':
+          return await this.#openIpuz(file.name, new TextDecoder().decode(bytes));
         case 'session':
           if (!(await this.#openSession(file.name, latin.decode(bytes)))) return false;
           break;
         case 'empty':
           return this.#refuse(`${file.name} is empty: nothing is opened`);
         default:
-          return this.#refuse(`${file.name} is no puzzle (.puz or text), no session and no word list: nothing is opened`);
+          return this.#refuse(`${file.name} is no puzzle (.puz, .ipuz or text), no session and no word list: nothing is opened`);
       }
     } catch (fault) {
       if (!fault.status) throw fault;
-      return this.#refuse(`${file.name}: ${refusalText(fault.status)}`);
+      return this.#refuse(`${file.name}: ${fault.status === 'Ipuz' ? fault.message : refusalText(fault.status)}`);
     }
-    this.actions.opened(file.name);
-    say(`${file.name} is open; undo goes back to what was here`, 'good');
+    return this.#opened(file.name);
+  }
+
+  #opened(name, more = '') {
+    this.actions.opened(name);
+    say(`${name} is open${more}; undo goes back to what was here`, 'good');
     return true;
+  }
+
+  async #openIpuz(name, text) {
+    const { record, originals } = recordOfIpuz(text.replace(/^\ufeff/, ''));
+    await this.#editor.replace({ record: await this.#editor.engine.call('read', { record }), originals });
+    return this.#opened(name);
   }
 
   #refuse(text) {
@@ -74,20 +90,14 @@ export class Files {
     const read = await this.#editor.engine.call('read', { record: text });
     const body = read.split('\n').filter((line) => !/^(add|strike) /.test(line));
     const pencil = lines.find((line) => line.startsWith(PENCIL))?.slice(PENCIL.length).split(', ').filter(Boolean) ?? [];
-    await this.#editor.replace({ record: [...words, ...body].join('\n'), pencil });
+    const originals = parsedPairs(lines.find((line) => line.startsWith(ORIGINALS))?.slice(ORIGINALS.length));
+    await this.#editor.replace({ record: [...words, ...body].join('\n'), pencil, originals });
     return true;
   }
 
-  async openList(name, bytes, least = 0) {
-    if (!this.actions.mayEdit()) return false;
-    say(`reading ${name} …`);
-    const fault = await this.#editor.useList({ name, bytes, least });
-    if (fault) return this.#refuse(`${name}: ${[refusalText(fault), fault === 'NoWord' && whyLeftOut(bytes, least)].filter(Boolean).join('; ')}`);
-    const { words, scored, leftOut } = this.#editor.list;
-    const facts = [`${wordCount(words)}${scored ? ', the best scores first' : ''}`, leftOutText(leftOut, least)];
-    say(`${name}: ${facts.filter(Boolean).join('; ')}`, 'good');
-    await this.actions.listOpened();
-    return true;
+  openList(name, bytes) {
+    say(`reading ${name} …`, 'busy');
+    return this.actions.changeLists((lists) => lists.adding(name, bytes), name, bytes);
   }
 
   // The name for a file of this puzzle, with an ending.
@@ -100,11 +110,34 @@ export class Files {
   async save(form) {
     try {
       const bytes = await this.#editor.inOrder(() => this.#editor.engine.call('file', { form }));
-      this.#give(bytes, this.#name(form === 'puz' ? 'puz' : 'txt'));
+      this.#give(bytes, this.#name(form === 'puz' ? 'puz' : 'txt'), this.#nearNote());
     } catch (fault) {
       if (!fault.status) throw fault;
       this.#explain(fault.status);
     }
+  }
+
+  // Saves a .puz, or if the puzzle cannot be one yet, the session, and says which and why.
+  async saveAny() {
+    try {
+      this.#give(await this.#editor.inOrder(() => this.#editor.engine.call('file', { form: 'puz' })), this.#name('puz'), this.#nearNote());
+    } catch (fault) {
+      if (!fault.status) throw fault;
+      this.saveSession(`: the session, since ${this.#whyNoPuz(fault.status)}`);
+    }
+  }
+
+  // What a .puz has near characters for.
+  #nearNote() {
+    const strange = [...this.#editor.originals.values()].map(strangeCharacter);
+    return strange.length ? `, with near characters for ${[...new Set(strange)].map((one) => `“${one}”`).join(', ')}` : '';
+  }
+
+  #whyNoPuz(status) {
+    const { board } = this.#editor;
+    const cell = board.firstEmpty();
+    const texts = { Barred: 'a .puz cannot hold bars', NotFilled: `row ${board.rowOf(cell)}, column ${board.columnOf(cell)} is empty` };
+    return texts[status] ?? refusalText(status);
   }
 
   // Says why a file cannot be made, and goes to where that is.
@@ -130,20 +163,39 @@ export class Files {
     refuse(`not saved: ${refusalText(status)}`);
   }
 
-  saveSession() {
-    const { record, pencil } = this.#editor;
+  saveSession(why = '') {
+    const { record, pencil, originals } = this.#editor.state;
     const lines = record.split('\n').filter((line) => line !== SESSION_HEAD);
-    const head = pencil.size ? [SESSION_HEAD, `${PENCIL}${[...pencil].join(', ')}`] : [SESSION_HEAD];
-    this.#give(encodeLatin([...head, ...lines].join('\n')), this.#name('xw'));
+    const ascii = (text) => text.replace(/[^\x20-\x7e]/g, (character) => `\\u${character.charCodeAt(0).toString(16).padStart(4, '0')}`);
+    const notes = [pencil.length && `${PENCIL}${pencil.join(', ')}`, originals.length && `${ORIGINALS}${ascii(JSON.stringify(originals))}`];
+    const head = [SESSION_HEAD, ...notes.filter(Boolean)];
+    this.#give(encodeLatin([...head, ...lines].join('\n')), this.#name('xw'), why);
   }
 
-  #give(bytes, name) {
+  #textOf = (field) => this.#editor.textOf(field);
+
+  saveIpuz() {
+    this.saveText(ipuzOf(this.#editor.board, this.#textOf), this.#name('ipuz'));
+  }
+
+  // Saves the clues as a table: `csv` or `html`.
+  saveClues(form) {
+    const of = [this.#editor.board, this.#textOf, enumerated];
+    this.saveText(form === 'csv' ? csvOf(...of) : htmlOf(...of), this.#name(form));
+  }
+
+  // Saves a text under a name.
+  saveText(text, name) {
+    this.#give(new TextEncoder().encode(text), name);
+  }
+
+  #give(bytes, name, why = '') {
     const link = document.createElement('a');
     link.href = URL.createObjectURL(new Blob([bytes], { type: 'application/octet-stream' }));
     link.download = name;
     link.click();
     setTimeout(() => URL.revokeObjectURL(link.href), 60000);
-    say(`saved: ${name}`, 'good');
+    say(`saved: ${name}${why}`, 'good');
   }
 
   // Files that are dropped anywhere on the page.
@@ -163,9 +215,19 @@ export class Files {
   }
 }
 
-const whyLeftOut = (bytes, least) => leftOutText(readList(bytes, least).leftOut, least);
+// Pairs of texts, as JSON spells them; none if it does not.
+function parsedPairs(text) {
+  try {
+    const pairs = JSON.parse(text);
+    return pairs.filter((pair) => pair.length === 2 && pair.every((part) => typeof part === 'string'));
+  } catch {
+    return [];
+  }
+}
 
 function encodeLatin(text) {
-  const codes = new Map(Array.from({ length: 256 }, (_, code) => [latin.decode(new Uint8Array([code])), code]));
-  return Uint8Array.from(text, (character) => codes.get(character) ?? 63);
+  /** @type {Map<string, number>} */
+  const codes = new Map();
+  for (let code = 0; code < 256; code++) codes.set(latin.decode(new Uint8Array([code])), code);
+  return Uint8Array.from([...text], (character) => codes.get(character) ?? 63);
 }

@@ -6,6 +6,9 @@ import { TypingField } from './typing.js';
 // longer, the letter is shown alone.
 const WAIT = 4;
 
+// The least size of a cell; a larger grid pans.
+const LEAST_CELL = 22;
+
 const ARROWS = { ArrowLeft: ['across', -1], ArrowRight: ['across', 1], ArrowUp: ['down', -1], ArrowDown: ['down', 1] };
 
 export class GridView {
@@ -17,6 +20,8 @@ export class GridView {
   // what lies over the light of the cursor, over the one that crosses it, and around the light of a reason
   #bands = ['light-band', 'crossing-band', 'reason-band'].map((name) => Object.assign(document.createElement('div'), { className: name }));
   #typing = new TypingField((key) => this.#actionOf({ key, shiftKey: false })?.());
+  // whether lights without a word wait for blocks, since there are none yet
+  #isOpenGrid = false;
   // cells whose letters are entered but not shown yet, by index
   #undrawn = new Set();
   #drawing = null;
@@ -37,11 +42,23 @@ export class GridView {
     root.addEventListener('pointercancel', () => {
       this.#pressed = null;
     });
+    root.addEventListener('paste', (event) => {
+      event.preventDefault();
+      this.paste(event.clipboardData.getData('text'));
+    });
     root.append(...this.#bands, this.#typing.element);
     editor.addEventListener('whole', () => this.draw());
     editor.addEventListener('letters', ({ detail }) => this.#letters(detail));
     editor.addEventListener('move', () => this.mark());
+    document.addEventListener('paste', (event) => {
+      if (document.activeElement === document.body) this.paste(event.clipboardData.getData('text'));
+    });
     new ResizeObserver(() => this.#fit()).observe(root.parentElement);
+  }
+
+  // Brings the cursor into sight, in a grid that is larger than its room.
+  #show() {
+    if (this.#root.classList.contains('pans')) this.#cells[this.#editor.cursor]?.root.scrollIntoView({ block: 'nearest', inline: 'nearest' });
   }
 
   // The size of a cell, so that the grid fills the room it has.
@@ -50,12 +67,15 @@ export class GridView {
     if (!board.width) return;
     const { clientWidth, clientHeight } = this.#root.parentElement;
     const size = Math.floor(Math.min((clientWidth - 16) / board.width, (clientHeight - 16) / board.height, 64));
-    this.#root.style.setProperty('--cell', `${Math.max(size, 12)}px`);
+    this.#root.style.setProperty('--cell', `${Math.max(size, LEAST_CELL)}px`);
+    this.#root.classList.toggle('pans', size < LEAST_CELL);
+    this.#show();
   }
 
   draw() {
     const { board, chosen } = this.#editor;
     this.#undrawn.clear();
+    this.#isOpenGrid = board.isOpenGrid;
     if (!chosen.size) this.#anchor = this.#far = null;
     if (this.#cells.length !== board.cells.length || this.width !== board.width) this.#make(board);
     for (let index = 0; index < this.#cells.length; index++) this.paint(index);
@@ -87,7 +107,7 @@ export class GridView {
     const root = document.createElement('div');
     root.setAttribute('role', 'gridcell');
     root.id = `cell-${row}-${column}`;
-    root.dataset.index = this.#cells.length;
+    root.dataset.index = String(this.#cells.length);
     const [circle, number, letter] = ['circle', 'number', 'letter'].map((name) => {
       const part = Object.assign(document.createElement('span'), { className: name });
       root.append(part);
@@ -101,7 +121,7 @@ export class GridView {
 
   // Shows a cell as the board has it.
   paint(index) {
-    const { board, pencil, reason, unmatched } = this.#editor;
+    const { board, pencil, reason, unmatched, faulty } = this.#editor;
     const cell = board.cells[index];
     const classes = ['cell'];
     if (cell.block) classes.push('block');
@@ -110,9 +130,10 @@ export class GridView {
     if (cell.circle && !cell.block) classes.push('circled');
     if (cell.letter && pencil.has(cell.coordinates)) classes.push('pencil');
     if (reason.has(index)) classes.push('reason');
-    if (unmatched.has(index)) classes.push('unmatched');
+    if (unmatched.has(index) && !this.#isOpenGrid) classes.push('unmatched');
+    if (faulty.has(index) && cell.letter) classes.push('faulty');
     const isOpen = !cell.block && !cell.letter;
-    if (isOpen && !cell.left && !this.isBlank) classes.push('dead');
+    if (isOpen && !cell.left && !this.isBlank) classes.push(this.#isOpenGrid ? 'waiting' : 'dead');
     if (isOpen && cell.left.length === 1) classes.push('only');
     this.#marksOf(index, classes);
     if (isOpen && cell.left.length > 1) classes.push(`shade-${shadeOf(cell.left.length)}`);
@@ -173,6 +194,7 @@ export class GridView {
     this.#cover(this.#bands[1], editor.crossing);
     this.#cover(this.#bands[2], board.byName.get(editor.reasonLight));
     if (this.#typing.isActive) this.#lay(this.#typing.element, cursor, 1, 1);
+    this.#show();
     this.#root.setAttribute('aria-activedescendant', this.#cells[cursor]?.root.id ?? '');
   }
 
@@ -240,6 +262,14 @@ export class GridView {
     this.draw();
   }
 
+  // Shows the words of lights that have a fault.
+  showFaults(names) {
+    const { board, faulty } = this.#editor;
+    const cells = new Set(names.flatMap((name) => board.byName.get(name)?.cells ?? []));
+    this.#editor.faulty = cells;
+    for (const index of new Set([...faulty, ...cells])) if (faulty.has(index) !== cells.has(index) && this.#cells[index]) this.paint(index);
+  }
+
   focus() {
     if (!this.#typing.isActive) this.#root.focus({ preventScroll: true });
   }
@@ -254,10 +284,41 @@ export class GridView {
 
   #key(event) {
     if (event.ctrlKey || event.metaKey || event.altKey) return;
+    // after Escape, Tab goes on to what is beside the grid
+    const isLeaving = event.key === 'Tab' && this.#mayLeave;
+    if (!/^(Shift|Tab)$/.test(event.key)) this.#mayLeave = event.key === 'Escape';
+    if (isLeaving) return;
     const action = this.#actionOf(event);
-    if (!action) return;
+    if (!action) {
+      if (event.key.length === 1) refuse(`“${event.key}” does nothing here: letters are entered, . is a block, ? asks why, and F1 shows all keys`);
+      return;
+    }
     event.preventDefault();
     action();
+  }
+
+  #mayLeave = false;
+  // the cell and the direction of the letter that ended its light; another letter there is one too many
+  #ended = '';
+
+  get #place() {
+    return `${this.#editor.cursor} ${this.#editor.direction}`;
+  }
+
+  // Enters the letters of a text from the cursor on, as far as the light goes.
+  async paste(text) {
+    const editor = this.#editor;
+    const { light, board, cursor } = editor;
+    const letters = text.normalize('NFD').replace(/[^A-Za-z]/g, '').toUpperCase();
+    if (!letters) return refuse('there is no letter to paste');
+    if (!light || !this.actions.mayEdit()) return undefined;
+    const isWhole = letters.length === light.cells.length;
+    const cells = isWhole ? light.cells : light.cells.slice(light.cells.indexOf(cursor));
+    if (letters.length > cells.length) return refuse(`${letters} is too long: there are ${cells.length} cells from the cursor on`);
+    const changed = cells.slice(0, letters.length).map((cell) => board.cells[cell].coordinates);
+    editor.edited = { cell: cursor, direction: light.direction };
+    const pencil = new Set([...editor.pencil].filter((cell) => !changed.includes(cell)));
+    return this.#send(changed.map((cell, at) => `set ${cell} ${letters[at]}`), { pencil });
   }
 
   #actionOf(event) {
@@ -323,6 +384,7 @@ export class GridView {
     const cell = editor.board.cells[editor.cursor];
     if (cell.block) return refuse(refusalText('OnBlock'));
     if (!this.actions.mayEdit()) return;
+    if (this.#ended && this.#ended === this.#place) return refuse('the light ends here: Tab goes on, Backspace takes the letter back');
     const index = editor.cursor;
     const sent = this.#send([`set ${cell.coordinates} ${letter}`], { isWhole: false });
     if (typedAt) mark('letter typed', { startTime: typedAt });
@@ -330,9 +392,14 @@ export class GridView {
     editor.pencil.delete(cell.coordinates);
     cell.letter = letter;
     this.#step(1);
+    this.#ended = editor.cursor === index ? this.#place : '';
     this.#drawSoon(index);
     const next = editor.cursor;
-    sent.then((refused) => refused && editor.cursor === next && editor.moveTo(index));
+    sent.then((refused) => {
+      if (!refused) return;
+      this.#ended = '';
+      if (editor.cursor === next) editor.moveTo(index);
+    });
   }
 
   #send(lines, options = {}) {
@@ -341,6 +408,7 @@ export class GridView {
 
   #clear(step) {
     const editor = this.#editor;
+    this.#ended = '';
     const index = editor.cursor;
     const cell = editor.board.cells[index];
     if (cell.block || !cell.letter) {
@@ -368,7 +436,7 @@ export class GridView {
   }
 
   // Empties the light, but keeps the letters of crossing lights that are entered.
-  eraseLight() {
+  async eraseLight() {
     const editor = this.#editor;
     const { board, light } = editor;
     if (!light) return;
@@ -378,7 +446,7 @@ export class GridView {
     const cells = free.length ? free : lettered;
     if (cells.length === 0) return;
     editor.edited = { cell: editor.cursor, direction: editor.direction };
-    this.#send(editor.commands.has('erase') ? [`erase ${light.name}`] : cells.map((index) => `clear ${board.cells[index].coordinates}`));
+    await this.#send(editor.commands.has('erase') ? [`erase ${light.name}`] : cells.map((index) => `clear ${board.cells[index].coordinates}`));
   }
 
   #toEnd(at) {
@@ -416,11 +484,33 @@ export class GridView {
     const editor = this.#editor;
     const { board } = editor;
     const cell = board.cells[index];
-    const lines = [...(cell.letter ? [`clear ${cell.coordinates}`] : []), `block ${cell.coordinates}`];
+    // letters in pencil go, here and at the images; one in ink only if asked for again
+    const isInk = cell.letter && !editor.pencil.has(cell.coordinates);
+    if (isInk && this.#blocking !== index) {
+      this.#blocking = index;
+      return refuse(`${cell.letter} is entered here: once more puts the block in its place`);
+    }
+    this.#blocking = -1;
     editor.edited = null;
-    const refused = await this.#send(lines, { isBlock: true });
+    const block = `block ${cell.coordinates}`;
+    let refused = await this.#send(cell.letter ? [`clear ${cell.coordinates}`, block] : [block], { isBlock: true });
+    if (refused === 'Occupied') refused = await this.#blockOver(index, block);
     if (!refused && isTyped && editor.cursor === index) this.#stepFreely(1);
   }
+
+  // Puts a block where letters are in its way. Those in pencil give way; one in ink is named.
+  async #blockOver(index, block) {
+    const editor = this.#editor;
+    const images = (await editor.orbit(index)).filter((cell) => cell.letter);
+    const ink = images.find((cell) => cell !== editor.board.cells[index] && !editor.pencil.has(cell.coordinates));
+    if (!ink) return this.#send([...images.map(({ coordinates }) => `clear ${coordinates}`), block]);
+    const [row, column] = ink.coordinates.split(' ');
+    refuse(`the letter at row ${row}, column ${column} is in the way of the block's image`);
+    return 'Occupied';
+  }
+
+  // the cell with a letter in ink that a block is asked for, by index
+  #blocking = -1;
 
   toggleBar(index, side) {
     return this.#send([`bar ${this.#editor.board.cells[index].coordinates} ${side}`]);
@@ -502,7 +592,7 @@ export class GridView {
   // The mouse.
 
   #indexOf(event) {
-    const element = document.elementFromPoint(event.clientX, event.clientY)?.closest('.cell');
+    const element = /** @type {HTMLElement | undefined} */ (document.elementFromPoint(event.clientX, event.clientY)?.closest('.cell'));
     return element && this.#root.contains(element) ? Number(element.dataset.index) : -1;
   }
 
@@ -511,7 +601,10 @@ export class GridView {
     if (index < 0 || event.button !== 0) return;
     event.preventDefault();
     if (event.pointerType !== 'touch') this.#root.focus({ preventScroll: true });
-    if (this.tool) return this.#useTool(index);
+    if (this.tool) {
+      this.#painting = { isOn: !this.#hasTool(index), done: new Set([index]) };
+      return this.#useTool(index);
+    }
     const editor = this.#editor;
     if (event.shiftKey) {
       editor.moveTo(index);
@@ -529,7 +622,26 @@ export class GridView {
 
   #pressed = null;
 
+  // while a tool is dragged: whether it sets or takes away, and the cells that it was on
+  #painting = null;
+
+  // Whether a cell has what the tool makes.
+  #hasTool(index) {
+    const { board, pencil } = this.#editor;
+    const cell = board.cells[index];
+    return this.tool === 'pencil' ? !pencil.has(cell.coordinates) : cell[this.tool];
+  }
+
+  #paint(index) {
+    const { isOn, done } = this.#painting;
+    if (index < 0 || done.has(index)) return;
+    done.add(index);
+    // what an image of an earlier cell has made already stays
+    if (this.#hasTool(index) !== isOn && (this.tool !== 'pencil' || this.#editor.board.cells[index].letter)) this.#useTool(index);
+  }
+
   #pointerMove(event) {
+    if (this.#painting && event.buttons & 1) return this.#paint(this.#indexOf(event));
     if (this.#pressed === null || !(event.buttons & 1)) return;
     const index = this.#indexOf(event);
     if (index < 0 || (index === this.#pressed && this.#anchor === null)) return;
@@ -542,6 +654,7 @@ export class GridView {
 
   // A tap brings up the keyboard of the screen.
   #pointerUp(event) {
+    this.#painting = null;
     if (event.pointerType === 'touch' && this.#pressed !== null && this.#anchor === null) {
       this.#typing.focus();
       this.#lay(this.#typing.element, this.#editor.cursor, 1, 1);

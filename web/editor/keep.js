@@ -1,47 +1,64 @@
-// What the browser keeps between visits: the puzzle at each change, earlier puzzles, and the word list.
+// What the browser keeps between visits. In IndexedDB: the puzzles with their versions, and the word list. In the local store: a draft of each
+// puzzle that is open, since a page that goes can write there before it goes.
 
-const NAME = 'xw-editor';
-const EARLIER = 'xw-editor-earlier';
-const STORE = 'kept';
+const DATABASE = 'xw-editor';
+const DRAFT = 'xw-editor/';
+const LAST = 'xw-editor-last';
+// where older pages kept one puzzle, and those that it replaced
+const FORMER = ['xw-editor', 'xw-editor-earlier'];
+// the puzzle of a tab, so that a page that is loaded again has the same
+const HERE = 'xw-editor-here';
+const STORES = { list: 'kept', puzzles: 'puzzles', versions: 'versions' };
+// the most versions that are kept of a puzzle
+const MOST_VERSIONS = 60;
 
 function database() {
   return new Promise((resolve, reject) => {
-    const request = indexedDB.open(NAME, 1);
-    request.onupgradeneeded = () => request.result.createObjectStore(STORE);
+    const request = indexedDB.open(DATABASE, 2);
+    request.onupgradeneeded = ({ oldVersion }) => {
+      if (oldVersion < 1) request.result.createObjectStore(STORES.list);
+      request.result.createObjectStore(STORES.puzzles, { keyPath: 'puzzle' });
+      request.result.createObjectStore(STORES.versions, { keyPath: ['puzzle', 'at'] });
+    };
     request.onsuccess = () => resolve(request.result);
     request.onerror = () => reject(request.error);
   });
 }
 
-// Does one thing with the store. The database is closed after it, so that no page holds it.
+// Does a transaction over all stores, and returns what its last request gives when all of it is kept. The database is closed after it, so that
+// no page holds it.
 async function within(mode, action) {
   const opened = await database();
   try {
     return await new Promise((resolve, reject) => {
-      const request = action(opened.transaction(STORE, mode).objectStore(STORE));
-      request.onsuccess = () => resolve(request.result);
-      request.onerror = () => reject(request.error);
+      const transaction = opened.transaction(Object.values(STORES), mode);
+      const request = action(Object.fromEntries(Object.entries(STORES).map(([name, store]) => [name, transaction.objectStore(store)])));
+      transaction.oncomplete = () => resolve(request?.result);
+      transaction.onabort = () => reject(transaction.error ?? new Error('the browser ended the transaction'));
     });
   } finally {
     opened.close();
   }
 }
 
-// What is kept under a name, as text; null if there is nothing.
-function keptText(name) {
+// Texts of a store of the browser, which may be denied.
+
+function textIn(store, name) {
   try {
-    return localStorage.getItem(name);
+    return globalThis[store].getItem(name);
   } catch {
     return null;
   }
 }
 
-function keepText(name, text) {
+// Writes a text, or with null takes it away; returns what kept it from that, or null.
+function putText(store, name, text) {
   try {
-    localStorage.setItem(name, text);
-    return true;
-  } catch {
-    return false;
+    if (text === null) globalThis[store].removeItem(name);
+    else globalThis[store].setItem(name, text);
+    return null;
+  } catch (fault) {
+    return fault;
   }
 }
 
@@ -55,57 +72,116 @@ function parsed(text) {
   }
 }
 
-// what is kept of the session, as this page last read or wrote it
-let seenText = null;
-
-// Keeps the session: its record, and what the page adds to it. It is written before the call returns, so that nothing is lost if the page goes.
-// Returns whether the browser keeps it.
-export function keepSession(session) {
-  const text = JSON.stringify(session);
-  if (!keepText(NAME, text)) return false;
-  seenText = text;
-  return true;
-}
-
-export function keptSession() {
-  seenText = keptText(NAME);
-  const session = parsed(seenText);
+function sessionIn(name) {
+  const session = parsed(textIn('localStorage', name));
   return isSessionState(session) ? session : null;
 }
 
-// Whether the kept session is the one that this page last read or wrote.
-export const isSessionAsSeen = () => keptText(NAME) === seenText;
+// Drafts: { puzzle, record, pencil, cursor, direction, at }, where `at` is when the puzzle was last changed.
 
-// Tells when another tab keeps its session in place of this one.
-export function onOtherKeeper(action) {
-  addEventListener('storage', ({ key, newValue }) => key === NAME && newValue && action());
+// Keeps a draft, which is written before the call returns. Returns what kept the browser from it, or null.
+export function keepDraft(session) {
+  const fault = putText('localStorage', DRAFT + session.puzzle, JSON.stringify(session));
+  if (!fault) putText('localStorage', LAST, session.puzzle);
+  return fault;
 }
 
-// The sessions of earlier puzzles, the latest first.
-export function earlierSessions() {
-  const sessions = parsed(keptText(EARLIER));
-  return Array.isArray(sessions) ? sessions.filter(isSessionState) : [];
-}
+export const draftOf = (puzzle) => sessionIn(DRAFT + puzzle);
 
-export const keepEarlier = (sessions) => keepText(EARLIER, JSON.stringify(sessions));
+export const dropDraft = (puzzle) => putText('localStorage', DRAFT + puzzle, null);
 
-// Tells when another tab changes the earlier puzzles.
-export function onEarlierChanged(action) {
-  addEventListener('storage', ({ key }) => key === EARLIER && action());
-}
-
-export async function keepList(list) {
-  await within('readwrite', (store) => store.put(list, 'list'));
-}
-
-export async function keptList() {
+// The names of the puzzles that have drafts.
+export function drafted() {
   try {
-    return await within('readonly', (store) => store.get('list'));
+    return Object.keys(localStorage).filter((name) => name.startsWith(DRAFT)).map((name) => name.slice(DRAFT.length));
   } catch {
-    return undefined;
+    return [];
   }
 }
 
-export async function dropList() {
-  await within('readwrite', (store) => store.delete('list'));
+// Tells when another tab writes a draft of a puzzle.
+export function onOtherDraft(action) {
+  addEventListener('storage', ({ key, newValue }) => key?.startsWith(DRAFT) && newValue && action(key.slice(DRAFT.length)));
+}
+
+// The name of the puzzle that this tab had, or else of the one that was changed last.
+export const puzzleOfTab = () => textIn('sessionStorage', HERE) ?? textIn('localStorage', LAST);
+
+export const keepPuzzleOfTab = (puzzle) => putText('sessionStorage', HERE, puzzle);
+
+// What an older page kept: its puzzle, and those that this one replaced, the latest first.
+export function formerSessions() {
+  const [last, earlier] = FORMER.map((name) => parsed(textIn('localStorage', name)));
+  return [last, ...(Array.isArray(earlier) ? earlier : [])].filter(isSessionState);
+}
+
+export function dropFormer() {
+  for (const name of FORMER) putText('localStorage', name, null);
+}
+
+// The name and address of a submission.
+const ADDRESS = 'xw-editor-address';
+export const keptAddress = () => textIn('localStorage', ADDRESS) ?? '';
+export const keepAddress = (text) => putText('localStorage', ADDRESS, text || null);
+
+// Puzzles: a session as in a draft, and `deleted`, when it was deleted, or null. A version is a session too, of which only the newest and
+// others spread over time are kept.
+
+export const storedPuzzle = (puzzle) => within('readonly', ({ puzzles }) => puzzles.get(puzzle));
+export const storedPuzzles = () => within('readonly', ({ puzzles }) => puzzles.getAll());
+
+const ofPuzzle = (puzzle) => IDBKeyRange.bound([puzzle], [puzzle, []]);
+
+export const versionsOf = (puzzle) => within('readonly', ({ versions }) => versions.getAll(ofPuzzle(puzzle)));
+
+// Puts puzzles, and versions beside them, all or none.
+export function storePuzzles(entries, added = []) {
+  return within('readwrite', ({ puzzles, versions }) => {
+    for (const entry of entries) puzzles.put(entry);
+    for (const version of added) versions.put(version);
+    for (const puzzle of new Set(added.map((version) => version.puzzle))) thin(versions, puzzle);
+  });
+}
+
+// Leaves out the versions that lie closest to those beside them, as far as there are too many.
+function thin(versions, puzzle) {
+  const request = versions.getAllKeys(ofPuzzle(puzzle));
+  request.onsuccess = () => {
+    const times = request.result.map(([, at]) => at);
+    while (times.length > MOST_VERSIONS) {
+      const gap = (at) => times[at + 1] - times[at - 1];
+      let least = 1;
+      for (let at = 2; at < times.length - 1; at++) if (gap(at) < gap(least)) least = at;
+      versions.delete([puzzle, ...times.splice(least, 1)]);
+    }
+  };
+}
+
+// Takes puzzles away for good, with their versions.
+export function destroyPuzzles(names) {
+  return within('readwrite', ({ puzzles, versions }) => {
+    for (const name of names) {
+      puzzles.delete(name);
+      versions.delete(ofPuzzle(name));
+      dropDraft(name);
+    }
+  });
+}
+
+// The word lists.
+
+export const keepLists = (lists) => within('readwrite', ({ list }) => list.put(lists, 'lists'));
+
+// { parts, personal, least }, or undefined. An older page kept one list.
+export async function keptLists() {
+  const [lists, former] = [await within('readonly', ({ list }) => list.get('lists')), await within('readonly', ({ list }) => list.get('list'))];
+  if (lists || !former) return lists;
+  const { name, bytes, least } = former;
+  return { parts: [{ name, bytes, isOn: true }], personal: '', least };
+}
+
+// Why the browser does not keep something, in a few words.
+export function whyNotKept(fault) {
+  if (/Quota|full|disk/i.test(`${fault?.name} ${fault?.message}`)) return 'the browser has no room left';
+  return 'this browser keeps nothing for this page';
 }

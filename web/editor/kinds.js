@@ -1,4 +1,5 @@
 // What a file is, by its bytes and its name.
+import { isIpuz } from './ipuz.js';
 import { isWordList, listText } from './word-list.js';
 
 const MAGIC = 'ACROSS&DOWN';
@@ -27,12 +28,13 @@ function isSession(name, head) {
 
 const isSixteenBits = (bytes) => (bytes[0] === 0xff && bytes[1] === 0xfe) || (bytes[0] === 0xfe && bytes[1] === 0xff);
 
-// What a file is: `puzzle` (.puz or text), `session`, `list`, `empty`, or `other`.
+// What a file is: `puzzle` (.puz or text), `ipuz`, `session`, `list`, `empty`, or `other`.
 export function kindOf(name, bytes) {
   if (!bytes.length) return 'empty';
   const head = new TextDecoder('windows-1252').decode(bytes.subarray(0, 4096)).replace(/^\u00ef\u00bb\u00bf/, '');
   if (head.slice(2, 2 + MAGIC.length) === MAGIC || /\.puz$/i.test(name)) return 'puzzle';
   if (/^\s*<across puzzle>/i.test(head)) return 'puzzle';
+  if (isIpuz(head) || /\.ipuz$/i.test(name)) return 'ipuz';
   if (isSession(name, head)) return 'session';
   // a text of bytes has no NUL, and pictures and archives have one soon
   if (head.includes('\0') && !isSixteenBits(bytes)) return 'other';

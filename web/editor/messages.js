@@ -1,4 +1,4 @@
-// What is said in the line at the foot of the page.
+// What the page says: a message at a time over the grid, a list of them, and warnings.
 
 // Refusals of commands, and faults of files, in a few words.
 export const REFUSALS = {
@@ -11,7 +11,7 @@ export const REFUSALS = {
   Length: 'a word has 2 to 255 letters',
   PlaceLength: 'the word does not have the length of the light',
   Known: 'the word is in the list already',
-  Unknown: 'the word is not in the list, or is struck already',
+  Unknown: 'the word is not in the list, or is hidden already',
   Full: 'no more words of this length fit into the list',
   NulByte: 'a text cannot hold a NUL',
   Memory: 'the engine is out of memory; a smaller grid or list may help',
@@ -47,21 +47,44 @@ export const REFUSALS = {
 
 export const refusalText = (name) => REFUSALS[name] ?? `refused: ${name}`;
 
+// the most messages that are listed
+const MOST_LISTED_MESSAGES = 50;
+
+// how many messages there were
+let count = 0;
 let line;
+let toast;
+let history;
 let warnings;
 
-export function useStatusLine(element, warningsElement) {
-  line = element;
-  warnings = warningsElement;
+// `elements` are the text of the message, the box around it, the list of all, and where warnings are.
+export function useMessages(elements) {
+  ({ line, toast, history, warnings } = elements);
 }
 
-// Says something; `tone` is '', 'good' or 'bad'.
+// Says something; `tone` is '', 'good' or 'bad', or 'busy' for what passes, which is not listed.
 export function say(text, tone = '') {
+  count++;
   line.textContent = text;
   line.dataset.tone = tone;
+  toast.hidden = !text;
+  toast.dataset.tone = tone;
+  if (!text || tone === 'busy' || history.firstElementChild?.dataset.text === text) return;
+  const item = document.createElement('li');
+  item.dataset.tone = tone;
+  item.dataset.text = text;
+  item.append(Object.assign(document.createElement('time'), { textContent: new Date().toLocaleTimeString(undefined, { hour: '2-digit', minute: '2-digit' }) }), text);
+  history.prepend(item);
+  while (history.childElementCount > MOST_LISTED_MESSAGES) history.lastElementChild.remove();
 }
 
 export const refuse = (text) => say(text, 'bad');
+
+// A function that ends the message that stands now. It does nothing if another one has come since.
+export function endingMessage() {
+  const now = count;
+  return () => now === count && say('');
+}
 
 // Warnings, which stay until what they warn of is over. Each has a name, and may have a button: { label, title, action }.
 

@@ -1,5 +1,4 @@
 // What is printed: the blank grid with its clues, and the solution.
-import { unescapeText } from './record.js';
 
 // The room on the papers within the margins, in millimetres.
 const ROOM = { A4: { width: 182, height: 269 }, letter: { width: 188, height: 251 } };
@@ -24,6 +23,13 @@ export function hasEnumeration(clue) {
   return /\(\s*\d{1,2}(\s*[-‐–—,;.'’/\s]\s*\d{1,2})*([\s,;]+(wds?|words?|letters?|hyph|hyphenated|abbr)\.?)*\s*\)[\s.]*$/i.test(clue);
 }
 
+// A clue without its enumeration, and that: as the clue has it, or the length of the word.
+export function enumerated(clue, length) {
+  if (!hasEnumeration(clue)) return { text: clue, enumeration: `(${length})` };
+  const at = clue.lastIndexOf('(');
+  return { text: clue.slice(0, at).trim(), enumeration: clue.slice(at).trim() };
+}
+
 export class Printer {
   #editor;
   #sheet;
@@ -38,24 +44,60 @@ export class Printer {
 
   parts = 'both';
   paper = 'A4';
+  // whether clues without an enumeration get the length of their word
+  hasLengths = true;
+  // of a submission
+  address = '';
 
-  print(parts, paper) {
-    this.parts = parts;
-    this.paper = paper;
+  print() {
     this.#prepare();
     print();
   }
 
   #prepare() {
     this.#style.textContent = `@page { size: ${this.paper}; margin: 14mm; }`;
-    const pages = [];
-    if (this.parts !== 'solution') pages.push(this.#page(false));
-    if (this.parts !== 'puzzle') pages.push(this.#page(true));
-    this.#sheet.replaceChildren(...pages);
+    this.#sheet.replaceChildren(...this.pages());
+  }
+
+  // The pages that are printed.
+  pages() {
+    const pages = { both: [false, true], puzzle: [false], solution: [true] }[this.parts];
+    return pages ? pages.map((isSolution) => this.#page(isSolution)) : this.#submission();
+  }
+
+  // What an editor is sent: the filled grid and the numbered one with the name and address, and the answers with their clues.
+  #submission() {
+    const grids = make('section', 'page submission');
+    const answers = make('section', 'page submission');
+    grids.append(this.#head('', true), this.#grid(true), this.#grid(false));
+    answers.append(this.#head(': clues and answers', false), this.#answers());
+    return [grids, answers];
+  }
+
+  #head(what, hasAddress) {
+    const head = make('header', '');
+    head.append(make('h1', '', `${this.#text('title') || 'Crossword'}${what}`));
+    const { width, height } = this.#editor.board;
+    head.append(make('p', 'address', hasAddress ? [this.#text('author'), this.address, `${width} × ${height}`].filter(Boolean).join('\n') : this.#text('author')));
+    return head;
+  }
+
+  #answers() {
+    const { board } = this.#editor;
+    const table = make('table', 'answers');
+    for (const direction of ['across', 'down']) {
+      for (const light of board.lights.filter((one) => one.direction === direction)) {
+        const { text, enumeration } = enumerated(this.#text(`clue ${light.name}`), light.cells.length);
+        const row = table.insertRow();
+        const cells = [`${light.number}${direction === 'across' ? 'A' : 'D'}`, [text, this.hasLengths ? enumeration : ''].join(' ').trim(), board.spell(light).replaceAll('.', '_')];
+        row.append(...cells.map((cell) => make('td', '', cell)));
+      }
+    }
+    return table;
   }
 
   #text(field) {
-    return unescapeText(this.#editor.board.texts.get(field) ?? '');
+    return this.#editor.textOf(field);
   }
 
   #page(isSolution) {
@@ -112,7 +154,7 @@ export class Printer {
         const clue = make('p', '');
         const text = this.#text(`clue ${light.name}`);
         clue.append(make('b', '', light.number), ` ${text} `);
-        if (!hasEnumeration(text)) clue.append(make('span', 'length', `(${light.cells.length})`));
+        if (this.hasLengths && !hasEnumeration(text)) clue.append(make('span', 'length', `(${light.cells.length})`));
         clues.append(clue);
       }
     }

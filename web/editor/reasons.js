@@ -31,9 +31,23 @@ export class Reasons {
       refuse('the list has no words for these lights yet: add blocks (.) or bars, or load a longer list');
       return;
     }
-    refuse('a dead end: no word is left for some lights. Click a red cell, or press ?, for the reason');
+    if (board.isOpenGrid) return say('lights without a word wait for blocks (.) or bars: they are grey');
+    const entry = this.#entry();
+    refuse(`${entry ? `${entry} leads to a dead end` : 'a dead end'}: no word is left for some lights. Click a red cell, or press ?, for the reason`);
     this.mark();
     if (commands.has('why')) this.#timer = setTimeout(() => this.#explainEntry(), PATIENCE);
+  }
+
+  // The word of the last entry, if it is whole; or ''.
+  #entry() {
+    const { board } = this.#editor;
+    const light = this.#lastLight;
+    return light && board.isEntered(light) ? board.spell(light) : '';
+  }
+
+  get #lastLight() {
+    const { board, edited } = this.#editor;
+    return edited ? board.cells[edited.cell]?.[edited.direction] : null;
   }
 
   // The dead end may be over when its moment comes.
@@ -64,7 +78,7 @@ export class Reasons {
   // words, others.
   #afterEntry() {
     const { board, edited } = this.#editor;
-    const light = edited && board.cells[edited.cell]?.[edited.direction];
+    const light = this.#lastLight;
     const other = edited?.direction === 'across' ? 'down' : 'across';
     const near = [...(light?.cells ?? [])].sort((a, b) => Math.abs(a - edited.cell) - Math.abs(b - edited.cell));
     const asked = [...near.map((cell) => board.cells[cell][other]), light].filter((one) => one && this.#isDead(one));
@@ -82,20 +96,22 @@ export class Reasons {
     const answers = await editor.ask(...asked.map((light) => `why ${light.name}`));
     if (record !== editor.record) return;
     const reasons = answers.map((lines, at) => this.#reasonOf(asked[at], lines)).filter(Boolean);
-    // one with letters in its own light, so that both are seen together; of these the shortest, and of those the one that lies most in its light
-    reasons.sort((a, b) => Math.min(b.own, 1) - Math.min(a.own, 1) || a.letters.length - b.letters.length || b.own - a.own);
+    // one with letters of the last entry, and then one with letters in its own light, so that both are seen together; of these the shortest, and
+    // of those the one that lies most in its light
+    reasons.sort((a, b) => Math.min(b.last, 1) - Math.min(a.last, 1) || Math.min(b.own, 1) - Math.min(a.own, 1) || a.letters.length - b.letters.length || b.own - a.own);
     if (reasons.length) this.#show(reasons[0]);
   }
 
-  // The cells and letters of a reason, from the lines of `why`, and how many of the cells are of the light itself.
+  // The cells and letters of a reason, from the lines of `why`, and how many of the cells are of the light itself and of the last entry.
   #reasonOf(light, lines) {
     if (!lines) return null;
     const words = lines.map((line) => line.split(' '));
     const cells = words.map(([, row, column]) => this.#editor.board.index(Number(row), Number(column)));
-    return { light, cells, letters: words.map((word) => word[3]), own: cells.filter((cell) => light.cells.includes(cell)).length };
+    const countIn = (other) => cells.filter((cell) => other?.cells.includes(cell)).length;
+    return { light, cells, letters: words.map((word) => word[3]), own: countIn(light), last: countIn(this.#lastLight) };
   }
 
-  #show({ light, cells, letters }) {
+  #show({ light, cells, letters, last }) {
     this.#grid.showReason(cells, light);
     if (cells.length === 0) {
       refuse(`${titleOf(light)} has no word in this list even without letters: the blocks and the list are the reason`);
@@ -103,6 +119,7 @@ export class Reasons {
     }
     const named = `${letters.slice(0, MOST_NAMED).join(', ')}${letters.length > MOST_NAMED ? ' …' : ''}`;
     const cause = letters.length === 1 ? `the ${named} alone` : `these ${letters.length} letters together: ${named}`;
-    refuse(`${titleOf(light)} has no word, by ${cause}. Change ${letters.length === 1 ? 'it' : 'any one of them'}`);
+    const entry = last ? this.#entry() : '';
+    refuse(`${entry ? `${entry} leaves ${titleOf(light)} no word` : `${titleOf(light)} has no word`}, by ${cause}. Change ${letters.length === 1 ? 'it' : 'any one of them'}`);
   }
 }

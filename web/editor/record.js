@@ -12,10 +12,24 @@ export function unescapeText(spelled) {
   return spelled.replace(/\\(.)/g, (_, byte) => SPELLED[byte]);
 }
 
+const WINDOWS_1252 = new TextDecoder('windows-1252').decode(Uint8Array.from({ length: 256 }, (_, code) => code));
+const NEAR = { '→': '->', '←': '<-', '−': '-', '′': "'", '″': '"', 'ł': 'l', 'Ł': 'L', 'đ': 'd', 'Đ': 'D', 'ı': 'i', '≤': '<=', '≥': '>=', '≠': '/=' };
+
+// A text with near characters in place of those that are not in Windows-1252, or `?`, and how many these are.
+export function nearestText(text) {
+  let count = 0;
+  const near = Array.from(text, (character) => {
+    if (WINDOWS_1252.includes(character)) return character;
+    count++;
+    const plain = NEAR[character] ?? character.normalize('NFKD').replace(/\p{M}/gu, '');
+    return plain && [...plain].every((one) => WINDOWS_1252.includes(one)) ? plain : '?';
+  }).join('');
+  return { near, count };
+}
+
 // The first character of a text that is not in the character set of .puz files, Windows-1252; or null.
 export function strangeCharacter(text) {
-  const latin = new TextDecoder('windows-1252').decode(Uint8Array.from({ length: 256 }, (_, code) => code));
-  return Array.from(text).find((character) => !latin.includes(character)) ?? null;
+  return Array.from(text).find((character) => !WINDOWS_1252.includes(character)) ?? null;
 }
 
 // The most bytes of a text that go into one command.

@@ -1,24 +1,30 @@
-// The puzzles that the browser keeps: the one that is here, at each change, and earlier ones until they are thrown away. Only the tab that
-// holds the claim writes.
-import { earlierSessions, isSessionAsSeen, keepEarlier, keepSession, keptSession, onEarlierChanged, onOtherKeeper } from './keep.js';
+// The puzzles that the browser keeps: the one that is here, at each change, and all that were here before, each with versions. A tab writes
+// only the puzzle that it holds the claim to.
+import { Claim } from './claim.js';
+import { newPuzzleName } from './editor.js';
 import { whenIdle } from './idle.js';
+import {
+  destroyPuzzles, draftOf, drafted, dropDraft, dropFormer, formerSessions, keepDraft, keepPuzzleOfTab, onOtherDraft, puzzleOfTab, storePuzzles, storedPuzzle,
+  storedPuzzles, whyNotKept,
+} from './keep.js';
 import { endWarning, warn } from './messages.js';
 import { PATTERNS, recordOf, rowsOf } from './patterns.js';
 import { parseRecord } from './record.js';
 
-const isSamePuzzle = (one, other) => one.puzzle === other.puzzle || one.record === other.record;
+// A version is kept before so many letters go at once, and after so many steps.
+const LETTERS_LOST = 3;
+const STEPS_BETWEEN = 25;
 
-// Those sessions that are of none of these puzzles.
-const withoutPuzzles = (sessions, others) => sessions.filter((session) => !others.some((other) => isSamePuzzle(session, other)));
+const lettersIn = (record) => (record.match(/^set /gm) ?? []).length;
 
 // Whether a record is that of a pattern or of a blank grid to which nothing was done.
 export function isUntouched(record) {
   const { added, struck, width, height, blocks, bars, circles, letters, texts } = parseRecord(record);
   const texted = [...texts.values()].filter(Boolean);
-  if (added.length + struck.length + bars.size + circles.size + letters.size + texted.length) return false;
+  if (added.length + struck.length + circles.size + letters.size + texted.length) return false;
   const grids = PATTERNS.map((pattern) => parseRecord(recordOf(rowsOf(pattern), pattern.sym)));
-  const isSameGrid = (grid) => grid.width === width && grid.height === height && isSameSet(grid.blocks, blocks);
-  return blocks.size === 0 || grids.some(isSameGrid);
+  const isSameGrid = (grid) => grid.width === width && grid.height === height && isSameSet(grid.blocks, blocks) && isSameSet(grid.bars, bars);
+  return blocks.size + bars.size === 0 || grids.some(isSameGrid);
 }
 
 const isSameSet = (some, others) => some.size === others.size && [...some].every((one) => others.has(one));
@@ -26,123 +32,246 @@ const isSameSet = (some, others) => some.size === others.size && [...some].every
 export class Shelf extends EventTarget {
   #editor;
   #claim;
-  #isKept = true;
-  #isTaking = false;
-  // sessions that were replaced, and that the browser does not keep yet
+  // whether there is a change that is not written, and whether another tab has the puzzle
+  #isDue = false;
+  #isElsewhere = false;
+  // the time of the session as this page last read or wrote it
+  #seen = 0;
+  // what is to be stored: sessions of puzzles that were replaced, and versions
   #aside = [];
+  #versions = [];
+  #steps = 0;
+  #isStoring = false;
+  #isStoreDue = false;
+  #draftFault = null;
+  #begun = new Set();
 
   constructor(editor, claim, saveSession) {
     super();
     this.#editor = editor;
     this.#claim = claim;
     this.saveSession = saveSession;
-    this.earlier = earlierSessions();
-    editor.addEventListener('step', () => this.#soon());
-    editor.addEventListener('leave', ({ detail }) => this.putAside(detail));
+    editor.addEventListener('step', ({ detail }) => this.#step(detail));
+    editor.addEventListener('leave', ({ detail }) => this.#leave(detail));
     claim.addEventListener('held', () => this.#held());
     claim.addEventListener('other', () => this.#other());
-    onOtherKeeper(() => claim.isHeld && claim.yield());
-    onEarlierChanged(() => this.#takeEarlier(earlierSessions()));
+    // where there are no locks, the tab that wrote last has the puzzle
+    onOtherDraft((puzzle) => !navigator.locks && puzzle === editor.puzzle && claim.yield());
     // a page that is out of sight may end without a word, and is seldom idle
     document.addEventListener('visibilitychange', () => document.hidden && this.#keepAll());
     addEventListener('pagehide', () => {
       this.#keepAll();
       claim.leave();
     });
-    addEventListener('pageshow', ({ persisted }) => persisted && claim.begin());
+    addEventListener('pageshow', ({ persisted }) => persisted && claim.begin(editor.puzzle));
   }
 
-  get isKeeping() {
-    return this.#claim.isHeld;
+  // The session to begin with, or null: that of this tab, or else the one that was changed last.
+  async first() {
+    await this.#adopt().catch(() => {});
+    const puzzle = puzzleOfTab();
+    const session = puzzle ? await this.latest(puzzle) : formerSessions()[0];
+    if (!session || session.deleted) return null;
+    this.#seen = session.at ?? 0;
+    return session;
+  }
+
+  // The last state of a puzzle, which a draft may have and the store not yet; or null.
+  async latest(puzzle) {
+    const [draft, stored] = [draftOf(puzzle), await storedPuzzle(puzzle).catch(() => null)];
+    if (draft && stored) return draft.at >= stored.at ? draft : stored;
+    return draft ?? stored ?? null;
+  }
+
+  // Takes over what older pages kept, and drafts of pages that ended before they stored them.
+  async #adopt() {
+    const former = formerSessions().map((session) => ({ at: session.left ?? Date.now(), ...session, puzzle: session.puzzle ?? newPuzzleName() }));
+    if (former.length) {
+      await storePuzzles(former.filter(({ record }) => !isUntouched(record)));
+      if (!puzzleOfTab()) keepDraft(former[0]);
+      dropFormer();
+    }
+    const [here, held] = [puzzleOfTab(), await Claim.held()];
+    for (const puzzle of drafted()) {
+      if (puzzle === here || held.has(puzzle)) continue;
+      const draft = await this.latest(puzzle);
+      if (!isUntouched(draft.record)) await storePuzzles([draft]);
+      dropDraft(puzzle);
+    }
+  }
+
+  // Begins to keep the puzzle that is here.
+  begin() {
+    return this.#claim.begin(this.#editor.puzzle);
+  }
+
+  // The puzzles of the store, the latest first. The one that is here may be newer in this page.
+  async puzzles() {
+    const [stored, held] = [await storedPuzzles(), await Claim.held()];
+    const here = this.#editor.puzzle;
+    return stored.map((entry) => ({ ...entry, isHere: entry.puzzle === here, isElsewhere: entry.puzzle !== here && held.has(entry.puzzle) })).sort((a, b) => b.at - a.at);
+  }
+
+  // How many other puzzles there are.
+  async others() {
+    const puzzles = await this.puzzles().catch(() => []);
+    return puzzles.filter(({ isHere, deleted }) => !isHere && !deleted).length;
+  }
+
+  #step(before) {
+    if (this.#isElsewhere) this.#copy();
+    const { puzzle, record } = this.#editor;
+    if (before?.puzzle === puzzle) {
+      const isLoss = lettersIn(before.record) - lettersIn(record) >= LETTERS_LOST;
+      if (isLoss || ++this.#steps >= STEPS_BETWEEN) this.#addVersion(before);
+    }
+    if (!this.#isDue) whenIdle(() => this.#keep());
+    this.#isDue = true;
+  }
+
+  // No two versions have the same time.
+  #addVersion(session) {
+    this.#steps = 0;
+    const last = this.#versions.at(-1)?.at ?? 0;
+    this.#versions.push({ ...session, at: Math.max(Date.now(), last + 1) });
+  }
+
+  // Keeps what is here as a version, since something else comes in its place.
+  addVersion() {
+    this.#addVersion(this.#editor.state);
   }
 
   // Keeps what is here when the page goes, with the edits that are under way.
   #keepAll() {
-    if (this.#editor.isBusy) this.#isKept = false;
+    if (this.#editor.isBusy) this.#isDue = true;
     this.#keep();
-  }
-
-  #soon() {
-    if (this.#isKept) whenIdle(() => this.#keep());
-    this.#isKept = false;
   }
 
   #keep() {
-    if (this.#isKept || !this.#claim.isHeld) return;
-    this.#isKept = true;
-    const { state } = this.#editor;
-    this.#aside = withoutPuzzles(this.#aside, [state]);
-    this.#storeAside();
-    if (keepSession(state)) endWarning('room');
-    else this.#warnOfRoom();
-    // the puzzle that is here is no earlier one
-    if (this.earlier.some((session) => isSamePuzzle(session, state))) this.#keepEarlier(withoutPuzzles(this.earlier, [state]));
+    if (!this.#isDue || !this.#claim.isHeld) return;
+    this.#isDue = false;
+    const session = this.#session();
+    this.#draftFault = keepDraft(session);
+    keepPuzzleOfTab(session.puzzle);
+    if (!this.#draftFault) this.#tell(null);
+    this.#store();
   }
 
-  #warnOfRoom() {
-    const advice = this.earlier.length ? ' To make room, throw earlier puzzles away.' : '';
-    warn('room', `The browser keeps nothing of this puzzle.${advice}`, { label: 'Save the session', title: 'as a file', action: this.saveSession });
+  #session() {
+    this.#seen = Math.max(Date.now(), this.#seen + 1);
+    return { ...this.#editor.state, at: this.#seen };
   }
 
-  #takeEarlier(sessions) {
-    this.earlier = sessions;
-    this.dispatchEvent(new Event('change'));
+  // Stores what is due, one transaction after another.
+  async #store() {
+    this.#isStoreDue = true;
+    if (this.#isStoring) return;
+    this.#isStoring = true;
+    while (this.#isStoreDue) {
+      this.#isStoreDue = false;
+      await this.#storeDue().then(() => this.#stored(), (fault) => this.#notStored(fault));
+    }
+    this.#isStoring = false;
+    this.dispatchEvent(new Event('stored'));
   }
 
-  #keepEarlier(sessions) {
-    if (!keepEarlier(sessions)) return false;
-    this.#takeEarlier(sessions);
-    return true;
+  async #storeDue() {
+    const [aside, versions] = [[...this.#aside], [...this.#versions]];
+    const session = { ...this.#editor.state, at: this.#seen };
+    const here = this.#claim.isHeld && this.#isBegun(session) ? [session] : [];
+    await storePuzzles([...aside, ...here], versions);
+    this.#aside = this.#aside.filter((one) => !aside.includes(one));
+    this.#versions = this.#versions.filter((one) => !versions.includes(one));
+    // a puzzle that undo brought back is drafted again
+    for (const { puzzle } of aside) if (puzzle !== this.#editor.puzzle) dropDraft(puzzle);
   }
 
-  // Keeps a session that another puzzle replaces.
-  putAside(session) {
-    if (isUntouched(session.record)) return;
-    this.#aside = [{ ...session, left: Date.now() }, ...withoutPuzzles(this.#aside, [session])];
-    if (this.#claim.isHeld) this.#storeAside();
+  // Whether something was done to a puzzle. Once it was, its record is not looked at again.
+  #isBegun({ puzzle, record }) {
+    if (!this.#begun.has(puzzle) && !isUntouched(record)) this.#begun.add(puzzle);
+    return this.#begun.has(puzzle);
   }
 
-  #storeAside() {
-    if (!this.#aside.length) return endWarning('earlier');
-    if (this.#keepEarlier([...this.#aside, ...withoutPuzzles(this.earlier, this.#aside)])) {
-      this.#aside = [];
-      endWarning('earlier');
-    } else {
-      warn('earlier', 'The browser has no room for the puzzle that was here before: only Undo leads back to it, until this page is closed.');
+  #stored() {
+    endWarning('room');
+    if (this.#claim.isHeld) this.#tell(null);
+  }
+
+  // Without the store a draft still keeps what is here, but nothing that was here before.
+  #notStored(fault) {
+    const why = whyNotKept(fault);
+    const saving = { label: 'Save to a file', title: 'Save the session (.xw)', action: this.saveSession };
+    const lost = this.#aside.length ? ' The puzzle that was here before is kept by Undo alone.' : '';
+    if (this.#draftFault) {
+      this.#tell(why);
+      warn('room', `Not kept: ${why}. Save the puzzle to a file.${lost}`, saving);
+    } else if (this.#aside.length || this.#versions.length) {
+      warn('room', `Versions are not kept: ${why}.${lost}`, saving);
     }
   }
 
-  // This tab keeps its puzzle from now on.
-  #held() {
-    const kept = this.#isTaking ? keptSession() : null;
-    // another tab was in between
-    if (!this.#isTaking && !isSessionAsSeen()) return this.#claim.yield();
-    this.#isTaking = false;
-    this.#takeEarlier(earlierSessions());
-    if (kept && kept.record !== this.#editor.record) this.putAside(kept);
+  // Tells whether the puzzle that is here is kept: `detail` is why it is not, or null.
+  #tell(why) {
+    this.dispatchEvent(new CustomEvent('kept', { detail: why }));
+  }
+
+  // Keeps a session that another puzzle replaces, and asks for the claim to that one.
+  #leave(session) {
+    if (this.#claim.isHeld) this.putAside(session);
+    this.#isElsewhere = false;
     endWarning('other');
-    this.#storeAside();
-    this.#keep();
+    this.#seen = 0;
+    this.#steps = 0;
+    this.begin();
+  }
+
+  putAside(session) {
+    if (isUntouched(session.record)) return dropDraft(session.puzzle);
+    this.#aside = [{ ...session, at: Date.now() }, ...this.#aside.filter(({ puzzle }) => puzzle !== session.puzzle)];
+    this.#store();
+  }
+
+  // This tab keeps its puzzle from now on, as another tab may have left it.
+  #held() {
+    this.#isElsewhere = false;
+    endWarning('other');
+    const draft = draftOf(this.#editor.puzzle);
+    if (draft && draft.at > this.#seen && draft.record !== this.#editor.record) {
+      if (this.#isDue) return this.#copy();
+      this.#seen = draft.at;
+      this.#editor.replace(draft);
+    } else {
+      this.#isDue = true;
+      this.#keep();
+    }
     this.dispatchEvent(new Event('held'));
   }
 
   #other() {
-    this.#editor.rename();
-    warn('other', 'The editor is open in another tab: nothing that you do here is kept.', {
-      label: 'Keep this one instead', title: 'The puzzle of the other tab goes to File ▸ Earlier puzzles', action: () => this.#take(),
+    this.#isElsewhere = true;
+    if (this.#isDue) return this.#copy();
+    this.#tell('the puzzle is open in another tab');
+    warn('other', 'This puzzle is open in another tab. If you change it here, this becomes a copy.', {
+      label: 'Take it over', title: 'Go on with the puzzle in this tab', action: () => this.#claim.take(),
     });
   }
 
-  // Keeps the puzzle of this tab in place of the one of another tab.
-  #take() {
+  // What is changed while another tab has the puzzle is a puzzle of its own.
+  #copy() {
+    this.#isElsewhere = false;
+    endWarning('other');
     this.#editor.rename();
-    this.#isTaking = true;
-    this.#isKept = false;
-    return this.#claim.take();
+    this.#isDue = true;
+    warn('copy', 'The puzzle is open in another tab. What you changed here is kept as a copy.', { label: 'OK', title: 'Close this line', action: () => endWarning('copy') });
+    this.begin();
   }
 
-  // Throws earlier puzzles away.
-  throwAway(names) {
-    if (names.length && this.#claim.isHeld) this.#keepEarlier(this.earlier.filter(({ puzzle }) => !names.includes(puzzle)));
+  // Deletes a puzzle, which can be restored until it is destroyed.
+  setDeleted({ isHere, isElsewhere, ...entry }, isDeleted) {
+    return storePuzzles([{ ...entry, deleted: isDeleted ? Date.now() : null }]);
+  }
+
+  destroy(names) {
+    return destroyPuzzles(names);
   }
 }

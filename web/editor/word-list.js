@@ -1,4 +1,5 @@
 // Word lists: which lines are words, and why others are left out. The worker has this module too.
+import { randoms, shuffled } from './random.js';
 
 // The text of a list, or of its beginning, in UTF-8, in UTF-16 with its byte order mark, or in Windows-1252.
 export function listText(bytes) {
@@ -44,7 +45,6 @@ export function isWordList(text) {
 
 // Why a line is left out.
 const WHY = {
-  accents: () => 'with accents',
   letters: () => 'with letters other than A to Z',
   signs: () => 'with signs that are not ASCII',
   unscored: () => 'without a score',
@@ -54,44 +54,96 @@ const WHY = {
   repeated: (count) => (count === 1 ? 'that repeats a word' : 'that repeat words'),
 };
 
-// What of a spelling is not ASCII: letters, accents, or signs only.
-function beyondAscii(spelling) {
-  const letters = spelling.normalize('NFD').replace(/[^\p{L}\p{M}]/gu, '');
-  if (/[^\x00-\x7f]/.test(letters.replace(/\p{M}/gu, ''))) return 'letters';
-  return /\p{M}/u.test(letters) ? 'accents' : 'signs';
-}
+// A spelling without accents: É is E.
+const unaccented = (spelling) => (/[^\x00-\x7f]/.test(spelling) ? spelling.normalize('NFD').replace(/\p{M}/gu, '') : spelling);
 
-// What keeps a spelling from being a word of the list, or null.
+// What keeps a spelling without accents from being a word of the list, or null.
 function reasonToLeave(spelling, letters, score, isScored, least) {
-  if (/[^\x00-\x7f]/.test(spelling)) return beyondAscii(spelling);
+  if (/[^\x00-\x7f]/.test(spelling)) return /\p{L}/u.test(spelling.replace(/[\x00-\x7f]/g, '')) ? 'letters' : 'signs';
   if (isScored && score === null) return 'unscored';
   if (isScored && score < least) return 'low';
   if (letters.length < 2) return 'short';
   return letters.length > 255 ? 'long' : null;
 }
 
+// Whether lines are in the order of the alphabet, but for some.
+function isAlphabetical(lines) {
+  const ordered = lines.filter(({ spelling }, at) => at > 0 && lines[at - 1].spelling <= spelling).length;
+  return 10 * ordered > 9 * (lines.length - 1);
+}
+
+// Lines with the best scores first. Equal ones come in an order that says nothing, and not in that of the alphabet. A list without scores that is
+// in another order keeps it.
+function inOrder(lines, scored) {
+  const mixed = scored || isAlphabetical(lines) ? shuffled(lines, randoms(lines.length)) : lines;
+  return scored ? mixed.sort((a, b) => b.score - a.score) : mixed;
+}
+
 // Reads a list: its words in capitals, each once, the best scores first if most lines have one; the scores of these words; the best score of
-// the list; and how many lines are left out, by reason. Words with a score below `least` are left out.
+// the list; how many lines are left out, by reason; and how many words were spelled with accents. Words with a score below `least` are left out.
 export function readList(bytes, least = 0) {
-  const lines = listLines(listText(bytes));
-  const scored = isMost(lines.filter(({ score }) => score !== null).length, lines);
-  if (scored) lines.sort((a, b) => b.score - a.score);
+  const read = listLines(listText(bytes));
+  const scored = isMost(read.filter(({ score }) => score !== null).length, read);
+  const lines = inOrder(read, scored);
   const words = new Map();
   const leftOut = {};
+  let folded = 0;
   for (const { whole, spelling, score } of lines) {
-    const spelled = scored ? spelling : whole;
+    const written = scored ? spelling : whole;
+    const spelled = unaccented(written);
     const letters = spelled.replace(/[^A-Za-z]/g, '').toUpperCase();
     const reason = reasonToLeave(spelled, letters, score, scored, least) ?? (words.has(letters) ? 'repeated' : null);
     if (reason) leftOut[reason] = (leftOut[reason] ?? 0) + 1;
     else words.set(letters, score);
+    if (!reason && spelled !== written) folded++;
   }
   const best = scored ? lines.reduce((most, { score }) => Math.max(most, score ?? 0), 0) : 0;
-  return { words: [...words.keys()], scores: scored ? words : new Map(), scored, best, leftOut };
+  return { words: [...words.keys()], scores: scored ? words : new Map(), scored, best, leftOut, folded };
+}
+
+// Reads the personal list. A line is a word, with a score after a semicolon and a note after `#`, or after a minus sign a word that is hidden.
+// Returns the words with their scores, the hidden words, and what is no word.
+export function readPersonal(text) {
+  const [words, hidden, faults] = [new Map(), new Set(), []];
+  for (const line of text.split(/\r\n?|\n/)) {
+    const [, minus, spelling, score] = /^\s*(-?)([^;#]*)(?:;\s*(\d+))?/.exec(line);
+    const letters = unaccented(spelling).replace(/[^A-Za-z]/g, '').toUpperCase();
+    if (letters.length >= 2 && letters.length <= 255) {
+      if (minus) hidden.add(letters);
+      else words.set(letters, score === undefined ? null : Number(score));
+    } else if (spelling.trim()) faults.push(spelling.trim());
+  }
+  return { words, hidden, faults };
+}
+
+// Reads lists as one. A word has its best score; the personal list decides over the others.
+export function joinLists(sources, personal, least) {
+  const parts = sources.map((bytes) => readList(bytes, least));
+  const own = readPersonal(personal);
+  if (parts.length === 1 && !personal.trim()) return parts[0];
+  const scores = new Map();
+  for (const part of parts) for (const word of part.words) scores.set(word, Math.max(scores.get(word) ?? 0, part.scores.get(word) ?? 0));
+  const best = parts.reduce((most, part) => Math.max(most, part.best), 0);
+  // a word without a score of its own is as good as the best
+  for (const [word, score] of own.words) if ((score ?? best) >= least) scores.set(word, score ?? Math.max(best, scores.get(word) ?? 0));
+  for (const word of own.hidden) scores.delete(word);
+  const scored = parts.some((part) => part.scored);
+  const words = scored ? [...scores].sort(([, a], [, b]) => b - a).map(([word]) => word) : [...scores.keys()];
+  return { words, scores: scored ? scores : new Map(), scored, best, leftOut: sumOf(parts.map((part) => part.leftOut)), folded: parts.reduce((sum, part) => sum + part.folded, 0) };
+}
+
+function sumOf(counts) {
+  const sum = {};
+  for (const one of counts) for (const [reason, count] of Object.entries(one)) sum[reason] = (sum[reason] ?? 0) + count;
+  return sum;
 }
 
 export const wordCount = (count) => `${count.toLocaleString('en')} ${count === 1 ? 'word' : 'words'}`;
 
-// How many lines of a list are left out and why, as in “12 lines left out: 9 with accents, 3 with scores below 0”; or ''.
+// How many words of a list had accents; or ''.
+export const foldedText = (folded) => (folded ? `${folded.toLocaleString('en')} without ${folded === 1 ? 'its accent' : 'their accents'}` : '');
+
+// How many lines of a list are left out and why, as in “12 lines left out: 9 that repeat words, 3 with scores below 0”; or ''.
 export function leftOutText(leftOut, least) {
   const reasons = Object.keys(WHY).filter((reason) => leftOut[reason]);
   const count = reasons.reduce((sum, reason) => sum + leftOut[reason], 0);

@@ -1,4 +1,5 @@
 // The tab of words: the candidates of the light under the cursor, and the letters of its cell.
+import { filtered } from './filter.js';
 import { whenIdle } from './idle.js';
 import { refuse, refusalText } from './messages.js';
 
@@ -23,8 +24,9 @@ export class WordsView {
   #lateTimer = null;
   #restTimer = null;
   #isHeadDue = false;
-  // rises with each change, so that late answers are dropped
+  // rises with each change, so that late answers are dropped; the last one whose words are listed
   #turn = 0;
+  #answered = 0;
   // the name of the light whose candidates are shown
   #listed = '';
   // the cell whose letters are shown, by index
@@ -39,8 +41,11 @@ export class WordsView {
   #words = [];
   #scores = new Map();
   #left = new Map();
+  // for a word of an entered light that needs other words changed, the names of their lights
+  #needs = new Map();
   #at = -1;
   #isDead = false;
+  #isStanding = false;
 
   constructor(editor, elements, actions) {
     this.#editor = editor;
@@ -55,6 +60,10 @@ export class WordsView {
       const letter = event.target.closest('button')?.dataset.letter;
       if (letter && this.#lettered === editor.cursor) actions.enter(letter);
     });
+  }
+
+  clearFilter() {
+    this.#elements.filter.value = '';
   }
 
   #soon() {
@@ -85,8 +94,8 @@ export class WordsView {
   #showBusy() {
     const { list, letters } = this.#elements;
     const isOther = this.#editor.cursor !== this.#lettered;
-    list.setAttribute('aria-busy', !this.#isCurrent);
-    letters.setAttribute('aria-busy', isOther);
+    list.setAttribute('aria-busy', String(!this.#isCurrent || this.#answered !== this.#turn));
+    letters.setAttribute('aria-busy', String(isOther));
     clearTimeout(this.#lateTimer);
     if (isOther || !this.#isCurrent) this.#lateTimer = setTimeout(() => this.#dim(), LATE);
     else this.#dim();
@@ -117,8 +126,13 @@ export class WordsView {
     try {
       if (!light) {
         this.#left = new Map();
-        this.#take([], null);
+        this.#take(turn, [], null);
         await this.#askLetters(turn);
+        return;
+      }
+      this.#isStanding = editor.board.isEntered(light);
+      if (this.#isStanding) {
+        await this.#askAlternatives(turn, light);
         return;
       }
       const { words, scores } = await editor.engine.call('words', { light: light.name });
@@ -129,12 +143,23 @@ export class WordsView {
       this.#left = new Map();
       this.#isDead = isDead;
       this.#isCounting = !isDead && told.length > 0;
-      this.#take(told, scores);
+      this.#take(turn, told, scores);
       await this.#askLetters(turn);
       if (!isDead) await this.#count(turn, light);
     } catch (fault) {
       if (!fault.status) throw fault;
     }
+  }
+
+  // For an entered light: the words that fit what crosses it, and those that would if the letters in pencil were changed.
+  async #askAlternatives(turn, light) {
+    const { fit, others, scores } = await this.#editor.engine.call('alternatives', { light: light.name, pencil: [...this.#editor.pencil] });
+    if (turn !== this.#turn) return;
+    this.#left = new Map();
+    this.#isDead = this.#isCounting = false;
+    this.#needs = new Map(others.map(({ word, needs }) => [word, needs]));
+    this.#take(turn, [...fit, ...this.#needs.keys()], scores);
+    await this.#askLetters(turn);
   }
 
   // In a dead end: the words that agree with the letters of the light alone.
@@ -143,7 +168,9 @@ export class WordsView {
     return matches ?? [];
   }
 
-  #take(words, scores) {
+  #take(turn, words, scores) {
+    this.#answered = turn;
+    if (!this.#isStanding) this.#needs = new Map();
     this.#listed = this.#editor.light?.name ?? '';
     this.#words = words;
     this.#scores = new Map(scores ? words.map((word, at) => [word, scores[at]]) : []);
@@ -152,22 +179,10 @@ export class WordsView {
     this.#list();
   }
 
-  // The words that pass the filter: a part of the word, or a pattern with ? or . for one letter and * for any.
-  #filtered() {
-    const typed = this.#elements.filter.value.trim().toUpperCase();
-    if (!typed) return this.#words;
-    if (!/[?.*]/.test(typed)) {
-      const starts = this.#words.filter((word) => word.startsWith(typed));
-      return [...starts, ...this.#words.filter((word) => !word.startsWith(typed) && word.includes(typed))];
-    }
-    const pattern = typed.replace(/[^A-Z?.*]/g, '').replace(/[?.]/g, '[A-Z]').replace(/\*/g, '.*');
-    const test = new RegExp(`^${pattern}`);
-    return this.#words.filter((word) => test.test(word));
-  }
-
   #ordered() {
-    const words = this.#filtered();
-    if (this.#elements.order.value !== 'left') return words;
+    const words = filtered(this.#words, this.#elements.filter.value);
+    if (this.#elements.order.value === 'abc') return [...words].sort();
+    if (this.#elements.order.value !== 'left' || this.#isStanding) return words;
     const rank = (word) => {
       const left = this.#left.get(word);
       return left === 'done' ? Infinity : left ?? -1;
@@ -188,7 +203,7 @@ export class WordsView {
     setText(legend, this.#legend());
     this.#summary(words.length);
     this.#point();
-    if (filter.value && !this.#isDead) this.#countSoon();
+    if (filter.value && !this.#isDead && !this.#isStanding) this.#countSoon();
   }
 
   // Fills the rows of the first words.
@@ -200,6 +215,8 @@ export class WordsView {
 
   #legend() {
     if (!this.#words.length) return '';
+    if (!this.shown.length) return 'no word passes the filter; Esc in it clears it';
+    if (this.#isStanding) return this.#needs.size ? 'beside some words: the crossing words in pencil that they would change' : 'these fit the crossing words as they stand';
     if (this.#isCounting) return 'counting what each word leaves …';
     return this.#isDead ? 'these agree with the letters of this light alone' : 'the number: words left to the tightest light after it';
   }
@@ -208,6 +225,7 @@ export class WordsView {
     const all = this.#words.length;
     let text = all === 1 ? '1 word' : `${all.toLocaleString('en')} words`;
     if (!this.#editor.light) text = '';
+    else if (this.#isStanding && !this.#elements.filter.value) text = alternativesText(all - this.#needs.size, this.#needs.size);
     else if (this.#isDead) text = 'no word is left';
     else if (this.#elements.filter.value) text = `${count} of ${all} words`;
     setText(this.#elements.summary, text);
@@ -224,8 +242,10 @@ export class WordsView {
   // What a word leaves, or a mark where it is not counted yet.
   #fillLeft(row, word) {
     const left = this.#left.get(word);
-    setClass(row, left === 0 ? 'dead' : '');
-    const shown = { done: 'all done', 0: 'dead end', undefined: this.#isDead ? '' : '·' };
+    const needs = this.#needs.get(word);
+    setClass(row, left === 0 ? 'dead' : needs ? 'needs' : '');
+    const uncounted = this.#isDead || this.#isStanding ? '' : '·';
+    const shown = { done: 'fills the grid', 0: 'dead end', undefined: needs ? needsText(needs) : uncounted };
     setText(row.parts.left, shown[left] ?? left);
   }
 
@@ -290,7 +310,7 @@ export class WordsView {
   }
 
   scrolled() {
-    if (!this.#isDead) this.#countSoon();
+    if (!this.#isDead && !this.#isStanding) this.#countSoon();
   }
 
   // The feasible letters of the cell, with what they leave across and down.
@@ -309,6 +329,7 @@ export class WordsView {
     const [lines] = await this.#editor.ask(`tally ${cell.coordinates}`);
     if (turn !== this.#turn) return;
     this.#lettered = cursor;
+    letters.parentElement.classList.toggle('entered', Boolean(cell.letter));
     setText(coordinates, `Row ${board.rowOf(cursor)}, column ${board.columnOf(cursor)}`);
     this.#showBusy();
     letters.classList.toggle('none', !lines?.length);
@@ -366,12 +387,20 @@ export class WordsView {
   }
 
   async #place(word) {
-    const refused = await this.actions.place(word);
+    const refused = await this.actions.place(word, this.#needs.get(word) ?? null);
     if (refused) return refuse(refusalText(refused));
     this.#elements.filter.value = '';
     this.actions.toGrid();
   }
 }
+
+function alternativesText(fit, others) {
+  const text = `${fit.toLocaleString('en')} ${fit === 1 ? 'other word fits' : 'other words fit'}`;
+  return others ? `${fit.toLocaleString('en')} fit, ${others} with changes` : text;
+}
+
+// The lights that would change, as in “5D 7D”; or that letters farther off would.
+const needsText = (names) => names.map((name) => name.replace(/ (.).*/, (_, letter) => letter.toUpperCase())).join(' ') || 'farther off';
 
 export const titleOf = (light) => `${light.number} ${light.direction === 'across' ? 'Across' : 'Down'}`;
 
@@ -398,12 +427,13 @@ function setClass(element, name) {
 const makeBox = () => document.createElement('span');
 
 function makeRow(at) {
+  /** @type {HTMLLIElement & { parts?: Record<string, HTMLElement> }} */
   const row = document.createElement('li');
   row.setAttribute('role', 'option');
   row.id = `word-${at}`;
   row.parts = {
     name: document.createElement('span'), score: small('score', 'score'), left: small('left', 'the least number of words that a light has then'),
-    strike: small('strike', 'strike this word: it fits nothing until it is added again (Shift Delete)'),
+    strike: small('strike', 'hide this word in this puzzle (Shift Delete)'),
   };
   setText(row.parts.strike, '×');
   row.append(...Object.values(row.parts));

@@ -10,6 +10,11 @@ const CODES = {
   '-': 189, ';': 186,
 };
 
+// After so many milliseconds a page counts as hanging. No wait is for time to pass, so this is far above what a slow machine needs.
+const HANGS = 600000;
+// How often what changes outside of the document, as in a store, is looked at.
+const LOOKS_EACH = 100;
+
 export class Browser {
   #process;
   #host;
@@ -113,18 +118,21 @@ export class Browser {
   // The value of an expression in the page; a promise is awaited.
   async value(expression) {
     const { result, exceptionDetails } = await this.send('Runtime.evaluate', { expression, awaitPromise: true, returnByValue: true });
-    if (exceptionDetails) throw new Error(`${expression}: ${exceptionDetails.exception?.description}`);
+    if (exceptionDetails) throw new Error(`${expression.split('\n')[0]}: ${exceptionDetails.exception?.description?.split('\n')[0] ?? exceptionDetails.text}`);
     return result.value;
   }
 
-  // Waits until an expression is true.
-  async until(expression, most = 60000) {
-    const end = Date.now() + most;
+  // Waits until an expression is true, or a promise of something true. It is tried at each change of the document, so that what is shown for a
+  // moment only is seen too. Returns the value.
+  async until(expression) {
+    const end = Date.now() + HANGS;
     for (;;) {
-      const value = await this.value(expression);
-      if (value) return value;
-      if (Date.now() > end) throw new Error(`never: ${expression}; the status line: ${await this.value("document.getElementById('status').textContent")}`);
-      await new Promise((resolve) => setTimeout(resolve, 25));
+      try {
+        return await this.value(waitFor(expression, end - Date.now()));
+      } catch (error) {
+        // the page was left meanwhile
+        if (!/navigated|context was destroyed|Cannot find context/.test(error.message)) throw error;
+      }
     }
   }
 
@@ -147,16 +155,24 @@ export class Browser {
     for (const character of text) await this.press(character);
   }
 
-  async #middle(selector) {
-    const point = await this.value(`(() => {
-      const element = document.querySelector(${JSON.stringify(selector)});
-      if (!element) return null;
-      element.scrollIntoView({ block: 'nearest' });
-      const { x, y, width, height } = element.getBoundingClientRect();
-      return width ? { x: x + width / 2, y: y + height / 2 } : null;
+  // The middle of an element, when it is there and stays where it is for two frames.
+  #middle(selector) {
+    return this.until(`(async () => {
+      const middle = () => {
+        const element = document.querySelector(${JSON.stringify(selector)});
+        if (!element) return null;
+        element.scrollIntoView({ block: 'nearest' });
+        const { x, y, width, height } = element.getBoundingClientRect();
+        return width ? { x: x + width / 2, y: y + height / 2 } : null;
+      };
+      const [one] = [middle(), await new Promise((resolve) => {
+        requestAnimationFrame(() => requestAnimationFrame(resolve));
+        // a page behind others has no frames
+        setTimeout(resolve, ${LOOKS_EACH});
+      })];
+      const other = middle();
+      return one && other && one.x === other.x && one.y === other.y ? other : null;
     })()`);
-    if (!point) throw new Error(`nothing to click: ${selector}`);
-    return point;
   }
 
   #mouse(type, point, modifiers = 0, buttons = 1) {
@@ -205,6 +221,22 @@ export class Browser {
     await this.send('DOM.setFileInputFiles', { nodeId, files: paths });
   }
 
+  // Has files saved into a folder.
+  saveInto(folder) {
+    return this.send('Browser.setDownloadBehavior', { behavior: 'allow', downloadPath: folder, eventsEnabled: true });
+  }
+
+  // Promises the name of the next file that the page saves, when it is there.
+  download() {
+    return new Promise((resolve) => {
+      let name;
+      this.on('Browser.downloadWillBegin', ({ suggestedFilename }) => {
+        name = suggestedFilename;
+      });
+      this.on('Browser.downloadProgress', ({ state }) => state === 'completed' && resolve(name));
+    });
+  }
+
   // A window of this size, or with `isTouched` a screen that is touched.
   async view(width, height, { scheme = 'light', isTouched = false } = {}) {
     await this.send('Emulation.setDeviceMetricsOverride', { width, height, deviceScaleFactor: isTouched ? 2 : 1, mobile: isTouched });
@@ -230,3 +262,24 @@ export class Browser {
     rmSync(this.#folder, { recursive: true, force: true });
   }
 }
+
+// The expression of a promise that is kept once another expression is true.
+const waitFor = (expression, most) => `new Promise((resolve, reject) => {
+  let fault = '';
+  const wanted = async () => (${expression});
+  const end = (action, value) => {
+    observer.disconnect();
+    clearInterval(looks);
+    clearTimeout(limit);
+    action(value);
+  };
+  const look = () => wanted().then((value) => value && end(resolve, value), (error) => {
+    fault = error.message;
+  });
+  const observer = new MutationObserver(look);
+  observer.observe(document, { subtree: true, childList: true, characterData: true, attributes: true });
+  const looks = setInterval(look, ${LOOKS_EACH});
+  const said = () => document.getElementById('status')?.textContent;
+  const limit = setTimeout(() => end(reject, new Error(${JSON.stringify(`never: ${expression}`)} + '; ' + fault + '; the status line: ' + said())), ${most});
+  look();
+})`;

@@ -2,7 +2,7 @@
 //
 //   node web/test/record.mjs [ROUNDS]
 import { readFileSync } from 'node:fs';
-import { Xw, load } from '../dist/xw.js';
+import { Xw, load, toBytes, toText } from '../dist/xw.js';
 
 // record.js is a module of the page, which Node takes for one only by this way
 const source = readFileSync(new URL('../editor/record.js', import.meta.url));
@@ -10,8 +10,6 @@ const { bodyOf, escapeText, parseRecord, textLines, transition, unescapeText } =
 
 const LIST = 'cat\ncot\ncut\near\noar\ntea\ntoe\nare\ntar\nate\ntone\nrote\n';
 const module = await load(readFileSync(new URL('../dist/xw.wasm', import.meta.url)));
-const latin = new TextDecoder('windows-1252');
-const codes = new Map(Array.from({ length: 256 }, (_, code) => [latin.decode(new Uint8Array([code])), code]));
 
 let seed = 20240601;
 function below(most) {
@@ -20,8 +18,8 @@ function below(most) {
 }
 const one = (things) => things[below(things.length)];
 
-const send = (xw, line) => xw.answer(Uint8Array.from(line, (character) => codes.get(character)));
-const recordOf = (xw) => latin.decode(xw.record());
+const send = (xw, line) => xw.answer(toBytes(line));
+const recordOf = (xw) => toText(xw.record());
 
 const TEXTS = ['', 'plain', ' edges ', '\\ and \\n', 'two\nlines', 'tab\there', 'caf\u00e9 \u2019', `${'long \\ '.repeat(700)} `, '\\'.repeat(4001), ' '.repeat(2500)];
 
@@ -43,11 +41,12 @@ function someEdit(width, height) {
   ])();
 }
 
-const activeWords = (xw) => [2, 3, 4, 5].map((length) => latin.decode(send(xw, `match ${'.'.repeat(length)}`).answer)).join();
+const activeWords = (xw) => [2, 3, 4, 5].map((length) => toText(send(xw, `match ${'.'.repeat(length)}`).answer)).join();
 
 function check(isSo, what) {
   if (isSo) return;
   console.log(`FAIL ${what}`);
+  console.log('0 passed, 1 failed');
   process.exit(1);
 }
 
@@ -58,14 +57,15 @@ let whole = 0;
 for (let round = 0; round < rounds; round++) {
   const size = [1 + below(6), 1 + below(6)];
   const [before, after] = [someSession(...size), someSession(...(below(3) ? size : [1 + below(6), 1 + below(6)]))];
-  const xw = Xw.open(module, { list: LIST, record: Uint8Array.from(before, (character) => codes.get(character)) });
+  const xw = Xw.open(module, { list: LIST, record: before });
   const lines = transition(before, after);
   if (lines.some((line) => line.startsWith('size'))) whole++;
   for (const line of lines) check(line.length <= 4096, 'a line is too long');
   for (const line of lines) send(xw, line);
   check(bodyOf(recordOf(xw)).join('\n') === bodyOf(after).join('\n'), `round ${round} leads elsewhere:\n${lines.join('\n')}`);
-  const there = Xw.open(module, { list: LIST, record: Uint8Array.from(after, (character) => codes.get(character)) });
+  const there = Xw.open(module, { list: LIST, record: after });
   check([...activeWords(xw)].sort().join('') === [...activeWords(there)].sort().join(''), `round ${round} has other words`);
   check(parseRecord(recordOf(xw)).letters.size === parseRecord(after).letters.size, `round ${round} has other letters`);
 }
 console.log(`ok   ${rounds} pairs of sessions, ${whole} by the whole record`);
+console.log('1 passed, 0 failed');

@@ -22,8 +22,7 @@ none_of_four f at none k low high =
       ]
     ]
 
--- if the joined words of a span of four have no bit set, none of the four has one; extended to
--- consecutive spans
+-- `span` consecutive words from `at` on are 0
 abbrev pub IsClearFrom : (ℕ → ℕ) → ℕ → ℕ → Type 0
 IsClearFrom f at span = (k : ℕ) → at ≤ k → k < at + span → f k ≡ 0
 
@@ -37,11 +36,3 @@ pub none_of_two_spans : (f : ℕ → ℕ) (at a b : ℕ) → (a ≡ 0 → IsClea
 none_of_two_spans f at a b first second none =
     let both = none_of_two a b none in
     clear_both f at 4 4 (first both.0) (second both.1)
-
-pub none_of_four_spans : (f : ℕ → ℕ) (at a b c d : ℕ) → (a ≡ 0 → IsClearFrom f at 4) → (b ≡ 0 → IsClearFrom f (at + 4) 4) → (c ≡ 0 → IsClearFrom f (at + 8) 4) → (d ≡ 0 → IsClearFrom f (at + 12) 4)
-    → bit_or (bit_or a b) (bit_or c d) ≡ 0 → IsClearFrom f at 16
-none_of_four_spans f at a b c d first second third fourth none =
-    let halves = none_of_two (bit_or a b) (bit_or c d) none in
-    let lower = none_of_two_spans f at a b first second halves.0 in
-    let last = none_of_two c d halves.1 in
-    clear_both f at 12 4 (clear_both f at 8 4 lower (third last.0)) (fourth last.1)

@@ -202,7 +202,7 @@ pub words_have-none : (i : ℕ) → words_have [] i ≡ false
 unfolding words_have has_bit
 words_have-none i = ap (λ x. eqb x 1) (bit_at-zero (i % 64))
 
-zero_at_end : (ws : List ℕ) (k : ℕ) → get_or (ws ++ 0 ∷ []) k 0 ≡ get_or ws k 0
+pub zero_at_end : (ws : List ℕ) (k : ℕ) → get_or (ws ++ 0 ∷ []) k 0 ≡ get_or ws k 0
 zero_at_end [] zero = refl
 zero_at_end [] (suc k) = refl
 zero_at_end (w ∷ ws) zero = refl

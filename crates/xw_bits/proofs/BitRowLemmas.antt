@@ -1,13 +1,15 @@
 -- Consequences of the view and the invariant of a row.
-use Rattle.std.proofs.Common.{◌≡◌, Option, Some, None, IfSome, if◌then◌else◌, true, add-zero, ℕ, ◌+◌, ◌-◌, ◌*◌, ◌/◌, ◌<◌, ◌≤◌, Bool, false, List, length, get_or, vec_len, count_by, sym, ap, ◌∙◌, inl, inr, cond, eqb, ltb, min, set, ◌&&◌, refl, ◌%◌, [], ◌∷◌, ◌++◌, length-append, arith}
+use Rattle.std.proofs.Common.{◌≡◌, Option, Some, None, IfSome, if◌then◌else◌, true, add-zero, ℕ, ◌+◌, ◌-◌, ◌*◌, ◌/◌, ◌<◌, ◌≤◌, Bool, false, List, length, get_or, vec_len, count_by, sym, ap, ◌∙◌, inl, inr, cond, eqb, ltb, min, set, bit_and, ◌&&◌, refl, ◌%◌, [], ◌∷◌, ◌++◌, length-append, arith}
 use Rattle.std.proofs.lemmas.Bool.{cases_lt, cases_eq, cond-true, cond-false, eq-eqb, ne_eqb, lt-ltb, le-ltb}
-use Rattle.std.proofs.lemmas.List.{get_or_past, get_or_push, get_or_append_left}
+use Rattle.std.specs.Prelude.{Vec}
+use Rattle.std.specs.Vec.{with_items}
+use Rattle.std.proofs.lemmas.List.{with_items_is, get_or_past, get_or_push, get_or_append_left}
 use Rattle.std.proofs.lemmas.List.Sums.{sum_by-append}
 use lib.Lanes.{zip2}
 use Rattle.xw_bits.specs.Bits.{RowOfBits, words_have, bits_of, has_bit}
 use Rattle.xw_bits.specs.BitRow.{row_of, IsBitRow}
 use Rattle.xw_bits.specs.declared.bit_row.BitRow.TheInside.{Inside}
-use Rattle.xw_bits.proofs.BitLemmas.{length-bits_of, get_or-bits_of, bits_of_is, count-nothing_past, bits_of-combined, words_have-set_same, words_have-set_other}
+use Rattle.xw_bits.proofs.BitLemmas.{has_bit-none, has_bit-and, length-bits_of, get_or-bits_of, bits_of_is, count-nothing_past, bits_of-combined, words_have-set_same, words_have-set_other}
 
 pub view_len : (r : Inside) {v : RowOfBits} → row_of r ≡ v → r.len ≡ length v.bits
 view_len r is = sym (length-bits_of r.words.items r.len) ∙ ap (λ (x : RowOfBits). length x.bits) is
@@ -32,6 +34,11 @@ bit_is r {v} is inv i =
       | inl lt ↦ ap (λ bs. get_or bs i false) (sym (view_bits r is)) ∙ get_or-bits_of r.words.items r.len i false lt
       | inr le ↦ get_or_past v.bits i false (omega (arith, view_len r is)) ∙ sym (inv.nothing_past i le)
     ]
+
+-- no bit of a chunk that is not marked is set
+pub unmarked_bit : (r : Inside) {v : RowOfBits} → row_of r ≡ v → IsBitRow r → (i : ℕ) → words_have r.summary.items (i / 64) ≡ false → get_or v.bits i false ≡ false
+unfolding words_have
+unmarked_bit r is inv i none = bit_is r is inv i ∙ ap (λ w. has_bit w (i % 64)) (inv.summary.clear (i / 64) none) ∙ has_bit-none (i % 64)
 
 -- a row whose words are combined with those of another row
 pub view-combined : (g : Bool → Bool → Bool) (r s : Inside) {v w : RowOfBits} (ws : List ℕ) → row_of r ≡ v → row_of s ≡ w → r.len ≡ s.len
@@ -94,6 +101,10 @@ counted_pushed r {v} ws false is inv each = split r.counted inv.counted where
       known ∙ ap (count_by (λ b. b)) (view_bits r is) ∙ sym (add-zero (count_by (λ b. b) v.bits))
       ∙ sym (sum_by-append (λ b. cond b 1 0) v.bits (false ∷ [])) ∙ sym (ap (count_by (λ b. b)) each)
 
+-- the words of a vector after one was replaced in its slice
+pub is_written : {Z : Type 0} (words : Vec ℕ Z) {slice : List ℕ} (new : List ℕ) (chunk word : ℕ) → length new ≡ words.len → slice ≡ words.items → new ≡ set slice chunk word → (with_items words new).items ≡ set words.items chunk word
+is_written words new chunk word long value is = with_items_is words new long ∙ is ∙ ap (λ ws. set ws chunk word) value
+
 -- a row after one word was replaced by one without bits past the end
 module _ (r : Inside) {v : RowOfBits} (is : row_of r ≡ v) (inv : IsBitRow r) (chunk word low : ℕ) (within : 64 * chunk < length v.bits)
     (is_low : (k : ℕ) → k < 64 → has_bit low k ≡ (ltb k (min (r.len - 64 * chunk) 64) && has_bit word k)) where
@@ -128,3 +139,49 @@ module _ (r : Inside) {v : RowOfBits} (is : row_of r ≡ v) (inv : IsBitRow r) (
             get_or_past (bits_of (set r.words.items chunk low) r.len) i false (omega (arith, length-bits_of (set r.words.items chunk low) r.len))
             ∙ sym (get_or_past v.bits i false (omega (arith, view_len r is)))
       ]
+
+-- a word of the row intersected with another has no bits past the end
+module _ (r : Inside) {v : RowOfBits} (is : row_of r ≡ v) (inv : IsBitRow r) (chunk word : ℕ) (within : 64 * chunk < length v.bits) where
+  abbrev pub left : ℕ
+  left = bit_and (get_or r.words.items chunk 0) word
+
+  pub own_bit : (k : ℕ) → k < 64 → words_have r.words.items (64 * chunk + k) ≡ has_bit (get_or r.words.items chunk 0) k
+  unfolding words_have
+  own_bit k lt =
+      let there : (64 * chunk + k) / 64 ≡ chunk = omega arith in
+      let bit : (64 * chunk + k) % 64 ≡ k = omega arith in
+      ap (λ n. has_bit (get_or r.words.items n 0) ((64 * chunk + k) % 64)) there ∙ ap (has_bit (get_or r.words.items chunk 0)) bit
+
+  pub left_low : (k : ℕ) → k < 64 → has_bit left k ≡ (ltb k (min (r.len - 64 * chunk) 64) && has_bit left k)
+  left_low k lt = elim (cases_lt k (min (r.len - 64 * chunk) 64)) [
+    | inl below ↦ sym (ap (λ t. t && has_bit left k) (lt-ltb k (min (r.len - 64 * chunk) 64) below))
+    | inr past ↦
+        has_bit-and (get_or r.words.items chunk 0) word k
+        ∙ ap (λ t. t && has_bit word k) (sym (own_bit k lt) ∙ inv.nothing_past (64 * chunk + k) (omega (arith, past, lt)))
+        ∙ sym (ap (λ t. t && has_bit left k) (le-ltb k (min (r.len - 64 * chunk) 64) past))
+  ]
+
+  pub left_inside : (k : ℕ) → k < 64 → get_or (bits_of (set r.words.items chunk left) r.len) (64 * chunk + k) false ≡ (get_or v.bits (64 * chunk + k) false && has_bit word k)
+  left_inside k lt = elim (cases_lt (64 * chunk + k) (length v.bits)) [
+    | inl below ↦
+        replaced_inside r is inv chunk left left within left_low k lt below
+        ∙ has_bit-and (get_or r.words.items chunk 0) word k
+        ∙ ap (λ t. t && has_bit word k) (sym (own_bit k lt) ∙ sym (bit_is r is inv (64 * chunk + k)))
+    | inr past ↦
+        get_or_past (bits_of (set r.words.items chunk left) r.len) (64 * chunk + k) false (omega (arith, past, view_len r is, length-bits_of (set r.words.items chunk left) r.len))
+        ∙ sym (ap (λ t. t && has_bit word k) (get_or_past v.bits (64 * chunk + k) false past))
+  ]
+
+-- a word of the row with one bit set or cleared has no bits past the end
+pub put_low : (r : Inside) {v : RowOfBits} → row_of r ≡ v → IsBitRow r → (i : ℕ) (bit : Bool) (word : ℕ) → i < length v.bits
+    → ((k : ℕ) → k < 64 → has_bit word k ≡ cond (eqb k (i % 64)) bit (has_bit (get_or r.words.items (i / 64) 0) k))
+    → (k : ℕ) → k < 64 → has_bit word k ≡ (ltb k (min (r.len - 64 * (i / 64)) 64) && has_bit word k)
+put_low r is inv i bit word within each k lt = elim (cases_lt k (min (r.len - 64 * (i / 64)) 64)) [
+  | inl below ↦ sym (ap (λ t. t && has_bit word k) (lt-ltb k (min (r.len - 64 * (i / 64)) 64) below))
+  | inr past ↦
+      each k lt
+      ∙ cond-false (eqb k (i % 64)) bit (has_bit (get_or r.words.items (i / 64) 0) k) (ne_eqb k (i % 64) (λ e. omega (arith, e, past, within, view_len r is)))
+      ∙ sym (own_bit r is inv (i / 64) 0 (omega (arith, within)) k lt)
+      ∙ inv.nothing_past (64 * (i / 64) + k) (omega (arith, past, lt))
+      ∙ sym (ap (λ t. t && has_bit word k) (le-ltb k (min (r.len - 64 * (i / 64)) 64) past))
+]

@@ -7,3 +7,4 @@ pub mod BitRowLemmas
 pub mod ChunkLemmas
 pub mod Apart
 pub mod RowBlocks
+pub mod Summaries

@@ -4,6 +4,7 @@ use Rattle.std.specs.Prelude.{replicate}
 use Rattle.std.specs.Int.{bit_not}
 use Rattle.std.specs.Simd.Lanes.{Each1}
 use Rattle.std.proofs.lemmas.Bool.{cases_lt}
+use Rattle.std.proofs.lemmas.Nat.{and_le_l}
 use Rattle.std.proofs.lemmas.List.{get_or_past, get_or_default, get_or-replicate, length-replicate, length-map}
 use Rattle.std.proofs.lemmas.Simd.{Each1-get_or}
 use Rattle.std.proofs.Math.ListN.{get_or-map}
@@ -47,6 +48,19 @@ module _ (words new block : List ℕ) (at : ℕ) (below : (k : ℕ) → k < at �
       let is : (64 * (at + chunk) + k) % 64 ≡ k = omega arith in
       block_bit (64 * (at + chunk) + k) chunk (omega arith) in_block
       ∙ ap (λ n. words_have words (64 * (at + chunk) + k) && has_bit (get_or block chunk 0) n) is
+
+  -- a word that is 0 stays 0
+  pub block_zero : (k : ℕ) → get_or words k 0 ≡ 0 → get_or new k 0 ≡ 0
+  block_zero k zero = elim (cases_lt k at) [
+    | inl lt ↦ below k lt ∙ zero
+    | inr from ↦ elim (cases_lt k (at + 8)) [
+      | inr past ↦ above k past ∙ zero
+      | inl lt ↦
+          let there : k ≡ at + (k - at) = omega (arith, from) in
+          ap (λ n. get_or new n 0) there ∙ inside (k - at) (omega (arith, lt, from))
+          ∙ omega (arith, and_le_l (get_or words (at + (k - at)) 0) (get_or block (k - at) 0), zero, ap (λ n. get_or words n 0) there)
+    ]
+  ]
 
   -- no bit becomes set
   pub block_none : (i : ℕ) → words_have words i ≡ false → words_have new i ≡ false

@@ -63,27 +63,27 @@ set_indices_first bits from index le set none =
     ∙ ap (λ a. filter test (range_with_len a (suc (length bits - (index + 1))))) there ∙ filter_first test index (length bits - (index + 1)) set
 
 -- ---- the bits of a shifted chunk
-module _ (bits : List Bool) (at word : ℕ) (of_chunk : (k : ℕ) → k < 64 → has_bit word k ≡ get_or bits (64 * (at / 64) + k) false) (fits : word < 2 ^ 64) where
-  bit_there : (i : ℕ) → at % 64 + i < 64 → has_bit (word / 2 ^ (at % 64)) i ≡ get_or bits (at + i) false
+module _ (f : ℕ → Bool) (at word : ℕ) (of_chunk : (k : ℕ) → k < 64 → has_bit word k ≡ f (64 * (at / 64) + k)) (fits : word < 2 ^ 64) where
+  bit_there : (i : ℕ) → at % 64 + i < 64 → has_bit (word / 2 ^ (at % 64)) i ≡ f (at + i)
   bit_there i lt =
       let is : 64 * (at / 64) + (at % 64 + i) ≡ at + i = omega arith in
-      has_bit-shifted word (at % 64) i ∙ of_chunk (at % 64 + i) lt ∙ ap (λ n. get_or bits n false) is
+      has_bit-shifted word (at % 64) i ∙ of_chunk (at % 64 + i) lt ∙ ap f is
 
   -- bits shifted in from past the word are clear
   past_word : (i : ℕ) → 64 ≤ at % 64 + i → has_bit (word / 2 ^ (at % 64)) i ≡ false
   unfolding has_bit
   past_word i le = has_bit-shifted word (at % 64) i ∙ ap (λ x. eqb x 1) (bit_at_above word 64 (at % 64 + i) fits le)
 
-  pub rest_clear : word / 2 ^ (at % 64) ≡ 0 → (i : ℕ) → at ≤ i → i < at / 64 * 64 + 64 → get_or bits i false ≡ false
+  pub rest_clear : word / 2 ^ (at % 64) ≡ 0 → (i : ℕ) → at ≤ i → i < at / 64 * 64 + 64 → f i ≡ false
   unfolding has_bit
   rest_clear clear i low high =
       let is : at + (i - at) ≡ i = omega arith in
-      ap (λ n. get_or bits n false) (sym is) ∙ sym (bit_there (i - at) (omega arith)) ∙ ap (λ w. has_bit w (i - at)) clear ∙ ap (λ x. eqb x 1) (bit_at-zero (i - at))
+      ap f (sym is) ∙ sym (bit_there (i - at) (omega arith)) ∙ ap (λ w. has_bit w (i - at)) clear ∙ ap (λ x. eqb x 1) (bit_at-zero (i - at))
 
   shifted_small : word / 2 ^ (at % 64) < 2 ^ 64
   shifted_small = omega (arith, shr_le word (at % 64), fits)
 
-  pub lowest_here : 0 < word / 2 ^ (at % 64) → (at % 64 + trailing_zeros w64 (word / 2 ^ (at % 64)) < 64) × (get_or bits (at + trailing_zeros w64 (word / 2 ^ (at % 64))) false ≡ true)
+  pub lowest_here : 0 < word / 2 ^ (at % 64) → (at % 64 + trailing_zeros w64 (word / 2 ^ (at % 64)) < 64) × (f (at + trailing_zeros w64 (word / 2 ^ (at % 64))) ≡ true)
   unfolding has_bit
   lowest_here some =
       let shifted = word / 2 ^ (at % 64) in
@@ -94,10 +94,10 @@ module _ (bits : List Bool) (at word : ℕ) (of_chunk : (k : ℕ) → k < 64 →
       elim (cases_lt (at % 64 + low) 64) [ inl lt ↦ lt | inr le ↦ absurd (both_ways (has_bit shifted low) (past_word low le) set) ] in
       (within, sym (bit_there low within) ∙ set)
 
-  pub below_lowest : 0 < word / 2 ^ (at % 64) → (i : ℕ) → at ≤ i → i < at + trailing_zeros w64 (word / 2 ^ (at % 64)) → get_or bits i false ≡ false
+  pub below_lowest : 0 < word / 2 ^ (at % 64) → (i : ℕ) → at ≤ i → i < at + trailing_zeros w64 (word / 2 ^ (at % 64)) → f i ≡ false
   unfolding has_bit
   below_lowest some i low high =
       let shifted = word / 2 ^ (at % 64) in
       let found = bit_at-trailing_zeros w64 shifted some shifted_small in
       let is : at + (i - at) ≡ i = omega arith in
-      ap (λ n. get_or bits n false) (sym is) ∙ sym (bit_there (i - at) (omega (arith, (lowest_here some).0))) ∙ ap (λ x. eqb x 1) (found.2 (i - at) (omega arith))
+      ap f (sym is) ∙ sym (bit_there (i - at) (omega (arith, (lowest_here some).0))) ∙ ap (λ x. eqb x 1) (found.2 (i - at) (omega arith))

@@ -8,10 +8,11 @@ ghost use Rattle.xw_bits.specs.Bits.{RowOfBits, has_bit, chunk_bit};
 ghost use Rattle.xw_bits.specs.SetBits.{set_indices};
 
 use crate::kernels::{
-    and_not_words, and_words, block_at, count_after, count_words, is_clear_block, keep_at,
-    low_bits, make_room_for_bit, next_common, put_bit, with_bit,
+    block_at, count_after, count_words, is_within, keep_at, low_bits, make_room_for_bit,
+    next_common, sift_words, with_bit,
 };
 use crate::ones::{Ones, next_one};
+use crate::summary::{make_room_for_mark, next_both, put_bit, put_word, unmark_block};
 use std::alloc::{AllocError, Global};
 use std::marker::Model;
 use std::simd::prelude::*;
@@ -27,7 +28,11 @@ pub const MAX_BITS: usize = 0x1FF_FFFF_FFFF_FFFF;
 #[derive(Drop)]
 pub struct BitRow {
     words: Vec<u64>,
+    /// A bit for each chunk. If it is clear, the chunk is 0, and the operations on the row skip it.
+    summary: Vec<u64>,
     len: usize,
+    /// The number of chunks that there is room for.
+    reserved: usize,
     counted: Option<usize>,
 }
 
@@ -57,7 +62,9 @@ impl BitRow {
     {
         BitRow {
             words: Vec::new(alloc),
+            summary: Vec::new(alloc),
             len: 0,
+            reserved: 0,
             counted: Some(0),
         }
     }
@@ -77,7 +84,7 @@ impl BitRow {
         ensures room { self.new.room ≡ self.old.room }
     {
         self.counted = None;
-        and_words(&mut self.words, &other.words);
+        sift_words(&mut self.words, &mut self.summary, &other.words, true);
     }
 
     /// Subtracts `other`: clears each bit that `other` has set.
@@ -87,7 +94,7 @@ impl BitRow {
         ensures room { self.new.room ≡ self.old.room }
     {
         self.counted = None;
-        and_not_words(&mut self.words, &other.words);
+        sift_words(&mut self.words, &mut self.summary, &other.words, false);
     }
 
     /// Copies the bits of `other`, a row of the same length.
@@ -98,6 +105,7 @@ impl BitRow {
     {
         self.counted = other.counted;
         self.words.as_mut_slice().copy_from_slice(&other.words);
+        self.summary.as_mut_slice().copy_from_slice(&other.summary);
     }
 
     /// Clears all bits. The length stays.
@@ -108,6 +116,7 @@ impl BitRow {
     {
         self.counted = None;
         self.words.as_mut_slice().fill(0);
+        self.summary.as_mut_slice().fill(0);
     }
 
     /// The eight chunks from chunk `at` on. Bits past the end of the row are 0.
@@ -116,15 +125,6 @@ impl BitRow {
         ensures { (chunk k : ℕ) → chunk < 8 → k < 64 → has_bit (slice_index result chunk) k ≡ chunk_bit self.now.bits (at + chunk) k }
     {
         block_at(&self.words, at)
-    }
-
-    /// Whether all bits of the block at chunk `at` are clear. The contract promises nothing for
-    /// `false`.
-    pub fn is_clear(&self, at: usize) -> bool
-        requires { 64 * at + 448 < length self.now.bits }
-        ensures { result ≡ true → (i : ℕ) → 64 * at ≤ i → i < 64 * at + 512 → slice_index_or self.now.bits i false ≡ false }
-    {
-        is_clear_block(&self.words, at)
     }
 
     /// Intersects the block at chunk `at` with `block`.
@@ -136,8 +136,12 @@ impl BitRow {
         ensures above { (i : ℕ) → 64 * at + 512 ≤ i → slice_index_or self.new.bits i false ≡ slice_index_or self.old.bits i false }
         ensures room { self.new.room ≡ self.old.room }
     {
+        if is_within(&self.words, at, block) {
+            return;
+        }
         self.counted = None;
         keep_at(&mut self.words, at, block);
+        unmark_block(&self.words, &mut self.summary, at);
     }
 
     /// Clears, in the block at chunk `at`, each bit that `block` has set.
@@ -158,7 +162,13 @@ impl BitRow {
         ensures first { IfSome result (λ index. (i : ℕ) → 64 * from ≤ i → i < index → (slice_index_or self.now.bits i false && slice_index_or other.now.bits i false) ≡ false) }
         ensures none { IfNone result ((i : ℕ) → 64 * from ≤ i → (slice_index_or self.now.bits i false && slice_index_or other.now.bits i false) ≡ false) }
     {
-        match next_common(&self.words, &other.words, from) {
+        match next_common(
+            &self.words,
+            &self.summary,
+            &other.words,
+            &other.summary,
+            from,
+        ) {
             Some(chunk) => {
                 let common = self.words[chunk] & other.words[chunk];
                 Some(64 * chunk + common.trailing_zeros() as usize)
@@ -193,9 +203,13 @@ impl BitRow {
         ensures bits { self.new.bits ≡ self.old.bits }
         ensures room_stays { self.old.room ≤ self.new.room }
     {
-        let words = bits.div_ceil(64);
-        if words > self.words.len() {
-            self.words.reserve_exact(words - self.words.len())?;
+        let words = bits.min(MAX_BITS).div_ceil(64);
+        if words > self.reserved {
+            let more = words - self.words.len();
+            self.words.reserve_exact(more)?;
+            self.summary
+                .reserve_exact(words.div_ceil(64) - self.summary.len())?;
+            self.reserved = words;
         }
         Ok(())
     }
@@ -208,8 +222,9 @@ impl BitRow {
     {
         let counted = count_with(self.counted, bit);
         self.counted = counted;
+        make_room_for_mark(&mut self.summary, self.len);
         make_room_for_bit(&mut self.words, self.len);
-        put_bit(&mut self.words, self.len, bit);
+        put_bit(&mut self.words, &mut self.summary, self.len, bit);
         self.len += 1;
     }
 
@@ -223,6 +238,7 @@ impl BitRow {
         ensures room { self.old.room ≤ self.new.room }
     {
         self.counted = None;
+        make_room_for_mark(&mut self.summary, self.len);
         make_room_for_bit(&mut self.words, self.len);
         self.len += 64;
     }
@@ -246,7 +262,40 @@ impl BitRow {
         let left = self.len - 64 * chunk;
         let word = low_bits(word, left.min(64));
         self.counted = count_after(&self.words, chunk, word, self.counted);
-        self.words[chunk] = word;
+        put_word(&mut self.words, &mut self.summary, chunk, word);
+    }
+
+    /// Intersects chunk `chunk` with `word`.
+    pub fn keep_chunk(&mut self, chunk: usize, word: u64)
+        requires { 64 * chunk < length self.old.bits }
+        ensures len { length self.new.bits ≡ length self.old.bits }
+        ensures inside { (k : ℕ) → k < 64 → chunk_bit self.new.bits chunk k ≡ (chunk_bit self.old.bits chunk k && has_bit word k) }
+        ensures others { (i : ℕ) → (i / 64 ≡ chunk → ⊥) → slice_index_or self.new.bits i false ≡ slice_index_or self.old.bits i false }
+        ensures room { self.new.room ≡ self.old.room }
+    {
+        let left = self.words[chunk] & word;
+        self.counted = count_after(&self.words, chunk, left, self.counted);
+        put_word(&mut self.words, &mut self.summary, chunk, left);
+    }
+
+    /// The first chunk from `from` on that may have a set bit. It skips chunks that are clear, most of
+    /// them 64 at a time.
+    pub fn next_chunk(&self, from: usize) -> Option<usize>
+        ensures found { IfSome result (λ chunk. (from ≤ chunk) × (64 * chunk < length self.now.bits)) }
+        ensures passed { IfSome result (λ chunk. (i : ℕ) → 64 * from ≤ i → i < 64 * chunk → slice_index_or self.now.bits i false ≡ false) }
+        ensures none { IfNone result ((i : ℕ) → 64 * from ≤ i → slice_index_or self.now.bits i false ≡ false) }
+    {
+        next_both(&self.summary, &self.summary, from)
+    }
+
+    /// Whether operations on the block at `chunk` are faster than those on its chunks: the row has eight
+    /// chunks from this one on, and the first four may have set bits. The contract promises nothing for
+    /// `false`.
+    pub fn is_dense(&self, chunk: usize) -> bool
+        requires { 64 * chunk < length self.now.bits }
+        ensures { result ≡ true → 64 * chunk + 448 < length self.now.bits }
+    {
+        self.words.len() - chunk >= 8 && (self.summary[chunk / 64] >> (chunk % 64)) & 15 == 15
     }
 
     /// Sets or clears the bit at index `i`.
@@ -255,8 +304,10 @@ impl BitRow {
         ensures bits { self.new.bits ≡ slice_set self.old.bits i bit }
         ensures room { self.new.room ≡ self.old.room }
     {
-        let chunk = self.chunk(i / 64);
-        self.set_chunk(i / 64, with_bit(chunk, i % 64, bit));
+        let chunk = i / 64;
+        let word = with_bit(self.words[chunk], i % 64, bit);
+        self.counted = count_after(&self.words, chunk, word, self.counted);
+        put_word(&mut self.words, &mut self.summary, chunk, word);
     }
 
     /// The indices of the set bits, in ascending order.

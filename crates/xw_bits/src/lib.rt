@@ -4,6 +4,7 @@
 pub mod bit_row;
 mod kernels;
 pub mod ones;
+mod summary;
 
 pub use bit_row::BitRow;
 pub use ones::Ones;

@@ -14,13 +14,15 @@ pub(crate) fn next_one(row: &BitRow, from: usize) -> Option<usize>
     ensures first { IfSome result (λ index. (i : ℕ) → from ≤ i → i < index → slice_index_or row.now.bits i false ≡ false) }
     ensures none { IfNone result ((i : ℕ) → from ≤ i → slice_index_or row.now.bits i false ≡ false) }
 {
+    let _ = row.len();
     let mut at = from;
-    while at < row.len() {
-        let word = row.chunk(at / 64) >> (at % 64);
+    while let Some(chunk) = row.next_chunk(at / 64) {
+        at = at.max(64 * chunk);
+        let word = row.chunk(chunk) >> (at % 64);
         if word != 0 {
             return Some(at + word.trailing_zeros() as usize);
         }
-        at = at / 64 * 64 + 64;
+        at = 64 * chunk + 64;
     }
     None
 }

@@ -5,7 +5,7 @@ ghost use Rattle.std_alloc.specs.Box.Ownership.{box_owns};
 use std::alloc::Allocator;
 use std::marker::Model;
 
-/// The address and the allocator of a box, which still own what it holds.
+/// The address and the allocator of a box. Together they still own what the box holds.
 pub struct BoxAt<T, A: Allocator> {
     pub address: *mut T,
     pub alloc: A,
@@ -25,7 +25,7 @@ impl<T: Drop, A: Allocator> BoxAt<T, A> {
         BoxAt { address, alloc }
     }
 
-    /// Puts the box together again.
+    /// Rebuilds the box.
     pub fn into_box(self) -> Box<T, A>
         ensures { result.value ≡ self.held }
     {

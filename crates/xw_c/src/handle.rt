@@ -1,4 +1,4 @@
-//! What a caller holds of a session.
+//! The handle by which C holds a session.
 ghost use Rattle.std.specs.Prelude.{◌≡◌, Option, None, Some, IfOk, IfErr, IfSome, IsSome, is_some, option_map};
 ghost use Rattle.xw_engine.specs.Engine.{IsOpened, IsUnopened};
 
@@ -7,7 +7,8 @@ use std::alloc::Global;
 use std::mem::replace;
 use xw_engine::{Engine, Status};
 
-/// An open session or none. A caller makes one of zero bytes, which is none, and changes nothing in it.
+/// An open session or none: `struct xw` of `include/xw.h`. If all bytes are zero, it is none. Callers begin with zero bytes
+/// and never change the fields.
 #[repr(C)]
 #[derive(Drop)]
 pub struct Handle {
@@ -27,7 +28,7 @@ impl Handle {
         }
     }
 
-    /// The session of an engine.
+    /// A handle that owns an engine.
     pub fn of(engine: Box<Engine>) -> Handle
         ensures { result.held.engine ≡ Some engine.value }
     {
@@ -59,7 +60,8 @@ impl Handle {
     }
 }
 
-/// A handle of a new engine, as `Engine::open`.
+/// Opens an engine and returns its handle. Returns what `Engine::open` returns, and `Memory` if the allocation of the
+/// engine fails.
 pub fn open(alloc: Global, list: &[u8], puzzle: &[u8]) -> Result<Handle, Status>
     ensures ok { IfOk result (λ handle. IfSome handle.held.engine (λ engine. IsOpened list.now puzzle.now engine)) }
     ensures some { IfOk result (λ handle. IsSome handle.held.engine) }

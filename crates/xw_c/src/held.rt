@@ -68,7 +68,7 @@ impl Held {
         Held::blank(nowhere())
     }
 
-    /// The box again.
+    /// Returns the engine in its box.
     pub fn into_box(self, alloc: Global) -> Box<Engine>
         requires { IsSome self.engine }
         ensures { self.engine ≡ Some result.value }

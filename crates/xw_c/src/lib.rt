@@ -10,20 +10,24 @@ ghost use Rattle.xw_files.specs.declared.kind.Kind.TheVariants.{Puz, Text};
 ghost use Rattle.xw_engine.specs.Engine.{IsFileMade, IsLineDone, IsRecordMade, IsResumed};
 ghost use Rattle.xw_engine.specs.Status.{code_of};
 ghost use Rattle.xw_engine.specs.declared.status.Status.TheVariants.{Closed};
-ghost use Rattle.xw_c.specs.Calls.{Opens, Calls, answer_of, copied};
+ghost use Rattle.xw_c.specs.Calls.{Opens, Calls, answer_of, copied, version_text};
 
 use crate::handle::Handle;
 use std::alloc::Global;
 use xw_engine::{Engine, Status};
 
-/// What a call without an open session answers.
+/// What `xw --version` prints, without the line feed.
+const VERSION: &str = "xw 0.2.0 (protocol 1)";
+
+/// The code of a call without an open session.
 fn closed() -> u32
     ensures { result ≡ code_of Closed }
 {
     Status::Closed.code()
 }
 
-/// Opens a session over the words of a list, on the puzzle in the bytes of a file or, if there are none, on an empty grid.
+/// Opens a session over the words of a list. It starts on the puzzle in the bytes of a file or, if there are no bytes, on
+/// an empty grid. Each call returns the code of a status; `include/xw.h` lists those of each.
 #[unsafe(no_mangle)]
 pub extern "C" fn xw_open(alloc: Global, handle: &mut Handle, list: &[u8], puzzle: &[u8]) -> u32
     ensures { Opens list.now puzzle.now handle.old.held.engine result handle.new.held.engine }
@@ -129,6 +133,15 @@ fn copy(text: &[u8], out: &mut [u8]) -> usize
     let count = text.len().min(out.len());
     out[..count].copy_from_slice(&text[..count]);
     text.len()
+}
+
+/// Copies the version of the library and of the protocol, as much of it as there is room for, and returns its length.
+#[unsafe(no_mangle)]
+pub extern "C" fn xw_version(out: &mut [u8]) -> usize
+    ensures length { result ≡ length version_text }
+    ensures copied { out.new ≡ copied version_text out.old }
+{
+    copy(VERSION.as_bytes(), out)
 }
 
 /// Closes a session, if one is open.

@@ -1,5 +1,6 @@
 pub mod Rows
 pub mod Usages
-pub mod Failures
 pub mod Told
-pub mod Opened
+pub mod Steps
+pub mod Runs
+pub mod Checks

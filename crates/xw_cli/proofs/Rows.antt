@@ -1,17 +1,18 @@
 -- The parsed subcommand.
 use Rattle.std.proofs.Common.{◌≡◌, ◌∙◌, ◌⊎◌, inl, inr, [], sym, ap, refl, arith, codes, subst, slice_index_or, List, Option, Some, None}
-use Rattle.std.specs.Prelude.{Bool, true, false, is_some, option_map}
+use Rattle.std.specs.Prelude.{Bool, true, false, is_some, map, option_map, IfSome}
 use Rattle.std.specs.Borrow.{Bor}
 use Rattle.std.specs.Option.{option_map_or}
-use Rattle.clap.specs.Words.{Row, Text, first_of, subcommand_name_of, subcommand_rows_of}
+use Rattle.clap.specs.Words.{Row, Text, all_of, first_of, subcommand_name_of, subcommand_rows_of}
 use Rattle.clap.specs.Simple.{subcommand_rows}
 use Rattle.clap.specs.declared.parser.matches.ArgMatches.{ArgMatches}
 use Rattle.clap.specs.declared.parser.matches.ArgMatches.TheViews.{out-ArgMatches, out-SubCommand}
 use Rattle.std.specs.Box.{box_value}
-use Rattle.xw_cli.specs.Calls.{AreFiles, clash_in}
+use Rattle.xw_cli.specs.Calls.{AreFiles, clash_in, IsCall, IsCallOf}
 use Rattle.xw_cli.specs.Usage.{IsNoCall}
 use Rattle.xw_cli.specs.declared.arguments.Clash.{Clash}
 use Rattle.xw_cli.specs.declared.arguments.SessionFiles.{SessionFiles}
+use Rattle.xw_cli.specs.declared.arguments.Call.{Call}
 use Rattle.xw_cli.specs.declared.arguments.Call.TheVariants.{Edit, Convert, Check}
 
 -- a pair from its parts
@@ -38,44 +39,44 @@ name_in found = option_map_or (λ p. p.0) found []
 abbrev rows_in : Option (Text × List Row) → List Row
 rows_in found = option_map_or (λ p. p.1) found []
 
--- `convert` without one of its files is no call
-pub no_convert : (found : Option (Text × List Row)) (rows : List Row) → found ≡ Some (codes "convert", rows) → (first_of (codes "from") rows ≡ None) ⊎ (first_of (codes "to") rows ≡ None) → IsNoCall found
-no_convert found rows named lacks (Edit files explain) call =
-    let names : codes "convert" ≡ codes "edit" = ap name_in (sym named ∙ call.1) in
-    let bad : 99 ≡ 101 = ap (λ (t : Text). slice_index_or t 0 0) names in absurd (omega (arith, bad))
-no_convert found rows named lacks (Convert from_file to_file explain) call =
-    let same : call.0 ≡ rows = ap rows_in (sym call.1 ∙ named) in
-    elim lacks [
-      | inl none ↦ let bad : Some from_file.now ≡ None = call.2 ∙ ap (first_of (codes "from")) same ∙ none in cc
-      | inr none ↦ let bad : Some to_file.now ≡ None = call.3 ∙ ap (first_of (codes "to")) same ∙ none in cc
-    ]
-no_convert found rows named lacks (Check file explain) call =
-    let names : codes "convert" ≡ codes "check" = ap name_in (sym named ∙ call.1) in
-    let bad : 111 ≡ 104 = ap (λ (t : Text). slice_index_or t 1 0) names in absurd (omega (arith, bad))
+-- a subcommand is no call if it is none with these values
+pub no_call : (found : Option (Text × List Row)) (name : Text) (rows : List Row) → found ≡ Some (name, rows) → ((call : Call) → IsCallOf name call rows → ⊥) → IsNoCall found
+no_call found name rows named none call (other, others, is, of) =
+    let names : other ≡ name = ap name_in (sym is ∙ named) in
+    let same : others ≡ rows = ap rows_in (sym is ∙ named) in
+    none call (subst (λ (n : Text). IsCallOf n call rows) names (subst (λ (r : List Row). IsCallOf other call r) same of))
 
--- `check` without its file is no call
-pub no_check : (found : Option (Text × List Row)) (rows : List Row) → found ≡ Some (codes "check", rows) → first_of (codes "file") rows ≡ None → IsNoCall found
-no_check found rows named none (Edit files explain) call =
-    let names : codes "check" ≡ codes "edit" = ap name_in (sym named ∙ call.1) in
-    let bad : 99 ≡ 101 = ap (λ (t : Text). slice_index_or t 0 0) names in absurd (omega (arith, bad))
-no_check found rows named none (Convert from_file to_file explain) call =
-    let names : codes "check" ≡ codes "convert" = ap name_in (sym named ∙ call.1) in
-    let bad : 104 ≡ 111 = ap (λ (t : Text). slice_index_or t 1 0) names in absurd (omega (arith, bad))
-no_check found rows named none (Check file explain) call =
-    let same : call.0 ≡ rows = ap rows_in (sym call.1 ∙ named) in
-    let bad : Some file.now ≡ None = call.2 ∙ ap (first_of (codes "file")) same ∙ none in cc
+pub called : (result : Option Call) (found : Option (Text × List Row)) (name : Text) (rows : List Row) → found ≡ Some (name, rows) → IfSome result (λ call. IsCallOf name call rows)
+    → IfSome result (λ call. IsCall call found)
+called None found name rows named of = tt
+called (Some call) found name rows named of = (name, rows, named, of)
+
+-- `convert` without one of its files is no call
+pub no_convert : (rows : List Row) → (first_of (codes "from") rows ≡ None) ⊎ (first_of (codes "to") rows ≡ None) → (call : Call) → IsCallOf (codes "convert") call rows → ⊥
+no_convert rows lacks (Edit files explain) of = let bad : 101 ≡ 99 = ap (λ (t : Text). slice_index_or t 0 0) of.0 in absurd (omega (arith, bad))
+no_convert rows (inl none) (Convert from_file to_file explain) of =
+    let values = of.1 in
+    let bad : Some from_file.now ≡ None = values.0 ∙ none in cc
+no_convert rows (inr none) (Convert from_file to_file explain) of =
+    let values = of.1 in
+    let bad : Some to_file.now ≡ None = values.1 ∙ none in cc
+no_convert rows lacks (Check files explain) of = let bad : 104 ≡ 111 = ap (λ (t : Text). slice_index_or t 1 0) of.0 in absurd (omega (arith, bad))
+
+-- `check` without a file is no call
+pub no_check : (rows : List Row) → all_of (codes "file") rows ≡ None → (call : Call) → IsCallOf (codes "check") call rows → ⊥
+no_check rows none (Edit files explain) of = let bad : 101 ≡ 99 = ap (λ (t : Text). slice_index_or t 0 0) of.0 in absurd (omega (arith, bad))
+no_check rows none (Convert from_file to_file explain) of = let bad : 111 ≡ 104 = ap (λ (t : Text). slice_index_or t 1 0) of.0 in absurd (omega (arith, bad))
+no_check rows none (Check files explain) of =
+    let values = of.1 in
+    let bad : Some (map (λ file. file.now) files.items) ≡ None = values.0 ∙ none in cc
 
 -- `edit` without valid files is no call
-pub no_edit : (found : Option (Text × List Row)) (rows : List Row) → found ≡ Some (codes "edit", rows) → ((files : SessionFiles) → AreFiles files rows → ⊥) → IsNoCall found
-no_edit found rows named none (Edit files explain) call =
-    let same : call.0 ≡ rows = ap rows_in (sym call.1 ∙ named) in
-    none files (subst (λ (r : List Row). AreFiles files r) same call.2)
-no_edit found rows named none (Convert from_file to_file explain) call =
-    let names : codes "edit" ≡ codes "convert" = ap name_in (sym named ∙ call.1) in
-    let bad : 101 ≡ 99 = ap (λ (t : Text). slice_index_or t 0 0) names in absurd (omega (arith, bad))
-no_edit found rows named none (Check file explain) call =
-    let names : codes "edit" ≡ codes "check" = ap name_in (sym named ∙ call.1) in
-    let bad : 101 ≡ 99 = ap (λ (t : Text). slice_index_or t 0 0) names in absurd (omega (arith, bad))
+pub no_edit : (rows : List Row) → ((files : SessionFiles) → AreFiles files rows → ⊥) → (call : Call) → IsCallOf (codes "edit") call rows → ⊥
+no_edit rows none (Edit files explain) of =
+    let values = of.1 in
+    none files values.0
+no_edit rows none (Convert from_file to_file explain) of = let bad : 99 ≡ 101 = ap (λ (t : Text). slice_index_or t 0 0) of.0 in absurd (omega (arith, bad))
+no_edit rows none (Check files explain) of = let bad : 99 ≡ 101 = ap (λ (t : Text). slice_index_or t 0 0) of.0 in absurd (omega (arith, bad))
 
 -- ---- options that do not go together
 

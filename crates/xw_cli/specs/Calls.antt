@@ -1,7 +1,7 @@
 -- The call that the parsed arguments describe.
-use Rattle.std.specs.Prelude.{◌≡◌, Bool, true, false, bytes_eq, is_some, List, Option, Some, None, codes, option_map}
+use Rattle.std.specs.Prelude.{◌≡◌, Bool, true, false, bytes_eq, is_some, map, List, Option, Some, None, codes, option_map}
 use Rattle.std.specs.Borrow.{Bor}
-use Rattle.clap.specs.Words.{Row, Text, first_of}
+use Rattle.clap.specs.Words.{Row, Text, all_of, first_of}
 use Rattle.xw_cli.specs.declared.arguments.SessionFiles.{SessionFiles}
 use Rattle.xw_cli.specs.declared.arguments.Clash.{Clash}
 use Rattle.xw_cli.specs.declared.arguments.Clash.TheVariants.{TwoStarts, JournalAndStart, SyncAlone}
@@ -46,13 +46,29 @@ pub record AreFiles (files : SessionFiles) (rows : List Row) : Type 0 where
 abbrev pub IsExplained : List Row → Bool → Type 0
 IsExplained rows explain = explain ≡ is_set (first_of (codes "explain") rows)
 
--- the call is the subcommand with these values, and each file is the value of its option
+-- whether a call explains faults
+abbrev pub is_explained : Call → Bool
+is_explained (Edit files explain) = explain
+is_explained (Convert from_file to_file explain) = explain
+is_explained (Check files explain) = explain
+
+-- the subcommand of a call
+abbrev pub subcommand : Call → Text
+subcommand (Edit files explain) = codes "edit"
+subcommand (Convert from_file to_file explain) = codes "convert"
+subcommand (Check files explain) = codes "check"
+
+-- each file of the call is the value of its option or operand; those of `check` are all values of its operand
+abbrev pub HasValues : Call → List Row → Type 0
+HasValues (Edit files explain) rows = AreFiles files rows × IsExplained rows explain
+HasValues (Convert from_file to_file explain) rows =
+    (Some from_file.now ≡ first_of (codes "from") rows) × (Some to_file.now ≡ first_of (codes "to") rows) × IsExplained rows explain
+HasValues (Check files explain) rows = (Some (map (λ file. file.now) files.items) ≡ all_of (codes "file") rows) × IsExplained rows explain
+
+-- a call of the subcommand with this name, with these values
+abbrev pub IsCallOf : Text → Call → List Row → Type 0
+IsCallOf name call rows = (subcommand call ≡ name) × HasValues call rows
+
+-- the call is the subcommand with its values
 abbrev pub IsCall : Call → Option (Text × List Row) → Type 0
-IsCall (Edit files explain) found = (rows : List Row) × (found ≡ Some (codes "edit", rows)) × AreFiles files rows × IsExplained rows explain
-IsCall (Convert from_file to_file explain) found = (rows : List Row) × (found ≡ Some (codes "convert", rows))
-    × (Some from_file.now ≡ first_of (codes "from") rows)
-    × (Some to_file.now ≡ first_of (codes "to") rows)
-    × IsExplained rows explain
-IsCall (Check file explain) found = (rows : List Row) × (found ≡ Some (codes "check", rows))
-    × (Some file.now ≡ first_of (codes "file") rows)
-    × IsExplained rows explain
+IsCall call found = (name : Text) × (rows : List Row) × (found ≡ Some (name, rows)) × IsCallOf name call rows

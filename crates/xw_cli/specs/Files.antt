@@ -1,6 +1,6 @@
 -- Which failure names a file that cannot be read or written, or a fault of a file; what is read from a puzzle file, and
 -- what is written to one.
-use Rattle.std.specs.Prelude.{◌≡◌, ◌⊎◌, ℕ, Bool, true, false, List, Option, Some, None, Ok, Err}
+use Rattle.std.specs.Prelude.{◌≡◌, ◌⊎◌, ◌++◌, ℕ, Bool, true, false, List, [], ◌∷◌, Option, Some, None, Ok, Err, codes}
 use Rattle.std.specs.Borrow.{Bor}
 use Rattle.std.specs.List.{list_any}
 use Rattle.xw_grid.specs.Puzzle.{PuzzleShown}
@@ -15,47 +15,44 @@ use Rattle.xw_files.specs.declared.kind.Kind.TheVariants.{Puz, Text}
 use Rattle.xw_cli.specs.declared.failure.Failure.{Failure}
 use Rattle.xw_cli.specs.declared.failure.Failure.TheVariants as failures
 use Rattle.xw_cli.specs.declared.location.Location.{Location}
+use Rattle.xw_disk.specs.Disk.{Event, read, replace}
+use Rattle.xw_disk.specs.declared.disk.DiskFault.{DiskFault}
+use Rattle.xw_cli.specs.Told.{IsFaultOf}
 use Rattle.xw_cli.specs.Explained.{GoesOut, rebus_line}
-use Rattle.xw_cli.specs.Names.{IsKindNamed}
+use Rattle.xw_cli.specs.Names.{HasEnding, IsKindNamed}
 use Rattle.xw_cli.specs.Locations.{read_location, write_location}
+
+-- ---- steps on the disk
+
+-- the disk was asked this, and nothing else
+abbrev pub Asks : Event → List Event → List Event → Type 0
+Asks event old new = new ≡ old ++ event ∷ []
 
 -- ---- failures
 
--- the file with this name cannot be read
-abbrev pub IsCannotRead : List ℕ → Failure → Type 0
-IsCannotRead name (failures.CannotRead file) = file.bytes.items ≡ name
-IsCannotRead name other = ⊥
-
--- the file with this name cannot be written
-abbrev pub IsCannotWrite : List ℕ → Failure → Type 0
-IsCannotWrite name (failures.CannotWrite file) = file.bytes.items ≡ name
-IsCannotWrite name other = ⊥
-
--- another program has the file with this name as its journal
-abbrev pub IsInUse : List ℕ → Failure → Type 0
-IsInUse name (failures.InUse file) = file.bytes.items ≡ name
-IsInUse name other = ⊥
-
--- the name no longer leads to the journal that was opened by it
-abbrev pub IsReplaced : List ℕ → Failure → Type 0
-IsReplaced name (failures.Replaced file) = file.bytes.items ≡ name
-IsReplaced name other = ⊥
-
 -- the file with this name has the fault with this name, at this location if one is told
 abbrev pub IsFileFault : List ℕ → List ℕ → Option Location → Failure → Type 0
-IsFileFault name fault None (failures.File file told) = (file.bytes.items ≡ name) × (told.now ≡ fault)
-IsFileFault name fault (Some location) (failures.Located file told there) = (file.bytes.items ≡ name) × (told.now ≡ fault) × (there ≡ location)
+IsFileFault name fault None (failures.File file told) = (file.now ≡ name) × (told.now ≡ fault)
+IsFileFault name fault (Some location) (failures.Located file told there) = (file.now ≡ name) × (told.now ≡ fault) × (there ≡ location)
 IsFileFault name fault location other = ⊥
 
 -- the line with this number of the file has the fault with this name
 abbrev pub IsLineFault : List ℕ → ℕ → List ℕ → Failure → Type 0
-IsLineFault name number fault (failures.Line file line told) = (file.bytes.items ≡ name) × (line ≡ number) × (told.now ≡ fault)
+IsLineFault name number fault (failures.Line file line told) = (file.now ≡ name) × (line ≡ number) × (told.now ≡ fault)
 IsLineFault name number fault other = ⊥
 
 -- the location if `explain` is set, and otherwise none
 abbrev pub location_if : Bool → Option Location → Option Location
 location_if true location = location
 location_if false location = None
+
+-- ---- reading a file
+
+-- The file with this name was to be read, and was not.
+pub record IsUnreadFile (name : List ℕ) (failure : Failure) (old new : List Event) : Type 0 where
+  pub fault : DiskFault
+  pub told : IsFaultOf fault name failure
+  pub asks : Asks (read name (Err fault)) old new
 
 -- ---- reading a puzzle file
 
@@ -67,9 +64,15 @@ pub record IsMalformed (name : List ℕ) (explain : Bool) (bytes : List ℕ) (fa
   pub first : IsFirstFault kind bytes fault
   pub told : IsFileFault name (read_fault_name fault) (location_if explain (read_location bytes fault)) failure
 
+-- The file with this name was read, and its bytes are malformed, or an allocation failed.
+pub record IsBadPuzzle (name : List ℕ) (explain : Bool) (failure : Failure) (old new : List Event) : Type 0 where
+  pub bytes : List ℕ
+  pub asks : Asks (read name (Ok bytes)) old new
+  pub told : (failure ≡ failures.Memory) ⊎ IsMalformed name explain bytes failure
+
 -- why the puzzle file with this name is not read
-abbrev pub IsUnread : List ℕ → Bool → Failure → Type 0
-IsUnread name explain failure = (failure ≡ failures.Memory) ⊎ (IsCannotRead name failure ⊎ ((bytes : List ℕ) × IsMalformed name explain bytes failure))
+abbrev pub IsUnread : List ℕ → Bool → Failure → List Event → List Event → Type 0
+IsUnread name explain failure old new = IsUnreadFile name failure old new ⊎ IsBadPuzzle name explain failure old new
 
 -- the report goes out if there are rebus cells, and otherwise nothing does
 abbrev pub IsToldIf : {S : Type 0} → (S → List ℕ) → (S → ℕ) → List ℕ → Bool → S → S → Type 0
@@ -83,9 +86,11 @@ IsRebusTold transcript failures name Text bytes old new = new ≡ old
 
 -- ---- writing a file
 
--- why the file with this name is not replaced
-abbrev pub IsUnreplaced : List ℕ → Failure → Type 0
-IsUnreplaced name failure = (failure ≡ failures.Memory) ⊎ (IsCannotWrite name failure ⊎ IsInUse name failure)
+-- The file with this name was to have these bytes, and was not replaced.
+pub record IsUnreplaced (name bytes : List ℕ) (failure : Failure) (old new : List Event) : Type 0 where
+  pub fault : DiskFault
+  pub told : IsFaultOf fault name failure
+  pub asks : Asks (replace name bytes (Err fault)) old new
 
 -- ---- writing a puzzle file
 
@@ -104,9 +109,46 @@ pub record IsUnfit (name : List ℕ) (explain : Bool) (puzzle : PuzzleShown) (fa
   pub refused : written_as kind puzzle ≡ Err fault
   pub told : IsFileFault name (write_fault_name fault) (location_if explain (write_location puzzle.grid fault)) failure
 
+-- The puzzle was written to the file with this name, in the format that the name asks for.
+pub record IsWritten (name : List ℕ) (puzzle : PuzzleShown) (old new : List Event) : Type 0 where
+  pub bytes : List ℕ
+  pub are : AreBytesFor name puzzle bytes
+  pub asks : Asks (replace name bytes (Ok tt)) old new
+
+-- The bytes of the puzzle were not made, and the disk was not asked.
+pub record IsUnmade (name : List ℕ) (explain : Bool) (puzzle : PuzzleShown) (failure : Failure) (old new : List Event) : Type 0 where
+  pub told : (failure ≡ failures.Memory) ⊎ IsUnfit name explain puzzle failure
+  pub unasked : new ≡ old
+
+-- The file with this name was to have the bytes of the puzzle, and was not replaced.
+pub record IsUnput (name : List ℕ) (puzzle : PuzzleShown) (failure : Failure) (old new : List Event) : Type 0 where
+  pub bytes : List ℕ
+  pub are : AreBytesFor name puzzle bytes
+  pub unreplaced : IsUnreplaced name bytes failure old new
+
 -- why the puzzle is not written to the file with this name
-abbrev pub IsUnwritten : List ℕ → Bool → PuzzleShown → Failure → Type 0
-IsUnwritten name explain puzzle failure = IsUnreplaced name failure ⊎ IsUnfit name explain puzzle failure
+abbrev pub IsUnwritten : List ℕ → Bool → PuzzleShown → Failure → List Event → List Event → Type 0
+IsUnwritten name explain puzzle failure old new = IsUnmade name explain puzzle failure old new ⊎ IsUnput name puzzle failure old new
+
+-- ---- a puzzle that is written as text
+
+-- the name asks for a format
+abbrev pub AsksForFormat : List ℕ → Type 0
+AsksForFormat name = HasEnding name (codes ".puz") ⊎ HasEnding name (codes ".txt")
+
+-- the report of a puzzle that is written as text, since the name of its file asks for no format
+abbrev pub text_line : List ℕ → List ℕ
+text_line name = codes "xw: " ++ name ++ codes ": written as text\n"
+
+-- the report that is due, if one is
+abbrev pub IsTextNote : List ℕ → Option (List ℕ) → Type 0
+IsTextNote name None = AsksForFormat name
+IsTextNote name (Some note) = (AsksForFormat name → ⊥) × (note ≡ text_line name)
+
+-- the report goes out if it is due, and otherwise nothing does
+abbrev pub IsTextTold : {S : Type 0} → (S → List ℕ) → (S → ℕ) → List ℕ → S → S → Type 0
+IsTextTold transcript failures name old new =
+    (AsksForFormat name × (new ≡ old)) ⊎ ((AsksForFormat name → ⊥) × GoesOut transcript failures old new (text_line name))
 
 -- ---- files that are named
 

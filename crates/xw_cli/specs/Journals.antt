@@ -1,27 +1,91 @@
--- The journal of a session: what is replayed of it, what is told, and which failure ends it.
-use Rattle.std.specs.Prelude.{◌≡◌, ◌≢◌, ◌⊎◌, ℕ, List, Ok, codes}
-use Rattle.xw_journal.specs.File.{kept_lines, form_of}
-use Rattle.xw_journal.specs.declared.file.Form.TheVariants.{Cut}
+-- The journal of a session: what is replayed of it, how it begins and ends, and which failure ends it.
+use Rattle.std.specs.Prelude.{◌≡◌, ◌⊎◌, ◌++◌, ◌<◌, ℕ, List, Ok, Err, codes}
+use Rattle.xw_journal.specs.File.{first_line, form_of, kept_lines}
+use Rattle.xw_journal.specs.declared.file.Form.{Form}
+use Rattle.xw_journal.specs.declared.file.Form.TheVariants as forms
+use Rattle.xw_lines.specs.Cut.{lines_of}
 use Rattle.xw_session.specs.Resuming.{Resumes}
 use Rattle.xw_session.specs.State.{State}
-use Rattle.xw_session.specs.Text.{name_of}
-use Rattle.xw_session.specs.declared.refusal.Refusal.{Refusal}
+use Rattle.xw_session.specs.declared.resuming.Stop.{Stop}
+use Rattle.xw_disk.specs.Disk.{Event, open_, begin, end}
+use Rattle.xw_disk.specs.declared.disk.DiskFault.{DiskFault}
 use Rattle.xw_cli.specs.declared.failure.Failure.{Failure}
 use Rattle.xw_cli.specs.declared.failure.Failure.TheVariants as failures
-use Rattle.xw_cli.specs.Files.{IsCannotRead, IsCannotWrite, IsInUse, IsLineFault}
+use Rattle.xw_cli.specs.Files.{Asks, IsLineFault}
+use Rattle.xw_cli.specs.SessionFiles.{IsStopped, file_of}
+use Rattle.xw_cli.specs.Told.{IsFaultOf}
 
--- the lines that count of some bytes that are a journal are replayed, and this number of them is refused
-abbrev pub HasReplayed : List ℕ → State → ℕ → State → Type 0
-HasReplayed name start refused state = (bytes : List ℕ) × (told : List ℕ) × (form_of bytes ≢ Cut) × Resumes name start (kept_lines bytes) (Ok refused) told state
+-- The bytes with which a journal begins that was opened with these: the first line where there was at most a part of it; the bytes up
+-- to the last line that counts; or the first line and the bytes. A file whose last line is cut begins no journal.
+abbrev pub Begins : Form → List ℕ → List ℕ → Type 0
+Begins forms.Begun bytes begun = begun ≡ first_line
+Begins forms.Named bytes begun = (lines_of begun ≡ kept_lines bytes) × (rest : List ℕ) × (bytes ≡ begun ++ rest)
+Begins forms.Whole bytes begun = begun ≡ first_line ++ bytes
+Begins forms.Cut bytes begun = ⊥
 
--- why the journal with this name is not opened and read
-abbrev pub IsNotReady : List ℕ → Failure → Type 0
-IsNotReady name failure = (failure ≡ failures.Memory) ⊎ (IsCannotWrite name failure ⊎ (IsInUse name failure ⊎ IsCannotRead name failure))
+-- The journal with this name was opened and begun, and the lines of its bytes that count were replayed. This number of them was refused.
+pub record HasReplayed (name : List ℕ) (start : State) (refused : ℕ) (state : State) (old new : List Event) : Type 0 where
+  pub bytes : List ℕ
+  pub mid : List Event
+  pub opens : Asks (open_ name (Ok bytes)) old mid
+  pub told : List ℕ
+  pub resumes : Resumes name start (kept_lines bytes) (Ok refused) told state
+  pub begun : List ℕ
+  pub begins : Begins (form_of bytes) bytes begun
+  pub asks : Asks (begin name begun (Ok tt)) mid new
 
--- why the file with this name is not made a journal: it cannot be written, or a line of it is cut
-abbrev pub IsNotBegun : List ℕ → Failure → Type 0
-IsNotBegun name failure = (failure ≡ failures.Memory) ⊎ (IsCannotWrite name failure ⊎ ((number : ℕ) × IsLineFault name number (codes "Cut") failure))
+-- The journal with this name was not opened.
+pub record IsNotOpened (name : List ℕ) (failure : Failure) (old new : List Event) : Type 0 where
+  pub fault : DiskFault
+  pub told : IsFaultOf fault name failure
+  pub asks : Asks (open_ name (Err fault)) old new
 
--- why the lines of the journal with this name are not replayed
-abbrev pub IsUnreplayed : List ℕ → Failure → Type 0
-IsUnreplayed name failure = IsNotReady name failure ⊎ (IsNotBegun name failure ⊎ ((number : ℕ) × (refusal : Refusal) × IsLineFault name number (name_of refusal) failure))
+-- The journal with this name was opened, and its file stays as it is: the replay stopped at a line, the last line is cut, or an
+-- allocation failed.
+pub record IsLeft (name : List ℕ) (failure : Failure) (old new : List Event) : Type 0 where
+  pub bytes : List ℕ
+  pub asks : Asks (open_ name (Ok bytes)) old new
+  pub why : (failure ≡ failures.Memory) ⊎ (((stop : Stop) × IsStopped name stop failure) ⊎ ((number : ℕ) × (form_of bytes ≡ forms.Cut) × IsLineFault name number (codes "Cut") failure))
+
+-- The journal with this name was opened, and could not be begun.
+pub record IsNotBegun (name : List ℕ) (failure : Failure) (old new : List Event) : Type 0 where
+  pub bytes : List ℕ
+  pub mid : List Event
+  pub opens : Asks (open_ name (Ok bytes)) old mid
+  pub begun : List ℕ
+  pub begins : Begins (form_of bytes) bytes begun
+  pub fault : DiskFault
+  pub told : IsFaultOf fault name failure
+  pub asks : Asks (begin name begun (Err fault)) mid new
+
+-- The journal with this name was begun, and then an allocation failed.
+pub record IsBegunInVain (name : List ℕ) (failure : Failure) (old new : List Event) : Type 0 where
+  pub bytes : List ℕ
+  pub mid : List Event
+  pub opens : Asks (open_ name (Ok bytes)) old mid
+  pub begun : List ℕ
+  pub begins : Begins (form_of bytes) bytes begun
+  pub asks : Asks (begin name begun (Ok tt)) mid new
+  pub memory : failure ≡ failures.Memory
+
+-- why the lines of the journal with this name are not replayed, or no session begins with it
+abbrev pub IsUnreplayed : List ℕ → Failure → List Event → List Event → Type 0
+IsUnreplayed name failure old new =
+    IsNotOpened name failure old new ⊎ (IsLeft name failure old new ⊎ (IsNotBegun name failure old new ⊎ IsBegunInVain name failure old new))
+
+-- ---- the end of a journal
+
+-- The journal with this name was to be replaced by the record of the session, and was not.
+pub record IsNotEnded (name : List ℕ) (state : State) (failure : Failure) (old new : List Event) : Type 0 where
+  pub fault : DiskFault
+  pub told : IsFaultOf fault name failure
+  pub asks : Asks (end name (file_of state) (Err fault)) old new
+
+-- why the journal with this name is not replaced by the record: its name no longer leads to it, an allocation failed, or the disk failed
+abbrev pub IsUnended : List ℕ → State → Failure → List Event → List Event → Type 0
+IsUnended name state failure old new =
+    (((fault : DiskFault) × IsFaultOf fault name failure) × (new ≡ old)) ⊎ (((failure ≡ failures.Memory) × (new ≡ old)) ⊎ IsNotEnded name state failure old new)
+
+-- the journal with this name was replaced by the record of the session if none of its lines was refused, and otherwise stays
+abbrev pub IsEnded : List ℕ → ℕ → State → List Event → List Event → Type 0
+IsEnded name refused state old new = ((refused ≡ 0) × Asks (end name (file_of state) (Ok tt)) old new) ⊎ ((0 < refused) × (new ≡ old))

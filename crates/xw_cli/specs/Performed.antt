@@ -1,8 +1,7 @@
 -- What a call does, and which failures may end it.
-use Rattle.std.specs.Prelude.{◌≡◌, ◌⊎◌, ◌++◌, ℕ, Bool, List, [], ◌∷◌, Option, Some, None, Ok, codes, decimal, length, replicate}
+use Rattle.std.specs.Prelude.{◌≡◌, ◌⊎◌, ◌++◌, ◌<◌, ℕ, Bool, List, [], ◌∷◌, Option, Some, None, Result, Ok, Err, IfErr, IsErr, MatchResult, map, codes, decimal, length, replicate}
 use Rattle.std.specs.Borrow.{Bor}
 use Rattle.xw_words.specs.Dictionary.{Dictionary}
-use Rattle.xw_words.specs.WordList.{listed_in}
 use Rattle.xw_grid.specs.Grid.{Grid}
 use Rattle.xw_grid.specs.Light.{lights_of}
 use Rattle.xw_grid.specs.Puzzle.{PuzzleShown}
@@ -10,18 +9,19 @@ use Rattle.xw_files.specs.Formats.{IsRead}
 use Rattle.xw_files.specs.declared.kind.Kind.{Kind}
 use Rattle.xw_files.specs.declared.kind.Kind.TheVariants.{Puz, Text}
 use Rattle.xw_journal.specs.File.{kept_lines}
-use Rattle.xw_lines.specs.Cut.{lines_of}
-use Rattle.xw_lines.specs.Device.{flushed, saturated}
-use Rattle.xw_lines.specs.Run.{Speaks}
-use Rattle.xw_lines.specs.declared.outcome.RunEnd.TheVariants.{Done}
-use Rattle.xw_lines.specs.declared.outcome.Step.{Step}
-use Rattle.xw_journal.specs.Journal.{AnswersJournaled, JournaledState}
+use Rattle.xw_journal.specs.Journal.{AnswersJournaled, JournaledState, StopsAtJournal}
+use Rattle.xw_journal.specs.declared.cause.Cause.{Cause}
+use Rattle.xw_journal.specs.declared.cause.Cause.TheVariants as causes
+use Rattle.xw_lines.specs.Device.{Begins, HasFailed, flushed}
+use Rattle.xw_lines.specs.Spoken.{NeverStops}
+use Rattle.xw_lines.specs.declared.outcome.RunEnd.{RunEnd}
+use Rattle.xw_lines.specs.declared.outcome.RunEnd.TheVariants.{Stopped}
 use Rattle.xw_session.specs.Answer.{Answers}
 use Rattle.xw_session.specs.Opening.{empty_puzzle, opened_on, puzzle_of}
 use Rattle.xw_session.specs.Resuming.{Resumes}
 use Rattle.xw_session.specs.State.{State}
-use Rattle.xw_session.specs.Text.{name_of}
-use Rattle.xw_session.specs.declared.refusal.Refusal.{Refusal}
+use Rattle.xw_session.specs.declared.resuming.Stop.{Stop}
+use Rattle.xw_disk.specs.Disk.{Event, read, replace, take_lines}
 use Rattle.xw_cli.specs.declared.arguments.Call.{Call}
 use Rattle.xw_cli.specs.declared.arguments.Call.TheVariants.{Edit, Convert, Check}
 use Rattle.xw_cli.specs.declared.arguments.SessionFiles.{SessionFiles}
@@ -29,203 +29,284 @@ use Rattle.xw_cli.specs.declared.failure.Failure.{Failure}
 use Rattle.xw_cli.specs.declared.failure.Failure.TheVariants as failures
 use Rattle.xw_cli.specs.declared.failure.Status.{Status}
 use Rattle.xw_cli.specs.declared.failure.Status.TheVariants.{Accepted}
-use Rattle.xw_cli.specs.Explained.{IsTold}
 use Rattle.xw_cli.specs.Apart.{AreInUse, IsNotApart}
-use Rattle.xw_cli.specs.Files.{AreBytesFor, IfNamed, IsCannotRead, IsLineFault, IsReplaced, IsUnread, IsUnwritten}
-use Rattle.xw_cli.specs.Journals.{HasReplayed, IsUnreplayed}
-use Rattle.xw_cli.specs.SessionFiles.{IsNotKept, IsUnloaded, IsUnsaved}
+use Rattle.xw_cli.specs.Calls.{is_explained}
+use Rattle.xw_cli.specs.Checked.{IsCheckOf}
+use Rattle.xw_cli.specs.Explained.{is_quiet, IsReported}
+use Rattle.xw_cli.specs.Files.{Asks, IfNamed, IsTextTold, IsUnread, IsUnreadFile, IsUnwritten, IsWritten}
+use Rattle.xw_cli.specs.Journals.{HasReplayed, IsEnded, IsUnended, IsUnreplayed}
+use Rattle.xw_cli.specs.SessionFiles.{Copies, IsLoaded, IsNotKept, IsStopped, IsUnloaded, IsUnsaved, file_of}
 use Rattle.xw_cli.specs.Status.{run_ended}
-
--- ---- check
-
-abbrev pub format_name : Kind → List ℕ
-format_name Puz = codes "puz"
-format_name Text = codes "text"
-
--- a format, a size and a number of lights on a line
-abbrev pub size_line : List ℕ → ℕ → ℕ → ℕ → List ℕ
-size_line format width height lights = format ++ codes " " ++ decimal width ++ codes "x" ++ decimal height ++ codes " " ++ decimal lights ++ codes " lights\n"
-
--- the line that describes a puzzle
-abbrev pub described : Kind → Grid → List ℕ
-described kind grid = size_line (format_name kind) grid.width grid.height (length (lights_of grid))
-
--- The puzzle that some bytes mean is described in a line, which is flushed.
-pub record IsChecked (old new : List ℕ) : Type 0 where
-  pub kind : Kind
-  pub bytes : List ℕ
-  pub puzzle : PuzzleShown
-  pub read : IsRead kind bytes puzzle
-  pub line : new ≡ old ++ (described kind puzzle.grid ++ flushed ∷ [])
-
--- why a file is not checked
-abbrev pub IsUnchecked : List ℕ → Bool → Failure → Type 0
-IsUnchecked name explain failure = IsUnread name explain failure ⊎ (failure ≡ failures.Output)
+use Rattle.xw_cli.specs.Streams.{AnswersInput, Streams}
+use Rattle.xw_cli.specs.Told.{IsCannotWrite, IsReplaced}
 
 -- ---- convert
 
--- The puzzle that some bytes mean can be written in the format that the name of the other file asks for.
-pub record IsConverted (to_name : List ℕ) : Type 0 where
+-- The first file was read, and the second was replaced by the puzzle that the bytes of the first mean.
+pub record IsConverted (from_name to_name : List ℕ) (old new : List Event) : Type 0 where
   pub kind : Kind
   pub bytes : List ℕ
   pub puzzle : PuzzleShown
-  pub read : IsRead kind bytes puzzle
-  pub out : List ℕ
-  pub written : AreBytesFor to_name puzzle out
+  pub mid : List Event
+  pub asks : Asks (read from_name (Ok bytes)) old mid
+  pub means : IsRead kind bytes puzzle
+  pub writes : IsWritten to_name puzzle mid new
+
+-- The first file was read, and its puzzle was not written to the second.
+pub record IsNotWritten (from_name to_name : List ℕ) (explain : Bool) (failure : Failure) (old new : List Event) : Type 0 where
+  pub kind : Kind
+  pub bytes : List ℕ
+  pub puzzle : PuzzleShown
+  pub mid : List Event
+  pub asks : Asks (read from_name (Ok bytes)) old mid
+  pub means : IsRead kind bytes puzzle
+  pub unwritten : IsUnwritten to_name explain puzzle failure mid new
 
 -- why the puzzle of a file is not written to another
-pub record IsNotWritten (to_name : List ℕ) (explain : Bool) (failure : Failure) : Type 0 where
+abbrev pub IsUnconverted : List ℕ → List ℕ → Bool → Failure → List Event → List Event → Type 0
+IsUnconverted from_name to_name explain failure old new = IsUnread from_name explain failure old new ⊎ IsNotWritten from_name to_name explain failure old new
+
+-- ---- the start of a session
+
+-- the dictionary that a session begins with: an empty one, or the one that the bytes of the named file list
+abbrev pub HasWords : Option (Bor (List ℕ)) → Dictionary → List Event → List Event → Type 0
+HasWords None words old new = (words ≡ replicate 256 []) × (new ≡ old)
+HasWords (Some file) words old new = IsLoaded file.now words old new
+
+-- The file with this name was read, and its bytes mean this puzzle.
+pub record IsFound (name : List ℕ) (puzzle : PuzzleShown) (old new : List Event) : Type 0 where
   pub kind : Kind
   pub bytes : List ℕ
-  pub puzzle : PuzzleShown
-  pub read : IsRead kind bytes puzzle
-  pub unwritten : IsUnwritten to_name explain puzzle failure
+  pub asks : Asks (read name (Ok bytes)) old new
+  pub means : IsRead kind bytes puzzle
 
-abbrev pub IsUnconverted : List ℕ → List ℕ → Bool → Failure → Type 0
-IsUnconverted from_name to_name explain failure = IsUnread from_name explain failure ⊎ IsNotWritten to_name explain failure
+-- the puzzle that a session begins with: an empty one, or the one that the bytes of the named file mean
+abbrev pub HasPuzzle : Option (Bor (List ℕ)) → PuzzleShown → List Event → List Event → Type 0
+HasPuzzle None puzzle old new = (puzzle ≡ empty_puzzle) × (new ≡ old)
+HasPuzzle (Some file) puzzle old new = IsFound file.now puzzle old new
+
+-- A session begins in this state with the files that are named: the word list was read, and then the puzzle.
+pub record IsOpened (files : SessionFiles) (state : State) (old new : List Event) : Type 0 where
+  pub words : Dictionary
+  pub mid : List Event
+  pub has_words : HasWords files.dict words old mid
+  pub puzzle : PuzzleShown
+  pub has_puzzle : HasPuzzle files.from_file puzzle mid new
+  pub opened : state ≡ opened_on words puzzle
+
+-- The word list was read, and then the puzzle was not.
+pub record IsNoPuzzle (files : SessionFiles) (explain : Bool) (failure : Failure) (old new : List Event) : Type 0 where
+  pub words : Dictionary
+  pub mid : List Event
+  pub has_words : HasWords files.dict words old mid
+  pub why : IfNamed files.from_file (λ name. IsUnread name explain failure mid new)
+
+-- the word list and the puzzle were read, and then an allocation failed
+pub record IsUnbuilt (files : SessionFiles) (failure : Failure) (old new : List Event) : Type 0 where
+  pub words : Dictionary
+  pub mid : List Event
+  pub has_words : HasWords files.dict words old mid
+  pub puzzle : PuzzleShown
+  pub has_puzzle : HasPuzzle files.from_file puzzle mid new
+  pub memory : failure ≡ failures.Memory
+
+-- why the dictionary of a session is not made
+abbrev pub HasNoWords : Option (Bor (List ℕ)) → Failure → List Event → List Event → Type 0
+HasNoWords None failure old new = (failure ≡ failures.Memory) × (new ≡ old)
+HasNoWords (Some file) failure old new = IsUnloaded file.now failure old new
+
+-- why a session is not opened
+abbrev pub IsUnopened : SessionFiles → Bool → Failure → List Event → List Event → Type 0
+IsUnopened files explain failure old new =
+    HasNoWords files.dict failure old new ⊎ (IsNoPuzzle files explain failure old new ⊎ IsUnbuilt files failure old new)
+
+-- The file with this name was read, the lines of its bytes that count were replayed, and this number of them was refused.
+pub record AreResumed (name : List ℕ) (start : State) (refused : ℕ) (state : State) (old new : List Event) : Type 0 where
+  pub text : List ℕ
+  pub asks : Asks (read name (Ok text)) old new
+  pub told : List ℕ
+  pub resumes : Resumes name start (kept_lines text) (Ok refused) told state
+
+-- the commands of the named file are replayed
+abbrev pub HasResumed : Option (Bor (List ℕ)) → State → ℕ → State → List Event → List Event → Type 0
+HasResumed None start refused state old new = (refused ≡ 0) × (state ≡ start) × (new ≡ old)
+HasResumed (Some file) start refused state old new = AreResumed file.now start refused state old new
+
+-- The file with this name was read, and a line of it stopped the replay, or an allocation failed.
+pub record IsStoppedIn (name : List ℕ) (failure : Failure) (old new : List Event) : Type 0 where
+  pub text : List ℕ
+  pub asks : Asks (read name (Ok text)) old new
+  pub why : (failure ≡ failures.Memory) ⊎ ((stop : Stop) × IsStopped name stop failure)
+
+-- why no commands are resumed
+abbrev pub IsUnresumed : List ℕ → Failure → List Event → List Event → Type 0
+IsUnresumed name failure old new = IsUnreadFile name failure old new ⊎ IsStoppedIn name failure old new
+
+-- ---- the end of a session
+
+-- before a session is saved, the old file may be kept: only if lines of it were refused
+abbrev pub MayKeep : ℕ → List ℕ → List Event → List Event → Type 0
+MayKeep refused name old new = (new ≡ old) ⊎ ((0 < refused) × Copies name (Ok tt) old new)
+
+-- The file with this name has the record of the session.
+pub record IsSavedAs (name : List ℕ) (refused : ℕ) (state : State) (old new : List Event) : Type 0 where
+  pub mid : List Event
+  pub keeps : MayKeep refused name old mid
+  pub asks : Asks (replace name (file_of state) (Ok tt)) mid new
+
+-- the session is saved if a file for it is named
+abbrev pub IsSaved : Option (Bor (List ℕ)) → ℕ → State → List Event → List Event → Type 0
+IsSaved None refused state old new = new ≡ old
+IsSaved (Some file) refused state old new = IsSavedAs file.now refused state old new
+
+-- The old file may be kept, and then the session is not saved.
+pub record IsUnsavedAs (name : List ℕ) (refused : ℕ) (state : State) (failure : Failure) (old new : List Event) : Type 0 where
+  pub mid : List Event
+  pub keeps : MayKeep refused name old mid
+  pub unsaved : IsUnsaved name state failure mid new
+
+-- why the session is not saved
+abbrev pub IsNotSaved : SessionFiles → ℕ → State → Failure → List Event → List Event → Type 0
+IsNotSaved files refused state failure old new =
+    (((failure ≡ failures.Memory) ⊎ IsNotApart files failure) × (new ≡ old))
+    ⊎ IfNamed files.save_file (λ name. ((0 < refused) × IsNotKept name failure old new) ⊎ IsUnsavedAs name refused state failure old new)
+
+-- whether the session is saved
+abbrev pub Saves : SessionFiles → ℕ → State → Result (Unit {0}) Failure → List Event → List Event → Type 0
+Saves files refused state (Ok done) old new = IsSaved files.save_file refused state old new
+Saves files refused state (Err failure) old new = IsNotSaved files refused state failure old new
+
+-- whether the journal that is named ends with the record of the session
+abbrev pub EndsJournal : Option (List ℕ) → ℕ → State → Result (Unit {0}) Failure → List Event → List Event → Type 0
+EndsJournal None refused state ended old new = (ended ≡ Ok tt) × (new ≡ old)
+EndsJournal (Some name) refused state (Ok done) old new = IsEnded name refused state old new
+EndsJournal (Some name) refused state (Err failure) old new = IsUnended name state failure old new
+
+-- the puzzle is written if a file for it is named
+abbrev pub IsPut : Option (Bor (List ℕ)) → PuzzleShown → List Event → List Event → Type 0
+IsPut None puzzle old new = new ≡ old
+IsPut (Some file) puzzle old new = IsWritten file.now puzzle old new
+
+-- why the puzzle of a session is not written
+abbrev pub IsNotPut : SessionFiles → Bool → PuzzleShown → Failure → List Event → List Event → Type 0
+IsNotPut files explain puzzle failure old new = (IsNotApart files failure × (new ≡ old)) ⊎ IfNamed files.to_file (λ name. IsUnwritten name explain puzzle failure old new)
+
+-- whether the puzzle of a session is written, with the status of its run
+abbrev pub Puts : SessionFiles → Bool → PuzzleShown → Status → Result Status Failure → List Event → List Event → Type 0
+Puts files explain puzzle status (Ok told) old new = (told ≡ status) × IsPut files.to_file puzzle old new
+Puts files explain puzzle status (Err failure) old new = IsNotPut files explain puzzle failure old new
+
+-- What follows when the session is saved or not: the journal is ended, and then the puzzle is written. Nothing follows a failure.
+pub record Closes (journal : Option (List ℕ)) (files : SessionFiles) (explain : Bool) (refused : ℕ) (state : State) (status : Status) (result : Result Status Failure) (old new : List Event) : Type 0 where
+  pub ended : Result (Unit {0}) Failure
+  pub mid : List Event
+  pub ends : EndsJournal journal refused state ended old mid
+  pub puts : MatchResult ended (λ _. Puts files explain (puzzle_of state) status result mid new) (λ failure. (result ≡ Err failure) × (new ≡ mid))
+
+-- How a session ends that answered its input or failed, in this state. It is saved in any case. After a failure to answer, that failure
+-- ends the call, and neither the journal nor the puzzle is written; so it is after a failure to save.
+pub record Ends (journal : Option (List ℕ)) (files : SessionFiles) (explain : Bool) (refused : ℕ) (state : State) (answered result : Result Status Failure) (old new : List Event) : Type 0 where
+  pub saved : Result (Unit {0}) Failure
+  pub mid : List Event
+  pub saves : Saves files refused state saved old mid
+  pub closes : MatchResult answered
+      (λ status. MatchResult saved (λ _. Closes journal files explain refused state status result mid new) (λ failure. (result ≡ Err failure) × (new ≡ mid)))
+      (λ failure. (result ≡ Err failure) × (new ≡ mid))
+
+-- ---- a session
+
+-- A session answers the input from this state, and ends. This number of lines was refused before.
+pub record IsSessionRun (files : SessionFiles) (explain : Bool) (before : ℕ) (start : State) (result : Result Status Failure) (old new : Streams) : Type 0 where
+  pub left : State
+  pub end : RunEnd
+  pub answers : AnswersInput Answers NeverStops end start left old new
+  pub ends : Ends None files explain before left (run_ended before end) result old.asked new.asked
+
+-- From its first state a session resumes the commands that are named, answers the input, and ends.
+pub record IsSession (files : SessionFiles) (explain : Bool) (opened : State) (result : Result Status Failure) (old new : Streams) : Type 0 where
+  pub before : ℕ
+  pub resumed : State
+  pub mid : List Event
+  pub has_resumed : HasResumed files.resume_file opened before resumed old.asked mid
+  pub is_run : IsSessionRun files explain before resumed result (record old { asked = mid }) new
+
+-- how a run with a journal is answered: if the journal stopped it, its cause is the failure
+abbrev pub IsJournalEnd : List ℕ → ℕ → RunEnd → Option Cause → Result Status Failure → Type 0
+IsJournalEnd name before Stopped (Some causes.Memory) answered = answered ≡ Err failures.Memory
+IsJournalEnd name before Stopped other answered = IfErr answered (λ failure. IsCannotWrite name failure ⊎ IsReplaced name failure) × IsErr answered
+IsJournalEnd name before end cause answered = answered ≡ run_ended before end
+
+-- A session answers the input from this state, with each change in the journal before its answer is finished. The journal takes these
+-- lines, and the session ends.
+pub record IsJournalRun (name : List ℕ) (files : SessionFiles) (explain : Bool) (before : ℕ) (start : JournaledState) (result : Result Status Failure) (old new : Streams) : Type 0 where
+  pub left : JournaledState
+  pub end : RunEnd
+  pub answers : AnswersInput AnswersJournaled StopsAtJournal end start left old new
+  pub taken : List Event
+  pub takes : Asks (take_lines name left.journal) old.asked taken
+  pub answered : Result Status Failure
+  pub answered_is : IsJournalEnd name before end left.cause answered
+  pub ends : Ends (Some name) files explain before left.state answered result taken new.asked
+
+-- From its first state a session replays the journal with this name, answers the input, and ends.
+pub record IsJournaled (name : List ℕ) (files : SessionFiles) (explain : Bool) (opened : State) (result : Result Status Failure) (old new : Streams) : Type 0 where
+  pub before : ℕ
+  pub replayed : State
+  pub mid : List Event
+  pub has_replayed : HasReplayed name opened before replayed old.asked mid
+  pub is_run : IsJournalRun name files explain before (record { state = replayed; journal = []; failures = 0; cause = None }) result (record old { asked = mid }) new
 
 -- ---- edit
 
--- the dictionary that a session begins with: an empty one, or the one that some bytes list
-abbrev pub HasWords : Option (Bor (List ℕ)) → Dictionary → Type 0
-HasWords None words = words ≡ replicate 256 []
-HasWords (Some file) words = (bytes : List ℕ) × (words ≡ listed_in bytes)
+-- Only the disk was asked: nothing was read from the input or written to the output.
+abbrev pub IsSilent : Streams → Streams → Type 0
+IsSilent old new = new ≡ record old { asked = new.asked }
 
--- the puzzle that a session begins with: an empty one, or one that some bytes mean
-abbrev pub HasPuzzle : Option (Bor (List ℕ)) → PuzzleShown → Type 0
-HasPuzzle None puzzle = puzzle ≡ empty_puzzle
-HasPuzzle (Some file) puzzle = (kind : Kind) × (bytes : List ℕ) × IsRead kind bytes puzzle
-
--- a session begins with the files that are named, in this state
-pub record IsOpened (files : SessionFiles) (state : State) : Type 0 where
-  pub words : Dictionary
-  pub has_words : HasWords files.dict words
-  pub puzzle : PuzzleShown
-  pub has_puzzle : HasPuzzle files.from_file puzzle
-  pub opened : state ≡ opened_on words puzzle
-
--- the lines of some bytes that count are replayed if a file is named, and this number of them is refused
-abbrev pub HasResumed : Option (Bor (List ℕ)) → State → ℕ → State → Type 0
-HasResumed None start refused state = (refused ≡ 0) × (state ≡ start)
-HasResumed (Some file) start refused state = (text : List ℕ) × (told : List ℕ) × Resumes file.now start (kept_lines text) (Ok refused) told state
-
--- if a file is named, the puzzle can be written in the format that its name asks for
-abbrev pub IsKept : Option (Bor (List ℕ)) → PuzzleShown → Type 0
-IsKept None puzzle = Unit {0}
-IsKept (Some file) puzzle = (bytes : List ℕ) × AreBytesFor file.now puzzle bytes
-
--- The lines of the input are answered, each by the session in the state that the lines before it leave, and the status
--- is that of the end of the run.
-pub record AreAnswered {S : Type 0} (Answers : S → List ℕ → Step → List ℕ → S → Type 0) (before : ℕ) (start left : S) (status : Status) (read_old read_new told_old told_new : List ℕ) : Type 0 where
-  pub text : List ℕ
-  pub read : read_new ≡ read_old ++ text
-  pub refused : ℕ
-  pub answered : Speaks Answers start (lines_of text) refused left told_old told_new
-  pub status_is : run_ended before (Done (saturated refused)) ≡ Ok status
-
--- the same with an input and an output, and what is read from the one and written to the other
-abbrev pub AreAnsweredOn : {S I O : Type 0} → (S → List ℕ → Step → List ℕ → S → Type 0) → (I → List ℕ) → (O → List ℕ) → ℕ → S → S → Status → I → I → O → O → Type 0
-AreAnsweredOn Answers read told before start left status read_old read_new told_old told_new =
-    AreAnswered Answers before start left status (read read_old) (read read_new) (told told_old) (told told_new)
-
--- From its first state a session resumes the commands that are named and answers the input, and its puzzle is written
--- if a file for it is named.
-pub record IsRun (files : SessionFiles) (opened : State) (status : Status) (read_old read_new told_old told_new : List ℕ) : Type 0 where
-  pub before : ℕ
-  pub resumed : State
-  pub has_resumed : HasResumed files.resume_file opened before resumed
-  pub left : State
-  pub answers : AreAnswered Answers before resumed left status read_old read_new told_old told_new
-  pub kept : IsKept files.to_file (puzzle_of left)
-
--- From its first state a session replays the journal with this name and answers the input, with each change in the journal before its
--- answer is finished, and its puzzle is written if a file for it is named.
-pub record IsJournaled (name : List ℕ) (files : SessionFiles) (opened : State) (status : Status) (read_old read_new told_old told_new : List ℕ) : Type 0 where
-  pub before : ℕ
-  pub replayed : State
-  pub has_replayed : HasReplayed name opened before replayed
-  pub left : JournaledState
-  pub answers : AreAnswered AnswersJournaled before (record { state = replayed; journal = []; failures = 0; cause = None }) left status read_old read_new told_old told_new
-  pub kept : IsKept files.to_file (puzzle_of left.state)
+-- why a session is not run: the failure ends the call before the input is read
+abbrev pub IsUnrun : Option (Bor (List ℕ)) → SessionFiles → Failure → List Event → List Event → Type 0
+IsUnrun None files failure old new = IfNamed files.resume_file (λ name. IsUnresumed name failure old new)
+IsUnrun (Some file) files failure old new = IsUnreplayed file.now failure old new
 
 -- what a session does from its first state, with or without a journal
-abbrev pub IsRunWith : Option (Bor (List ℕ)) → SessionFiles → State → Status → List ℕ → List ℕ → List ℕ → List ℕ → Type 0
-IsRunWith None files opened status read_old read_new told_old told_new = IsRun files opened status read_old read_new told_old told_new
-IsRunWith (Some file) files opened status read_old read_new told_old told_new = IsJournaled file.now files opened status read_old read_new told_old told_new
+abbrev pub IsRunWith : Option (Bor (List ℕ)) → SessionFiles → Bool → State → Result Status Failure → Streams → Streams → Type 0
+IsRunWith None files explain opened result old new = IsSession files explain opened result old new
+IsRunWith (Some file) files explain opened result old new = IsJournaled file.now files explain opened result old new
 
--- a session is opened with the files that are named, and run
-pub record IsEdited (files : SessionFiles) (status : Status) (read_old read_new told_old told_new : List ℕ) : Type 0 where
+-- A session is opened with the files that are named, and run.
+pub record IsEdited (files : SessionFiles) (explain : Bool) (result : Result Status Failure) (old new : Streams) : Type 0 where
   pub opened : State
-  pub is_opened : IsOpened files opened
-  pub is_run : IsRunWith files.journal_file files opened status read_old read_new told_old told_new
+  pub mid : List Event
+  pub is_opened : IsOpened files opened old.asked mid
+  pub is_run : IsRunWith files.journal_file files explain opened result (record old { asked = mid }) new
 
--- why a session is not opened
-abbrev pub IsUnopened : SessionFiles → Bool → Failure → Type 0
-IsUnopened files explain failure = (failure ≡ failures.Memory) ⊎ (IfNamed files.dict (λ name. IsUnloaded name failure) ⊎ IfNamed files.from_file (λ name. IsUnread name explain failure))
+-- A session is opened, and not run.
+pub record IsOpenedInVain (files : SessionFiles) (failure : Failure) (old new : List Event) : Type 0 where
+  pub opened : State
+  pub mid : List Event
+  pub is_opened : IsOpened files opened old mid
+  pub unrun : IsUnrun files.journal_file files failure mid new
 
--- why no commands are resumed
-abbrev pub IsUnresumed : List ℕ → Failure → Type 0
-IsUnresumed name failure = (failure ≡ failures.Memory) ⊎ (IsCannotRead name failure ⊎ ((number : ℕ) × (refusal : Refusal) × IsLineFault name number (name_of refusal) failure))
-
--- why the input is not answered to its end
-abbrev pub IsUnanswered : Failure → Type 0
-IsUnanswered failure = (failure ≡ failures.Memory) ⊎ ((failure ≡ failures.Input) ⊎ (failure ≡ failures.Output))
-
--- why the session is not saved
-abbrev pub IsNotSaved : SessionFiles → Failure → Type 0
-IsNotSaved files failure =
-    (failure ≡ failures.Memory) ⊎ (IsNotApart files failure ⊎ IfNamed files.save_file (λ name. IsNotKept name failure ⊎ IsUnsaved name failure))
-
--- why the puzzle of a session is not written
-abbrev pub IsNotPut : SessionFiles → Bool → Failure → Type 0
-IsNotPut files explain failure = IsNotApart files failure ⊎ IfNamed files.to_file (λ name. (puzzle : PuzzleShown) × IsUnwritten name explain puzzle failure)
-
--- why an opened session is not run to its end
-abbrev pub IsCut : SessionFiles → Bool → Failure → Type 0
-IsCut files explain failure =
-    IfNamed files.resume_file (λ name. IsUnresumed name failure) ⊎ (IsUnanswered failure ⊎ (IsNotSaved files failure ⊎ IsNotPut files explain failure))
-
--- why the journal with this name does not take a line, or is not replaced at the end
-abbrev pub IsJournalFault : List ℕ → Failure → Type 0
-IsJournalFault name failure = IsUnsaved name failure ⊎ IsReplaced name failure
-
--- why an opened session is not run to its end with the journal of this name
-abbrev pub IsCutJournal : List ℕ → SessionFiles → Bool → Failure → Type 0
-IsCutJournal name files explain failure =
-    IsUnreplayed name failure ⊎ (IsUnanswered failure ⊎ (IsJournalFault name failure ⊎ (IsNotSaved files failure ⊎ IsNotPut files explain failure)))
-
--- why an opened session is not run to its end, with or without a journal
-abbrev pub IsCutWith : Option (Bor (List ℕ)) → SessionFiles → Bool → Failure → Type 0
-IsCutWith None files explain failure = IsCut files explain failure
-IsCutWith (Some file) files explain failure = IsCutJournal file.now files explain failure
-
--- why a session is not opened and run to its end
-abbrev pub IsUnedited : SessionFiles → Bool → Failure → Type 0
-IsUnedited files explain failure =
-    IsNotApart files failure ⊎ (AreInUse files failure ⊎ (IsUnopened files explain failure ⊎ IsCutWith files.journal_file files explain failure))
+-- why no session is run: files that must differ are one, one is the journal of another program, or a file to start with has a fault.
+-- No file is replaced then.
+abbrev pub IsUnedited : SessionFiles → Bool → Failure → List Event → List Event → Type 0
+IsUnedited files explain failure old new =
+    ((IsNotApart files failure ⊎ AreInUse files failure) × (new ≡ old)) ⊎ (IsUnopened files explain failure old new ⊎ IsOpenedInVain files failure old new)
 
 -- ---- any call
 
--- What a call does that ends without a failure. The arguments are the call, the status, and what was read from the
--- input and written to the output before and after.
-abbrev pub IsPerformed : Call → Status → List ℕ → List ℕ → List ℕ → List ℕ → Type 0
-IsPerformed (Edit files explain) status read_old read_new told_old told_new = IsEdited files status read_old read_new told_old told_new
-IsPerformed (Convert from_file to_file explain) status read_old read_new told_old told_new = (status ≡ Accepted) × IsConverted to_file.now
-IsPerformed (Check file explain) status read_old read_new told_old told_new = (status ≡ Accepted) × IsChecked told_old told_new
+-- what a call does, and how it ends; the messages end so
+abbrev pub IsPerformed : {E : Type 0} → (E → List ℕ) → (E → ℕ) → Call → Result Status Failure → Streams → Streams → E → Type 0
+IsPerformed {E} transcript failed (Edit files explain) result old new errors =
+    IsEdited files explain result old new ⊎ (IfErr result (λ failure. IsUnedited files explain failure old.asked new.asked) × IsErr result × IsSilent old new)
+IsPerformed {E} transcript failed (Convert from_file to_file explain) (Ok status) old new errors =
+    (status ≡ Accepted) × IsConverted from_file.now to_file.now old.asked new.asked × IsSilent old new × (mid : E) × IsTextTold transcript failed to_file.now mid errors
+IsPerformed {E} transcript failed (Convert from_file to_file explain) (Err failure) old new errors = IsUnconverted from_file.now to_file.now explain failure old.asked new.asked × IsSilent old new
+IsPerformed {E} transcript failed (Check files explain) result old new errors =
+    IsCheckOf transcript failed (map (λ file. file.now) files.items) explain result old.asked new.asked old.told new.told old.write_failures new.write_failures errors
 
--- the same with an input and an output, and what is read from the one and written to the other
-abbrev pub IsPerformedOn : {I O : Type 0} → (I → List ℕ) → (O → List ℕ) → Call → Status → I → I → O → O → Type 0
-IsPerformedOn read told call status read_old read_new told_old told_new = IsPerformed call status (read read_old) (read read_new) (told told_old) (told told_new)
-
--- the failure may end the call
-abbrev pub MayEnd : Call → Failure → Type 0
-MayEnd (Edit files explain) failure = IsUnedited files explain failure
-MayEnd (Convert from_file to_file explain) failure = IsUnconverted from_file.now to_file.now explain failure
-MayEnd (Check file explain) failure = IsUnchecked file.now explain failure
-
--- The failure may end the call, and the status is that of the failure, or of the message `xw: memory` in its place.
-pub record IsEnded {S : Type 0} (transcript : S → List ℕ) (failures : S → ℕ) (call : Call) (status : Status) (new : S) : Type 0 where
-  pub failure : Failure
-  pub may_end : MayEnd call failure
-  pub before : S
-  pub told : IsTold transcript failures failure before new status
+-- The call did this, and ended so. A failure was reported, with its status. `closed` says whether the reader of the output is gone.
+pub record Performs {E : Type 0} (transcript : E → List ℕ) (failures : E → ℕ) (closed : Bool) (call : Call) (status : Status) (old new : Streams) (errors : E) : Type 0 where
+  pub result : Result Status Failure
+  pub reported : E
+  pub performed : IsPerformed transcript failures call result old new reported
+  pub told : MatchResult result (λ told. (status ≡ told) × (errors ≡ reported)) (λ failure. IsReported transcript failures (is_quiet failure closed) (is_explained call) failure reported errors status)

@@ -1,16 +1,21 @@
 -- The word list of a session, and the commands that it resumes: what is read, what is told, and which failure ends it.
 use Rattle.std.specs.Prelude.{◌≡◌, ◌⊎◌, ◌-◌, ◌++◌, ℕ, List, None, Result, Ok, Err, codes, decimal, length}
+use Rattle.xw_words.specs.Dictionary.{Dictionary}
 use Rattle.xw_words.specs.WordList.{IsTooLong, listed_in, results_of, words_among}
-use Rattle.xw_journal.specs.File.{kept_lines}
+use Rattle.xw_journal.specs.File.{first_line, kept_lines}
+use Rattle.xw_session.specs.Record.{record_lines}
 use Rattle.xw_session.specs.Resuming.{Resumes, Tells}
 use Rattle.xw_session.specs.State.{State}
-use Rattle.xw_session.specs.Text.{name_of}
+use Rattle.xw_answers.specs.Text.{name_of}
 use Rattle.xw_session.specs.declared.resuming.Stop.{Stop}
 use Rattle.xw_session.specs.declared.resuming.Stop.TheVariants as stops
 use Rattle.xw_cli.specs.declared.failure.Failure.{Failure}
 use Rattle.xw_cli.specs.declared.failure.Failure.TheVariants as failures
 use Rattle.xw_cli.specs.Explained.{GoesOut}
-use Rattle.xw_cli.specs.Files.{IsCannotRead, IsFileFault, IsLineFault, IsUnreplaced}
+use Rattle.xw_disk.specs.Disk.{Event, read, copy}
+use Rattle.xw_disk.specs.declared.disk.DiskFault.{DiskFault}
+use Rattle.xw_cli.specs.Files.{Asks, IsFileFault, IsLineFault, IsUnreadFile, IsUnreplaced}
+use Rattle.xw_cli.specs.Told.{IsOldFaultOf}
 
 -- ---- the word list
 
@@ -30,9 +35,21 @@ loaded_line name bytes = counts_line name (added_in bytes) (length (results_of b
 abbrev pub IsOverfull : List ℕ → List ℕ → Failure → Type 0
 IsOverfull name bytes failure = IsTooLong (listed_in bytes) × IsFileFault name (codes "Full") None failure
 
+-- The file with this name was read, and the dictionary is the one that its bytes list.
+pub record IsLoaded (name : List ℕ) (words : Dictionary) (old new : List Event) : Type 0 where
+  pub bytes : List ℕ
+  pub asks : Asks (read name (Ok bytes)) old new
+  pub listed : words ≡ listed_in bytes
+
+-- The file with this name was read, and its bytes have too many words, or an allocation failed.
+pub record IsBadList (name : List ℕ) (failure : Failure) (old new : List Event) : Type 0 where
+  pub bytes : List ℕ
+  pub asks : Asks (read name (Ok bytes)) old new
+  pub told : (failure ≡ failures.Memory) ⊎ IsOverfull name bytes failure
+
 -- why the word list with this name is not loaded
-abbrev pub IsUnloaded : List ℕ → Failure → Type 0
-IsUnloaded name failure = (failure ≡ failures.Memory) ⊎ (IsCannotRead name failure ⊎ ((bytes : List ℕ) × IsOverfull name bytes failure))
+abbrev pub IsUnloaded : List ℕ → Failure → List Event → List Event → Type 0
+IsUnloaded name failure old new = IsUnreadFile name failure old new ⊎ IsBadList name failure old new
 
 -- ---- the commands to resume
 
@@ -62,26 +79,47 @@ abbrev pub Replays : {S : Type 0} → (S → List ℕ) → (S → ℕ) → List 
 Replays transcript failures name lines start left result old new =
     (ended : Result ℕ Stop) × (told : List ℕ) × Resumes name start lines ended told left × Tells transcript failures old new told × IsReplayed name ended result
 
--- The file with this name cannot be read, and nothing changes.
-pub record IsNotRead {S : Type 0} (name : List ℕ) (start left : State) (result : Result ℕ Failure) (old new : S) : Type 0 where
-  pub failure : Failure
-  pub failed : result ≡ Err failure
-  pub why : (failure ≡ failures.Memory) ⊎ IsCannotRead name failure
+-- The file with this name was read, and the lines of its bytes that count are replayed, after a report if others were cut.
+pub record IsReplay {S : Type 0} (transcript : S → List ℕ) (failures : S → ℕ) (name : List ℕ) (start left : State) (result : Result ℕ Failure) (asked asked' : List Event) (old new : S) : Type 0 where
+  pub text : List ℕ
+  pub asks : Asks (read name (Ok text)) asked asked'
+  pub mid : S
+  pub cut : MayTellCut transcript failures name old mid
+  pub replays : Replays transcript failures name (kept_lines text) start left result mid new
+
+-- The file with this name was read, and the report that lines were cut could not be allocated.
+pub record IsUntold {S : Type 0} (name : List ℕ) (start left : State) (result : Result ℕ Failure) (asked asked' : List Event) (old new : S) : Type 0 where
+  pub text : List ℕ
+  pub asks : Asks (read name (Ok text)) asked asked'
+  pub memory : result ≡ Err failures.Memory
   pub state : left ≡ start
   pub untold : new ≡ old
 
--- What resuming the file with this name does: the lines of some bytes that count are replayed, after a report if others were cut; or the
--- file cannot be read.
-abbrev pub IsResumed : {S : Type 0} → (S → List ℕ) → (S → ℕ) → List ℕ → State → State → Result ℕ Failure → S → S → Type 0
-IsResumed {S} transcript failures name start left result old new =
-    ((text : List ℕ) × (mid : S) × MayTellCut transcript failures name old mid × Replays transcript failures name (kept_lines text) start left result mid new)
-    ⊎ IsNotRead name start left result old new
+-- The file with this name was not read, and nothing else happened.
+pub record IsNotRead {S : Type 0} (name : List ℕ) (start left : State) (result : Result ℕ Failure) (asked asked' : List Event) (old new : S) : Type 0 where
+  pub failure : Failure
+  pub failed : result ≡ Err failure
+  pub why : IsUnreadFile name failure asked asked'
+  pub state : left ≡ start
+  pub untold : new ≡ old
+
+-- what resuming the file with this name does
+abbrev pub IsResumed : {S : Type 0} → (S → List ℕ) → (S → ℕ) → List ℕ → State → State → Result ℕ Failure → List Event → List Event → S → S → Type 0
+IsResumed transcript failures name start left result asked asked' old new =
+    IsReplay transcript failures name start left result asked asked' old new
+    ⊎ (IsUntold name start left result asked asked' old new ⊎ IsNotRead name start left result asked asked' old new)
 
 -- ---- the record
 
+-- the file of a session in this state: the first line and the record
+abbrev pub file_of : State → List ℕ
+file_of state = first_line ++ record_lines state
+
 -- why the session is not written to the file with this name
-abbrev pub IsUnsaved : List ℕ → Failure → Type 0
-IsUnsaved name failure = IsUnreplaced name failure
+abbrev pub IsUnsaved : List ℕ → State → Failure → List Event → List Event → Type 0
+IsUnsaved name state failure old new = ((failure ≡ failures.Memory) × (new ≡ old)) ⊎ IsUnreplaced name (file_of state) failure old new
+
+-- ---- an old file that is kept
 
 -- the name under which an old file is kept
 abbrev pub old_name : List ℕ → List ℕ
@@ -89,8 +127,33 @@ old_name name = name ++ codes "~"
 
 -- the report of an old file that is kept
 abbrev pub old_line : List ℕ → List ℕ
-old_line name = codes "xw: " ++ name ++ codes ": refused lines; the old file is kept as " ++ old_name name ++ codes "\n"
+old_line name = codes "xw: " ++ name ++ codes ": refused lines; the old file is kept as " ++ name ++ codes "~\n"
+
+-- The file with this name was read, and another was to have these bytes and the same mode.
+pub record Copies (name : List ℕ) (answer : Result (Unit {0}) DiskFault) (old new : List Event) : Type 0 where
+  pub bytes : List ℕ
+  pub mid : List Event
+  pub reads : Asks (read name (Ok bytes)) old mid
+  pub copies : Asks (copy (old_name name) name bytes answer) mid new
+
+-- the old file was read, and the name of its copy could not be allocated
+pub record IsUnnamed (name : List ℕ) (failure : Failure) (old new : List Event) : Type 0 where
+  pub bytes : List ℕ
+  pub asks : Asks (read name (Ok bytes)) old new
+  pub memory : failure ≡ failures.Memory
+
+-- the old file was not copied
+pub record IsNotCopied (name : List ℕ) (failure : Failure) (old new : List Event) : Type 0 where
+  pub fault : DiskFault
+  pub told : IsOldFaultOf fault name failure
+  pub copies : Copies name (Err fault) old new
+
+-- the old file was copied, and the report of it could not be allocated
+pub record IsCopiedUntold (name : List ℕ) (failure : Failure) (old new : List Event) : Type 0 where
+  pub memory : failure ≡ failures.Memory
+  pub copies : Copies name (Ok tt) old new
 
 -- why the old file is not kept before the session is written over it
-abbrev pub IsNotKept : List ℕ → Failure → Type 0
-IsNotKept name failure = (failure ≡ failures.Memory) ⊎ (IsCannotRead name failure ⊎ IsUnreplaced (old_name name) failure)
+abbrev pub IsNotKept : List ℕ → Failure → List Event → List Event → Type 0
+IsNotKept name failure old new =
+    IsUnreadFile name failure old new ⊎ (IsUnnamed name failure old new ⊎ (IsNotCopied name failure old new ⊎ IsCopiedUntold name failure old new))

@@ -1,6 +1,7 @@
 -- The options and operands of the command line, as `clap` rules.
 use Rattle.std.specs.Prelude.{Some, true, codes}
 use Rattle.clap.specs.Words.{App, Rule, Text, new_app, new_rule, with_rule, with_subcommand}
+use Rattle.clap.specs.Lexer.{usize_max}
 use Rattle.clap.specs.Simple.{on_top}
 use Rattle.clap.specs.declared.builder.action.ArgAction.TheVariants.{SetTrue}
 
@@ -18,6 +19,10 @@ explain = flag (codes "explain")
 -- a required operand that is a file
 abbrev pub operand : Text → Rule
 operand name = record (new_rule name) { value_names = 1; required = true }
+
+-- a required operand that is a list of files
+abbrev pub operands : Text → Rule
+operands name = record (operand name) { range = Some (record { start_inclusive = 1; end_inclusive = usize_max }) }
 
 -- `edit` built up in steps: word list and puzzle to start with, commands to start with, files to write
 -- at the end, the journal, `--explain`
@@ -47,7 +52,7 @@ abbrev pub convert : App
 convert = with_rule writing explain
 
 abbrev pub check : App
-check = with_rule (with_rule (new_app (codes "check")) (operand (codes "file"))) explain
+check = with_rule (with_rule (new_app (codes "check")) (operands (codes "file"))) explain
 
 -- the program without its subcommands
 abbrev pub top : App

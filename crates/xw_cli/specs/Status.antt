@@ -23,6 +23,8 @@ status_of (failures.CannotRead file) = Failed
 status_of (failures.CannotWrite file) = Failed
 status_of (failures.InUse file) = Failed
 status_of (failures.Replaced file) = Failed
+status_of (failures.OldUnwritable file) = Failed
+status_of (failures.OldInUse file) = Failed
 status_of (failures.File file name) = Format
 status_of (failures.Located file name location) = Format
 status_of (failures.Line file number name) = Format
@@ -31,6 +33,7 @@ status_of (failures.TwoTexts file) = Usage
 status_of (failures.OverPuzzle file) = Usage
 status_of (failures.SavedAsPuz file) = Usage
 status_of (failures.SharedJournal file) = Usage
+status_of failures.InputTwice = Usage
 
 -- the outcome of answering commands; `before` is the number of lines refused earlier
 abbrev pub run_ended : ℕ → RunEnd → Result Status Failure

@@ -1,16 +1,11 @@
 //! Keeps the files of a call apart: a file that is written must be no other file of the call, nor the journal of another program.
 ghost use Rattle.std.specs.Prelude.{◌≡◌, IfErr};
-ghost use Rattle.xw_cli.specs.declared.failure.Failure.TheVariants.{Memory};
-ghost use Rattle.xw_cli.specs.Apart.{AreInUse, IsNotApart, IsOfPair, IsRefusedJournal, IsRefusedPair, IsRefusedPuz};
+ghost use Rattle.xw_cli.specs.Apart.{AreInUse, is_input, IsNotApart, IsOfPair, IsReadTwice, IsRefusedJournal, IsRefusedPair, IsRefusedPuz};
 
 use crate::arguments::SessionFiles;
 use crate::failure::Failure;
-use crate::identity::is_one_file;
-use crate::journal::in_use;
-use crate::locks::{Held, Locks, hold};
 use crate::names::kind_by_name;
-use std::io::ErrorKind;
-use std::rt::Files;
+use xw_disk::Disk;
 use xw_files::Kind;
 
 /// Two files of a call that must not be one.
@@ -26,20 +21,31 @@ pub enum Pair {
     OtherAndJournal,
 }
 
-/// Refuses to write over the word list, to write the session over the puzzle to start with or as `.puz`, to write both the puzzle
-/// and the session to one file, and to use the journal as another file.
-pub fn keep_apart<R: Files + AllocGlobal>(rt: &R, named: SessionFiles<'_>) -> Result<(), Failure>
+/// Refuses to read two files from standard input, to write over the word list, to write the session over the puzzle to start with or as
+/// `.puz`, to write both the puzzle and the session to one file, and to use the journal as another file.
+pub fn keep_apart<'a, D: Disk>(disk: &D, named: SessionFiles<'a>) -> Result<(), Failure<'a>>
     ensures { IfErr result (λ failure. IsNotApart named.entry failure) }
 {
-    refuse_pair(rt, Pair::ListAndWritten, named.dict, named.to_file)?;
-    refuse_pair(rt, Pair::ListAndWritten, named.dict, named.save_file)?;
-    refuse_pair(rt, Pair::PuzzleAndSession, named.to_file, named.save_file)?;
-    refuse_pair(rt, Pair::StartAndSession, named.from_file, named.save_file)?;
-    refuse_puz(rt, named.save_file)?;
-    refuse_pair(rt, Pair::OtherAndJournal, named.dict, named.journal_file)?;
-    refuse_pair(rt, Pair::OtherAndJournal, named.to_file, named.journal_file)?;
+    refuse_input_twice(named)?;
+    refuse_pair(disk, Pair::ListAndWritten, named.dict, named.to_file)?;
+    refuse_pair(disk, Pair::ListAndWritten, named.dict, named.save_file)?;
+    refuse_pair(disk, Pair::PuzzleAndSession, named.to_file, named.save_file)?;
     refuse_pair(
-        rt,
+        disk,
+        Pair::StartAndSession,
+        named.from_file,
+        named.save_file,
+    )?;
+    refuse_puz(named.save_file)?;
+    refuse_pair(disk, Pair::OtherAndJournal, named.dict, named.journal_file)?;
+    refuse_pair(
+        disk,
+        Pair::OtherAndJournal,
+        named.to_file,
+        named.journal_file,
+    )?;
+    refuse_pair(
+        disk,
         Pair::OtherAndJournal,
         named.save_file,
         named.journal_file,
@@ -47,43 +53,64 @@ pub fn keep_apart<R: Files + AllocGlobal>(rt: &R, named: SessionFiles<'_>) -> Re
 }
 
 /// Refuses to write the session over another file of the call that is not written itself.
-pub fn keep_session_apart<R: Files + AllocGlobal>(
-    rt: &R,
-    named: SessionFiles<'_>,
-) -> Result<(), Failure>
+pub fn keep_session_apart<'a, D: Disk>(disk: &D, named: SessionFiles<'a>) -> Result<(), Failure<'a>>
     ensures { IfErr result (λ failure. IsNotApart named.entry failure) }
 {
-    refuse_pair(rt, Pair::ListAndWritten, named.dict, named.save_file)?;
-    refuse_pair(rt, Pair::StartAndSession, named.from_file, named.save_file)?;
+    refuse_pair(disk, Pair::ListAndWritten, named.dict, named.save_file)?;
     refuse_pair(
-        rt,
+        disk,
+        Pair::StartAndSession,
+        named.from_file,
+        named.save_file,
+    )?;
+    refuse_pair(
+        disk,
         Pair::OtherAndJournal,
         named.save_file,
         named.journal_file,
     )
 }
 
+/// Returns whether the name of a file stands for standard input.
+pub fn is_input(name: Option<&str>) -> bool
+    ensures { result ≡ is_input name.entry }
+{
+    match name {
+        Some(name) => name == "-",
+        None => false,
+    }
+}
+
+/// Refuses to read the word list and another file from standard input.
+fn refuse_input_twice<'a>(named: SessionFiles<'a>) -> Result<(), Failure<'a>>
+    ensures { IfErr result (λ failure. IsReadTwice named.entry failure) }
+{
+    if is_input(named.dict) && (is_input(named.from_file) || is_input(named.resume_file)) {
+        return Err(Failure::InputTwice);
+    }
+    Ok(())
+}
+
 /// Refuses two files if both are named and are one. The failure names the second.
-fn refuse_pair<R: Files + AllocGlobal>(
-    rt: &R,
+fn refuse_pair<'a, D: Disk>(
+    disk: &D,
     pair: Pair,
-    one: Option<&str>,
-    other: Option<&str>,
-) -> Result<(), Failure>
+    one: Option<&'a str>,
+    other: Option<&'a str>,
+) -> Result<(), Failure<'a>>
     ensures { IfErr result (λ failure. IsRefusedPair pair one.entry other.entry failure) }
 {
     match (one, other) {
-        (Some(one), Some(other)) if are_one(rt, one, other)? => {
-            let file = String::from_str(rt.alloc(), other)?;
-            Err(failure_of(pair, file))
+        (Some(one), Some(other)) if disk.is_one_file(one, other)? => {
+            Err(failure_of_pair(pair, other))
         }
         _ => Ok(()),
     }
 }
 
 /// Returns the failure for two files that are one. `file` is the name of the second.
-fn failure_of(pair: Pair, file: String) -> Failure
-    ensures { IsOfPair pair file.bytes.items result }
+fn failure_of_pair<'a>(pair: Pair, file: &'a str) -> Failure<'a>
+    ensures { IsOfPair pair file.entry.now result }
 {
     match pair {
         Pair::ListAndWritten => Failure::OneFile { file },
@@ -93,47 +120,30 @@ fn failure_of(pair: Pair, file: String) -> Failure
     }
 }
 
-/// Returns whether two names lead to one file.
-pub fn are_one<R: Files + AllocGlobal>(rt: &R, one: &str, other: &str) -> Result<bool, Failure>
-    ensures { IfErr result (λ failure. failure ≡ Memory) }
-{
-    match is_one_file(rt, one, other) {
-        Ok(is_one) => Ok(is_one),
-        Err(error) if error.kind() == ErrorKind::OutOfMemory => Err(Failure::Memory),
-        Err(_) => Ok(one == other),
-    }
-}
-
 /// Refuses a name for the session that asks for `.puz`.
-fn refuse_puz<R: AllocGlobal>(rt: &R, saved: Option<&str>) -> Result<(), Failure>
+fn refuse_puz<'a>(saved: Option<&'a str>) -> Result<(), Failure<'a>>
     ensures { IfErr result (λ failure. IsRefusedPuz saved.entry failure) }
 {
     match saved {
-        Some(name) if kind_by_name(name) == Kind::Puz => {
-            let file = String::from_str(rt.alloc(), name)?;
-            Err(Failure::SavedAsPuz { file })
-        }
+        Some(file) if kind_by_name(file) == Kind::Puz => Err(Failure::SavedAsPuz { file }),
         _ => Ok(()),
     }
 }
 
 /// Refuses to write over the journal of another program.
-pub fn keep_free<R: Locks + AllocGlobal>(rt: &R, named: SessionFiles<'_>) -> Result<(), Failure>
+pub fn keep_free<'a, D: Disk>(disk: &D, named: SessionFiles<'a>) -> Result<(), Failure<'a>>
     ensures { IfErr result (λ failure. AreInUse named.entry failure) }
 {
-    refuse_journal(rt, named.save_file)?;
-    refuse_journal(rt, named.to_file)
+    refuse_journal(disk, named.save_file)?;
+    refuse_journal(disk, named.to_file)
 }
 
 /// Refuses a file if another program has it as its journal.
-fn refuse_journal<R: Locks + AllocGlobal>(rt: &R, written: Option<&str>) -> Result<(), Failure>
+fn refuse_journal<'a, D: Disk>(disk: &D, written: Option<&'a str>) -> Result<(), Failure<'a>>
     ensures { IfErr result (λ failure. IsRefusedJournal written.entry failure) }
 {
-    let Some(file) = written else {
-        return Ok(());
-    };
-    match hold(rt, file) {
-        Held::Free(_file) => Ok(()),
-        Held::InUse => Err(in_use(rt.alloc(), file)),
+    match written {
+        Some(file) if !disk.is_free(file) => Err(Failure::InUse { file }),
+        _ => Ok(()),
     }
 }

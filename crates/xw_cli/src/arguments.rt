@@ -1,9 +1,9 @@
 //! The command line of the program: its options, and the call that the arguments describe.
-ghost use Rattle.std.specs.Prelude.{◌≡◌, is_some, Bool, IfOk, IfErr, OnOk, IfSome, None, Ok, map, false, [], codes};
+ghost use Rattle.std.specs.Prelude.{◌≡◌, ◌⊎◌, is_some, Bool, IfOk, IfErr, OnOk, IfSome, None, Ok, map, false, [], codes};
 ghost use Rattle.clap.specs.Values.{kind_of};
-ghost use Rattle.clap.specs.Words.{AddsSubcommand, app_of, fault_of, first_of, found_of, rows_of, rule_of, subcommand_of, subcommand_rows_of};
+ghost use Rattle.clap.specs.Words.{AddsSubcommand, all_of, app_of, fault_of, first_of, found_of, rows_of, rule_of, subcommand_of, subcommand_rows_of};
 ghost use Rattle.clap.specs.declared.builder.command.Command.TheViews.{out-Command as fields_of};
-ghost use Rattle.xw_cli.specs.Calls.{AreFiles, IsCall, is_set, clash_in, clash_of};
+ghost use Rattle.xw_cli.specs.Calls.{AreFiles, IsCall, IsCallOf, is_explained, is_set, clash_in, clash_of};
 ghost use Rattle.xw_cli.specs.Usage.{IsTold, IsNoCall, IsUsageOf};
 ghost use Rattle.xw_cli.specs.Shapes as shapes;
 
@@ -73,8 +73,8 @@ impl Clash {
     }
 }
 
-/// What the program has to do. `explain` asks for the location of a fault in the message.
-#[derive(Clone, Copy, Debug, PartialEq, Eq)]
+/// What the program has to do. `explain` asks for the location of a fault, or the error of the system, after the message.
+#[derive(Debug, Drop)]
 pub enum Call<'a> {
     /// Answers commands on standard input.
     Edit {
@@ -87,11 +87,24 @@ pub enum Call<'a> {
         to_file: &'a str,
         explain: bool,
     },
-    /// Reports the format, size and number of lights of a puzzle file.
+    /// Reports the format, size and number of lights of each puzzle file.
     Check {
-        file: &'a str,
+        files: Vec<&'a str>,
         explain: bool,
     },
+}
+
+impl<'a> Call<'a> {
+    /// Returns whether faults are explained.
+    pub fn is_explained(&self) -> bool
+        ensures { result ≡ is_explained self.now }
+    {
+        match self {
+            Call::Edit { explain, .. } => *explain,
+            Call::Convert { explain, .. } => *explain,
+            Call::Check { explain, .. } => *explain,
+        }
+    }
 }
 
 /// Why the arguments are not a call, with the text to print. `Help` means that help or the version was requested.
@@ -145,6 +158,14 @@ fn operand<'a>(alloc: Global, name: &'a str, shown: &'a str, help: &'a str) -> A
         .value_name(shown)
         .help(help)
         .required(true)
+}
+
+/// Returns a required operand that is a list of files.
+fn operands<'a>(alloc: Global, name: &'a str, shown: &'a str, help: &'a str) -> Arg<'a>
+    ensures rule { rule_of result ≡ shapes.operands name.entry.now }
+    ensures local { result.global ≡ false }
+{
+    operand(alloc, name, shown, help).num_args(1..)
 }
 
 /// Returns `edit` with the options `--dict` and `--from`.
@@ -253,8 +274,8 @@ fn check<'a>(alloc: Global) -> Result<Command<'a>, AllocError>
     ensures local { IfOk result (λ command. (fields_of command).has_globals ≡ false) }
 {
     Command::new(alloc, "check")
-        .about("Read a puzzle file and tell its format, size and number of lights")
-        .arg(operand(alloc, "file", "FILE", "The puzzle to read, .puz or text"))?
+        .about("Read puzzle files and tell their format, size and number of lights")
+        .arg(operands(alloc, "file", "FILE", "The puzzles to read, .puz or text"))?
         .arg(explain(alloc))
 }
 
@@ -320,7 +341,7 @@ pub fn arguments<'a, S: AsStr>(alloc: Global, words: &'a [S]) -> Result<Call<'a>
         Ok(matches) => matches,
         Err(error) => return Err(explanation(alloc, &error)),
     };
-    match call_of(&matches) {
+    match call_of(alloc, &matches)? {
         Some(call) => Ok(call),
         None => Err(Usage::Wrong(String::from_str(alloc, message(&matches))?)),
     }
@@ -399,27 +420,56 @@ fn is_explained(matches: &ArgMatches<'_>) -> bool
     is_set(matches, "explain")
 }
 
-/// Returns the call of the parsed arguments, or `None` if a file is missing or two options do not go together.
-fn call_of<'a>(matches: &ArgMatches<'a>) -> Option<Call<'a>>
-    ensures call { IfSome result (λ call. IsCall call (subcommand_rows_of matches.now)) }
-    ensures none { result ≡ None → IsNoCall (subcommand_rows_of matches.now) }
+/// Returns the `edit` call of these matches, or `None` if two options do not go together.
+fn edit_of<'a>(matches: &ArgMatches<'a>) -> Option<Call<'a>>
+    ensures call { IfSome result (λ call. IsCallOf (codes "edit") call (rows_of (found_of matches.now))) }
+    ensures none { result ≡ None → (files : SessionFiles) → AreFiles files (rows_of (found_of matches.now)) → ⊥ }
 {
-    let (name, files) = matches.subcommand()?;
+    Some(Call::Edit {
+        files: session_files(matches)?,
+        explain: is_explained(matches),
+    })
+}
+
+/// Returns the `convert` call of these matches, or `None` if a file is missing.
+fn convert_of<'a>(matches: &ArgMatches<'a>) -> Option<Call<'a>>
+    ensures call { IfSome result (λ call. IsCallOf (codes "convert") call (rows_of (found_of matches.now))) }
+    ensures none { result ≡ None → (first_of (codes "from") (rows_of (found_of matches.now)) ≡ None) ⊎ (first_of (codes "to") (rows_of (found_of matches.now)) ≡ None) }
+{
+    Some(Call::Convert {
+        from_file: matches.get_str("from")?,
+        to_file: matches.get_str("to")?,
+        explain: is_explained(matches),
+    })
+}
+
+/// Returns the `check` call of these matches, or `None` if the files are missing.
+fn check_of<'a>(alloc: Global, matches: &ArgMatches<'a>) -> Result<Option<Call<'a>>, AllocError>
+    ensures call { IfOk result (λ found. IfSome found (λ call. IsCallOf (codes "check") call (rows_of (found_of matches.now)))) }
+    ensures none { IfOk result (λ found. found ≡ None → all_of (codes "file") (rows_of (found_of matches.now)) ≡ None) }
+{
+    let Some(files) = matches.get_strs("file") else {
+        return Ok(None);
+    };
+    Ok(Some(Call::Check {
+        files: Vec::from_slice(alloc, files)?,
+        explain: is_explained(matches),
+    }))
+}
+
+/// Returns the call of the parsed arguments, or `None` if a file is missing or two options do not go together.
+fn call_of<'a>(alloc: Global, matches: &ArgMatches<'a>) -> Result<Option<Call<'a>>, AllocError>
+    ensures call { IfOk result (λ found. IfSome found (λ call. IsCall call (subcommand_rows_of matches.now))) }
+    ensures none { IfOk result (λ found. found ≡ None → IsNoCall (subcommand_rows_of matches.now)) }
+{
+    let Some((name, values)) = matches.subcommand() else {
+        return Ok(None);
+    };
     match name {
-        "edit" => Some(Call::Edit {
-            files: session_files(files)?,
-            explain: is_explained(files),
-        }),
-        "convert" => Some(Call::Convert {
-            from_file: files.get_str("from")?,
-            to_file: files.get_str("to")?,
-            explain: is_explained(files),
-        }),
-        "check" => Some(Call::Check {
-            file: files.get_str("file")?,
-            explain: is_explained(files),
-        }),
-        _ => None,
+        "edit" => Ok(edit_of(values)),
+        "convert" => Ok(convert_of(values)),
+        "check" => check_of(alloc, values),
+        _ => Ok(None),
     }
 }
 

@@ -2,11 +2,14 @@
 ghost use Rattle.std.specs.Prelude.{◌≡◌};
 ghost use Rattle.std.specs.Process.{exit_status};
 ghost use Rattle.xw_cli.specs.Status.{code_of, status_of, run_ended};
+ghost use Rattle.xw_cli.specs.Explained.{is_of_disk};
+ghost use Rattle.xw_cli.specs.Told.{IsFaultOf, IsOldFaultOf};
 
 use crate::location::Location;
 use std::alloc::AllocError;
+use std::fmt;
 use std::process::ExitCode;
-use thiserror::Error;
+use xw_disk::DiskFault;
 use xw_lines::RunEnd;
 
 /// The outcome of a run, as the exit status of the program.
@@ -44,71 +47,120 @@ impl Status {
     }
 }
 
-/// A failure that ends a run early. Its text is the message to print.
-#[derive(Debug, Drop, Error)]
-pub enum Failure {
-    #[error("xw: input fault")]
+/// A failure that ends a run early, with the names of the call. Its text is the message to print.
+#[derive(Clone, Copy)]
+pub enum Failure<'a> {
     Input,
-    #[error("xw: output fault")]
     Output,
-    #[error("xw: memory")]
     Memory,
-    #[error("xw: {file}: cannot read")]
     CannotRead {
-        file: String,
+        file: &'a str,
     },
-    #[error("xw: {file}: cannot write")]
     CannotWrite {
-        file: String,
+        file: &'a str,
     },
-    #[error("xw: {file}: in use")]
     InUse {
-        file: String,
+        file: &'a str,
     },
-    #[error("xw: {file}: replaced")]
     Replaced {
-        file: String,
+        file: &'a str,
     },
-    #[error("xw: {file}: {name}")]
+    /// The old file cannot be kept under its name and `~`.
+    OldUnwritable {
+        file: &'a str,
+    },
+    /// Another program has the file with this name and `~` as its journal.
+    OldInUse {
+        file: &'a str,
+    },
     File {
-        file: String,
+        file: &'a str,
         name: &'static str,
     },
-    #[error("xw: {file}: {name}\nxw: {location}")]
     Located {
-        file: String,
+        file: &'a str,
         name: &'static str,
         location: Location,
     },
-    #[error("xw: {file}: line {number}: {name}")]
     Line {
-        file: String,
+        file: &'a str,
         number: usize,
         name: &'static str,
     },
-    #[error("xw: {file}: the word list cannot be the file to write")]
+    /// The word list is a file to write.
     OneFile {
-        file: String,
+        file: &'a str,
     },
-    #[error("xw: {file}: the puzzle and the session cannot be written into one file")]
+    /// The puzzle and the session are written into one file.
     TwoTexts {
-        file: String,
+        file: &'a str,
     },
-    #[error("xw: {file}: the session cannot be written over the puzzle to start with")]
+    /// The session is written over the puzzle to start with.
     OverPuzzle {
-        file: String,
+        file: &'a str,
     },
-    #[error("xw: {file}: the session cannot be written as .puz")]
+    /// The name for the session asks for `.puz`.
     SavedAsPuz {
-        file: String,
+        file: &'a str,
     },
-    #[error("xw: {file}: the journal cannot be another file of the call")]
+    /// The journal is another file of the call.
     SharedJournal {
-        file: String,
+        file: &'a str,
     },
+    /// Two files to start with are standard input.
+    InputTwice,
 }
 
-impl Failure {
+impl<'a> fmt::Display for Failure<'a> {
+    ghost use Rattle.std.specs.Prelude.{Some};
+    ghost use Rattle.xw_cli.specs.Told.{failure_text};
+
+    ghost output = { λ failure. Some (failure_text failure) };
+
+    fn fmt<W: fmt::Write>(&self, f: &mut fmt::Formatter<W>) -> fmt::Result {
+        match *self {
+            Failure::Input => f.write_str("xw: input fault"),
+            Failure::Output => f.write_str("xw: output fault"),
+            Failure::Memory => f.write_str("xw: memory"),
+            Failure::CannotRead { file } => write!(f, "xw: {file}: cannot read"),
+            Failure::CannotWrite { file } => write!(f, "xw: {file}: cannot write"),
+            Failure::InUse { file } => write!(f, "xw: {file}: in use"),
+            Failure::Replaced { file } => write!(f, "xw: {file}: replaced"),
+            Failure::OldUnwritable { file } => write!(f, "xw: {file}~: cannot write"),
+            Failure::OldInUse { file } => write!(f, "xw: {file}~: in use"),
+            Failure::File { file, name } => write!(f, "xw: {file}: {name}"),
+            Failure::Located {
+                file,
+                name,
+                location,
+            } => write!(f, "xw: {file}: {name}\nxw: {location}"),
+            Failure::Line { file, number, name } => {
+                write!(f, "xw: {file}: line {number}: {name}")
+            }
+            Failure::OneFile { file } => {
+                write!(f, "xw: {file}: the word list cannot be the file to write")
+            }
+            Failure::TwoTexts { file } => write!(
+                f,
+                "xw: {file}: the puzzle and the session cannot be written into one file"
+            ),
+            Failure::OverPuzzle { file } => write!(
+                f,
+                "xw: {file}: the session cannot be written over the puzzle to start with"
+            ),
+            Failure::SavedAsPuz { file } => {
+                write!(f, "xw: {file}: the session cannot be written as .puz")
+            }
+            Failure::SharedJournal { file } => write!(
+                f,
+                "xw: {file}: the journal cannot be another file of the call"
+            ),
+            Failure::InputTwice => f.write_str("xw: -: standard input can be read only once"),
+        }
+    }
+}
+
+impl<'a> Failure<'a> {
     pub fn status(&self) -> Status
         ensures { result ≡ status_of self.now }
     {
@@ -121,25 +173,62 @@ impl Failure {
             Failure::OverPuzzle { .. } => Status::Usage,
             Failure::SavedAsPuz { .. } => Status::Usage,
             Failure::SharedJournal { .. } => Status::Usage,
+            Failure::InputTwice => Status::Usage,
             _ => Status::Failed,
+        }
+    }
+
+    /// Returns whether a call of the system failed on a file.
+    pub fn is_of_disk(&self) -> bool
+        ensures { result ≡ is_of_disk self.now }
+    {
+        match self {
+            Failure::CannotRead { .. } => true,
+            Failure::CannotWrite { .. } => true,
+            Failure::OldUnwritable { .. } => true,
+            _ => false,
         }
     }
 }
 
-impl From<AllocError> for Failure {
+impl<'a> From<AllocError> for Failure<'a> {
     ghost use Rattle.std.specs.Prelude.{◌≡◌};
     ghost use Rattle.xw_cli.specs.declared.failure.Failure.TheVariants.{Memory};
 
     ghost from_gives = { λ _ failure. failure ≡ Memory };
 
-    fn from(_error: AllocError) -> Failure {
+    fn from(_error: AllocError) -> Failure<'a> {
         Failure::Memory
+    }
+}
+
+/// Returns the failure for a fault of the disk with a file.
+pub fn failure_of<'a>(fault: DiskFault, file: &'a str) -> Failure<'a>
+    ensures { IsFaultOf fault file.entry.now result }
+{
+    match fault {
+        DiskFault::Memory => Failure::Memory,
+        DiskFault::Unreadable => Failure::CannotRead { file },
+        DiskFault::Unwritable => Failure::CannotWrite { file },
+        DiskFault::InUse => Failure::InUse { file },
+        DiskFault::Replaced => Failure::Replaced { file },
+    }
+}
+
+/// Returns the failure for a fault of the disk with the name under which an old file is kept.
+pub fn old_failure_of<'a>(fault: DiskFault, file: &'a str) -> Failure<'a>
+    ensures { IsOldFaultOf fault file.entry.now result }
+{
+    match fault {
+        DiskFault::Memory => Failure::Memory,
+        DiskFault::InUse => Failure::OldInUse { file },
+        _ => Failure::OldUnwritable { file },
     }
 }
 
 /// Returns the outcome of answering commands. `before` is the number of lines refused earlier. A run that its line handler stopped
 /// did not finish an answer.
-pub fn run_status(end: RunEnd, before: usize) -> Result<Status, Failure>
+pub fn run_status<'a>(end: RunEnd, before: usize) -> Result<Status, Failure<'a>>
     ensures { result ≡ run_ended before end }
 {
     match end {

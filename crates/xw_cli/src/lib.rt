@@ -3,16 +3,15 @@
 
 mod apart;
 pub mod arguments;
+mod checking;
 pub mod explaining;
 pub mod failure;
 pub mod files;
-pub mod identity;
 pub mod journal;
 pub mod location;
-pub mod locks;
 pub mod names;
+pub mod outlet;
 mod perform;
-pub mod replacing;
 mod session_files;
 pub mod start;
 

@@ -1,12 +1,11 @@
 //! The locations of faults in files and puzzles.
-ghost use Rattle.std.specs.Prelude.{◌≡◌, IfOk, IsOkUnless};
+ghost use Rattle.std.specs.Prelude.{◌≡◌, IfOk};
 ghost use Rattle.xw_grid.specs.Light.{lights_of};
 ghost use Rattle.xw_files.specs.Puz.Board.{grid_of_puz};
 ghost use Rattle.xw_files.specs.Text.Location.{text_location as text_location_in};
 ghost use Rattle.xw_cli.specs.Locations.{cut_text_location, line_location, read_location, text_location, write_location};
 
-use crate::failure::Failure;
-use std::alloc::Global;
+use std::alloc::{AllocError, Global};
 use std::fmt;
 use xw_commands::names::Named;
 use xw_files::fault::{Piece, ReadFault, SumName, TextName, WriteFault};
@@ -60,9 +59,12 @@ impl fmt::Display for Location {
 }
 
 /// Returns the location of a write fault, if it has one. Fails only if an allocation fails.
-pub fn in_puzzle(alloc: Global, grid: &Grid, fault: WriteFault) -> Result<Option<Location>, Failure>
+pub fn in_puzzle(
+    alloc: Global,
+    grid: &Grid,
+    fault: WriteFault,
+) -> Result<Option<Location>, AllocError>
     ensures location { IfOk result (λ location. location ≡ write_location grid.now fault) }
-    ensures memory { IsOkUnless result Failure.Memory }
 {
     match fault {
         WriteFault::NotFilled(cell) | WriteFault::Circled(cell) => Ok(Some(Location::Cell(cell))),
@@ -72,14 +74,13 @@ pub fn in_puzzle(alloc: Global, grid: &Grid, fault: WriteFault) -> Result<Option
 }
 
 /// Returns the location of a text. A clue comes with its light if the grid has one at that index.
-fn of_text(alloc: Global, grid: &Grid, text: TextName) -> Result<Location, Failure>
+fn of_text(alloc: Global, grid: &Grid, text: TextName) -> Result<Location, AllocError>
     ensures location { IfOk result (λ location. location ≡ text_location (lights_of grid.now) text) }
-    ensures memory { IsOkUnless result Failure.Memory }
 {
     let TextName::Clue(number) = text else {
         return Ok(Location::Text(text));
     };
-    let lights = Lights::of(alloc, grid).map_err(|_| Failure::Memory)?;
+    let lights = Lights::of(alloc, grid).map_err(|_| AllocError)?;
     match lights.get(number.saturating_sub(1)) {
         Some(light) => Ok(Location::Clue(number, light.name)),
         None => Ok(Location::Text(text)),
@@ -87,9 +88,12 @@ fn of_text(alloc: Global, grid: &Grid, text: TextName) -> Result<Location, Failu
 }
 
 /// Returns the location of a read fault, if it has one. Fails only if an allocation fails.
-pub fn in_file(alloc: Global, bytes: &[u8], fault: ReadFault) -> Result<Option<Location>, Failure>
+pub fn in_file(
+    alloc: Global,
+    bytes: &[u8],
+    fault: ReadFault,
+) -> Result<Option<Location>, AllocError>
     ensures location { IfOk result (λ location. location ≡ read_location bytes.now fault) }
-    ensures memory { IsOkUnless result Failure.Memory }
 {
     match fault {
         ReadFault::Short(piece) => Ok(Some(Location::Piece(piece))),
@@ -101,26 +105,24 @@ pub fn in_file(alloc: Global, bytes: &[u8], fault: ReadFault) -> Result<Option<L
 }
 
 /// Returns the location of an unterminated text. A clue comes with its light if the file's grid can be read.
-fn of_cut_text(alloc: Global, bytes: &[u8], text: TextName) -> Result<Location, Failure>
+fn of_cut_text(alloc: Global, bytes: &[u8], text: TextName) -> Result<Location, AllocError>
     ensures location { IfOk result (λ location. location ≡ cut_text_location (grid_of_puz bytes.now) text) }
-    ensures memory { IsOkUnless result Failure.Memory }
 {
     match grid_of_puz(alloc, bytes) {
         Ok(grid) => of_text(alloc, &grid, text),
-        Err(ReadFault::Memory) => Err(Failure::Memory),
+        Err(ReadFault::Memory) => Err(AllocError),
         Err(_) => Ok(Location::Text(text)),
     }
 }
 
 /// Returns the line of a fault of a text file, if it has one.
-fn of_line(alloc: Global, bytes: &[u8], fault: ReadFault) -> Result<Option<Location>, Failure>
+fn of_line(alloc: Global, bytes: &[u8], fault: ReadFault) -> Result<Option<Location>, AllocError>
     ensures location { IfOk result (λ location. location ≡ line_location (text_location_in bytes.now fault)) }
-    ensures memory { IsOkUnless result Failure.Memory }
 {
     match text_location(alloc, bytes, fault) {
         Ok(Some(TextLocation::Line(number))) => Ok(Some(Location::Line(number))),
         Ok(Some(TextLocation::End)) => Ok(Some(Location::End)),
-        Err(ReadFault::Memory) => Err(Failure::Memory),
+        Err(ReadFault::Memory) => Err(AllocError),
         Ok(None) | Err(_) => Ok(None),
     }
 }

@@ -1,5 +1,6 @@
 //! The format that a file's name asks for.
-ghost use Rattle.xw_cli.specs.Names.{IsKindNamed};
+ghost use Rattle.std.specs.Prelude.{◌↔◌, IsTrue, codes};
+ghost use Rattle.xw_cli.specs.Names.{HasEnding, IsKindNamed};
 
 use xw_files::Kind;
 
@@ -14,4 +15,12 @@ pub fn kind_by_name(name: &str) -> Kind
     } else {
         Kind::Text
     }
+}
+
+/// Returns whether a file name ends with `.txt` in any case.
+pub fn is_named_text(name: &str) -> bool
+    ensures { IsTrue result ↔ HasEnding name.now (codes ".txt") }
+{
+    let name = name.as_bytes();
+    name[name.len().saturating_sub(4)..].eq_ignore_ascii_case(b".txt")
 }

@@ -1,266 +1,303 @@
 //! Executes a call.
-ghost use Rattle.std.specs.Prelude.{◌≡◌, ◌⊎◌, ℕ, List, length, Some, Ok, Err, IfOk, IfErr, OnOk, IsOkUnless};
-ghost use Rattle.xw_grid.specs.Light.{lights_of};
-ghost use Rattle.xw_journal.specs.Journal.{AnswersJournaled};
-ghost use Rattle.xw_grid.specs.Puzzle.{PuzzleShown, puzzle_view};
+ghost use Rattle.std.specs.Prelude.{◌≡◌, ◌⊎◌, ◌++◌, ◌∷◌, [], ℕ, Some, None, Ok, Err, option_map, Result, IfOk, IfErr, IsErr, OnOk, IsOkUnless};
+ghost use Rattle.xw_grid.specs.Puzzle.{puzzle_view};
+ghost use Rattle.xw_journal.specs.Journal.{AnswersJournaled, StopsAtJournal};
+ghost use Rattle.xw_lines.specs.Device.{flushed};
+ghost use Rattle.xw_lines.specs.Sends.{Sends};
+ghost use Rattle.xw_lines.specs.Spoken.{NeverStops};
 ghost use Rattle.xw_session.specs.Answer.{Answers};
 ghost use Rattle.xw_session.specs.Opening.{empty_puzzle, opened_on, puzzle_of};
 ghost use Rattle.xw_files.specs.Formats.{IsRead};
-ghost use Rattle.xw_files.specs.declared.kind.Kind.{Kind};
+ghost use Rattle.xw_disk.specs.Disk.{read, take_lines};
 ghost use Rattle.xw_cli.specs.declared.failure.Failure.TheVariants.{Memory};
 ghost use Rattle.xw_cli.specs.declared.failure.Status.TheVariants.{Accepted};
-ghost use Rattle.xw_cli.specs.Files.{AreBytesFor, IfNamed, IsCannotWrite, IsReplaced, IsUnread, IsUnwritten};
-ghost use Rattle.xw_cli.specs.SessionFiles.{IsUnloaded};
-ghost use Rattle.xw_cli.specs.Performed.{format_name, described, IsChecked, IsUnchecked, IsConverted, IsUnconverted, HasWords, IsOpened, HasResumed, IsKept, AreAnsweredOn, IsRun, IsJournaled, IsEdited, IsUnopened, IsUnresumed, IsUnanswered, IsNotSaved, IsNotPut, IsCut, IsCutJournal, IsUnedited, IsPerformedOn, MayEnd, IsEnded};
+ghost use Rattle.xw_grid.specs.Puzzle.{PuzzleShown};
+ghost use Rattle.xw_cli.specs.Files.{IfNamed, IsTextTold, IsUnread, IsUnwritten, IsWritten};
+ghost use Rattle.xw_cli.specs.Journals.{HasReplayed, IsUnreplayed};
+ghost use Rattle.xw_cli.specs.Performed.{IsJournaled, AreResumed, EndsJournal, Ends, HasNoWords, HasResumed, HasWords, IsConverted, IsEdited, IsFound, IsJournalEnd, IsJournalRun, IsNotPut, IsNotSaved, IsOpened, IsPerformed, IsPut, IsRunWith, IsSaved, IsSession, IsSessionRun, IsSilent, IsUnconverted, IsUnedited, IsUnopened, IsUnresumed, IsUnrun, MayKeep, Performs};
+ghost use Rattle.xw_cli.specs.Streams.{AnswersInput, streams};
 
-use crate::apart::{are_one, keep_apart, keep_free, keep_session_apart};
+use crate::apart::{is_input, keep_apart, keep_free, keep_session_apart};
 use crate::arguments::{Call, SessionFiles};
-use crate::explaining::{show, tell};
+use crate::checking::check_files;
+use crate::explaining::report;
 use crate::failure::{Failure, Status, run_status};
 use crate::files;
-use crate::journal::{appending, cannot_write, end_journal, replaced, resume_journal};
-use crate::locks::Locks;
+use crate::journal::{end_journal, resume_journal};
+use crate::outlet::Outlet;
 use crate::session_files::{keep_old, read_dictionary, resume_file, write_session};
 use std::alloc::Global;
-use std::rt::Files;
+use xw_disk::Disk;
 use xw_feas::feasible::Feasible;
 use xw_feas::searchable::Searchable;
-use xw_files::{Kind, Puzzle};
-use xw_grid::{Grid, Lights};
 use xw_journal::{Cause, JournaledSession};
 use xw_lines::RunEnd;
 use xw_session::{Session, Sink, Source, opening};
 use xw_words::Bank;
 
-/// Executes a call, prints a failure if there is one, and returns the exit status.
-pub fn perform<F: Searchable, R: Locks + AllocGlobal + Clone + Drop, I: Source, O: Sink, E: Sink>(
-    rt: &R,
+/// Executes a call, reports a failure if there is one, and returns the exit status.
+pub fn perform<F: Searchable, D: Disk, I: Source, O: Outlet, E: Sink>(
+    alloc: Global,
+    disk: &mut D,
     call: Call<'_>,
     input: &mut I,
     output: &mut O,
     errors: &mut E,
 ) -> Status
-    // The call is done, or a failure ends it and is told.
-    ensures { IsPerformedOn I.transcript O.transcript call.entry result input.old input.new output.old output.new ⊎ IsEnded E.transcript E.failures call.entry result errors.new }
+    ensures { Performs E.transcript E.failures (O.is_closed output.new) call.entry result
+        (streams D.log I.transcript I.is_at_end I.failures O.transcript O.failures disk.old input.old output.old)
+        (streams D.log I.transcript I.is_at_end I.failures O.transcript O.failures disk.new input.new output.new) errors.new }
 {
-    match run::<F, R, I, O, E>(rt, call, input, output, errors) {
+    let explain = call.is_explained();
+    match run::<F, D, I, O, E>(alloc, disk, call, input, output, errors) {
         Ok(status) => status,
-        Err(failure) => tell(rt.alloc(), errors, &failure),
+        Err(failure) => {
+            let is_closed = output.is_closed();
+            report(alloc, disk, &failure, explain, is_closed, errors)
+        }
     }
 }
 
 /// Executes a call.
-fn run<F: Searchable, R: Locks + AllocGlobal + Clone + Drop, I: Source, O: Sink, E: Sink>(
-    rt: &R,
-    call: Call<'_>,
+fn run<'a, F: Searchable, D: Disk, I: Source, O: Sink, E: Sink>(
+    alloc: Global,
+    disk: &mut D,
+    call: Call<'a>,
     input: &mut I,
     output: &mut O,
     errors: &mut E,
-) -> Result<Status, Failure>
-    ensures ok { IfOk result (λ status. IsPerformedOn I.transcript O.transcript call.entry status input.old input.new output.old output.new) }
-    ensures err { IfErr result (λ failure. MayEnd call.entry failure) }
+) -> Result<Status, Failure<'a>>
+    ensures { IsPerformed E.transcript E.failures call.entry result
+        (streams D.log I.transcript I.is_at_end I.failures O.transcript O.failures disk.old input.old output.old)
+        (streams D.log I.transcript I.is_at_end I.failures O.transcript O.failures disk.new input.new output.new) errors.new }
 {
     match call {
         Call::Edit { files, explain } => {
-            edit::<F, R, I, O, E>(rt, files, explain, input, output, errors)
+            edit::<F, D, I, O, E>(alloc, disk, files, explain, input, output, errors)
         }
         Call::Convert {
             from_file,
             to_file,
             explain,
-        } => convert(rt, from_file, to_file, explain, errors),
-        Call::Check { file, explain } => check(rt, file, explain, output, errors),
+        } => convert(alloc, disk, from_file, to_file, explain, errors),
+        Call::Check { files, explain } => {
+            check_files(alloc, disk, files.as_slice(), explain, output, errors)
+        }
     }
 }
 
 /// Runs a session: opens its files, answers the input, and writes its files.
-fn edit<F: Searchable, R: Locks + AllocGlobal + Clone + Drop, I: Source, O: Sink, E: Sink>(
-    rt: &R,
-    named: SessionFiles<'_>,
+fn edit<'a, F: Searchable, D: Disk, I: Source, O: Sink, E: Sink>(
+    alloc: Global,
+    disk: &mut D,
+    named: SessionFiles<'a>,
     explain: bool,
     input: &mut I,
     output: &mut O,
     errors: &mut E,
-) -> Result<Status, Failure>
-    ensures ok { IfOk result (λ status. IsEdited named.entry status (I.transcript input.old) (I.transcript input.new) (O.transcript output.old) (O.transcript output.new)) }
-    ensures err { IfErr result (λ failure. IsUnedited named.entry explain failure) }
+) -> Result<Status, Failure<'a>>
+    ensures { (IsEdited named.entry explain result
+        (streams D.log I.transcript I.is_at_end I.failures O.transcript O.failures disk.old input.old output.old)
+        (streams D.log I.transcript I.is_at_end I.failures O.transcript O.failures disk.new input.new output.new))
+        ⊎ (IfErr result (λ failure. IsUnedited named.entry explain failure (D.log disk.old) (D.log disk.new)) × IsErr result × (input.new ≡ input.old) × (output.new ≡ output.old)) }
 {
-    keep_apart(rt, named)?;
-    keep_free(rt, named)?;
-    let mut session: Session<F> = open(rt, named, explain, errors)?;
+    keep_apart(disk, named)?;
+    keep_free(disk, named)?;
+    let session: Session<F> = open(alloc, disk, named, explain, errors)?;
     match named.journal_file {
-        Some(file) => answer_journaled(rt, session, file, named, explain, input, output, errors),
-        None => answer(rt, &mut session, named, explain, input, output, errors),
-    }
-}
-
-/// Replays the journal, answers the input while each change is journaled, and writes the files of the session.
-fn answer_journaled<
-    F: Searchable,
-    R: Locks + AllocGlobal + Clone + Drop,
-    I: Source,
-    O: Sink,
-    E: Sink,
->(
-    rt: &R,
-    mut session: Session<F>,
-    file: &str,
-    named: SessionFiles<'_>,
-    explain: bool,
-    input: &mut I,
-    output: &mut O,
-    errors: &mut E,
-) -> Result<Status, Failure>
-    ensures ok { IfOk result (λ status. IsJournaled file.now named.entry session status (I.transcript input.old) (I.transcript input.new) (O.transcript output.old) (O.transcript output.new)) }
-    ensures err { IfErr result (λ failure. IsCutJournal file.now named.entry explain failure) }
-{
-    let alloc = rt.alloc();
-    let (opened, refused) = resume_journal(rt, file, &mut session, errors)?;
-    let journal = appending(rt, file, opened, named.is_synced)?;
-    let mut journaled = JournaledSession::new(alloc, session, journal)?;
-    let answered = converse_journaled(alloc, &mut journaled, file, refused, input, output);
-    let (session, journal) = journaled.into_parts();
-    // This discards the unwritten bytes, since their write failed, and keeps the lock to the end.
-    let (appended, _unwritten) = journal.into_writer().into_parts();
-    let answered = told_lost(alloc, file, appended.is_lost(), answered);
-    let apart = keep_apart(rt, named);
-    let status = save(rt, &session, named, refused, answered, errors)?;
-    end_journal(rt, file, appended.place(), refused, &session)?;
-    apart?;
-    write_puzzle(rt, &session, named, explain)?;
-    Ok(status)
-}
-
-/// Names the cause if a write to the journal failed since its name no longer led to it.
-fn told_lost(
-    alloc: Global,
-    file: &str,
-    is_lost: bool,
-    answered: Result<Status, Failure>,
-) -> Result<Status, Failure>
-    ensures ok { IfOk result (λ status. answered ≡ Ok status) }
-    ensures err { IfErr result (λ failure. (answered ≡ Err failure) ⊎ ((failure ≡ Memory) ⊎ IsReplaced file.now failure)) }
-{
-    match answered {
-        Err(_) if is_lost => Err(replaced(alloc, file)),
-        other => other,
-    }
-}
-
-/// Answers the input of a session with a journal, and returns the status. `before` is the number of lines refused earlier.
-fn converse_journaled<F: Searchable, J: Sink + Drop, I: Source, O: Sink>(
-    alloc: Global,
-    session: &mut JournaledSession<F, J>,
-    file: &str,
-    before: usize,
-    input: &mut I,
-    output: &mut O,
-) -> Result<Status, Failure>
-    ensures ok { IfOk result (λ status. AreAnsweredOn AnswersJournaled I.transcript O.transcript before session.old session.new status input.old input.new output.old output.new) }
-    ensures err { IfErr result (λ failure. IsUnanswered failure ⊎ IsCannotWrite file.now failure) }
-{
-    match session.run_lines(input, output) {
-        RunEnd::Stopped => Err(stopped(alloc, file, session.cause())),
-        end => run_status(end, before),
-    }
-}
-
-/// Returns the failure of a session with a journal that stopped for this cause.
-fn stopped(alloc: Global, file: &str, cause: Option<Cause>) -> Failure
-    ensures memory { cause ≡ Some Cause.Memory → result ≡ Memory }
-    ensures told { (result ≡ Memory) ⊎ IsCannotWrite file.now result }
-{
-    match cause {
-        Some(Cause::Memory) => Failure::Memory,
-        Some(Cause::Journal) | None => cannot_write(alloc, file),
+        Some(file) => answer_journaled(
+            alloc, disk, session, file, named, explain, input, output, errors,
+        ),
+        None => answer(alloc, disk, session, named, explain, input, output, errors),
     }
 }
 
 /// Replays the commands to start with, answers the input, and writes the files of the session.
-fn answer<F: Searchable, R: Locks + AllocGlobal, I: Source, O: Sink, E: Sink>(
-    rt: &R,
-    session: &mut Session<F>,
-    named: SessionFiles<'_>,
+fn answer<'a, F: Searchable, D: Disk, I: Source, O: Sink, E: Sink>(
+    alloc: Global,
+    disk: &mut D,
+    mut session: Session<F>,
+    named: SessionFiles<'a>,
     explain: bool,
     input: &mut I,
     output: &mut O,
     errors: &mut E,
-) -> Result<Status, Failure>
-    ensures ok { IfOk result (λ status. IsRun named.entry session.old status (I.transcript input.old) (I.transcript input.new) (O.transcript output.old) (O.transcript output.new)) }
-    ensures err { IfErr result (λ failure. IsCut named.entry explain failure) }
+) -> Result<Status, Failure<'a>>
+    ensures { (IsSession named.entry explain session result
+        (streams D.log I.transcript I.is_at_end I.failures O.transcript O.failures disk.old input.old output.old)
+        (streams D.log I.transcript I.is_at_end I.failures O.transcript O.failures disk.new input.new output.new))
+        ⊎ (IfErr result (λ failure. IsUnrun None named.entry failure (D.log disk.old) (D.log disk.new)) × IsErr result × (input.new ≡ input.old) × (output.new ≡ output.old)) }
 {
-    let refused = resume(rt, session, named.resume_file, errors)?;
-    let answered = converse(session, refused, input, output);
-    // Files that have become one are told apart before one of them is replaced.
-    let apart = keep_apart(rt, named);
-    let status = save(rt, session, named, refused, answered, errors)?;
-    apart?;
-    write_puzzle(rt, session, named, explain)?;
-    Ok(status)
+    let before = resume(alloc, disk, &mut session, named.resume_file, errors)?;
+    converse(
+        alloc, disk, session, named, explain, before, input, output, errors,
+    )
 }
 
-/// Answers the input, and returns the status. `before` is the number of lines refused earlier.
-fn converse<F: Searchable, I: Source, O: Sink>(
-    session: &mut Session<F>,
+/// Answers the input, and writes the files of the session. `before` is the number of lines refused earlier.
+fn converse<'a, F: Searchable, D: Disk, I: Source, O: Sink, E: Sink>(
+    alloc: Global,
+    disk: &mut D,
+    mut session: Session<F>,
+    named: SessionFiles<'a>,
+    explain: bool,
     before: usize,
     input: &mut I,
     output: &mut O,
-) -> Result<Status, Failure>
-    ensures ok { IfOk result (λ status. AreAnsweredOn Answers I.transcript O.transcript before session.old session.new status input.old input.new output.old output.new) }
-    ensures err { IfErr result (λ failure. IsUnanswered failure) }
+    errors: &mut E,
+) -> Result<Status, Failure<'a>>
+    ensures { IsSessionRun named.entry explain before session result
+        (streams D.log I.transcript I.is_at_end I.failures O.transcript O.failures disk.old input.old output.old)
+        (streams D.log I.transcript I.is_at_end I.failures O.transcript O.failures disk.new input.new output.new) }
 {
-    run_status(session.run_lines(input, output), before)
+    let end = session.run_lines(input, output);
+    let answered = run_status(end, before);
+    end_session(
+        alloc, disk, &session, named, explain, before, answered, None, errors,
+    )
+}
+
+/// Replays the journal, answers the input while each change is journaled, and writes the files of the session.
+fn answer_journaled<'a, F: Searchable, D: Disk, I: Source, O: Sink, E: Sink>(
+    alloc: Global,
+    disk: &mut D,
+    mut session: Session<F>,
+    file: &'a str,
+    named: SessionFiles<'a>,
+    explain: bool,
+    input: &mut I,
+    output: &mut O,
+    errors: &mut E,
+) -> Result<Status, Failure<'a>>
+    ensures { (IsJournaled file.entry.now named.entry explain session result
+        (streams D.log I.transcript I.is_at_end I.failures O.transcript O.failures disk.old input.old output.old)
+        (streams D.log I.transcript I.is_at_end I.failures O.transcript O.failures disk.new input.new output.new))
+        ⊎ (IfErr result (λ failure. IsUnreplayed file.entry.now failure (D.log disk.old) (D.log disk.new)) × IsErr result × (input.new ≡ input.old) × (output.new ≡ output.old)) }
+{
+    let (journaled, before) = begin(alloc, disk, session, file, named.is_synced, errors)?;
+    converse_journaled(
+        alloc, disk, journaled, file, named, explain, before, input, output, errors,
+    )
+}
+
+/// Replays the journal, and joins it with the session. Returns the number of lines refused.
+fn begin<'a, F: Searchable, D: Disk, E: Sink>(
+    alloc: Global,
+    disk: &mut D,
+    mut session: Session<F>,
+    file: &'a str,
+    is_synced: bool,
+    errors: &mut E,
+) -> Result<(JournaledSession<F, D::Journal>, usize), Failure<'a>>
+    ensures ok { IfOk result (λ begun. HasReplayed file.entry.now session begun.1 begun.0.state (D.log disk.old) (D.log disk.new)) }
+    ensures new { IfOk result (λ begun. begun.0 ≡ record { state = begun.0.state; journal = []; failures = 0; cause = None }) }
+    ensures err { IfErr result (λ failure. IsUnreplayed file.entry.now failure (D.log disk.old) (D.log disk.new)) }
+{
+    let (journal, before) = resume_journal(alloc, disk, file, is_synced, &mut session, errors)?;
+    let journaled = JournaledSession::new(alloc, session, journal)?;
+    Ok((journaled, before))
+}
+
+/// Answers the input while each change is journaled, and writes the files of the session. `before` is the number of lines refused
+/// earlier.
+fn converse_journaled<'a, F: Searchable, D: Disk, I: Source, O: Sink, E: Sink>(
+    alloc: Global,
+    disk: &mut D,
+    mut journaled: JournaledSession<F, D::Journal>,
+    file: &'a str,
+    named: SessionFiles<'a>,
+    explain: bool,
+    before: usize,
+    input: &mut I,
+    output: &mut O,
+    errors: &mut E,
+) -> Result<Status, Failure<'a>>
+    ensures { IsJournalRun file.entry.now named.entry explain before journaled result
+        (streams D.log I.transcript I.is_at_end I.failures O.transcript O.failures disk.old input.old output.old)
+        (streams D.log I.transcript I.is_at_end I.failures O.transcript O.failures disk.new input.new output.new) }
+{
+    let end = journaled.run_lines(input, output);
+    let cause = journaled.cause();
+    let (session, journal) = journaled.into_parts();
+    disk.close_journal(file, journal);
+    let answered = journal_status(end, before, cause, file, disk.is_lost());
+    let ending = Some(file);
+    end_session(
+        alloc, disk, &session, named, explain, before, answered, ending, errors,
+    )
+}
+
+/// Returns the outcome of a session with a journal. `before` is the number of lines refused earlier.
+fn journal_status<'a>(
+    end: RunEnd,
+    before: usize,
+    cause: Option<Cause>,
+    file: &'a str,
+    is_lost: bool,
+) -> Result<Status, Failure<'a>>
+    ensures { IsJournalEnd file.entry.now before end cause result }
+{
+    match (end, cause) {
+        (RunEnd::Stopped, Some(Cause::Memory)) => Err(Failure::Memory),
+        (RunEnd::Stopped, _) if is_lost => Err(Failure::Replaced { file }),
+        (RunEnd::Stopped, _) => Err(Failure::CannotWrite { file }),
+        _ => run_status(end, before),
+    }
 }
 
 /// Opens a session on the given word list and puzzle. The word list is read first.
-fn open<F: Feasible, R: Files + AllocGlobal, E: Sink>(
-    rt: &R,
-    named: SessionFiles<'_>,
+fn open<'a, F: Feasible, D: Disk, E: Sink>(
+    alloc: Global,
+    disk: &mut D,
+    named: SessionFiles<'a>,
     explain: bool,
     errors: &mut E,
-) -> Result<Session<F>, Failure>
-    ensures ok { IfOk result (λ session. IsOpened named.entry session) }
-    ensures err { IfErr result (λ failure. IsUnopened named.entry explain failure) }
+) -> Result<Session<F>, Failure<'a>>
+    ensures ok { IfOk result (λ session. IsOpened named.entry session (D.log disk.old) (D.log disk.new)) }
+    ensures err { IfErr result (λ failure. IsUnopened named.entry explain failure (D.log disk.old) (D.log disk.new)) }
 {
-    let bank = dictionary(rt, named.dict, errors)?;
+    let bank = dictionary(alloc, disk, named.dict, errors)?;
     match named.from_file {
-        Some(file) => open_puzzle(rt, bank, file, explain, errors),
-        None => open_empty(rt.alloc(), bank),
+        Some(file) => open_puzzle(alloc, disk, bank, file, explain, errors),
+        None => open_empty(alloc, bank),
     }
 }
 
 /// Loads the word list if one is given, and otherwise returns an empty dictionary.
-fn dictionary<R: Files + AllocGlobal, E: Sink>(
-    rt: &R,
-    named: Option<&str>,
+fn dictionary<'a, D: Disk, E: Sink>(
+    alloc: Global,
+    disk: &mut D,
+    named: Option<&'a str>,
     errors: &mut E,
-) -> Result<Bank, Failure>
-    ensures ok { IfOk result (λ bank. HasWords named.entry bank.words) }
-    ensures err { IfErr result (λ failure. (failure ≡ Memory) ⊎ IfNamed named.entry (λ name. IsUnloaded name failure)) }
+) -> Result<Bank, Failure<'a>>
+    ensures ok { IfOk result (λ bank. HasWords named.entry bank.words (D.log disk.old) (D.log disk.new)) }
+    ensures err { IfErr result (λ failure. HasNoWords named.entry failure (D.log disk.old) (D.log disk.new)) }
 {
     match named {
-        Some(file) => read_dictionary(rt, file, errors),
-        None => Bank::new(rt.alloc()).map_err(|_| Failure::Memory),
+        Some(file) => read_dictionary(alloc, disk, file, errors),
+        None => Bank::new(alloc).map_err(|_| Failure::Memory),
     }
 }
 
 /// Opens a session on a puzzle file.
-fn open_puzzle<F: Feasible, R: Files + AllocGlobal, E: Sink>(
-    rt: &R,
+fn open_puzzle<'a, F: Feasible, D: Disk, E: Sink>(
+    alloc: Global,
+    disk: &mut D,
     bank: Bank,
-    file: &str,
+    file: &'a str,
     explain: bool,
     errors: &mut E,
-) -> Result<Session<F>, Failure>
-    ensures ok { IfOk result (λ session. (puzzle : PuzzleShown) × ((kind : Kind) × (bytes : List ℕ) × IsRead kind bytes puzzle) × (session ≡ opened_on bank.words puzzle)) }
-    ensures err { IfErr result (λ failure. IsUnread file.now explain failure) }
+) -> Result<Session<F>, Failure<'a>>
+    ensures ok { IfOk result (λ session. (puzzle : PuzzleShown) × IsFound file.entry.now puzzle (D.log disk.old) (D.log disk.new) × (session ≡ opened_on bank.words puzzle)) }
+    ensures err { IfErr result (λ failure. IsUnread file.entry.now explain failure (D.log disk.old) (D.log disk.new)
+        ⊎ ((failure ≡ Memory) × (puzzle : PuzzleShown) × IsFound file.entry.now puzzle (D.log disk.old) (D.log disk.new))) }
 {
-    let (_, puzzle) = files::read_puzzle(rt, file, explain, errors)?;
-    Ok(opening::open_puzzle(rt.alloc(), bank, puzzle)?)
+    let (_, puzzle) = files::read_puzzle(alloc, disk, file, explain, errors)?;
+    Ok(opening::open_puzzle(alloc, bank, puzzle)?)
 }
 
 /// Opens a session on an empty grid.
-fn open_empty<F: Feasible>(alloc: Global, bank: Bank) -> Result<Session<F>, Failure>
+fn open_empty<'a, F: Feasible>(alloc: Global, bank: Bank) -> Result<Session<F>, Failure<'a>>
     ensures ok { IfOk result (λ session. session ≡ opened_on bank.words empty_puzzle) }
     ensures memory { IsOkUnless result Memory }
 {
@@ -268,167 +305,148 @@ fn open_empty<F: Feasible>(alloc: Global, bank: Bank) -> Result<Session<F>, Fail
 }
 
 /// Replays the commands of a file if one is given, and returns the number of refused lines.
-fn resume<F: Searchable, R: Files + AllocGlobal, E: Sink>(
-    rt: &R,
+fn resume<'a, F: Searchable, D: Disk, E: Sink>(
+    alloc: Global,
+    disk: &mut D,
     session: &mut Session<F>,
-    named: Option<&str>,
+    named: Option<&'a str>,
     errors: &mut E,
-) -> Result<usize, Failure>
-    ensures ok { IfOk result (λ refused. HasResumed named.entry session.old refused session.new) }
-    ensures err { IfErr result (λ failure. IfNamed named.entry (λ name. IsUnresumed name failure)) }
+) -> Result<usize, Failure<'a>>
+    ensures ok { IfOk result (λ refused. HasResumed named.entry session.old refused session.new (D.log disk.old) (D.log disk.new)) }
+    ensures err { IfErr result (λ failure. IfNamed named.entry (λ name. IsUnresumed name failure (D.log disk.old) (D.log disk.new))) }
 {
     match named {
-        Some(file) => resume_file(rt, file, session, errors),
+        Some(file) => resume_file(alloc, disk, file, session, errors),
         None => Ok(0),
     }
 }
 
-/// Saves a session that ended, however it ended, and returns the status. `refused` is the number of lines of the file to resume or of
-/// the journal that were refused.
-fn save<F: Feasible, R: Locks + AllocGlobal, E: Sink>(
-    rt: &R,
+/// Ends a session that answered its input or failed: saves it in any case, and then, unless it failed, ends its journal and writes its
+/// puzzle. `refused` is the number of lines of the file to resume or of the journal that were refused.
+fn end_session<'a, F: Feasible, D: Disk, E: Sink>(
+    alloc: Global,
+    disk: &mut D,
     session: &Session<F>,
-    named: SessionFiles<'_>,
+    named: SessionFiles<'a>,
+    explain: bool,
     refused: usize,
-    answered: Result<Status, Failure>,
+    answered: Result<Status, Failure<'a>>,
+    journal: Option<&'a str>,
     errors: &mut E,
-) -> Result<Status, Failure>
-    ensures ok { IfOk result (λ status. answered ≡ Ok status) }
-    ensures err { IfErr result (λ failure. (answered ≡ Err failure) ⊎ IsNotSaved named.entry failure) }
+) -> Result<Status, Failure<'a>>
+    ensures { Ends (option_map (λ file. file.now) journal.entry) named.entry explain refused session.now answered.entry result (D.log disk.old) (D.log disk.new) }
 {
-    let saved = write_saved(rt, session, named, refused, errors);
+    // Files that have become one are told apart before one of them is replaced.
+    let apart = keep_apart(disk, named);
+    let saved = write_saved(alloc, disk, session, named, refused, errors);
     let status = answered?;
     saved?;
+    end_journal_if(alloc, disk, journal, refused, session)?;
+    apart?;
+    write_puzzle(alloc, disk, session, named, explain)?;
     Ok(status)
+}
+
+/// Ends the journal of a session if it has one.
+fn end_journal_if<'a, F: Feasible, D: Disk>(
+    alloc: Global,
+    disk: &mut D,
+    journal: Option<&'a str>,
+    refused: usize,
+    session: &Session<F>,
+) -> Result<(), Failure<'a>>
+    ensures { EndsJournal (option_map (λ file. file.now) journal.entry) refused session.now result (D.log disk.old) (D.log disk.new) }
+{
+    match journal {
+        Some(file) => end_journal(alloc, disk, file, refused, session),
+        None => Ok(()),
+    }
 }
 
 /// Writes the session to a file if one is given. If this is the file that was resumed, and lines of it were refused, the old file is
 /// kept under another name.
-fn write_saved<F: Feasible, R: Locks + AllocGlobal, E: Sink>(
-    rt: &R,
+fn write_saved<'a, F: Feasible, D: Disk, E: Sink>(
+    alloc: Global,
+    disk: &mut D,
     session: &Session<F>,
-    named: SessionFiles<'_>,
+    named: SessionFiles<'a>,
     refused: usize,
     errors: &mut E,
-) -> Result<(), Failure>
-    ensures err { IfErr result (λ failure. IsNotSaved named.entry failure) }
+) -> Result<(), Failure<'a>>
+    ensures ok { OnOk result (IsSaved named.entry.save_file refused session.now (D.log disk.old) (D.log disk.new)) }
+    ensures err { IfErr result (λ failure. IsNotSaved named.entry refused session.now failure (D.log disk.old) (D.log disk.new)) }
 {
     let Some(file) = named.save_file else {
         return Ok(());
     };
-    keep_session_apart(rt, named)?;
-    if refused > 0 && is_resumed(rt, named.resume_file, file)? {
-        keep_old(rt, file, errors)?;
+    keep_session_apart(disk, named)?;
+    if refused > 0 && is_resumed(disk, named.resume_file, file)? {
+        keep_old(alloc, disk, file, errors)?;
     }
-    write_session(rt, file, session)
+    write_session(alloc, disk, file, session)
 }
 
-/// Returns whether a file is the one that was resumed.
-fn is_resumed<R: Files + AllocGlobal>(
-    rt: &R,
-    resumed: Option<&str>,
-    file: &str,
-) -> Result<bool, Failure>
+/// Returns whether a file is the one that was resumed. No file is standard input.
+fn is_resumed<'a, D: Disk>(disk: &D, resumed: Option<&str>, file: &str) -> Result<bool, Failure<'a>>
     ensures { IfErr result (λ failure. failure ≡ Memory) }
 {
     match resumed {
-        Some(resumed) => are_one(rt, resumed, file),
-        None => Ok(false),
+        Some(name) if !is_input(resumed) => Ok(disk.is_one_file(name, file)?),
+        _ => Ok(false),
     }
 }
 
 /// Writes the puzzle of a session that ended to a file if one is given. Files that have become one since the session began are refused.
-fn write_puzzle<F: Feasible, R: Locks + AllocGlobal>(
-    rt: &R,
+fn write_puzzle<'a, F: Feasible, D: Disk>(
+    alloc: Global,
+    disk: &mut D,
     session: &Session<F>,
-    named: SessionFiles<'_>,
+    named: SessionFiles<'a>,
     explain: bool,
-) -> Result<(), Failure>
-    ensures ok { OnOk result (IsKept named.entry.to_file (puzzle_of session.now)) }
-    ensures err { IfErr result (λ failure. IsNotPut named.entry explain failure) }
+) -> Result<(), Failure<'a>>
+    ensures ok { OnOk result (IsPut named.entry.to_file (puzzle_of session.now) (D.log disk.old) (D.log disk.new)) }
+    ensures err { IfErr result (λ failure. IsNotPut named.entry explain (puzzle_of session.now) failure (D.log disk.old) (D.log disk.new)) }
 {
     let Some(file) = named.to_file else {
         return Ok(());
     };
-    keep_apart(rt, named)?;
-    keep(rt, file, session, explain)
+    keep_apart(disk, named)?;
+    put(alloc, disk, file, session, explain)
 }
 
 /// Writes the puzzle of a session to a file.
-fn keep<F: Feasible, R: Locks + AllocGlobal>(
-    rt: &R,
-    file: &str,
+fn put<'a, F: Feasible, D: Disk>(
+    alloc: Global,
+    disk: &mut D,
+    file: &'a str,
     session: &Session<F>,
     explain: bool,
-) -> Result<(), Failure>
-    ensures ok { OnOk result ((bytes : List ℕ) × AreBytesFor file.now (puzzle_of session.now) bytes) }
-    ensures err { IfErr result (λ failure. IsUnwritten file.now explain (puzzle_of session.now) failure) }
+) -> Result<(), Failure<'a>>
+    ensures ok { OnOk result (IsWritten file.entry.now (puzzle_of session.now) (D.log disk.old) (D.log disk.new)) }
+    ensures err { IfErr result (λ failure. IsUnwritten file.entry.now explain (puzzle_of session.now) failure (D.log disk.old) (D.log disk.new)) }
 {
     match session.puzzle() {
-        Ok(puzzle) => files::write_puzzle(rt, file, &puzzle, explain),
+        Ok(puzzle) => files::write_puzzle(alloc, disk, file, &puzzle, explain),
         Err(_) => Err(Failure::Memory),
     }
 }
 
-/// Writes the puzzle of one file to another.
-fn convert<R: Locks + AllocGlobal, E: Sink>(
-    rt: &R,
-    from_file: &str,
-    to_file: &str,
+/// Converts a puzzle file into the format that the name of another file asks for.
+fn convert<'a, D: Disk, E: Sink>(
+    alloc: Global,
+    disk: &mut D,
+    from_file: &'a str,
+    to_file: &'a str,
     explain: bool,
     errors: &mut E,
-) -> Result<Status, Failure>
-    ensures ok { IfOk result (λ status. (status ≡ Accepted) × IsConverted to_file.now) }
-    ensures err { IfErr result (λ failure. IsUnconverted from_file.now to_file.now explain failure) }
+) -> Result<Status, Failure<'a>>
+    ensures ok { IfOk result (λ status. (status ≡ Accepted) × IsConverted from_file.entry.now to_file.entry.now (D.log disk.old) (D.log disk.new)) }
+    ensures told { OnOk result ((mid : E) × IsTextTold E.transcript E.failures to_file.entry.now mid errors.new) }
+    ensures err { IfErr result (λ failure. IsUnconverted from_file.entry.now to_file.entry.now explain failure (D.log disk.old) (D.log disk.new)) }
 {
-    let (_, puzzle) = files::read_puzzle(rt, from_file, explain, errors)?;
-    files::write_puzzle(rt, to_file, &puzzle, explain)?;
+    let (_, puzzle) = files::read_puzzle(alloc, disk, from_file, explain, errors)?;
+    let note = files::text_note(alloc, to_file)?;
+    files::write_puzzle(alloc, disk, to_file, &puzzle, explain)?;
+    files::tell_text(&note, to_file, errors);
     Ok(Status::Accepted)
-}
-
-/// Prints the format, size and number of lights of a puzzle file.
-fn check<R: Files + AllocGlobal, O: Sink, E: Sink>(
-    rt: &R,
-    file: &str,
-    explain: bool,
-    output: &mut O,
-    errors: &mut E,
-) -> Result<Status, Failure>
-    ensures ok { IfOk result (λ status. (status ≡ Accepted) × IsChecked (O.transcript output.old) (O.transcript output.new)) }
-    ensures err { IfErr result (λ failure. IsUnchecked file.now explain failure) }
-{
-    let (kind, puzzle) = files::read_puzzle(rt, file, explain, errors)?;
-    let line = describe(rt.alloc(), kind, &puzzle.grid)?;
-    show(output, line.as_bytes())?;
-    Ok(Status::Accepted)
-}
-
-/// Returns the line with the format, size and number of lights.
-fn describe(alloc: Global, kind: Kind, grid: &Grid) -> Result<String, Failure>
-    ensures line { IfOk result (λ line. line.bytes.items ≡ described kind grid.now) }
-    ensures memory { IsOkUnless result Memory }
-{
-    let count = light_count(alloc, grid)?;
-    let kind = format_name(kind);
-    let (width, height) = (grid.width(), grid.height());
-    Ok(format!(in alloc; "{kind} {width}x{height} {count} lights\n")?)
-}
-
-fn light_count(alloc: Global, grid: &Grid) -> Result<usize, Failure>
-    ensures ok { IfOk result (λ count. count ≡ length (lights_of grid.now)) }
-    ensures memory { IsOkUnless result Memory }
-{
-    match Lights::of(alloc, grid) {
-        Ok(lights) => Ok(lights.len()),
-        Err(_) => Err(Failure::Memory),
-    }
-}
-
-fn format_name(kind: Kind) -> &'static str
-    ensures { result.now ≡ format_name kind }
-{
-    match kind {
-        Kind::Puz => "puz",
-        Kind::Text => "text",
-    }
 }

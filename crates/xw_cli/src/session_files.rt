@@ -1,53 +1,55 @@
 //! The files of a session other than its puzzle: the word list, the commands to replay, and the record.
-ghost use Rattle.std.specs.Prelude.{◌≡◌, ◌⊎◌, ℕ, List, IfOk, IfErr, OnOk, OnErr, IsOkUnless};
+ghost use Rattle.std.specs.Prelude.{◌≡◌, ◌⊎◌, ℕ, List, Ok, IfOk, IfErr, OnOk, OnErr, IsOkUnless};
 ghost use Rattle.xw_words.specs.WordList.{listed_in};
-ghost use Rattle.xw_session.specs.Text.{name_of};
+ghost use Rattle.xw_answers.specs.Text.{name_of};
 ghost use Rattle.xw_cli.specs.declared.failure.Failure.TheVariants.{Memory};
 ghost use Rattle.xw_cli.specs.Explained.{GoesOut};
-ghost use Rattle.xw_cli.specs.Files.{IsFileFault};
-ghost use Rattle.xw_cli.specs.SessionFiles.{counts_line, loaded_line, IsOverfull, IsUnloaded, IsStopped, Replays, IsResumed, IsUnsaved};
-ghost use Rattle.xw_cli.specs.SessionFiles.{cut_line, IsNotKept};
+ghost use Rattle.xw_cli.specs.Files.{Asks, IsFileFault};
+ghost use Rattle.xw_disk.specs.Disk.{read, replace};
+ghost use Rattle.xw_cli.specs.SessionFiles.{counts_line, cut_line, file_of, loaded_line, old_line, Copies, IsLoaded, IsNotKept, IsOverfull, IsUnloaded, IsStopped, Replays, IsResumed, IsUnsaved};
 ghost use Rattle.xw_lines.specs.Cut.{lines_of};
 
-use crate::failure::Failure;
-use crate::files::{file_fault, line_fault, read_file, write_copy, write_file};
-use crate::locks::Locks;
+use crate::failure::{Failure, old_failure_of};
+use crate::files::{file_fault, line_fault, read_file, write_file};
 use std::alloc::Global;
-use std::rt::Files;
+use xw_answers::refusal::{self, Refusal};
+use xw_disk::Disk;
 use xw_feas::feasible::Feasible;
 use xw_feas::searchable::Searchable;
 use xw_journal::file::{kept, saved};
 use xw_lines::device;
-use xw_session::refusal::{self, Refusal};
 use xw_session::resuming::{self, Stop};
 use xw_session::{Session, Sink};
 use xw_words::{Bank, Loaded, WordFault};
 
 /// Loads a word list into a dictionary, and prints how many lines were added and skipped.
-pub fn read_dictionary<R: Files + AllocGlobal, E: Sink>(
-    rt: &R,
-    file: &str,
+pub fn read_dictionary<'a, D: Disk, E: Sink>(
+    alloc: Global,
+    disk: &mut D,
+    file: &'a str,
     errors: &mut E,
-) -> Result<Bank, Failure>
-    // The dictionary is the one that some bytes list, and their lines are counted in a report.
-    ensures ok { IfOk result (λ bank. (bytes : List ℕ) × (bank.words ≡ listed_in bytes) × GoesOut E.transcript E.failures errors.old errors.new (loaded_line file.now bytes)) }
-    ensures err { IfErr result (λ failure. IsUnloaded file.now failure) }
+) -> Result<Bank, Failure<'a>>
+    // The dictionary is the one that the bytes list that were read, and their lines are counted in a report.
+    ensures ok { IfOk result (λ bank. IsLoaded file.entry.now bank.words (D.log disk.old) (D.log disk.new)) }
+    ensures told { OnOk result ((bytes : List ℕ) × Asks (read file.entry.now (Ok bytes)) (D.log disk.old) (D.log disk.new)
+        × GoesOut E.transcript E.failures errors.old errors.new (loaded_line file.entry.now bytes)) }
+    ensures err { IfErr result (λ failure. IsUnloaded file.entry.now failure (D.log disk.old) (D.log disk.new)) }
     ensures untold { OnErr result (errors.new ≡ errors.old) }
 {
-    let bytes = read_file(rt, file)?;
-    dictionary_of(rt.alloc(), file, bytes.as_slice(), errors)
+    let bytes = read_file(disk, file)?;
+    dictionary_of(alloc, file, bytes.as_slice(), errors)
 }
 
 /// Loads the bytes of a word list, as `read_dictionary`.
-fn dictionary_of<E: Sink>(
+fn dictionary_of<'a, E: Sink>(
     alloc: Global,
-    file: &str,
+    file: &'a str,
     bytes: &[u8],
     errors: &mut E,
-) -> Result<Bank, Failure>
+) -> Result<Bank, Failure<'a>>
     ensures words { IfOk result (λ bank. bank.words ≡ listed_in bytes.now) }
-    ensures told { OnOk result (GoesOut E.transcript E.failures errors.old errors.new (loaded_line file.now bytes.now)) }
-    ensures err { IfErr result (λ failure. (failure ≡ Memory) ⊎ IsOverfull file.now bytes.now failure) }
+    ensures told { OnOk result (GoesOut E.transcript E.failures errors.old errors.new (loaded_line file.entry.now bytes.now)) }
+    ensures err { IfErr result (λ failure. (failure ≡ Memory) ⊎ IsOverfull file.entry.now bytes.now failure) }
     ensures untold { OnErr result (errors.new ≡ errors.old) }
 {
     match Bank::load_list(alloc, bytes) {
@@ -55,29 +57,29 @@ fn dictionary_of<E: Sink>(
             tell_loaded(alloc, file, loaded, errors)?;
             Ok(bank)
         }
-        Err(fault) => Err(unloaded(alloc, file, fault)),
+        Err(fault) => Err(unloaded(file, fault)),
     }
 }
 
 /// Returns the failure for a fault of a word list.
-fn unloaded(alloc: Global, file: &str, fault: WordFault) -> Failure
+fn unloaded<'a>(file: &'a str, fault: WordFault) -> Failure<'a>
     ensures memory { fault ≡ WordFault.Memory → result ≡ Memory }
-    ensures told { (result ≡ Memory) ⊎ IsFileFault file.now (name_of (Refusal.Word fault)) None result }
+    ensures told { (result ≡ Memory) ⊎ IsFileFault file.entry.now (name_of (Refusal.Word fault)) None result }
 {
     match fault {
         WordFault::Memory => Failure::Memory,
-        _ => file_fault(alloc, file, refusal::name(Refusal::Word(fault)), None),
+        _ => file_fault(file, refusal::name(Refusal::Word(fault)), None),
     }
 }
 
 /// Prints how many lines of a word list were added and skipped. Write errors are ignored.
-fn tell_loaded<E: Sink>(
+fn tell_loaded<'a, E: Sink>(
     alloc: Global,
-    file: &str,
+    file: &'a str,
     loaded: Loaded,
     errors: &mut E,
-) -> Result<(), Failure>
-    ensures told { OnOk result (GoesOut E.transcript E.failures errors.old errors.new (counts_line file.now loaded.added loaded.skipped)) }
+) -> Result<(), Failure<'a>>
+    ensures told { OnOk result (GoesOut E.transcript E.failures errors.old errors.new (counts_line file.entry.now loaded.added loaded.skipped)) }
     ensures memory { IsOkUnless result Memory }
     ensures untold { OnErr result (errors.new ≡ errors.old) }
 {
@@ -88,16 +90,16 @@ fn tell_loaded<E: Sink>(
 }
 
 /// Replays the commands of a file that count, and returns the number of refused lines. Reports on `errors` if others were cut.
-pub fn resume_file<R: Files + AllocGlobal, F: Searchable, E: Sink>(
-    rt: &R,
-    file: &str,
+pub fn resume_file<'a, D: Disk, F: Searchable, E: Sink>(
+    alloc: Global,
+    disk: &mut D,
+    file: &'a str,
     session: &mut Session<F>,
     errors: &mut E,
-) -> Result<usize, Failure>
-    ensures { IsResumed E.transcript E.failures file.now session.old session.new result errors.old errors.new }
+) -> Result<usize, Failure<'a>>
+    ensures { IsResumed E.transcript E.failures file.entry.now session.old session.new result (D.log disk.old) (D.log disk.new) errors.old errors.new }
 {
-    let alloc = rt.alloc();
-    let text = read_file(rt, file)?;
+    let text = read_file(disk, file)?;
     let whole = kept(text.as_slice());
     if whole.len() < text.len() {
         tell_cut(alloc, file, errors)?;
@@ -106,8 +108,12 @@ pub fn resume_file<R: Files + AllocGlobal, F: Searchable, E: Sink>(
 }
 
 /// Reports that a cut line was dropped. Write errors are ignored.
-pub fn tell_cut<E: Sink>(alloc: Global, file: &str, errors: &mut E) -> Result<(), Failure>
-    ensures told { OnOk result (GoesOut E.transcript E.failures errors.old errors.new (cut_line file.now)) }
+pub fn tell_cut<'a, E: Sink>(
+    alloc: Global,
+    file: &'a str,
+    errors: &mut E,
+) -> Result<(), Failure<'a>>
+    ensures told { OnOk result (GoesOut E.transcript E.failures errors.old errors.new (cut_line file.entry.now)) }
     ensures memory { IsOkUnless result Memory }
     ensures untold { OnErr result (errors.new ≡ errors.old) }
 {
@@ -117,57 +123,68 @@ pub fn tell_cut<E: Sink>(alloc: Global, file: &str, errors: &mut E) -> Result<()
 }
 
 /// Replays commands, and returns the number of refused lines. `file` is named in reports.
-pub fn resume_text<F: Searchable, E: Sink>(
+pub fn resume_text<'a, F: Searchable, E: Sink>(
     alloc: Global,
-    file: &str,
+    file: &'a str,
     session: &mut Session<F>,
     text: &[u8],
     errors: &mut E,
-) -> Result<usize, Failure>
-    ensures { Replays E.transcript E.failures file.now (lines_of text.now) session.old session.new result errors.old errors.new }
+) -> Result<usize, Failure<'a>>
+    ensures { Replays E.transcript E.failures file.entry.now (lines_of text.now) session.old session.new result errors.old errors.new }
 {
     match resuming::resume(alloc, session, file, text, errors) {
         Ok(refused) => Ok(refused),
-        Err(stop) => Err(stopped(alloc, file, stop)),
+        Err(stop) => Err(stopped(file, stop)),
     }
 }
 
 /// The failure for a replay that stopped.
-fn stopped(alloc: Global, file: &str, stop: Stop) -> Failure
-    ensures { IsStopped file.now stop result }
+fn stopped<'a>(file: &'a str, stop: Stop) -> Failure<'a>
+    ensures { IsStopped file.entry.now stop result }
 {
     match stop {
-        Stop::NoCommand { number, refusal } => {
-            line_fault(alloc, file, number, refusal::name(refusal))
-        }
+        Stop::NoCommand { number, refusal } => { line_fault(file, number, refusal::name(refusal)) }
         Stop::Memory => Failure::Memory,
     }
 }
 
-/// Writes a session to a file: the first line and the record. The file is not opened until all bytes are built.
-pub fn write_session<R: Locks + AllocGlobal, F: Feasible>(
-    rt: &R,
-    file: &str,
+/// Writes a session to a file: the first line and the record. The disk is not asked until all bytes are built.
+pub fn write_session<'a, D: Disk, F: Feasible>(
+    alloc: Global,
+    disk: &mut D,
+    file: &'a str,
     session: &Session<F>,
-) -> Result<(), Failure>
-    ensures err { IfErr result (λ failure. IsUnsaved file.now failure) }
+) -> Result<(), Failure<'a>>
+    ensures ok { OnOk result (Asks (replace file.entry.now (file_of session.now) (Ok tt)) (D.log disk.old) (D.log disk.new)) }
+    ensures err { IfErr result (λ failure. IsUnsaved file.entry.now session.now failure (D.log disk.old) (D.log disk.new)) }
 {
-    let bytes = saved(rt.alloc(), session)?;
-    write_file(rt, file, bytes.as_slice())
+    let bytes = saved(alloc, session)?;
+    write_file(disk, file, bytes.as_slice())
 }
 
 /// Keeps a file under another name before it is written over, and reports it.
-pub fn keep_old<R: Locks + AllocGlobal, E: Sink>(
-    rt: &R,
-    file: &str,
+pub fn keep_old<'a, D: Disk, E: Sink>(
+    alloc: Global,
+    disk: &mut D,
+    file: &'a str,
     errors: &mut E,
-) -> Result<(), Failure>
-    ensures err { IfErr result (λ failure. IsNotKept file.now failure) }
+) -> Result<(), Failure<'a>>
+    ensures ok { OnOk result (Copies file.entry.now (Ok tt) (D.log disk.old) (D.log disk.new)) }
+    ensures err { IfErr result (λ failure. IsNotKept file.entry.now failure (D.log disk.old) (D.log disk.new)) }
 {
-    let alloc = rt.alloc();
-    let bytes = read_file(rt, file)?;
+    let bytes = read_file(disk, file)?;
     let old = format!(in alloc; "{file}~")?;
-    write_copy(rt, &old, file, bytes.as_slice())?;
+    match disk.copy(&old, file, bytes.as_slice()) {
+        Ok(()) => tell_kept(alloc, file, errors),
+        Err(fault) => Err(old_failure_of(fault, file)),
+    }
+}
+
+/// Reports that an old file is kept. Write errors are ignored.
+fn tell_kept<'a, E: Sink>(alloc: Global, file: &'a str, errors: &mut E) -> Result<(), Failure<'a>>
+    ensures told { OnOk result (GoesOut E.transcript E.failures errors.old errors.new (old_line file.entry.now)) }
+    ensures memory { IsOkUnless result Memory }
+{
     let text = format!(in alloc; "xw: {file}: refused lines; the old file is kept as {file}~\n")?;
     let _ = device::write_all(errors, text.as_bytes());
     Ok(())

@@ -1,13 +1,22 @@
 //! Starts the program on its arguments and the standard streams.
+ghost use Rattle.std.specs.Prelude.{map};
+ghost use Rattle.xw_cli.specs.Called.{AnswersWords};
+ghost use Rattle.xw_cli.specs.Streams.{streams};
+
 use crate::arguments::{Usage, arguments};
 use crate::explaining::explain;
 use crate::failure::Status;
+use crate::outlet::{Outlet, Output, Watched};
 use crate::perform::perform;
+use std::alloc::Global;
+use std::cell::Cell;
+use std::convert::AsStr;
 use std::fs::OpenOptions;
 use std::io::{self, BufWriter, ErrorKind};
 use std::os::fd::{AsRawFd, IntoRawFd};
+use xw_disk::{Disk, SystemDisk};
 use xw_feas::searchable::Searchable;
-use xw_session::{FromRead, Sink, ToWrite};
+use xw_session::{FromRead, Sink, Source, ToWrite};
 
 /// The size of the output buffer in bytes.
 const GATHERED: usize = 65536;
@@ -35,13 +44,40 @@ pub fn start<F: Searchable>(rt: &HostRuntime) -> Status {
     let mut errors = ToWrite::new(rt.stderr());
     match start_gathered::<F, _>(rt, &mut errors) {
         Ok(status) => status,
-        Err(_) => explain(&Usage::Memory, &mut ToWrite::new(rt.stdout()), &mut errors),
+        Err(_) => {
+            let mark = Cell::new(false);
+            let mut output = Output::new(ToWrite::new(rt.stdout()), &mark);
+            explain(&Usage::Memory, &mut output, &mut errors)
+        }
+    }
+}
+
+/// Makes the call that the words of a command line describe, or explains why they are none. The first word is the program's name.
+/// Returns the exit status.
+pub fn answer_words<F: Searchable, D: Disk, S: AsStr, I: Source, O: Outlet, E: Sink>(
+    alloc: Global,
+    disk: &mut D,
+    words: &[S],
+    input: &mut I,
+    output: &mut O,
+    errors: &mut E,
+) -> Status
+    ensures { AnswersWords E.transcript E.failures O.transcript O.failures O.is_closed (map S.text words.now) result
+        (streams D.log I.transcript I.is_at_end I.failures O.transcript O.failures disk.old input.old output.old)
+        (streams D.log I.transcript I.is_at_end I.failures O.transcript O.failures disk.new input.new output.new) output.old output.new errors.old errors.new }
+{
+    match arguments(alloc, words) {
+        Ok(call) => perform::<F, D, I, O, E>(alloc, disk, call, input, output, errors),
+        Err(usage) => explain(&usage, output, errors),
     }
 }
 
 /// Runs the program with buffered output. Fails if an allocation for the setup fails.
 fn start_gathered<F: Searchable, E: Sink>(rt: &HostRuntime, errors: &mut E) -> io::Result<Status> {
-    let mut output = ToWrite::new(BufWriter::with_capacity(rt.alloc(), GATHERED, rt.stdout())?);
+    let mark = Cell::new(false);
+    let watched = Watched::new(rt.stdout(), &mark);
+    let writer = BufWriter::with_capacity(rt.alloc(), GATHERED, watched)?;
+    let mut output = Output::new(ToWrite::new(writer), &mark);
     let words: Vec<String> = match std::env::args(rt) {
         Ok(words) => words.collect(rt.alloc())?,
         Err(error) if error.kind() == ErrorKind::OutOfMemory => return Err(error),
@@ -50,17 +86,15 @@ fn start_gathered<F: Searchable, E: Sink>(rt: &HostRuntime, errors: &mut E) -> i
             return Ok(explain(&Usage::Wrong(text), &mut output, errors));
         }
     };
-    let status = match arguments(rt.alloc(), words.as_slice()) {
-        Ok(call) => perform::<F, _, _, _, _>(
-            rt,
-            call,
-            &mut FromRead::new(rt.stdin()),
-            &mut output,
-            errors,
-        ),
-        Err(usage) => explain(&usage, &mut output, errors),
-    };
+    let status = answer_words::<F, _, _, _, _, _>(
+        rt.alloc(),
+        &mut SystemDisk::new(rt),
+        words.as_slice(),
+        &mut FromRead::new(rt.stdin()),
+        &mut output,
+        errors,
+    );
     // This discards the unwritten bytes: their write failed, and is not tried again.
-    let (_writer, _held) = output.into_writer().into_parts();
+    let (_writer, _held) = output.into_sink().into_writer().into_parts();
     Ok(status)
 }

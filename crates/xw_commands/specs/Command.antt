@@ -13,7 +13,7 @@ use Rattle.xw_commands.specs.declared.command.SyntaxFault.{SyntaxFault}
 use Rattle.xw_commands.specs.declared.command.SyntaxFault.TheVariants as faults
 use Rattle.xw_commands.specs.Line.{without_cr, first_word}
 use Rattle.xw_commands.specs.Name.{word_of}
-use Rattle.xw_commands.specs.Reading.{Reading, ◌>>=◌, given, fault, word, number, number_if_any, number_or_zero, byte, text, symmetry, side, switch, spot, named, lights, field, lookup, is_ended}
+use Rattle.xw_commands.specs.Reading.{Reading, ◌>>=◌, given, fault, word, word_if_any, number, number_if_any, number_or_zero, byte, text, symmetry, side, switch, spot, named, lights, field, lookup, is_ended}
 
 -- the word of every command with the reading of its arguments
 abbrev pub commands : List (List ℕ × Reading Command)
@@ -39,7 +39,7 @@ commands =
     ∷ (word_of names.Show, given Show)
     ∷ (word_of names.Lights, given Lights)
     ∷ (word_of (names.Light with_light.Words), do given (Words (← named) (← number_if_any)))
-    ∷ (word_of (names.Light with_light.Choices), do given (Choices (← named) (← number)))
+    ∷ (word_of (names.Light with_light.Choices), do given (Choices (← named) (← number) (← word_if_any)))
     ∷ (word_of (names.Cell with_cell.Letters), do given (Letters (← spot)))
     ∷ (word_of (names.Cell with_cell.Tally), do given (Tally (← spot)))
     ∷ (word_of names.Duplicates, given Duplicates)

@@ -3,3 +3,4 @@ pub mod Names
 pub mod Reading
 pub mod Name
 pub mod Command
+pub mod Kind

@@ -72,6 +72,10 @@ text rest = Ok (trimmed rest, [])
 abbrev pub is_ended : List ℕ → Bool
 is_ended rest = length (trimmed_start rest) == 0
 
+-- a word, if another word follows
+abbrev pub word_if_any : Reading (Option (List ℕ))
+word_if_any rest = if is_ended rest then given None rest else (do given (Some (← word))) rest
+
 -- a number, if another word follows
 abbrev pub number_if_any : Reading (Option ℕ)
 number_if_any rest = if is_ended rest then given None rest else (do given (Some (← number))) rest

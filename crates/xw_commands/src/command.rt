@@ -1,7 +1,9 @@
 //! The commands, and the parser of a line.
-ghost use Rattle.std.specs.Prelude.{◌≡◌};
+ghost use Rattle.std.specs.Prelude.{◌≡◌, ℕ, List, option_map};
+ghost use Rattle.xw_lines.specs.Cut.{held};
 ghost use Rattle.xw_commands.specs.Reading.{Reads};
 ghost use Rattle.xw_commands.specs.Name.{word_of};
+ghost use Rattle.xw_commands.specs.Kind.{kind_of, kind_of_line};
 ghost use Rattle.xw_commands.specs.Command.{command_named as command_named_so, command_of};
 
 use crate::lights::LightArgs;
@@ -115,7 +117,7 @@ pub enum Command<'a> {
     Show,
     Lights,
     Words(LightArg, Option<u64>),
-    Choices(LightArg, u64),
+    Choices(LightArg, u64, Option<Text<'a>>),
     Letters(CellArg),
     Tally(CellArg),
     Duplicates,
@@ -128,6 +130,44 @@ pub enum Command<'a> {
     Watch(bool),
     Tell(Report),
     Put(TextMode, Field, Text<'a>),
+}
+
+/// What a command does if it is accepted.
+#[derive(Clone, Copy, Debug, PartialEq, Eq)]
+pub enum Kind {
+    /// Answers lines, and changes nothing.
+    Query,
+    /// Makes the change that it states.
+    Change,
+    /// Answers how it ended, and may enter letters.
+    Search,
+}
+
+impl<'a> Command<'a> {
+    /// Returns the kind of the command.
+    pub fn kind(&self) -> Kind
+        ensures { result ≡ kind_of self.now }
+    {
+        match self {
+            Command::Match(_) | Command::Circles | Command::Show | Command::Lights => Kind::Query,
+            Command::Words(..) | Command::Choices(..) | Command::Letters(_) => Kind::Query,
+            Command::Tally(_) | Command::Duplicates | Command::Unlisted => Kind::Query,
+            Command::Unmatched | Command::Suggest | Command::Why(_) => Kind::Query,
+            Command::Tell(_) => Kind::Query,
+            Command::Fill(_) | Command::Autofill(..) => Kind::Search,
+            _ => Kind::Change,
+        }
+    }
+}
+
+/// Returns the kind of a parsed line. A line that is no command changes nothing, like a query.
+pub fn kind_of_parsed(parsed: &Result<Option<Command<'_>>, SyntaxFault>) -> Kind
+    ensures { result ≡ kind_of_line parsed.now }
+{
+    match parsed {
+        Ok(Some(command)) => command.kind(),
+        Ok(None) | Err(_) => Kind::Query,
+    }
 }
 
 /// The commands whose argument is a word.
@@ -265,7 +305,7 @@ fn with_light<'a>(name: WithLight, words: &mut Words<'a>) -> Result<Command<'a>,
         WithLight::Erase => Ok(Command::Erase(light)),
         WithLight::Clue => Ok(Command::Clue(light, words.text())),
         WithLight::Words => Ok(Command::Words(light, words.number_if_any()?)),
-        WithLight::Choices => Ok(Command::Choices(light, words.number()?)),
+        WithLight::Choices => Ok(Command::Choices(light, words.number()?, words.word_if_any()?)),
         WithLight::Why => Ok(Command::Why(light)),
     }
 }
@@ -331,4 +371,14 @@ pub fn parse(line: &[u8]) -> Result<Option<Command<'_>>, SyntaxFault>
         return Err(SyntaxFault::Arguments);
     }
     Ok(Some(command))
+}
+
+/// Parses a buffered line, which is `None` for a line that is too long.
+pub fn parse_held(line: Option<&[u8]>) -> Result<Option<Command<'_>>, SyntaxFault>
+    ensures { (whole : List ℕ) → held whole ≡ option_map (λ bytes. bytes.now) line.entry → result ≡ command_of whole }
+{
+    match line {
+        Some(line) => parse(line),
+        None => Err(SyntaxFault::LineTooLong),
+    }
 }

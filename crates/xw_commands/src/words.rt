@@ -1,6 +1,6 @@
 //! Reads the arguments of a command one after another.
 ghost use Rattle.std.specs.Prelude.{◌≡◌, Ok, IfSome, IfNone};
-ghost use Rattle.xw_commands.specs.Reading.{word as word_of, number as number_of, byte as byte_of, text as text_of, number_if_any as number_if_any_of, number_or_zero as number_or_zero_of, is_ended as is_ended_text, direction as direction_of, side as side_of, symmetry as symmetry_of, switch as switch_of, spot as spot_of, named as named_of, text_name as text_name_of, field as field_of, Reads, HasFault};
+ghost use Rattle.xw_commands.specs.Reading.{word as word_of, number as number_of, byte as byte_of, text as text_of, word_if_any as word_if_any_of, number_if_any as number_if_any_of, number_or_zero as number_or_zero_of, is_ended as is_ended_text, direction as direction_of, side as side_of, symmetry as symmetry_of, switch as switch_of, spot as spot_of, named as named_of, text_name as text_name_of, field as field_of, Reads, HasFault};
 
 use crate::command::{CellArg, Field, LightArg, SyntaxFault, Text, TextField};
 use crate::{line, names};
@@ -53,6 +53,16 @@ impl<'a> Words<'a> {
         ensures { Reads (λ word. word) result self.new (word_of self.old) }
     {
         Ok(Text::new(self.next()?))
+    }
+
+    /// Reads a word if another word follows.
+    pub fn word_if_any(&mut self) -> Result<Option<Text<'a>>, SyntaxFault>
+        ensures { Reads (λ word. word) result self.new (word_if_any_of self.old) }
+    {
+        if self.is_ended() {
+            return Ok(None);
+        }
+        Ok(Some(self.word()?))
     }
 
     /// Takes the whole rest as a text, without spaces and tabs at its ends.

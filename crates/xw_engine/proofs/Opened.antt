@@ -1,4 +1,4 @@
--- The puzzle of given bytes.
+-- The puzzle on which a session opens, by the bytes that are given.
 use Rattle.std.proofs.Common.{◌≡◌, refl, arith, ℕ, false, List, [], ◌∷◌, length, eqb, true≢false}
 use Rattle.xw_grid.specs.Puzzle.{PuzzleShown}
 use Rattle.xw_files.specs.Formats.{IsRead}

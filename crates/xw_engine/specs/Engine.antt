@@ -27,7 +27,7 @@ pub record Shown : Type 0 where
 
 -- ---- opening
 
--- the puzzle that a session begins with: an empty one for no bytes, and otherwise the one that the bytes mean
+-- the puzzle that a session begins with: the empty one if there are no bytes, and otherwise the one that they are read as
 abbrev pub HasPuzzle : List ℕ → PuzzleShown → Type 0
 HasPuzzle [] puzzle = puzzle ≡ empty_puzzle
 HasPuzzle (byte ∷ bytes) puzzle = (kind : Kind) × IsRead kind (byte ∷ bytes) puzzle
@@ -45,7 +45,7 @@ pub record IsMisread (bytes : List ℕ) (fault : ReadFault) : Type 0 where
   pub format : HasFormat bytes kind
   pub first : IsFirstFault kind bytes fault
 
--- why a session does not begin on the bytes: an allocation failed, or there are bytes, and they have this first fault
+-- why a session does not begin on the bytes: an allocation failed, or this is the first fault of the bytes, if there are any
 abbrev pub IsUnread : List ℕ → ReadFault → Type 0
 IsUnread [] fault = fault ≡ reads.Memory
 IsUnread (byte ∷ bytes) fault = (fault ≡ reads.Memory) ⊎ IsMisread (byte ∷ bytes) fault
@@ -86,18 +86,18 @@ IsRecordMade old status new =
 abbrev pub record_name : List ℕ
 record_name = codes "record"
 
--- the status of a replay of commands, so many of which are refused
+-- the status of a replay in which this many lines were refused
 abbrev pub replay_status : ℕ → Status
 replay_status refused = if refused == 0 then Accepted else Refused
 
--- the status and the answer of a replay that reports this: its reports, and a last one for a line that is no command
+-- the status of a replay, and its answer: the reports of refused lines, and a last one for a line that is not a command
 abbrev pub IsReplayAnswer : Result ℕ Stop → List ℕ → Status → List ℕ → Type 0
 IsReplayAnswer (Ok refused) told status answer = (status ≡ replay_status refused) × (answer ≡ told)
 IsReplayAnswer (Err (stops.NoCommand number refusal)) told status answer = (status ≡ NoCommand) × (answer ≡ told ++ refused_line record_name number refusal)
 IsReplayAnswer (Err stops.Memory) told status answer = ⊥
 
--- The lines of the record are replayed, up to the first that is no command. If an allocation fails, the answer is empty,
--- and the effect of the lines that were done remains.
+-- The lines of the record are replayed, up to the first that is not a command. If an allocation fails, the answer is
+-- empty, and the effect of the lines that were executed remains.
 abbrev pub IsResumed : List ℕ → Shown → Status → Shown → Type 0
 IsResumed text old status new =
     (ended : Result ℕ Stop) × (told : List ℕ) × Resumes record_name old.state (lines_of text) ended told new.state × (IsReplayAnswer ended told status new.answer ⊎ ((status ≡ Memory) × (new.answer ≡ [])))

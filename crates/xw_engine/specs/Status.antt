@@ -1,4 +1,4 @@
--- The codes of the ways in which a call ends.
+-- The code of each status, as `include/xw.h` has it.
 use Rattle.std.specs.Prelude.{ℕ}
 use Rattle.xw_files.specs.declared.fault.ReadFault.{ReadFault}
 use Rattle.xw_files.specs.declared.fault.ReadFault.TheVariants as reads
@@ -15,7 +15,7 @@ step_status steps.Silent = Silent
 step_status steps.Accepted = Accepted
 step_status steps.Refused = Refused
 
--- a fault of a puzzle file
+-- the code of a fault of a puzzle file
 abbrev pub read_code : ReadFault → ℕ
 read_code reads.Memory = 5
 read_code (reads.Short piece) = 8
@@ -37,7 +37,7 @@ read_code (reads.NulByte offset) = 23
 read_code reads.GextSize = 24
 read_code reads.GextSum = 25
 
--- a reason why a format cannot hold a puzzle
+-- the code of a reason why a format cannot hold a puzzle
 abbrev pub write_code : WriteFault → ℕ
 write_code writes.Memory = 5
 write_code writes.Barred = 26

@@ -10,10 +10,10 @@ ghost use Rattle.xw_engine.specs.Engine.{Shown, HasPuzzle, IsOpened, IsMisread, 
 use crate::status::Status;
 use std::alloc::{AllocError, Global};
 use std::marker::Model;
+use xw_answers::refusal::{self, Refusal};
 use xw_files::{Kind, Puzzle, ReadFault, WriteFault, kind_of, read_as, write_as};
 use xw_live::Live;
 use xw_session::opening::{open_empty, open_puzzle};
-use xw_session::refusal::{self, Refusal};
 use xw_session::resuming::{self, Stop};
 use xw_session::{Session, VecSink, saving};
 use xw_words::{Bank, WordFault};
@@ -37,7 +37,7 @@ impl Model for Engine {
     ghost view = { λ engine. record { state = engine.session; answer = engine.answer.items } };
 }
 
-/// Loads a word list.
+/// Loads a word list. Returns `Full` if it has too many words of one length, and `Memory` if an allocation fails.
 fn dictionary(alloc: Global, list: &[u8]) -> Result<Bank, Status>
     ensures ok { IfOk result (λ bank. bank.words ≡ listed_in list.now) }
     ensures err { IfErr result (λ status. (status ≡ Status.Memory) ⊎ ((status ≡ Status.Full) × IsTooLong (listed_in list.now))) }
@@ -80,7 +80,7 @@ fn written(alloc: Global, session: &Session<Live>, kind: Kind) -> Result<Vec<u8>
     }
 }
 
-/// The status of a replay of commands, so many of which are refused.
+/// The status of a replay in which this many lines were refused.
 fn replayed(refused: usize) -> Status
     ensures { result ≡ replay_status refused }
 {
@@ -99,7 +99,8 @@ fn stop_line(alloc: Global, number: usize, refusal: Refusal) -> Result<String, A
     Ok(format!(in alloc; "xw: record: line {number}: {name}\n")?)
 }
 
-/// The status and the answer of a replay. `told` has the reports of refused lines. Returns `None` if an allocation failed.
+/// The status and the answer of a replay. `told` has the reports of refused lines. Returns `None` if an allocation fails
+/// or failed during the replay.
 fn report(alloc: Global, ended: Result<usize, Stop>, told: VecSink) -> Option<(Status, Vec<u8>)>
     ensures { IfSome result (λ told_so. (told.failures ≡ 0) × IsReplayAnswer ended told.bytes.items told_so.0 told_so.1.items) }
 {
@@ -119,9 +120,10 @@ fn report(alloc: Global, ended: Result<usize, Stop>, told: VecSink) -> Option<(S
 }
 
 impl Engine {
-    /// Opens a session over the words of a list, on the puzzle in the bytes of a file or, if there are none, on an empty grid
-    /// of 15 rows and columns. Returns `Full` if the list has too many words of one length, `Unread` if there are bytes and
-    /// they are no puzzle, and `Memory`, or `Unread` with the fault `Memory`, if an allocation fails.
+    /// Opens a session over the words of a list. It starts on the puzzle in the bytes of a file or, if there are no bytes, on
+    /// an empty grid of 15 rows and columns. Returns `Full` if the list has more than 1,048,576 words of one length, and
+    /// `Unread` with the first fault of bytes that are not a puzzle. Returns `Memory`, or `Unread` with the fault `Memory`, if
+    /// an allocation fails.
     pub fn open(alloc: Global, list: &[u8], puzzle: &[u8]) -> Result<Engine, Status>
         ensures ok { IfOk result (λ engine. IsOpened list.now puzzle.now engine) }
         ensures err { IfErr result (λ status. IsUnopened list.now puzzle.now status) }
@@ -135,8 +137,8 @@ impl Engine {
         })
     }
 
-    /// Answers a line, which has no line feed. The answer is what a session writes. Returns `Accepted`, `Refused` or
-    /// `Silent`, or `Memory` if the answer could not be kept: the line may then have been done.
+    /// Answers a line, given without its line feed. The answer is what `xw edit` prints. Returns `Accepted`, `Refused` or
+    /// `Silent`. Returns `Memory` if there is no memory for the answer, which is then empty; the line may have been executed.
     pub fn line(&mut self, line: &[u8]) -> Status
         ensures { IsLineDone line.now self.old result self.new }
     {
@@ -153,9 +155,10 @@ impl Engine {
         }
     }
 
-    /// Replays the lines of a record, up to the first that is not a command. The answer is a line for each that is refused,
-    /// `xw: record: line N: NAME`, and one for the line that is not a command. Returns `Accepted`, `Refused` if some lines
-    /// were refused, `NoCommand`, or `Memory` if an allocation failed: some lines may then have been done.
+    /// Replays the lines of a record, up to the first that is not a command. The answer has a line `xw: record: line N: NAME`
+    /// for each line that is refused, and for the one that is not a command. Returns `Accepted`, `Refused` if lines were
+    /// refused, or `NoCommand`. Returns `Memory` if an allocation fails; the answer is then empty, and some lines may have
+    /// been executed.
     pub fn resume(&mut self, record: &[u8]) -> Status
         ensures { IsResumed record.now self.old result self.new }
     {
@@ -173,15 +176,15 @@ impl Engine {
         }
     }
 
-    /// Makes the puzzle as a `.puz` file the answer. Returns `Accepted`, `Unwritten` if the format cannot hold the puzzle, or
-    /// `Memory` as its fault if an allocation fails. The answer is then empty.
+    /// Makes a `.puz` file of the puzzle the answer. Returns `Accepted`. If the format cannot hold the puzzle, returns
+    /// `Unwritten` with the first fault; if an allocation fails, the fault is `Memory`. The answer is then empty.
     pub fn puz(&mut self) -> Status
         ensures { IsFileMade Kind.Puz self.old result self.new }
     {
         self.file(Kind::Puz)
     }
 
-    /// Makes the puzzle as a text file the answer, as `puz`.
+    /// Makes a text file of the puzzle the answer. Returns what `puz` returns, for this format.
     pub fn text(&mut self) -> Status
         ensures { IsFileMade Kind.Text self.old result self.new }
     {

@@ -1,4 +1,4 @@
-//! How a call of the library ends.
+//! The status with which a call of the library ends, and its code.
 ghost use Rattle.std.specs.Prelude.{◌≡◌};
 ghost use Rattle.xw_engine.specs.Status.{code_of, read_code, write_code};
 
@@ -12,7 +12,7 @@ pub enum Status {
     Accepted,
     /// A line was refused, or some lines of a record were.
     Refused,
-    /// The line is blank or a note, which has no answer.
+    /// The line is blank or a comment, which has no answer.
     Silent,
     /// There is no open session.
     Closed,
@@ -44,7 +44,7 @@ impl Status {
         }
     }
 
-    /// The code of a status.
+    /// The code of a status, as `enum xw_status` of `include/xw.h` has it.
     pub fn code(self) -> u32
         ensures { result ≡ code_of self }
     {

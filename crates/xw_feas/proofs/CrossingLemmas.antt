@@ -107,7 +107,7 @@ module _ (grid : Grid) (light position : ℕ) (below : position < length (light_
   crossing_only other crossing =
       by_directions (towards grid light) (towards grid other) other crossing.apart (through_at grid light position here below refl) (through_at grid other crossing.position here crossing.below crossing.meets)
 
--- the same for the board and the lights of an engine
+-- the two lights through a cell, for the board and the lights of an engine
 module _ (grid : Grid) (board : Board) (view : board_of grid ≡ board) (lights : List Light) (same : lights ≡ lights_of grid) (light position : ℕ) (below : position < length (light_at board light))
     (cell : Cell) (at : cell ≡ cell_at grid (get_or (light_at board light) position 0)) (across down : Option ℕ) (is_across : across ≡ index_through lights Across cell) (is_down : down ≡ index_through lights Down cell) where
   abbrev There : Board → Type 0

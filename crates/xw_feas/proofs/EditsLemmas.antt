@@ -1,4 +1,4 @@
--- One more edit at the end of a list.
+-- A list of edits, run up to an edit and one further.
 use Rattle.std.proofs.Common.{◌≡◌, ℕ, ◌+◌, ◌<◌, ◌≤◌, cond, List, [], ◌∷◌, ◌++◌, map, take, length, get_or, sym, ◌∙◌, ap, subst, arith, Some, None, inl, inr, ◌⊎◌}
 use Rattle.std.specs.Prelude.{Result, Ok, Err, is_err, IsOk, IfErr, IsErrAnd}
 use Rattle.std.proofs.lemmas.List.{take_more, take_all, map_push}

@@ -1,4 +1,4 @@
--- No two lights of a grid have the same name.
+-- Lights by name: no two lights of a grid have the same name.
 use Rattle.std.proofs.Common.{◌≡◌, ℕ, ◌<◌, true, length, get_or, eqb, refl, sym, ap, ◌∙◌, arith, inl, inr, Some}
 use Rattle.std.proofs.lemmas.Bool.{cases_order, cases_eq, cases_Bool, and_parts, eq-eqb, ne_eqb, false≢true}
 use Rattle.xw_text.proofs.Position.{position_is_some}

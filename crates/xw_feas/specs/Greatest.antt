@@ -10,7 +10,7 @@ pub record IsWithin (one other : Family) : Type 0 where
   pub words : (light : ℕ) (word : List ℕ) → IsTrue (one.words light word) → IsTrue (other.words light word)
   pub letters : (cell letter : ℕ) → IsTrue (one.letters cell letter) → IsTrue (other.letters cell letter)
 
--- the family is supported, and has every supported family within it
+-- the family is supported, and contains every supported family
 pub record IsGreatest (board : Board) (dictionary : Dictionary) (family : Family) : Type 0 where
   pub supported : IsSupported board dictionary family
   pub covers : (other : Family) → IsSupported board dictionary other → IsWithin other family
@@ -24,7 +24,8 @@ pub record IsFeasibleFamily (board : Board) (dictionary : Dictionary) (family : 
 abbrev pub GreatestIsFeasible : Type 0
 GreatestIsFeasible = (board : Board) (dictionary : Dictionary) (family : Family) → IsGreatest board dictionary family → IsFeasibleFamily board dictionary family
 
--- the same of choices: base words that cover every supported family and support themselves are exactly the feasible ones
+-- flags that are set only for base words and allowed letters, cover every supported family and support one another are
+-- set for exactly the feasible words and letters
 abbrev pub StandingIsFeasible : Type 0
 StandingIsFeasible =
     (board : Board) (dictionary : Dictionary) (word_stands letter_stands : ℕ → ℕ → Bool)

@@ -1,4 +1,5 @@
 pub mod State
+pub mod Trying
 pub mod Known
 pub mod Board
 pub mod Feasible

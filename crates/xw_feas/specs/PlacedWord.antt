@@ -15,7 +15,7 @@ pub record IsPlaced (before after : Grid) (light : Light) (word : List ℕ) : Ty
   pub letters : (k : ℕ) → k < light.size → entry after (slice_index_or (cells_of light) k no_cell) ≡ Some (folded (slice_index word k))
   -- each other cell is as before
   pub others : (cell : Cell) → ¬ Contains (cells_of light) cell → square_at after cell ≡ square_at before cell
-  -- and so are size, bars and symmetry
+  -- size, bars and symmetry are as before
   pub rest : after ≡ record before { squares = after.squares }
 
 -- an accepted `Place` places its word in the light that has its name

@@ -28,8 +28,8 @@ tally_of answers light k letter = count_by (λ word. slice_index word k == lette
 abbrev pub is_active_answer : Answers → ℕ → Entry → Bool
 is_active_answer answers light word = word.active && answers_word answers light word.word
 
--- the first feasible word of the light whose index is at least `from`; a filled light has
--- its entered word at index 0 only
+-- the first feasible word of the light whose index is at least `from`; a wholly entered light has only
+-- its entered word, at index 0
 abbrev pub next_found : Board → Dictionary → Answers → ℕ → ℕ → Option Found
 next_found board dictionary answers light from =
     cond (is_wholly_entered board (light_at board light))

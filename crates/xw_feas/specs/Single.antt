@@ -50,7 +50,7 @@ AreAnswers-prop board dictionary answers x y = λ i. record {
 }
 
 coded_entry : Coded Entry
-coded_entry = code_by (List ℕ × Bool) (coded× (coded_list coded_ℕ) coded_bool) (λ entry. (entry.word, entry.active)) (λ parts. record { word = parts.0; active = parts.1 }) (λ _. refl)
+coded_entry = code_by (List ℕ × (Bool × ℕ)) (coded× (coded_list coded_ℕ) (coded× coded_bool coded_ℕ)) (λ entry. (entry.word, (entry.active, entry.grade))) (λ parts. record { word = parts.0; active = parts.1.0; grade = parts.1.1 }) (λ _. refl)
 
 letter_prop : (letter : ℕ) → IsProp (IsLetter letter)
 letter_prop letter = ×_prop le_prop le_prop
@@ -76,6 +76,7 @@ AreWords-prop len entries x y = λ i. record {
   long = Π_prop (λ k. Π_prop (λ d. Π_prop (λ below. Coded-set coded_ℕ _ _))) x.long y.long i;
   letters = Π_prop (λ k. Π_prop (λ d. Π_prop (λ below. Π_prop (λ j. Π_prop (λ e. Π_prop (λ under. letter_prop _)))))) x.letters y.letters i;
   distinct = Π_prop (λ j. Π_prop (λ k. Π_prop (λ d. Π_prop (λ before. Π_prop (λ below. Π_prop (λ same. ⊥_prop)))))) x.distinct y.distinct i;
+  graded = Π_prop (λ k. Π_prop (λ d. Π_prop (λ below. le_prop))) x.graded y.graded i;
   few = le_prop x.few y.few i;
 }
 

@@ -37,14 +37,14 @@ impl Model for Cells {
 }
 
 impl Cells {
-    /// The number of cells.
+    /// The number of cells, 2 to 255 for a light.
     pub fn len(&self) -> usize
         ensures { result ≡ length self.now }
     {
         self.len
     }
 
-    /// The index of cell `k` of the light.
+    /// The index of the cell at position `k` of the light.
     pub fn at(&self, k: usize) -> usize
         requires { k < length self.now }
         ensures { result ≡ slice_index self.now k }
@@ -103,7 +103,7 @@ impl<'a> Board<'a> {
         self.lights.len()
     }
 
-    /// The cells of a light.
+    /// The cells of a light, given by its index.
     pub fn light(&self, light: usize) -> Cells
         requires { light < length self.now.lights }
         ensures cells { result ≡ light_at self.now light }
@@ -115,7 +115,7 @@ impl<'a> Board<'a> {
         }
     }
 
-    /// The other light through cell `position` of a light.
+    /// The index of the light that crosses a light at a position; `None` if the cell there is unchecked.
     pub fn crossing(&self, light: usize, position: usize) -> Option<usize>
         requires light { light < length self.now.lights }
         requires position { position < length (light_at self.now light) }
@@ -129,7 +129,7 @@ impl<'a> Board<'a> {
         }
     }
 
-    /// The light across and the light down through a cell.
+    /// The indices of the across light and of the down light through a cell; `None` where there is none.
     pub fn lights_at(&self, cell: usize) -> (Option<usize>, Option<usize>)
         requires { cell < length self.now.open_cells }
         ensures across { IfSome result.0 (Passes self.now cell) }
@@ -147,7 +147,7 @@ impl<'a> Board<'a> {
         is_open_square(square_at(self.squares, cell))
     }
 
-    /// The letter in a cell.
+    /// The letter in a cell; `None` if the cell has none.
     pub fn entry(&self, cell: usize) -> Option<Letter>
         ensures entry { result ≡ entry_at self.now cell }
         ensures letter { IfSome result IsLetter }

@@ -46,7 +46,7 @@ impl<'a> Iterator for Changed<'a> {
             let index = self.index;
             self.index += 1;
             let after = set_at(self.after, index);
-            // Most sets are the same, and finding the cell costs a division.
+            // Most sets do not change, and `cell_at` costs a division, so compare first.
             if set_at(self.before, index).is_same(after) {
                 continue;
             }

@@ -19,7 +19,8 @@ pub fn known_distinct(bank: &Bank)
     let _ = bank.known(0);
 }
 
-/// Strikes a word and returns its index.
+/// Strikes a word, and returns its index among the known words of its length. Returns the refusals of
+/// `Bank::strike`.
 pub fn strike_in(bank: &mut Bank, word: &[u8]) -> Result<usize, WordFault>
     ensures index { IfOk result (λ index. strike_answer bank.old.words word.now ≡ Ok index) }
     ensures ok { OnOk result (strike_word bank.old.words word.now ≡ Ok bank.new.words) }
@@ -30,7 +31,7 @@ pub fn strike_in(bank: &mut Bank, word: &[u8]) -> Result<usize, WordFault>
     bank.strike(word)
 }
 
-/// Makes a struck word active again.
+/// Makes a struck word active again. The word must be known and struck.
 pub fn return_in(bank: &mut Bank, word: &[u8]) -> Result<(), WordFault>
     requires { IsReturned (add_answer bank.old.words word.now) }
     ensures ok { OnOk result (add_word bank.old.words word.now ≡ Ok bank.new.words) }
@@ -38,7 +39,7 @@ pub fn return_in(bank: &mut Bank, word: &[u8]) -> Result<(), WordFault>
     ensures counts { SameCounts bank.old.words bank.new.words }
     ensures same { OnErr result (bank.new.words ≡ bank.old.words) }
 {
-    bank.add(word)?;
+    bank.add(word, None)?;
     Ok(())
 }
 
@@ -63,5 +64,5 @@ pub fn add_in(bank: &mut Bank, word: &[u8])
     let _ = bank.known(word.len());
     let mut letters = [Letter::first(); LONGEST];
     spell(&mut letters, word);
-    let _ = bank.add_reserved(&letters[..word.len()]);
+    let _ = bank.add_reserved(&letters[..word.len()], None);
 }

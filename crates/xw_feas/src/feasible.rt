@@ -1,4 +1,4 @@
-//! The interface of an engine, and running a list of edits.
+//! The interface of an engine, and a function that runs a list of edits.
 ghost use Rattle.std.specs.Prelude.{◌≡◌, ℕ, ◌<◌, length, map, Ok, IfOk, IfErr, OnOk, OnErr};
 ghost use Rattle.std.specs.Borrow.{sem};
 ghost use Rattle.std.specs.Io.BufRead.{Rests};
@@ -33,18 +33,24 @@ pub trait Feasible: Drop {
     /// The feasible words and letters.
     ghost answers: { Self → Answers };
 
-    /// Creates an engine for a grid and a dictionary. It is refused only if an allocation fails.
+    /// Creates an engine for a grid and a dictionary. Returns `Memory` if an allocation fails.
     fn open(alloc: Global, grid: Grid, bank: Bank) -> Result<Self, Refusal>
         ensures ok { IfOk result (λ engine. state engine ≡ record { grid = grid; words = bank.words }) }
         ensures err { IfErr result (λ refusal. refusal ≡ Refusal.Grid GridFault.Memory) };
 
-    /// Applies an edit, and returns the cells whose feasible letters changed. A refused edit
-    /// changes nothing.
+    /// Applies an edit, and returns an iterator over the cells whose feasible letters changed. A refused
+    /// edit changes nothing. The refusals, and their order, are those of the edit of the grid or the
+    /// dictionary; `Block`, `Bar` and `Add` of a new word may also return `Memory`.
+    ///
+    /// The iterator borrows the engine. In the contract, `now` is the engine once that borrow ends. After
+    /// `Ok`, its grid and dictionary are those that the edit leads to, and the iterator yields exactly the
+    /// open cells whose feasible letters changed, each with its new letters. After `Err`, nothing has
+    /// changed.
     fn edit(&mut self, edit: &Edit<'_>) -> Result<Changed<'_>, Refusal>
         ensures* edited { sem 𝓛 (Rests Self.row self.entry (λ now. IsEdited (state self.old) (answers self.old) (action_of edit.now) result (state now) (answers now))) };
 
-    /// Replaces the grid and keeps the dictionary. It is refused only if an allocation fails, and
-    /// then changes nothing.
+    /// Replaces the grid and keeps the dictionary. Returns `Memory` if an allocation fails, and then
+    /// changes nothing.
     fn regrid(&mut self, grid: Grid) -> Result<(), Refusal>
         ensures ok { OnOk result (state self.new ≡ record { grid = grid; words = (state self.old).words }) }
         ensures err { IfErr result (λ refusal. refusal ≡ Refusal.Grid GridFault.Memory) }
@@ -98,7 +104,8 @@ pub trait Feasible: Drop {
         }
     }
 
-    /// Places a known word in a light: both by index, the word among those of the light's length. It is never refused.
+    /// Places a known word in a light. Both are given by index, the word by its index among the known words
+    /// of the light's length. This always succeeds.
     fn place_word_at(&mut self, light: usize, index: usize)
         requires light { light < length (lights_of (state self.old).grid) }
         requires index { index < known_count (state self.old) light }

@@ -14,7 +14,8 @@ use xw_grid::fault::GridFault;
 use xw_grid::grid::Grid;
 use xw_grid::lights::Lights;
 
-/// A copy of the grid with a block toggled.
+/// A copy of the grid with a block toggled. Returns the refusal of `Grid::toggle_block`, or `Memory` if
+/// the copy cannot be allocated.
 pub fn with_block(grid: &Grid, cell: Cell) -> Result<Grid, GridFault>
     ensures ok { IfOk result (λ toggled. block_toggled grid.now cell ≡ Ok toggled) }
     ensures refused { IfErr result (λ fault. IsGridRefused (block_toggled grid.now cell) fault) }
@@ -27,7 +28,8 @@ pub fn with_block(grid: &Grid, cell: Cell) -> Result<Grid, GridFault>
     Ok(toggled)
 }
 
-/// A copy of the grid with a bar toggled.
+/// A copy of the grid with a bar toggled. Returns the refusal of `Grid::toggle_bar`, or `Memory` if the
+/// copy cannot be allocated.
 pub fn with_bar(grid: &Grid, cell: Cell, side: Side) -> Result<Grid, GridFault>
     ensures ok { IfOk result (λ toggled. bar_toggled grid.now cell side ≡ Ok toggled) }
     ensures refused { IfErr result (λ fault. IsGridRefused (bar_toggled grid.now cell side) fault) }
@@ -39,7 +41,7 @@ pub fn with_bar(grid: &Grid, cell: Cell, side: Side) -> Result<Grid, GridFault>
     Ok(toggled)
 }
 
-/// Applies an edit that keeps the lights: one of letters, or of the symmetry.
+/// Applies an edit of letters or of the symmetry, which keeps the lights. Returns its refusal.
 pub fn edit_letters(grid: &mut Grid, lights: &Lights, edit: &Edit<'_>) -> Result<(), Refusal>
     requires lights { lights.now ≡ lights_of grid.old }
     requires letters { is_of_letters (action_of edit.now) ≡ true }

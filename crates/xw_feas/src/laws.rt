@@ -15,8 +15,9 @@ pub fn families_join()
     ensures { (board : Board) (words : Dictionary) (one other : Family) → IsSupported board words one → IsSupported board words other → IsSupported board words (together one other) }
 {}
 
-/// The supported family that has every supported family within it has exactly the feasible words and letters. So have the
-/// choices that are set, if they are base words, cover every supported family and support themselves.
+/// The greatest supported family, which contains every other one, has exactly the feasible words and letters. The same is
+/// true of flags for words and letters, if they are set only for base words and allowed letters, cover every supported
+/// family and support one another.
 pub fn greatest_family_is_feasible()
     ensures family { GreatestIsFeasible }
     ensures choices { StandingIsFeasible }
@@ -27,14 +28,14 @@ pub fn feasible_family_exists()
     ensures { FeasibleFamilyExists }
 {}
 
-/// If no edit of a list allocates, that is none is a `Block`, a `Bar` or the addition of a new
-/// word, then the list leads to exactly one state and one number of refused edits.
+/// If no edit of a list allocates, the list leads to exactly one state and one number of refused
+/// edits. The edits that allocate are `Block`, `Bar`, and `Add` of a new word.
 pub fn edits_lead_to_one_state()
     ensures { (state one other : State) (list : List Action) (m n : ℕ) → WantNothing state list → IsAfter state list m one → IsAfter state list n other → (m ≡ n) × (one ≡ other) }
 {}
 
-/// Writing a list of cells has the result of writing the cells one by one, if none is refused. Else
-/// the list is refused with the refusal of the first such cell.
+/// If no cell of a list is refused, writing the list has the result of writing its cells one by one.
+/// Otherwise the list is refused, and its refusal is that of the first refused cell.
 pub fn cells_are_written_in_turn()
     ensures accepted { (state next : State) (list : List (Cell × Option ℕ)) → (after state (list_written list) ≡ Ok next) ↔ IsAfter state (map write_of list) 0 next }
     ensures refused { (state : State) (list : List (Cell × Option ℕ)) (refusal : Refusal) → after state (list_written list) ≡ Err refusal → IsRefusedInTurn state list refusal }

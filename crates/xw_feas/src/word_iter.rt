@@ -36,7 +36,7 @@ impl<'a> Entries<'a> {
         self.cells.len()
     }
 
-    /// Letter `k`, counted from 0.
+    /// The letter at position `k`, counted from 0; `None` past the last one.
     pub fn letter(&self, k: usize) -> Option<Letter>
         ensures { result ≡ slice_get self.now k }
     {
@@ -66,7 +66,7 @@ impl<'a> Spelled<'a> {
         }
     }
 
-    /// Letter `k`, counted from 0.
+    /// The letter at position `k`, counted from 0; `None` past the last one.
     pub fn letter(&self, k: usize) -> Option<Letter>
         ensures { result ≡ slice_get (spelling self.now) k }
     {

@@ -59,7 +59,8 @@ fn enter_list(grid: &mut Grid, list: &[(Cell, Option<Letter>)])
     }
 }
 
-/// Writes each cell of a list, in order. If one of them is refused, nothing changes.
+/// Writes each cell of a list, in order. If a cell is outside the grid or a block, nothing changes, and
+/// the fault of the first such cell is returned.
 pub fn write(grid: &mut Grid, list: &[(Cell, Option<Letter>)]) -> Result<(), GridFault>
     ensures ok { OnOk result (write_list list.now grid.old ≡ Ok grid.new) }
     ensures refused { IfErr result (λ fault. write_list list.now grid.old ≡ Err fault) }

@@ -1,4 +1,4 @@
--- What it means that a step succeeded.
+-- What follows from a step that succeeded.
 use Rattle.std.proofs.Common.{◌≡◌, Bool, true, false, cond, refl, Ok, Err}
 use Rattle.std.specs.Prelude.{Result}
 use Rattle.xw_files.specs.Steps.{◌>>=◌}

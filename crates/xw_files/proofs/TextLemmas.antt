@@ -1,4 +1,4 @@
--- Lemmas on text files.
+-- Lemmas about text files.
 pub mod Alls
 pub mod Lines
 pub mod Numbers

@@ -1,4 +1,4 @@
--- What both writers require (no bar, no empty cell), and the byte of a square.
+-- What both writers require, which is no bar and no empty cell; and the byte of a square.
 use Rattle.std.specs.Prelude.{ℕ, Bool, true, false, ◌||◌, find, Option, Some, None}
 use Rattle.std.specs.List.{list_any}
 use Rattle.xw_grid.specs.declared.cell.Cell.{Cell}

@@ -1,4 +1,4 @@
--- What a puzzle file in either format means, and what is written in either format.
+-- The puzzle of a file, and the file of a puzzle, in either format.
 use Rattle.std.specs.Prelude.{◌≡◌, ◌↔◌, ℕ, List, take, drop, Result, Ok}
 use Rattle.xw_grid.specs.Puzzle.{PuzzleShown}
 use Rattle.xw_files.specs.Puz.Reading.{magic}
@@ -34,8 +34,8 @@ abbrev pub IsFirstFault : Kind → List ℕ → ReadFault → Type 0
 IsFirstFault Puz bytes fault = puz_faults.IsFirstFault bytes fault
 IsFirstFault Text bytes fault = text_faults.IsFirstFault bytes fault
 
--- The bytes have this format and are a file of this puzzle. Of the puzzles that they are a file of, it is the one that
--- the reader makes.
+-- The bytes have this format and are a file of this puzzle. Bytes can be a file of several puzzles; this is the one that
+-- the reader returns.
 pub record IsRead (kind : Kind) (bytes : List ℕ) (puzzle : PuzzleShown) : Type 0 where
   pub format : HasFormat bytes kind
   pub file : IsFileOf kind bytes puzzle

@@ -7,14 +7,14 @@ use std::fmt;
 use xw_grid::cell::Cell;
 use xw_grid::fault::GridFault;
 
-/// A part of a `.puz` file whose length is known before it is read.
+/// A part of a `.puz` file whose length is known before it is read: the header of 52 bytes, and the two boards.
 #[derive(Clone, Copy, Debug, PartialEq, Eq)]
 pub enum Piece {
     Header,
     Boards,
 }
 
-/// A text of a puzzle. A clue is given by the position of its light in light order, from 1.
+/// A text of a puzzle. `Clue(k)` is the clue of the k-th light in light order, counted from 1.
 #[derive(Clone, Copy, Debug, PartialEq, Eq)]
 pub enum TextName {
     Title,
@@ -24,7 +24,7 @@ pub enum TextName {
     Notes,
 }
 
-/// A checksum of a `.puz` file. A masked byte is given by its position, from 1 to 8.
+/// A checksum of a `.puz` file. `Masked(k)` is the k-th of the eight masked bytes, counted from 1.
 #[derive(Clone, Copy, Debug, PartialEq, Eq)]
 pub enum SumName {
     Cib,
@@ -46,13 +46,18 @@ pub enum Tag {
 }
 
 /// Why a file cannot be read: the first fault in the order of its format, or `Memory` if an allocation fails.
+/// `docs/formats.md` has the formats and the order of their faults.
 #[derive(Clone, Copy, Debug, PartialEq, Eq)]
 pub enum ReadFault {
     /// The bytes end before the end of this part.
     Short(Piece),
+    /// The bytes at offset 2 are not the magic.
     Magic,
+    /// The version is not `1.3`.
     Version,
+    /// The solution is scrambled.
     Scrambled,
+    /// The width or the height is 0.
     Size,
     /// This text has no terminating NUL.
     NoNul(TextName),
@@ -62,19 +67,25 @@ pub enum ReadFault {
     BadCell(Cell),
     /// The number of clues differs from the number of lights.
     ClueCount,
+    /// An allocation failed.
     Memory,
+    /// The first line of a text file is not `<ACROSS PUZZLE>`.
     Header,
     /// This tag is missing.
     Tag(Tag),
+    /// There is no line `WxH` under `<SIZE>`, with sides of 1 to 255 cells.
     SizeLine,
     /// This row, from 1, has no line, a line of another length than the width, or a tag line.
     GridLine(u32),
+    /// There are more clues under `<ACROSS>` than lights, or fewer.
     AcrossCount,
+    /// There are more clues under `<DOWN>` than lights, or fewer.
     DownCount,
     /// The file has a NUL at this offset, from 0.
     NulByte(usize),
     /// The length of the GEXT section differs from the number of cells.
     GextSize,
+    /// The checksum of the GEXT section does not match its bytes.
     GextSum,
 }
 
@@ -153,14 +164,16 @@ impl From<GridFault> for ReadFault {
     }
 }
 
-/// Why a puzzle cannot be written: the first fault that applies, or `Memory` if an allocation fails.
+/// Why a puzzle cannot be written in a format: the first fault that applies, or `Memory` if an allocation fails.
 #[derive(Clone, Copy, Debug, PartialEq, Eq)]
 pub enum WriteFault {
+    /// The grid has a bar.
     Barred,
     /// This cell is empty.
     NotFilled(Cell),
     /// The format cannot hold this text.
     Field(TextName),
+    /// An allocation failed.
     Memory,
     /// This open cell is circled, and the text format has no circles.
     Circled(Cell),

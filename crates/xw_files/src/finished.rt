@@ -1,4 +1,4 @@
-//! What both writers test and write: bars, empty cells, circles and square bytes. Nothing here allocates.
+//! What both writers need: tests for bars, empty cells and circles, and the byte of a square. Nothing here allocates.
 ghost use Rattle.std.specs.Prelude.{◌≡◌, find};
 ghost use Rattle.std.specs.List.{list_any};
 ghost use Rattle.xw_grid.specs.Grid.{cells};
@@ -53,6 +53,7 @@ pub(crate) fn is_circled(grid: &Grid, circles: &Circles, cell: Cell) -> bool
     grid.is_open(cell) && circles.has(cell)
 }
 
+/// Returns the byte of a square in a file of either format: `.` for a block, `-` for an empty cell, and otherwise the letter.
 pub(crate) fn square_byte(square: Square) -> u8
     ensures { result ≡ square_byte square }
 {

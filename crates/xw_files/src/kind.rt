@@ -8,7 +8,9 @@ use crate::puz;
 /// A puzzle file format.
 #[derive(Clone, Copy, Debug, PartialEq, Eq)]
 pub enum Kind {
+    /// The binary format `.puz`, version 1.3.
     Puz,
+    /// The text format, which begins with `<ACROSS PUZZLE>`.
     Text,
 }
 

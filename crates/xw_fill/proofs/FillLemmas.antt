@@ -68,9 +68,11 @@ active_base board dictionary light word below not_entered active fits =
     let test : Entry → Bool = λ known. known.active && agrees board (light_at board light) known.word in
     let words = known_words dictionary (length (light_at board light)) in
     let here : base_words_at board dictionary light ≡ map (λ (known : Entry). known.word) (filter test words) = get_or-map (base_words board dictionary) board.lights light [] [] below ∙ ap (λ b. cond b (spelled board (light_at board light) ∷ []) (map (λ (known : Entry). known.word) (filter test words))) not_entered in
-    let is : Entry = record { word = word; active = true } in
-    let known : Among is words = subst (λ n. Among is (known_words dictionary n)) (agrees-length board (light_at board light) word fits) (Among-contained is (known_words dictionary (length word)) active) in
-    subst (Among word) (sym here) (Among-map (λ (w : Entry). w.word) is (filter test words) (Among-filter test words is known fits))
+    let is : Entry = active.0 in
+    let known : Among is words = subst (λ n. Among is (known_words dictionary n)) (agrees-length board (light_at board light) word fits) (Among-contained is (known_words dictionary (length word)) active.1.0) in
+    let passes : test is ≡ true = and_from _ _ active.1.2 (ap (agrees board (light_at board light)) active.1.1 ∙ fits) in
+    let among : Among is.word (map (λ (w : Entry). w.word) (filter test words)) = Among-map (λ (w : Entry). w.word) is (filter test words) (Among-filter test words is known passes) in
+    subst (Among word) (sym here) (subst (λ w. Among w (map (λ (w : Entry). w.word) (filter test words))) active.1.1 among)
 
 pub entered_base : (board : Board) (dictionary : Dictionary) (light : ℕ) → light < length board.lights → is_wholly_entered board (light_at board light) ≡ true → Among (spelled board (light_at board light)) (base_words_at board dictionary light)
 entered_base board dictionary light below entered =

@@ -2,6 +2,7 @@ pub mod BelowLemmas
 pub mod Shaped
 pub mod StateLemmas
 pub mod MarksLemmas
+pub mod StackLemmas
 pub mod FeasibleWordsLemmas
 pub mod FeasibleLettersLemmas
 pub mod PlacingLemmas
@@ -14,8 +15,16 @@ pub mod ScanLemmas
 pub mod WordsLemmas
 pub mod Trail
 pub mod Searching
-pub mod MarkedTries
 pub mod SuggestingLemmas
 pub mod ChoiceLemmas
 pub mod ListingLemmas
 pub mod LawLemmas
+pub mod Frames
+pub mod Entering
+pub mod PlanLemmas
+pub mod CheckLemmas
+pub mod LetterLemmas
+pub mod LetterSearch
+pub mod Naming
+pub mod NamedFills
+pub mod TryingLemmas

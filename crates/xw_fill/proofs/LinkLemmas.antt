@@ -7,7 +7,7 @@ use Rattle.std.proofs.lemmas.Slice.Eq.{bytes_eq-Decides}
 use Rattle.xw_feas.specs.Board.{light_at}
 use Rattle.xw_fill.specs.Position.{Position}
 use Rattle.xw_fill.specs.Search.{is_entered, spelling, spell_same, is_repeat}
-use Rattle.xw_fill.specs.Linked.{size_of, is_entered_of_size, last_of_size, AreLinked}
+use Rattle.xw_fill.specs.Inner.Linked.{size_of, is_entered_of_size, last_of_size, AreLinked}
 use Rattle.xw_fill.proofs.BelowLemmas.{any_below-from, any_below-gives, last_below-some, last_below-none}
 use Rattle.xw_fill.proofs.PlacingLemmas.{length-spelled}
 

@@ -134,3 +134,10 @@ held_back saved snapshots held found snapshot state some within is state_is =
     ∙ map_more saved snapshots (held - 1) found (omega arith)
     ∙ ap (λ states. map saved states ++ saved (get_or snapshots (held - 1) found) ∷ []) (sym (take-set snapshots (held - 1) snapshot))
     ∙ ap (λ last. map saved (take (held - 1) (set snapshots (held - 1) snapshot)) ++ last ∷ []) (ap saved (sym is) ∙ sym state_is)
+
+-- the states after the first free snapshot became a mark
+pub kept_free : {S : Type 0} (saved : S → State) (snapshots : List S) (held : ℕ) (state : State) → held < length snapshots → ((other : S) → saved (get_or snapshots held other) ≡ state) → map saved (take (held + 1) snapshots) ≡ map saved (take held snapshots) ++ state ∷ []
+kept_free saved [] held state below holds = absurd (omega (arith, below))
+kept_free saved (snapshot ∷ snapshots) held state below holds =
+    map_more saved (snapshot ∷ snapshots) held snapshot below
+    ∙ ap (λ last. map saved (take held (snapshot ∷ snapshots)) ++ last ∷ []) (holds snapshot)

@@ -3,7 +3,7 @@ use Rattle.std.proofs.Common.{◌≡◌, ℕ, suc, ◌≤◌, Bool, true, false,
 use Rattle.std.specs.Prelude.{is_some, IfSome}
 use Rattle.std.proofs.lemmas.Bool.{true≢false, lt-ltb, le-ltb, ltb-true, ltb-false}
 use Rattle.xw_fill.specs.Position.{Position}
-use Rattle.xw_fill.specs.Noted.{within, noted, SpellApart, StayNoted}
+use Rattle.xw_fill.specs.Inner.Noted.{within, noted, SpellApart, StayNoted}
 
 -- the note of a light after an update
 pub record IsNotedAgain (before after : Option ℕ) (placements : ℕ) (entered : Bool) : Type 0 where

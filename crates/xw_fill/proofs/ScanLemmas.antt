@@ -28,7 +28,7 @@ use Rattle.xw_fill.specs.Filling.{scanned, outlook, next_of, unless_repeated}
 use Rattle.xw_fill.specs.declared.scan.Scan.{Scan}
 use Rattle.xw_fill.specs.declared.scan.Scan.TheVariants.{Blocked, Open}
 use Rattle.xw_fill.specs.declared.search.Next.TheVariants.{Spent}
-use Rattle.xw_fill.specs.Tries.{without_letters, taken_back, all_taken_back}
+use Rattle.xw_fill.specs.Inner.Tries.{without_letters, taken_back}
 use Rattle.xw_fill.proofs.BelowLemmas.{any_below-from}
 
 -- a light with 0 feasible words
@@ -198,11 +198,6 @@ take_back-end before now answers_before answers_now tried list pos result so_far
       ap position_of done ∙ so_far.partly.0 ∙ ap (holding (position_of before)) (sym (without_letters-end _ _ pos _ all) ∙ so_far.entries),
       subst (DiffersInEntries before) (sym done) so_far.partly.1,
     )
-
--- the last of several placements is undone first
-pub all_taken_back-last : (position : Position) (tries : List Try) (tried : Try) → all_taken_back position (tries ++ tried ∷ []) ≡ all_taken_back (taken_back position tried) tries
-all_taken_back-last position [] tried = refl
-all_taken_back-last position (first ∷ tries) tried = ap (λ s. taken_back s first) (all_taken_back-last position tries tried)
 
 -- an option that is None
 pub none_is : {A : Type 0} (o : Option A) (b : Bool) → is_some o ≡ not b → b ≡ is_none o

@@ -137,8 +137,8 @@ open_base board dictionary light word below not_entered among =
     let parts = and_parts found.0.active (agrees board (light_at board light) found.0.word) known.1 in
     let fits : agrees board (light_at board light) word ≡ true = ap (agrees board (light_at board light)) (sym found.2) ∙ parts.1 in
     let long : length word ≡ length (light_at board light) = agrees-length board (light_at board light) word fits in
-    let is : found.0 ≡ record { word = word; active = true } = λ i. record { word = found.2 i; active = parts.0 i } in
-    (subst (λ n. Contains (known_words dictionary n) (record { word = word; active = true })) (sym long) (subst (Contains words) is (Contains-among found.0 words known.0)), fits)
+    let there : Contains (known_words dictionary (length word)) found.0 = subst (λ n. Contains (known_words dictionary n) found.0) (sym long) (Contains-among found.0 words known.0) in
+    ((found.0, (there, found.2, parts.0)), fits)
 
 pub open_feasible : (position : Position) (light : ℕ) (word : List ℕ) → light < light_count position → is_entered position light ≡ false → Among word (feasible_words position light) → IsActive position.words word × (agrees position.board (light_at position.board light) word ≡ true)
 open_feasible position light word below not_entered among = open_base position.board position.words light word below not_entered (feasible-gives position light word among).0

@@ -1,10 +1,10 @@
 -- The invariant of a search for a fill, and how each step keeps it.
 use Rattle.std.proofs.Common.{◌≡◌, ℕ, zero, suc, ◌+◌, ◌<◌, ◌≤◌, Bool, true, false, cond, not, List, [], ◌∷◌, ◌++◌, map, length, get_or, Option, Some, None, refl, sym, ◌∙◌, ap, subst, arith}
-use Rattle.std.specs.Prelude.{All, is_none, Result, Ok, Err, MatchResult, IsErrAnd, IfOk}
+use Rattle.std.specs.Prelude.{is_none, Result, Ok, Err, MatchResult, IsErrAnd, IfOk}
 use Rattle.std.specs.Option.{option_to_list}
 use Rattle.std.specs.List.{list_any}
 use Rattle.std.proofs.lemmas.Bool.{false≢true}
-use Rattle.std.proofs.lemmas.List.{nil_from_length, get_or_push, length-append, get_or-map}
+use Rattle.std.proofs.lemmas.List.{nil_from_length, get_or-map}
 use Rattle.xw_feas.specs.Board.{board_of, light_at, entry}
 use Rattle.xw_feas.specs.State.{State}
 use Rattle.xw_fill.proofs.Shaped.{shaped, distinct_words}
@@ -13,7 +13,7 @@ use Rattle.xw_feas.specs.WellFormed.{IsWellFormed}
 use Rattle.xw_fill.specs.Position.{Position, position_of, filled_in, DiffersInEntries}
 use Rattle.xw_fill.specs.FeasibleWords.{is_feasible_word}
 use Rattle.xw_fill.specs.Search.{light_count, is_entered, is_dead, chosen, found_in, due_of, due_in, end_in, unentered_count, found, due, end}
-use Rattle.xw_fill.specs.Tries.{AreBlanks, all_taken_back, taken_back}
+use Rattle.xw_fill.specs.Inner.Tries.{AreBlanks, taken_back}
 use Rattle.xw_fill.specs.Filling.{outlook, next_of, IsFilling, HasFill}
 use Rattle.xw_fill.specs.declared.tries.Try.{Try}
 use Rattle.xw_fill.specs.declared.search.Filling.{Filling}
@@ -24,7 +24,7 @@ use Rattle.xw_fill.proofs.FillLemmas.{fill_is_found, found_is_fill, reached-star
 use Rattle.xw_fill.proofs.SearchLemmas.{chosen-Some, chosen-counted, count_below-most}
 use Rattle.xw_fill.specs.Words.{spellings_at, words_before, IsNextWord, HasNoMore}
 use Rattle.xw_fill.proofs.WordsLemmas.{next_before, no_more_before}
-use Rattle.xw_fill.proofs.Trail.{IsSound, IsUnderWay, spent_on, found_after, due_after, IsTried, after_try, cost_of, Trail, trail-found, trail-due, trail-more, trail-last, trail-sound, trail-depth, trail-enough, trail-lights, trail-back, tried-failed, taken_back-placed, way-spent}
+use Rattle.xw_fill.proofs.Trail.{IsSound, IsUnderWay, spent_on, found_after, due_after, IsTried, after_try, cost_of, Trail, trail-found, trail-due, trail-more, trail-last, trail-sound, trail-depth, trail-enough, trail-lights, tried-failed, taken_back-placed, way-spent}
 
 -- what is known at the current position, and the placements spent on it
 abbrev pub IsAt : ℕ → Position → ℕ → Next → Type 0
@@ -156,16 +156,8 @@ searching-limit start current tries used light from index tried sound s next is 
       let all = trail-due (tries ++ tried ∷ []) (unentered_count start) start (s.cost + cost_of left current tried) left (after_try current tried) sound more in
       omega (arith, s.used_is, here.1, made.1)
 
-pub searching-lights : (start current : Position) (tries : List Try) (used : ℕ) (next : Next) → IsSearching start tries used current next → All (λ tried. tried.light < light_count current) tries
-searching-lights start current tries used next s =
-    let lights = trail-lights tries (unentered_count start) start s.cost s.left current s.trail in
-    λ k d below. rw lights.0 (lights.1 k d below)
-
 pub searching-count : (start current : Position) (tries : List Try) (used : ℕ) (next : Next) → IsSearching start tries used current next → light_count current ≡ light_count start
 searching-count start current tries used next s = (trail-lights tries (unentered_count start) start s.cost s.left current s.trail).0
-
-pub searching-all_back : (start current : Position) (tries : List Try) (used : ℕ) (next : Next) → IsSound start → IsSearching start tries used current next → all_taken_back current tries ≡ start
-searching-all_back start current tries used next sound s = trail-back tries (unentered_count start) start s.cost s.left current sound s.trail
 
 -- ---- the end of the search
 
@@ -232,10 +224,6 @@ last-index start current tries tried used sound s =
     let few = before_sound.dictionary.few (length (light_at last.before.board tried.light)) in
     let within = last.is.within in
     omega arith
-
-pub last-light : (start current : Position) (tries : List Try) (tried : Try) (used : ℕ) → IsSearching start (tries ++ tried ∷ []) used current Spent → tried.light < light_count current
-last-light start current tries tried used s =
-    subst (λ t. t.light < light_count current) (get_or_push tries tried tried (length tries) refl) (searching-lights start current (tries ++ tried ∷ []) used Spent s (length tries) tried (omega (arith, length-append tries (tried ∷ []))))
 
 -- the try of this word in this light
 abbrev pub try_at : Position → ℕ → ℕ → Try

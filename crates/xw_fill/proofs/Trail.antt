@@ -7,14 +7,15 @@ use Rattle.std.proofs.lemmas.Bool.{true≢false, or_from, or_left}
 use Rattle.std.proofs.lemmas.List.{length-set, get_or-set_same, get_or-set_other, ext_get_or}
 use Rattle.std.proofs.lemmas.List.Folds.{list_any-append}
 use Rattle.xw_feas.specs.Board.{entry, light_at, agrees}
+use Rattle.xw_feas.specs.State.{State}
 use Rattle.xw_fill.proofs.Shaped.{IsShaped}
 use Rattle.xw_fill.specs.Words.{spellings_at, words_before, words_left}
 use Rattle.xw_fill.proofs.Shaped.{HasDistinctWords}
-use Rattle.xw_fill.specs.Position.{Position, placed, entries_with, holding}
+use Rattle.xw_fill.specs.Position.{Position, position_of, placed, entries_with, holding}
 use Rattle.xw_fill.specs.FeasibleWords.{is_feasible_word, feasible_words}
-use Rattle.xw_fill.specs.Noted.{noted, AreEntered, StayNoted}
+use Rattle.xw_fill.specs.Inner.Noted.{noted, AreEntered, StayNoted}
 use Rattle.xw_fill.specs.Search.{light_count, is_entered, is_dead, chosen, found_in, due_of, due_in, end_of, end_in, unentered_count}
-use Rattle.xw_fill.specs.Tries.{without_letters, taken_back, all_taken_back, AreBlanks}
+use Rattle.xw_fill.specs.Inner.Tries.{without_letters, taken_back, AreBlanks, word_of, IsMade}
 use Rattle.xw_fill.specs.declared.tries.Try.{Try}
 use Rattle.xw_fill.proofs.BelowLemmas.{Among-contained}
 use Rattle.xw_fill.proofs.FeasibleWordsLemmas.{is_feasible_word-gives}
@@ -89,8 +90,13 @@ way-spent fuel position light from sound way all =
 
 -- ---- one try
 
-abbrev pub word_of : Position → Try → List ℕ
-word_of position tried = get_or (spellings_at position tried.light) tried.index []
+-- what the try of a word leads to
+pub made_placed : (tried : Try) (before after : State) (light index : ℕ) → IsMade tried before after → tried.light ≡ light → tried.index ≡ index → position_of after ≡ placed (position_of before) light (get_or (spellings_at (position_of before) light) index [])
+made_placed tried before after light index made is_light is_index =
+    let start = position_of before in
+    made.placed
+    ∙ ap (λ l. placed start l (get_or (spellings_at start l) tried.index [])) is_light
+    ∙ ap (λ i. placed start light (get_or (spellings_at start light) i [])) is_index
 
 pub record IsTried (fuel : ℕ) (position : Position) (tried : Try) : Type 0 where
   pub way : IsUnderWay fuel position tried.light tried.index
@@ -319,14 +325,6 @@ trail-lights (tried ∷ tries) (suc fuel) start cost left current t =
     let further = trail-lights tries fuel (after_try start tried) t.0 left current t.3 in
     let here = chosen-Some start tried.light t.1.way.chosen_is in
     (further.0, λ k. elim k as (λ n. (d : Try) → n < length (tried ∷ tries) → (get_or (tried ∷ tries) n d).light < light_count start) [ zero ↦ λ d below. here.0 | suc j ↦ λ d below. further.1 j d (omega arith) ])
-
--- undoing all tries leads back to the start
-pub trail-back : (tries : List Try) (fuel : ℕ) (start : Position) (cost left : ℕ) (current : Position) → IsSound start → Trail fuel start tries cost left current → all_taken_back current tries ≡ start
-trail-back [] fuel start cost left current sound t = t.2
-trail-back (tried ∷ tries) zero start cost left current sound t = absurd t
-trail-back (tried ∷ tries) (suc fuel) start cost left current sound t =
-    ap (λ s. taken_back s tried) (trail-back tries fuel (after_try start tried) t.0 left current (IsSound-placed start tried.light (word_of start tried) sound) t.3)
-    ∙ taken_back-placed fuel start tried sound t.1
 
 -- a try leaves fewer lights to enter
 pub tried-fewer : (fuel : ℕ) (position : Position) (tried : Try) → IsSound position → IsTried fuel position tried → unentered_count (after_try position tried) < unentered_count position

@@ -45,13 +45,14 @@ feasible_known position light k dictionary in_grid not_entered below h =
     let feasible = is_feasible_word-gives position light word h in
     let base = open_base position.board position.words light word in_grid not_entered (Among-contained word (base_words_at position.board position.words light) (feasible.1.words_are_base light word feasible.2)) in
     let fits : agrees position.board cells word ≡ true = base.1 in
-    let active : Contains known (record { word = word; active = true }) = subst (λ n. Contains (known_words position.words n) (record { word = word; active = true })) (agrees-length position.board cells word fits) base.0 in
+    let one : Entry = base.0.0 in
+    let active : Contains known one = subst (λ n. Contains (known_words position.words n) one) (agrees-length position.board cells word fits) base.0.1.0 in
     let spelled_at : (j : ℕ) → j < length known → get_or (spellings position.words (length cells)) j [] ≡ (get_or known j no_entry).word = λ j under. get_or-map (λ (w : Entry). w.word) known j no_entry [] under in
     let long : length (spellings position.words (length cells)) ≡ length known = length-map known (λ (w : Entry). w.word) in
-    let same_default : get_or known active.0 no_entry ≡ record { word = word; active = true } = at_default known active.0 no_entry (record { word = word; active = true }) active.1 ∙ active.2 in
-    let same : active.0 ≡ k = dictionary.distinct (length cells) active.0 k (rw long active.1) (rw long below) (spelled_at active.0 active.1 ∙ ap (λ (w : Entry). w.word) same_default ∙ sym (spelled_at k below)) in
-    let is : get_or known k no_entry ≡ record { word = word; active = true } = ap (λ j. get_or known j no_entry) (sym same) ∙ same_default in
-    and_from _ _ (ap (λ (w : Entry). w.active) is) fits where
+    let same_default : get_or known active.0 no_entry ≡ one = at_default known active.0 no_entry one active.1 ∙ active.2 in
+    let same : active.0 ≡ k = dictionary.distinct (length cells) active.0 k (rw long active.1) (rw long below) (spelled_at active.0 active.1 ∙ ap (λ (w : Entry). w.word) same_default ∙ base.0.1.1 ∙ sym (spelled_at k below)) in
+    let is : get_or known k no_entry ≡ one = ap (λ j. get_or known j no_entry) (sym same) ∙ same_default in
+    and_from _ _ (ap (λ (w : Entry). w.active) is ∙ base.0.1.2) fits where
       at_default : (xs : List Entry) (i : ℕ) (d e : Entry) → i < length xs → get_or xs i d ≡ get_or xs i e
       at_default [] i d e under = absurd (omega arith)
       at_default (x ∷ xs) zero d e under = refl

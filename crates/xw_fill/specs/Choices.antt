@@ -1,4 +1,4 @@
--- What the choice of a word leaves.
+-- How many words a light has left at the least once a word is placed.
 use Rattle.std.specs.Prelude.{ℕ, List, length, Option, None, Result, Ok, Err, option_map}
 use Rattle.xw_feas.specs.declared.edit.Refusal.{Refusal}
 use Rattle.xw_feas.specs.State.{State, after, word_placed}
@@ -11,11 +11,11 @@ use Rattle.xw_fill.specs.Search.{chosen}
 abbrev pub fewest_words : Position → Option ℕ
 fewest_words position = option_map (λ light. length (feasible_words position light)) (chosen position)
 
--- the same after an edit
+-- that number after an edit; None also if the edit is refused
 abbrev pub fewest_in : Result State Refusal → Option ℕ
 fewest_in (Ok state) = fewest_words (position_of state)
 fewest_in (Err refusal) = None
 
--- the same after the word is placed in the light at an index
+-- that number after the word is placed in the light at an index
 abbrev pub fewest_after : State → ℕ → List ℕ → Option ℕ
 fewest_after state light word = fewest_in (after state (word_placed (name_at state light) word))

@@ -1,5 +1,5 @@
 -- The feasible letters of a cell as a computed list: a letter is feasible if some supported family of pairs leaves it
--- at the cell. The family is searched for as in FeasibleWords.
+-- at the cell. The definition tries all families, as `FeasibleWords.antt` does.
 use Rattle.std.specs.Prelude.{ℕ, Bool, ◌&&◌, List, filter, length}
 use Rattle.std.specs.List.{list_all}
 use Rattle.xw_letters.specs.Letter.{alphabet}

@@ -1,5 +1,5 @@
--- The feasible words of a light as a computed list: a base word is feasible if some supported family has it. The family
--- is searched for among all sublists of the pairs (light, base word).
+-- The feasible words of a light as a computed list: a base word is feasible if some supported family has it. The
+-- definition tries every list of pairs (light, base word) as a family.
 use Rattle.std.specs.Prelude.{ℕ, zero, suc, Bool, ◌&&◌, ◌||◌, not, ◌==◌, List, [], ◌++◌, map, filter, length, slice_index, bytes_eq}
 use Rattle.std.specs.List.{list_any, list_all}
 use Rattle.xw_feas.specs.Board.{Board, light_at}
@@ -15,7 +15,7 @@ Pair = ℕ × List ℕ
 abbrev pub is_pair : ℕ → List ℕ → Pair → Bool
 is_pair light word pair = pair.0 == light && bytes_eq word pair.1
 
--- the pair is of this light, and its word has this letter at index k
+-- the pair is of this light, and its word has this letter at position k
 abbrev pub has_letter_at : ℕ → ℕ → ℕ → Pair → Bool
 has_letter_at light k letter pair = pair.0 == light && slice_index pair.1 k == letter
 
@@ -33,7 +33,7 @@ is_kept board dictionary pairs pair =
     list_any (bytes_eq pair.1) (base_words_at board dictionary pair.0)
     && all_below (λ k. leaves_letter board pairs (slice_index (light_at board pair.0) k) (slice_index pair.1 k)) (length (light_at board pair.0))
 
--- the pairs of the first n lights with each of their base words
+-- the pairs of each of the first n lights with each of its base words
 abbrev pub base_pairs : Board → Dictionary → ℕ → List Pair
 base_pairs board dictionary zero = []
 base_pairs board dictionary (suc n) = base_pairs board dictionary n ++ map (λ (word : List ℕ). (n, word)) (base_words_at board dictionary n)

@@ -12,20 +12,20 @@ use Rattle.xw_fill.specs.declared.search.Filling.TheVariants.{Filled, NoFill, Li
 use Rattle.xw_fill.specs.declared.search.Next.{Next}
 use Rattle.xw_fill.specs.declared.search.Next.TheVariants.{Done, Spent, Words}
 
--- By the search that Search defines: Filled leaves the entries of its end, NoFill and Limit leave the state as it was,
--- and Limit means that more placements are due than the limit allows.
+-- The answers in terms of the search that `Search.antt` defines. After Filled the state has the entries of the search's
+-- end. NoFill and Limit leave the state as it was. Limit means that more placements are due than the limit allows.
 abbrev pub IsFilling : ℕ → State → State → Filling → Type 0
 IsFilling limit before after Filled = (due (position_of before) ≤ limit) × (found (position_of before) ≡ true) × (after ≡ filled_in before (end (position_of before)).board.entries)
 IsFilling limit before after NoFill = (due (position_of before) ≤ limit) × (found (position_of before) ≡ false) × (after ≡ before)
 IsFilling limit before after Limit = (limit < due (position_of before)) × (after ≡ before)
 
--- In terms of fills: after Filled the state holds a fill, and NoFill means that no fill exists.
+-- The answers in terms of fills: after Filled the state holds a fill, and NoFill means that no fill exists.
 abbrev pub HasFill : State → State → Filling → Type 0
 HasFill before after Filled = (entries : List (Option ℕ)) × IsFill (position_of before) entries × (after ≡ filled_in before entries)
 HasFill before after NoFill = (entries : List (Option ℕ)) → IsFill (position_of before) entries → ⊥
 HasFill before after Limit = Unit {0}
 
--- P, for the answers that leave the state as it was
+-- P holds if the answer leaves the state as it was
 abbrev pub UnlessFilled : Filling → Type 0 → Type 0
 UnlessFilled Filled P = Unit {0}
 UnlessFilled NoFill P = P

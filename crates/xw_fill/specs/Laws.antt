@@ -10,7 +10,8 @@ use Rattle.xw_fill.specs.declared.search.Filling.{Filling}
 use Rattle.xw_fill.specs.FeasibleWords.{feasible_words}
 use Rattle.xw_fill.specs.Search.{light_count, is_entered, is_dead, chosen, found_by, due_by, end_by, found, due, end}
 
--- found, due and end of a position follow from those of the positions after one placement
+-- What `found`, `due` and `end` of `Search.antt` mean, without a bound on placements: those of a position follow from those
+-- of the positions after one placement. A dead position has no fill and no placements.
 pub record IsSearched (position : Position) : Type 0 where
   pub found_is : found position ≡ (not (is_dead position) && found_by found position (chosen position))
   pub due_is : due position ≡ cond (is_dead position) 0 (due_by found due position (chosen position))
@@ -44,6 +45,6 @@ FillIsFound = (position : Position) (entries : List (Option ℕ)) → IsLaidOut 
 abbrev pub AnswerIsOne : Type 0
 AnswerIsOne = (limit : ℕ) (before other now other_now : State) (filling other_filling : Filling) → position_of before ≡ position_of other → IsFilling limit before now filling → IsFilling limit other other_now other_filling → filling ≡ other_filling
 
--- for one state, limit and answer, the state after it is the same
+-- the state, the limit and the answer determine the state afterwards
 abbrev pub EndIsOne : Type 0
 EndIsOne = (limit : ℕ) (before now other_now : State) (filling : Filling) → IsFilling limit before now filling → IsFilling limit before other_now filling → now ≡ other_now

@@ -3,10 +3,7 @@ pub mod Below
 pub mod FeasibleWords
 pub mod FeasibleLetters
 pub mod Search
-pub mod Noted
-pub mod Linked
 pub mod Fill
-pub mod Tries
 pub mod Marks
 pub mod Filling
 pub mod Words
@@ -14,3 +11,5 @@ pub mod Suggesting
 pub mod Choices
 pub mod Listing
 pub mod Laws
+pub mod NamedFill
+pub mod Inner

@@ -13,7 +13,7 @@ abbrev pub duplicate_of : State → ℕ → Option ℕ → List Duplicate
 duplicate_of state light None = []
 duplicate_of state light (Some first) = record { light = name_at state light; first = name_at state first } ∷ []
 
--- of the first n lights, those that spell the same as an earlier light, each with the first such earlier light
+-- those of the first n lights that spell the same as an earlier light, each with the first light that spells it
 abbrev pub duplicates_below : State → ℕ → List Duplicate
 duplicates_below state zero = []
 duplicates_below state (suc n) = duplicates_below state n ++ duplicate_of state n (first_same (position_of state) n)

@@ -1,5 +1,5 @@
 -- What the marks of an engine hold.
-use Rattle.std.specs.Prelude.{ℕ, ◌-◌, ◌≤◌, List, All, map, take, drop, length}
+use Rattle.std.specs.Prelude.{◌≡◌, ℕ, ◌-◌, ◌<◌, ◌≤◌, List, All, map, take, drop, length, slice_index_or}
 use Rattle.xw_feas.specs.State.{State}
 use Rattle.xw_feas.specs.Snapshot.{IsTwin}
 use Rattle.xw_fill.specs.declared.marks.Marks.{Marks}
@@ -24,3 +24,8 @@ but_last states = take (length states - 1) states
 pub record AreTwins {E S : Type 0} (saved : S → State) (marks : Marks E S) (state : State) : Type 0 where
   pub within : marks.held ≤ room_of marks
   pub twins : All (λ snapshot. IsTwin (saved snapshot) state) marks.snapshots.items
+
+-- the first free snapshot holds the state
+pub record HoldsFree {E S : Type 0} (saved : S → State) (marks : Marks E S) (state : State) : Type 0 where
+  pub free : marks.held < room_of marks
+  pub holds : (other : S) → saved (slice_index_or marks.snapshots.items marks.held other) ≡ state

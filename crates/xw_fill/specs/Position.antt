@@ -25,7 +25,7 @@ with_entries board entries = record board { entries = entries }
 abbrev pub holding : Position → List (Option ℕ) → Position
 holding position entries = record position { board = with_entries position.board entries }
 
--- the entries after each of the cells has taken the letter at its index
+-- the entries after the cells took the letters, each cell the letter at its index
 abbrev pub entries_with : List (Option ℕ) → List ℕ → List ℕ → List (Option ℕ)
 entries_with entries [] letters = entries
 entries_with entries (cell ∷ cells) [] = entries

@@ -1,4 +1,7 @@
--- The search for a fill: whether it finds one from a position, how many placements it takes, and where it ends.
+-- The search for a fill: whether it finds one from a position (`found`), how many placements it takes (`due`), and where it
+-- ends (`end`). `found_in`, `due_in` and `end_in` have a bound on the placements in a row only so that the recursion ends.
+-- `IsSearched` of `Laws.antt` says what the three mean without a bound, and `FoundIsFill` and `FillIsFound` there relate
+-- them to fills.
 use Rattle.std.specs.Prelude.{ℕ, zero, suc, ◌+◌, Bool, true, cond, ◌&&◌, ◌||◌, not, nat_lt, ◌==◌, List, [], ◌∷◌, length, bytes_eq, Option, Some, None, is_none}
 use Rattle.std.specs.List.{list_any}
 use Rattle.xw_feas.specs.Board.{light_at, is_wholly_entered, spelled}
@@ -53,13 +56,13 @@ abbrev pub found_by : (Position → Bool) → Position → Option ℕ → Bool
 found_by found position None = true
 found_by found position (Some light) = list_any (λ word. found (placed position light word)) (feasible_words position light)
 
--- a fill is found with at most this many placements in a row
+-- whether a fill is found with at most this many placements in a row; `IsSearched` and `FillIsFound` say what it means
 unfoldable pub found_in : ℕ → Position → Bool
 found_in zero position = not (is_dead position) && is_none (chosen position)
 found_in (suc n) position = not (is_dead position) && found_by (found_in n) position (chosen position)
 
--- The placements for a list of words: one for each word up to the first that leads to a fill, and the placements due
--- after each of these.
+-- The placements for a list of words, tried in order up to the first that leads to a fill: one for each, and those that
+-- are due after it.
 abbrev pub due_of : (List ℕ → Bool) → (List ℕ → ℕ) → List (List ℕ) → ℕ
 due_of found due [] = 0
 due_of found due (word ∷ words) = 1 + due word + cond (found word) 0 (due_of found due words)
@@ -68,6 +71,7 @@ abbrev pub due_by : (Position → Bool) → (Position → ℕ) → Position → 
 due_by found due position None = 0
 due_by found due position (Some light) = due_of (λ word. found (placed position light word)) (λ word. due (placed position light word)) (feasible_words position light)
 
+-- the placements that the search takes, with at most this many in a row; `IsSearched` says what it means
 unfoldable pub due_in : ℕ → Position → ℕ
 due_in zero position = 0
 due_in (suc n) position = cond (is_dead position) 0 (due_by (found_in n) (due_in n) position (chosen position))
@@ -81,11 +85,13 @@ abbrev pub end_by : (Position → Bool) → (Position → Position) → Position
 end_by found end position None = position
 end_by found end position (Some light) = end_of (λ word. found (placed position light word)) (λ word. end (placed position light word)) position (feasible_words position light)
 
+-- the position at which the search ends, with at most this many placements in a row
 unfoldable pub end_in : ℕ → Position → Position
 end_in zero position = position
 end_in (suc n) position = end_by (found_in n) (end_in n) position (chosen position)
 
--- Each placement makes one more light wholly entered, so no path has more placements than there are lights to enter.
+-- The bound that is enough: each placement makes at least one more light wholly entered, so no path has more placements
+-- than there are lights that are not.
 abbrev pub unentered_count : Position → ℕ
 unentered_count position = count_below (λ light. not (is_entered position light)) (light_count position)
 

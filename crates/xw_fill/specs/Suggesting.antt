@@ -1,4 +1,4 @@
--- What is suggested at a position.
+-- What `suggest` returns at a position.
 use Rattle.std.specs.Prelude.{◌≡◌, ℕ, ◌<◌, length, slice_index_or, [], Bool, true, false, ◌&&◌, List, Option, Some, None, is_none, position}
 use Rattle.xw_grid.specs.declared.cell.LightName.{LightName}
 use Rattle.xw_feas.specs.State.{State}
@@ -18,7 +18,7 @@ first_blocked state = first_below (lacks_words state) (light_count state)
 abbrev pub can_be_tried : Position → ℕ → List ℕ → Bool
 can_be_tried state light word = is_feasible_word state light word && is_none (first_blocked (placed state light word))
 
--- the index of the first such word
+-- the index of the first word that can be tried
 abbrev pub index_to_try : Position → ℕ → Option ℕ
 index_to_try state light = position (can_be_tried state light) (spellings_at state light)
 

@@ -5,8 +5,9 @@ ghost use Rattle.xw_fill.specs.Choices.{fewest_words as fewest_words_of, fewest_
 ghost use Rattle.xw_fill.specs.Suggesting.{IsTriedAt};
 ghost use Rattle.xw_fill.specs.Words.{spellings_at};
 
+use crate::placement::Placement;
 use crate::scan::{chosen, word_count};
-use crate::tries::{make_try, place_word, take_back};
+use crate::tries::make_try;
 use xw_feas::feasible::Feasible;
 
 /// Returns the least number of feasible words of a light that is not wholly entered, or `None` if all lights are.
@@ -27,8 +28,8 @@ pub fn fewest_after<E: Feasible>(engine: &mut E, light: usize, index: usize) -> 
     ensures unchanged { E.state engine.new ≡ E.state engine.old }
 {
     let tried = make_try(engine, light, index);
-    place_word(engine, light, index);
+    tried.place(engine);
     let fewest = fewest_words(engine);
-    take_back(engine, &tried);
+    tried.take_back(engine);
     fewest
 }

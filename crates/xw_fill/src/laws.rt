@@ -1,10 +1,12 @@
 //! Laws of the search definitions: they do nothing at run time and give callers proved facts.
-ghost use Rattle.std.specs.Prelude.{◌≡◌, ℕ};
+ghost use Rattle.std.specs.Prelude.{◌≡◌, ℕ, true, List, Option};
 ghost use Rattle.xw_feas.specs.WellFormed.{IsLaidOut};
 ghost use Rattle.xw_feas.specs.Feasible.{Answers, AreAnswers};
 ghost use Rattle.xw_feas.specs.Queries.{words_of};
 ghost use Rattle.xw_fill.specs.Position.{Position};
 ghost use Rattle.xw_fill.specs.FeasibleWords.{feasible_words};
+ghost use Rattle.xw_fill.specs.Fill.{IsFill};
+ghost use Rattle.xw_fill.specs.NamedFill.{IsFillOf, IsInLights};
 ghost use Rattle.xw_fill.specs.Search.{chosen};
 ghost use Rattle.xw_fill.specs.Laws.{IsSearched, IsChoice, FillsAreFeasible, FoundIsFill, FillIsFound, AnswerIsOne, EndIsOne};
 
@@ -38,4 +40,12 @@ pub fn fill_law()
 pub fn answer_law()
     ensures answer { AnswerIsOne }
     ensures end { EndIsOne }
+{}
+
+/// A fill of all lights is a fill in the sense of `fill`. A fill in this sense that changes only cells of lights is a fill of all
+/// lights.
+pub fn all_law()
+    ensures fill { (position : Position) (entries : List (Option ℕ)) → IsFillOf (λ light. true) position entries → IsFill position entries }
+    ensures of_all { (position : Position) (entries : List (Option ℕ)) → IsLaidOut position.board → IsInLights position entries
+        → IsFill position entries → IsFillOf (λ light. true) position entries }
 {}

@@ -1,7 +1,7 @@
 //! Saved states of an engine, to which a search returns.
 ghost use Rattle.std.specs.Prelude.{◌≡◌, ◌-◌, ◌<◌, ◌≤◌, [], ◌∷◌, ◌++◌, true, false, IfOk, IfErr};
 ghost use Rattle.xw_feas.specs.State.{State};
-ghost use Rattle.xw_fill.specs.Marks.{held_of, room_of, latest, but_last, AreTwins};
+ghost use Rattle.xw_fill.specs.Marks.{held_of, room_of, latest, but_last, AreTwins, HoldsFree};
 
 use std::alloc::Global;
 use xw_feas::edit::Refusal;
@@ -49,6 +49,43 @@ impl<E: Searchable> Marks<E> {
             self.snapshots.rotate_left(1);
             self.held -= 1;
         }
+    }
+
+    /// Saves the present state in the first free snapshot, which is no mark until `keep` is called. If no snapshot is free,
+    /// the oldest mark is forgotten. Returns whether there is room for any mark; if not, nothing changes.
+    pub fn prepare(&mut self, engine: &E) -> bool
+        requires twins { AreTwins E.saved self.old (E.state engine.now) }
+        ensures same { result ≡ false → self.new ≡ self.old }
+        ensures free { result ≡ true → HoldsFree E.saved self.new (E.state engine.now) }
+        ensures held { result ≡ true → held_of E.saved self.new ≡ latest (room_of self.old - 1) (held_of E.saved self.old) }
+        ensures room { room_of self.new ≡ room_of self.old }
+        ensures twins { AreTwins E.saved self.new (E.state engine.now) }
+    {
+        if self.snapshots.is_empty() {
+            return false;
+        }
+        self.make_room();
+        let snapshot = &mut self.snapshots[self.held];
+        engine.save(snapshot);
+        true
+    }
+
+    /// Returns the first free snapshot, in which `prepare` saved the state.
+    pub fn prepared(&self) -> &E::Snapshot
+        requires { self.now.held < room_of self.now }
+        ensures { (state : State) → HoldsFree E.saved self.now state → E.saved result.now ≡ state }
+    {
+        &self.snapshots[self.held]
+    }
+
+    /// Makes the first free snapshot a mark.
+    pub fn keep(&mut self)
+        requires { self.old.held < room_of self.old }
+        ensures held { (state : State) → HoldsFree E.saved self.old state → held_of E.saved self.new ≡ held_of E.saved self.old ++ state ∷ [] }
+        ensures room { room_of self.new ≡ room_of self.old }
+        ensures twins { (state : State) → AreTwins E.saved self.old state → AreTwins E.saved self.new state }
+    {
+        self.held = self.held + 1;
     }
 
     /// Marks the present state. If no room is left, the oldest mark is forgotten.

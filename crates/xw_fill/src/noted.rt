@@ -3,7 +3,7 @@ ghost use Rattle.std.specs.Prelude.{◌≡◌, ◌<◌, length, suc, true, is_so
 ghost use Rattle.xw_fill.specs.Position.{position_of};
 ghost use Rattle.xw_fill.specs.Below.{any_below};
 ghost use Rattle.xw_fill.specs.Search.{is_entered, is_repeat, light_count};
-ghost use Rattle.xw_fill.specs.Noted.{within, noted, has_note, is_spelled_again, AreEntered, AreOnlyEntered, SpellApart, StayNoted};
+ghost use Rattle.xw_fill.specs.Inner.Noted.{within, noted, has_note, is_spelled_again, AreEntered, AreOnlyEntered, SpellApart, StayNoted};
 
 use crate::scan::{agree, is_entered, light_count};
 use xw_feas::feasible::Feasible;

@@ -3,7 +3,7 @@ ghost use Rattle.std.specs.Prelude.{◌≡◌, ◌<◌, ◌≤◌, length, IfOk}
 ghost use Rattle.xw_fill.specs.Position.{position_of};
 ghost use Rattle.xw_fill.specs.Below.{any_below};
 ghost use Rattle.xw_fill.specs.Search.{is_repeat, light_count};
-ghost use Rattle.xw_fill.specs.Linked.{size_of, last_of_size, AreLinked};
+ghost use Rattle.xw_fill.specs.Inner.Linked.{size_of, last_of_size, AreLinked};
 
 use crate::scan::{board, is_entered, light_count, spell_same};
 use std::alloc::{AllocError, Global};

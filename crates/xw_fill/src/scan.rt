@@ -7,7 +7,7 @@ ghost use Rattle.xw_fill.specs.FeasibleWords.{feasible_words};
 ghost use Rattle.xw_fill.specs.Below.{first_below};
 ghost use Rattle.xw_fill.specs.Words.{IsNextWord, HasNoMore};
 ghost use Rattle.xw_fill.specs.Search.{is_entered, spelling, spell_same, first_same, lacks_words, light_count, chosen, unentered_count};
-ghost use Rattle.xw_fill.specs.Noted.{has_note, AreEntered};
+ghost use Rattle.xw_fill.specs.Inner.Noted.{has_note, AreEntered};
 ghost use Rattle.xw_fill.specs.Filling.{scanned};
 
 use xw_feas::board::{Board, Cells, has_all_entries};

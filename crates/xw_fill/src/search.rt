@@ -1,19 +1,18 @@
 //! The search for a fill: depth first, with the words of each light in dictionary order.
-ghost use Rattle.std.specs.Prelude.{◌≡◌, ◌<◌, ◌≤◌, false, suc, [], length, slice_index_or, IfOk, IfErr, OnErr};
-ghost use Rattle.xw_fill.specs.Position.{position_of, placed, DiffersInEntries};
+ghost use Rattle.std.specs.Prelude.{◌≡◌, ◌<◌, ◌≤◌, ◌∷◌, ◌++◌, false, suc, [], length, IfOk, IfErr, OnErr};
+ghost use Rattle.std.specs.Vec.{vec_capacity};
+ghost use Rattle.xw_fill.specs.Position.{position_of};
 ghost use Rattle.xw_fill.specs.Search.{is_dead, light_count, unentered_count};
-ghost use Rattle.xw_fill.specs.Marks.{held_of, but_last, AreTwins};
-ghost use Rattle.xw_fill.specs.Tries.{taken_back, IsMarkedBefore};
-ghost use Rattle.xw_fill.specs.Noted.{noted, AreEntered, StayNoted};
-ghost use Rattle.xw_fill.specs.Suggesting.{IsTriedAt};
-ghost use Rattle.xw_fill.specs.Words.{spellings_at};
+ghost use Rattle.xw_fill.specs.Inner.Stack.{start_of, StandsAt};
+ghost use Rattle.xw_fill.specs.Inner.Tries.{CanBeMade, IsMade};
+ghost use Rattle.xw_fill.specs.Inner.Noted.{noted, AreEntered, StayNoted};
 ghost use Rattle.xw_fill.specs.Filling.{IsFilling, HasFill, UnlessFilled, unless_repeated, outlook};
 
-use crate::marks::Marks;
 use crate::noted::{has_new_repeat, note_entered};
 use crate::repeats::has_repeat;
 use crate::scan::{Scan, light_count, next_word_index, scan_lights, unentered_count};
-use crate::tries::{Try, make_try, place_word, take_all_back, take_back};
+use crate::stack::Stack;
+use crate::tries::{Try, make_try};
 use std::alloc::Global;
 use xw_feas::edit::Refusal;
 use xw_feas::feasible::Feasible;
@@ -21,9 +20,9 @@ use xw_feas::searchable::Searchable;
 use xw_grid::fault::GridFault;
 
 /// The most marks that a search has room for. It needs one for each light that is not wholly entered. A placement whose
-/// mark is forgotten is undone by an edit. Each mark takes one snapshot: two bits for each known word of each light's
-/// length, and some 440 bytes for each cell.
-const MARKS: usize = 8;
+/// mark is forgotten is undone by an edit. Each mark takes one snapshot, as the start of the search does: two bits for
+/// each known word of each light's length, and some 440 bytes for each cell.
+const MARKS: usize = 7;
 
 /// How a search for a fill ended.
 /// - `Filled`: the grid holds a fill.
@@ -83,27 +82,31 @@ fn begin<E: Feasible>(
     }
 }
 
-/// Places a feasible word at a position that is not dead, and returns the next step. `placement` counts the placements
-/// under way from 1.
-fn try_word<E: Feasible>(
+/// Places a feasible word at a position that is not dead, and returns the next step. The stack has room for it.
+fn try_word<E: Searchable>(
     engine: &mut E,
+    stack: &mut Stack<E, Try>,
     since: &mut [Option<usize>],
-    placement: usize,
-    light: usize,
-    index: usize,
+    tried: Try,
 ) -> Next
-    requires tried { IsTriedAt (position_of (E.state engine.old)) light index }
+    requires may { CanBeMade tried (E.state engine.old) }
     requires alive { is_dead (position_of (E.state engine.old)) ≡ false }
+    requires room { length stack.old.placements.items < vec_capacity stack.old.placements }
+    requires stands { StandsAt E.saved IsMade stack.old (E.state engine.old) }
     requires long { length since.old ≡ light_count (position_of (E.state engine.old)) }
-    requires entered { AreEntered (position_of (E.state engine.old)) (noted since.old placement) }
+    requires entered { AreEntered (position_of (E.state engine.old)) (noted since.old (suc (length stack.old.placements.items))) }
     ensures long { length since.new ≡ length since.old }
-    ensures stay { StayNoted placement since.old since.new }
-    ensures entered { AreEntered (position_of (E.state engine.new)) (noted since.new (suc placement)) }
-    ensures placed { position_of (E.state engine.new) ≡ placed (position_of (E.state engine.old)) light (slice_index_or (spellings_at (position_of (E.state engine.old)) light) index []) }
-    ensures entries { DiffersInEntries (E.state engine.old) (E.state engine.new) }
+    ensures stay { StayNoted (suc (length stack.old.placements.items)) since.old since.new }
+    ensures entered { AreEntered (position_of (E.state engine.new)) (noted since.new (suc (suc (length stack.old.placements.items)))) }
+    ensures made { IsMade tried (E.state engine.old) (E.state engine.new) }
+    ensures tries { stack.new.placements.items ≡ stack.old.placements.items ++ tried ∷ [] }
+    ensures capacity { vec_capacity stack.old.placements ≤ vec_capacity stack.new.placements }
+    ensures start { start_of E.saved stack.new ≡ start_of E.saved stack.old }
+    ensures stands { StandsAt E.saved IsMade stack.new (E.state engine.new) }
     ensures next { result ≡ outlook (position_of (E.state engine.new)) }
 {
-    place_word(engine, light, index);
+    let _ = stack.place(engine, tried);
+    let placement = stack.len();
     note_entered(engine, since, placement);
     match scan_lights(engine, since) {
         Scan::Blocked => Next::Spent,
@@ -122,25 +125,9 @@ fn marks_for<E: Feasible>(engine: &E, next: Next) -> usize
     }
 }
 
-/// Undoes the last placement: returns to the mark before it or, if that is forgotten, clears the cells that were empty
-/// before it.
-fn go_back<E: Searchable>(engine: &mut E, marks: &mut Marks<E>, tried: &Try)
-    requires light { tried.now.light < light_count (position_of (E.state engine.old)) }
-    requires twins { AreTwins E.saved marks.old (E.state engine.old) }
-    requires marked { IsMarkedBefore (held_of E.saved marks.old) (E.state engine.old) tried.now }
-    ensures back { position_of (E.state engine.new) ≡ taken_back (position_of (E.state engine.old)) tried.now }
-    ensures entries { DiffersInEntries (E.state engine.old) (E.state engine.new) }
-    ensures held { held_of E.saved marks.new ≡ but_last (held_of E.saved marks.old) }
-    ensures twins { AreTwins E.saved marks.new (E.state engine.new) }
-{
-    if !marks.back(engine) {
-        take_back(engine, tried);
-    }
-}
-
 /// Fills the grid with at most `limit` placements. The engine changes only for `Filled`. Returns `Memory` if an
 /// allocation fails, and then leaves the engine unchanged. All memory is allocated before the first placement: a try and
-/// a note for each light, and a snapshot for each light that is not wholly entered, up to `MARKS`.
+/// a note for each light, a snapshot of the start, and one for each light that is not wholly entered, up to `MARKS`.
 pub fn fill<E: Searchable>(alloc: Global, engine: &mut E, limit: u64) -> Result<Filling, Refusal>
     ensures found { IfOk result (IsFilling limit (E.state engine.old) (E.state engine.new)) }
     ensures fill { IfOk result (HasFill (E.state engine.old) (E.state engine.new)) }
@@ -149,34 +136,27 @@ pub fn fill<E: Searchable>(alloc: Global, engine: &mut E, limit: u64) -> Result<
     ensures answers { IfOk result (λ filling. UnlessFilled filling (E.answers engine.new ≡ E.answers engine.old)) }
 {
     let count = light_count(engine);
-    let mut tries: Vec<Try> = Vec::with_capacity(alloc, count).map_err(|_| Refusal::Grid(
-        GridFault::Memory,
-    ))?;
     let mut since = vec![in alloc; None; count].map_err(|_| Refusal::Grid(GridFault::Memory))?;
     let mut used = 0;
     let mut next = begin(alloc, engine, since.as_mut_slice())?;
-    let mut marks = Marks::new(alloc, engine, marks_for(engine, next))?;
+    let mut stack: Stack<E, Try> = Stack::new(alloc, engine, count, marks_for(engine, next))?;
     'search: loop {
         match next {
             Next::Done => return Ok(Filling::Filled),
-            Next::Spent => match tries.pop() {
+            Next::Spent => match stack.back(engine) {
                 None => return Ok(Filling::NoFill),
-                Some(tried) => {
-                    go_back(engine, &mut marks, &tried);
-                    next = Next::Words(tried.light, tried.index + 1);
-                }
+                Some(tried) => next = Next::Words(tried.light, tried.index + 1),
             },
             Next::Words(light, from) => match next_word_index(engine, light, from) {
                 None => next = Next::Spent,
                 Some(index) => {
                     if used == limit {
-                        take_all_back(engine, &mut tries);
+                        stack.reset(engine);
                         return Ok(Filling::Limit);
                     }
                     used += 1;
-                    marks.mark(engine);
-                    let _ = tries.push(make_try(engine, light, index));
-                    next = try_word(engine, since.as_mut_slice(), tries.len(), light, index);
+                    let tried = make_try(engine, light, index);
+                    next = try_word(engine, &mut stack, since.as_mut_slice(), tried);
                 }
             },
         }

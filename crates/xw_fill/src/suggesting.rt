@@ -5,8 +5,9 @@ ghost use Rattle.xw_fill.specs.Search.{light_count, is_entered};
 ghost use Rattle.xw_fill.specs.Suggesting.{suggestion, index_to_try, first_blocked, IsTriedAt};
 ghost use Rattle.xw_fill.specs.Words.{spellings_at};
 
+use crate::placement::Placement;
 use crate::scan::{chosen, first_without_words, name_at, next_word_index};
-use crate::tries::{make_try, place_word, take_back};
+use crate::tries::make_try;
 use xw_feas::feasible::Feasible;
 use xw_grid::cell::LightName;
 
@@ -30,9 +31,9 @@ fn can_be_placed<E: Feasible>(engine: &mut E, light: usize, index: usize) -> boo
     ensures unchanged { E.state engine.new ≡ E.state engine.old }
 {
     let tried = make_try(engine, light, index);
-    place_word(engine, light, index);
+    tried.place(engine);
     let blocked = first_without_words(engine).is_some();
-    take_back(engine, &tried);
+    tried.take_back(engine);
     !blocked
 }
 

@@ -1,11 +1,13 @@
 //! Trial placements of words, and how to undo them.
-ghost use Rattle.std.specs.Prelude.{◌≡◌, ◌<◌, ◌≤◌, length, slice_index_or, [], All};
+ghost use Rattle.std.specs.Prelude.{◌≡◌, ◌<◌, ◌≤◌, length, slice_index_or, []};
 ghost use Rattle.xw_feas.specs.Board.{board_of, light_at};
 ghost use Rattle.xw_fill.specs.Position.{position_of, placed, DiffersInEntries};
 ghost use Rattle.xw_fill.specs.Search.{light_count};
-ghost use Rattle.xw_fill.specs.Tries.{taken_back, all_taken_back, AreBlanks};
+ghost use Rattle.xw_fill.specs.Suggesting.{IsTriedAt};
+ghost use Rattle.xw_fill.specs.Inner.Tries.{taken_back, AreBlanks, CanBeMade, IsMade};
 ghost use Rattle.xw_fill.specs.Words.{spellings_at};
 
+use crate::placement::Placement;
 use crate::scan::{board, light_at};
 use xw_feas::board::{Board, Cells};
 use xw_feas::edit::Edit;
@@ -34,12 +36,12 @@ fn blanks_of(board: &Board<'_>, cells: &Cells) -> [bool; LONGEST]
     blanks
 }
 
-/// Returns the record of a placement. Call it before the word is placed.
+/// Returns the try of a feasible word, by its index.
 pub fn make_try<E: Feasible>(engine: &E, light: usize, index: usize) -> Try
-    requires { light < light_count (position_of (E.state engine.now)) }
+    requires { IsTriedAt (position_of (E.state engine.now)) light index }
     ensures light { result.light ≡ light }
     ensures index { result.index ≡ index }
-    ensures blanks { AreBlanks (board_of (E.state engine.now).grid) (light_at (board_of (E.state engine.now).grid) light) result.blanks }
+    ensures can { CanBeMade result (E.state engine.now) }
 {
     let board = board(engine);
     let blanks = blanks_of(&board, &board.light(light));
@@ -51,7 +53,7 @@ pub fn make_try<E: Feasible>(engine: &E, light: usize, index: usize) -> Try
 }
 
 /// Places the known word with this index in a light.
-pub fn place_word<E: Feasible>(engine: &mut E, light: usize, index: usize)
+fn place_word<E: Feasible>(engine: &mut E, light: usize, index: usize)
     requires light { light < light_count (position_of (E.state engine.old)) }
     requires index { index < length (spellings_at (position_of (E.state engine.old)) light) }
     ensures placed { position_of (E.state engine.new) ≡ placed (position_of (E.state engine.old)) light (slice_index_or (spellings_at (position_of (E.state engine.old)) light) index []) }
@@ -61,7 +63,7 @@ pub fn place_word<E: Feasible>(engine: &mut E, light: usize, index: usize)
 }
 
 /// Undoes a placement: clears the cells that were empty before it, in one edit.
-pub fn take_back<E: Feasible>(engine: &mut E, tried: &Try)
+fn clear_blanks<E: Feasible>(engine: &mut E, tried: &Try)
     requires { tried.now.light < light_count (position_of (E.state engine.old)) }
     ensures back { position_of (E.state engine.new) ≡ taken_back (position_of (E.state engine.old)) tried.now }
     ensures entries { DiffersInEntries (E.state engine.old) (E.state engine.new) }
@@ -79,13 +81,18 @@ pub fn take_back<E: Feasible>(engine: &mut E, tried: &Try)
     let _ = engine.edit(&Edit::Write(&list[..count]));
 }
 
-/// Undoes all placements, the last one first.
-pub fn take_all_back<E: Feasible>(engine: &mut E, tries: &mut Vec<Try>)
-    requires { All (λ tried. tried.light < light_count (position_of (E.state engine.old))) tries.old.items }
-    ensures back { position_of (E.state engine.new) ≡ all_taken_back (position_of (E.state engine.old)) tries.old.items }
-    ensures entries { DiffersInEntries (E.state engine.old) (E.state engine.new) }
-{
-    while let Some(tried) = tries.pop() {
-        take_back(engine, &tried);
+impl Placement for Try {
+    ghost may_place = { CanBeMade };
+
+    ghost is_placed = { IsMade };
+
+    ghost entries = { λ tried before after made. made.entries };
+
+    fn place<E: Feasible>(&self, engine: &mut E) {
+        place_word(engine, self.light, self.index);
+    }
+
+    fn take_back<E: Feasible>(&self, engine: &mut E) {
+        clear_blanks(engine, self);
     }
 }

@@ -63,8 +63,8 @@ total_rows f width (suc h) s =
     ∙ ap (λ k. total (λ c. f (s * width + c)) 0 width + total f k (h * width)) past
     ∙ ap (λ t. total (λ c. f (s * width + c)) 0 width + t) (total_rows f width h (s + 1))
 
--- if any two consecutive numbers add up to at most `most`, and the last is 0, the sum is at most
--- half as many times `most`
+-- if any two consecutive numbers add up to at most `most`, and the last is 0, then the sum of at most
+-- 2 * m + 1 of them is at most m * most
 halves : (f : ℕ → ℕ) (most : ℕ) → ((k : ℕ) → f k + f (k + 1) ≤ most) → (m n a : ℕ) → n ≤ 2 * m + 1 → (0 < n → f (a + n - 1) ≡ 0) → total f a n ≤ m * most
 halves f most pair m zero a le last = omega arith
 halves f most pair m (suc zero) a le last =

@@ -143,7 +143,7 @@ direction_is Down Down h = refl
 pub light_inside : (grid : Grid) (index : ℕ) (d : Light) → index < length (lights_of grid) → (k : ℕ) → k < (get_or (lights_of grid) index d).size → is_inside grid (step (get_or (lights_of grid) index d).name.direction (get_or (lights_of grid) index d).start k) ≡ true
 light_inside grid index d within k below = inside_from_open grid _ (cells_of_are_open grid index d within k below)
 
--- the same for a list that is that of a grid's lights
+-- the cells of each light are inside the grid, for a list that equals the grid's lights
 pub lights_inside : (grid : Grid) (lights : List Light) → lights ≡ lights_of grid → (index : ℕ) (d : Light) → index < length lights → (k : ℕ) → k < (get_or lights index d).size → is_inside grid (step (get_or lights index d).name.direction (get_or lights index d).start k) ≡ true
 lights_inside grid lights same =
     subst (λ lights. (index : ℕ) (d : Light) → index < length lights → (k : ℕ) → k < (get_or lights index d).size → is_inside grid (step (get_or lights index d).name.direction (get_or lights index d).start k) ≡ true) (sym same) (light_inside grid)

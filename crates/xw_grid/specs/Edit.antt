@@ -29,6 +29,7 @@ grid_of width height squares = record {
 abbrev pub blank : ℕ → ℕ → Grid
 blank width height = grid_of width height (replicate (width * height) (Open None))
 
+-- whether a side has an allowed length
 abbrev is_size : ℕ → Bool
 is_size side = nat_le 1 side && nat_le side 255
 
@@ -51,8 +52,8 @@ set_entry grid cell letter =
 abbrev pub is_occupied : Grid → Cell → Bool
 is_occupied grid cell = list_any (λ member. is_some (entry grid member)) (images_of grid cell)
 
--- a square after it was turned into a block, or opened: an opened block is empty, and an open
--- square stays as it is
+-- a square after it was turned into a block (`true`) or opened (`false`): an opened block is empty,
+-- and an open square stays as it is
 abbrev pub turned : Bool → Square → Square
 turned true square = Block
 turned false Block = Open None

@@ -11,7 +11,7 @@ use Rattle.xw_grid.specs.declared.cell.LightName.{LightName}
 use Rattle.xw_grid.specs.declared.lights.Light.{Light}
 use Rattle.xw_grid.specs.Grid.{Grid, cells, index_of, is_open, is_barred, beyond, same_cell}
 
--- the side of a cell that a light leaves it by
+-- the side of a cell where the next cell in a direction is
 abbrev pub side_towards : Direction → Side
 side_towards Across = Right
 side_towards Down = Below
@@ -98,7 +98,7 @@ cells_of light = line light.name.direction light.start light.size
 abbrev pub no_light : Light
 no_light = record { name = record { number = 0; direction = Across }; start = record { row = 0; col = 0 }; size = 0 }
 
--- ---- looking up
+-- ---- finding lights
 
 -- whether two directions are the same
 abbrev pub same_direction : Direction → Direction → Bool
@@ -111,8 +111,7 @@ same_direction Down Down = true
 abbrev pub same_name : LightName → LightName → Bool
 same_name a b = (a.number == b.number) && same_direction a.direction b.direction
 
--- whether a name comes first: it has the smaller number, or the same number and it is across and
--- the other down
+-- whether a name comes before another: by number, and across before down for one number
 abbrev pub name_before : LightName → LightName → Bool
 name_before a b = nat_lt a.number b.number || ((a.number == b.number) && (same_direction a.direction Across && same_direction b.direction Down))
 

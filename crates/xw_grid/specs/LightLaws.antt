@@ -27,8 +27,7 @@ abbrev pub LightsBegin : Type 0
 LightsBegin = (grid : Grid) (direction : Direction) (cell : Cell) →
     (begins grid direction cell ≡ true) ↔ ((light : List Cell) × IsLight grid direction light × (slice_index_or light 0 no_cell ≡ cell))
 
--- a name comes first: it has the smaller number, or the same number and it is across and the other
--- down
+-- a name comes before another: by number, and across before down for one number
 abbrev pub IsBefore : LightName → LightName → Type 0
 IsBefore a b = (a.number < b.number) ⊎ ((a.number ≡ b.number) × (a.direction ≡ Across) × (b.direction ≡ Down))
 
@@ -51,7 +50,7 @@ AreApart lights = (i j : ℕ) (d : Light) (k l : ℕ) → i < length lights → 
 abbrev pub LightsAreApart : Type 0
 LightsAreApart = (grid : Grid) → AreApart (lights_of grid)
 
--- if two lights share two cells, the lights are the same or the cells are
+-- if two lights share two cells, either the two lights are the same or the two cells are
 abbrev pub LightsMeetOnce : Type 0
 LightsMeetOnce = (grid : Grid) (a b : Light) (k l m n : ℕ) → Contains (lights_of grid) a → Contains (lights_of grid) b → k < a.size → m < a.size → l < b.size → n < b.size →
     step a.name.direction a.start k ≡ step b.name.direction b.start l → step a.name.direction a.start m ≡ step b.name.direction b.start n →

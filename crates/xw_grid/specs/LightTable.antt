@@ -18,7 +18,7 @@ pub record IsLightTable (grid : Grid) (lights : List Light) (direction : Directi
   pub long : length table ≡ grid.width * grid.height
   pub each : (k : ℕ) → k < grid.width * grid.height → slice_index_or table k None ≡ index_through lights direction (cell_at grid k)
 
--- the entry of a table for a square after an index was entered there; an entry that was there stays
+-- the entry of a table for a square after an index was entered there; an earlier entry stays
 abbrev pub marked : List (Option ℕ) → ℕ → ℕ → Option ℕ
 marked table index square = Some (unwrap_or (slice_index_or table square None) index)
 

@@ -73,7 +73,7 @@ pub data InEdgeOrbit (grid : Grid) (edge : Edge) : Edge → Type 0 where
 abbrev pub AreNeighbours : Cell → Cell → Type 0
 AreNeighbours a b = (edge : Edge) × IsEdgeBetween a b edge
 
--- each edge is between the cells at its position of two lists
+-- each edge of a list is between the cells at the same index of two other lists
 abbrev pub AreEdgesBetween : List Cell → List Cell → List Edge → Type 0
 AreEdgesBetween [] [] [] = Unit {0}
 AreEdgesBetween (a ∷ rest_a) (b ∷ rest_b) (edge ∷ edges) = IsEdgeBetween a b edge × AreEdgesBetween rest_a rest_b edges
@@ -83,7 +83,7 @@ AreEdgesBetween rest_a rest_b edges = ⊥
 abbrev pub OrbitIsLeast : Type 0
 OrbitIsLeast = (grid : Grid) (cell other : Cell) → IsGrid grid → is_inside grid cell ≡ true → (is_in_orbit grid cell other ≡ true) ↔ InOrbit grid cell other
 
--- the test for the orbit of an edge accepts exactly the least set
+-- the test `is_in_edge_orbit` decides the relation `InEdgeOrbit`
 abbrev pub EdgeOrbitIsLeast : Type 0
 EdgeOrbitIsLeast = (grid : Grid) (edge other : Edge) → IsGrid grid → is_edge grid edge.cell edge.side ≡ true →
     (is_in_edge_orbit grid edge.cell edge.side other.cell other.side ≡ true) ↔ InEdgeOrbit grid edge other

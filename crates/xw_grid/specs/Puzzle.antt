@@ -1,4 +1,4 @@
--- A puzzle as those who read and write it see it.
+-- A puzzle as its readers and writers see it.
 use Rattle.std.specs.Prelude.{ℕ, List}
 use Rattle.xw_grid.specs.declared.cell.Cell.{Cell}
 use Rattle.xw_grid.specs.declared.lights.Light.{Light}

@@ -34,7 +34,7 @@ impl Circles {
         }
     }
 
-    /// A copy of the set.
+    /// A copy of the set. Returns `Memory` if an allocation fails.
     pub fn copy(&self) -> Result<Circles, GridFault>
         ensures ok { IfOk result (λ copy. copy ≡ self.now) }
         ensures memory { IsOkUnless result GridFault.Memory }
@@ -52,7 +52,7 @@ impl Circles {
     }
 
     /// Adds or removes the circle of a cell. Returns `Memory` if the allocation for a new circle
-    /// fails.
+    /// fails; removing a circle, or adding one that is there, always succeeds.
     pub fn set(&mut self, cell: Cell, circled: bool) -> Result<(), GridFault>
         ensures ok { OnOk result (self.new ≡ with_circle self.old cell circled) }
         ensures err { OnErr result (self.new ≡ self.old) }

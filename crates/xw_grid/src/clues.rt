@@ -39,7 +39,7 @@ impl Clues {
         }
     }
 
-    /// A copy of the clues.
+    /// A copy of the clues. Returns `Memory` if an allocation fails.
     pub fn copy(&self) -> Result<Clues, GridFault>
         ensures ok { IfOk result (λ copy. copy ≡ self.now) }
         ensures memory { IsOkUnless result GridFault.Memory }
@@ -61,8 +61,8 @@ impl Clues {
         }
     }
 
-    /// Sets the clue at a cell and direction; an empty text removes it. Returns `Memory` if an
-    /// allocation fails, which cannot happen for an empty text.
+    /// Sets the clue at a cell and direction; an empty text removes it, which always succeeds. Returns
+    /// `Memory` if an allocation fails, and then changes nothing.
     pub fn set(&mut self, cell: Cell, direction: Direction, text: &[u8]) -> Result<(), GridFault>
         ensures ok { OnOk result (self.new ≡ with_clue self.old cell direction text.now) }
         ensures err { OnErr result (self.new ≡ self.old) }

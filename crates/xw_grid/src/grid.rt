@@ -1,4 +1,5 @@
-//! Grids: the type, what makes one, copies it and reads its size and squares. Its modules read and edit entries, blocks and bars.
+//! Grids: the type, its constructors and copies, its size and its squares. The modules below read and edit entries, blocks,
+//! bars and the symmetry.
 mod bars;
 mod blocks;
 mod entries;
@@ -61,7 +62,8 @@ impl Grid {
         })
     }
 
-    /// A grid with these squares, in reading order, without bars or symmetry.
+    /// A grid with these squares, in reading order, without bars or symmetry. There is one square for each
+    /// cell, and both sides are 1 to 255. Returns `Memory` if an allocation fails.
     pub fn of_squares(
         alloc: Global,
         width: u32,
@@ -93,7 +95,7 @@ impl Grid {
         let _ = &self.width;
     }
 
-    /// A copy of the grid.
+    /// A copy of the grid. Returns `Memory` if an allocation fails.
     pub fn copy(&self) -> Result<Grid, GridFault>
         ensures ok { IfOk result (λ copy. copy ≡ self.now) }
         ensures memory { IsOkUnless result GridFault.Memory }
@@ -108,7 +110,7 @@ impl Grid {
         })
     }
 
-    /// Copies `other`, a grid with as many cells. It allocates nothing.
+    /// Makes this grid equal to `other`, a grid with as many cells. Allocates nothing.
     pub fn copy_from(&mut self, other: &Grid)
         requires { length self.old.squares ≡ length other.now.squares }
         ensures { self.new ≡ other.now }

@@ -11,14 +11,14 @@ pub fn symmetry_keeps_shape()
     ensures { SymmetryKeepsShape }
 {}
 
-/// Toggling a block turns its orbit into blocks, or opens it, the opposite of what the named cell
-/// was. All other cells stay.
+/// Toggling a block turns the orbit of an open cell into blocks, and opens the orbit of a block. All
+/// other cells stay as they are.
 pub fn blocks_change_orbits()
     ensures { BlocksChangeOrbits }
 {}
 
-/// Toggling a bar bars or frees its orbit, the opposite of what the named edge was. All other edges
-/// stay.
+/// Toggling a bar bars the orbit of a free edge, and frees the orbit of a barred edge. All other edges
+/// stay as they are.
 pub fn bars_change_orbits()
     ensures { BarsChangeOrbits }
 {}

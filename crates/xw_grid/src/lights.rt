@@ -17,12 +17,15 @@ use std::marker::Model;
 #[derive(Clone, Copy, Debug, PartialEq, Eq)]
 pub struct Light {
     pub name: LightName,
+    /// The first cell.
     pub start: Cell,
+    /// The number of cells, 2 to 255 for a light of a grid.
     pub size: u32,
 }
 
 impl Light {
-    /// The cell `k` steps after the first one. It can lie past the end of the light.
+    /// The cell `k` steps after the first one; position `k` counts from 0. The cell can lie past the end of
+    /// the light.
     pub fn cell(&self, k: u32) -> Cell
         requires { (self.now.start.row ≤ 255) × (self.now.start.col ≤ 255) × (k ≤ 255) }
         ensures { result ≡ cell_after self.now.name.direction self.now.start k }
@@ -74,14 +77,14 @@ impl Lights {
         self.lights.len()
     }
 
-    /// The light at an index.
+    /// The light at an index; `None` past the last one.
     pub fn get(&self, index: usize) -> Option<Light>
         ensures { result ≡ slice_get self.now index }
     {
         self.lights.get(index).copied()
     }
 
-    /// The index of a light by its name: a binary search.
+    /// The index of the light with this name, found by binary search; `None` if there is none.
     pub fn index(&self, name: LightName) -> Option<usize>
         ensures { result ≡ index_named self.now name }
     {
@@ -105,7 +108,7 @@ impl Lights {
         }
     }
 
-    /// The number in a cell, if a light begins there.
+    /// The number in a cell; `None` if no light begins there.
     pub fn number(&self, cell: Cell) -> Option<u16>
         ensures { result ≡ number_in self.now cell }
     {
@@ -128,14 +131,14 @@ impl Lights {
         }
     }
 
-    /// The index of the across light through a cell.
+    /// The index of the across light through a cell; `None` if there is none.
     pub fn across_at(&self, cell: Cell) -> Option<usize>
         ensures { result ≡ index_through self.now Direction.Across cell }
     {
         light_table::at(self.width, self.height, &self.across, cell)
     }
 
-    /// The index of the down light through a cell.
+    /// The index of the down light through a cell; `None` if there is none.
     pub fn down_at(&self, cell: Cell) -> Option<usize>
         ensures { result ≡ index_through self.now Direction.Down cell }
     {
@@ -143,7 +146,7 @@ impl Lights {
     }
 
     /// The index, in another grid's lights, of the light with the same cells as the light at
-    /// `index` here.
+    /// `index` here; `None` if there is none.
     pub fn same(&self, index: usize, other: &Lights) -> Option<usize>
         ensures { result ≡ option_and_then (index_with_cells other.now) (slice_get self.now index) }
     {
@@ -200,7 +203,7 @@ fn list(alloc: Global, grid: &Grid) -> Result<Vec<Light>, AllocError>
     Ok(lights)
 }
 
-/// Puts the lights and their tables together.
+/// Builds `Lights` from the list and its two tables.
 fn kept(
     grid: &Grid,
     lights: Vec<Light>,

@@ -89,7 +89,7 @@ fn least_from(squares: &[usize; 4], from: usize) -> Option<usize>
     nearer(from, first, nearer(from, second, nearer(from, third, last)))
 }
 
-/// The lesser of `index` and `found`; it ignores `index` if that is below `from`.
+/// The lesser of `index` and `found`. An `index` below `from` does not count.
 fn nearer(from: usize, index: usize, found: Option<usize>) -> Option<usize>
     ensures { result ≡ nearer_index from index found }
 {

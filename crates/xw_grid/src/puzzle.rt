@@ -1,5 +1,5 @@
-//! A puzzle with all that a file can hold, and also its symmetry, the clues of lights that no
-//! longer exist, and circles on blocks.
+//! A puzzle: all that a file can hold, and also the symmetry, the clues of lights that no longer
+//! exist, and circles on blocks.
 use crate::circles::Circles;
 use crate::clues::Clues;
 use crate::grid::Grid;

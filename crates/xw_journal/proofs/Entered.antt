@@ -9,8 +9,8 @@ use Rattle.xw_grid.specs.declared.cell.Cell.{Cell}
 use Rattle.std.proofs.lemmas.Option.{slice_get-get_or}
 use Rattle.xw_grid.specs.Grid.{Grid, cells, cell_at, cell_in, entry}
 use Rattle.xw_grid.proofs.GridLemmas.{length-cells, get_or-map-cells}
-use Rattle.xw_session.specs.Record.{command_lines, letter_commands}
-use Rattle.xw_session.proofs.LightTexts.{cell_in_order}
+use Rattle.xw_answers.specs.Record.{command_lines, letter_commands}
+use Rattle.xw_answers.proofs.LightTexts.{cell_in_order}
 use Rattle.xw_journal.specs.Group.{grouped}
 use Rattle.xw_journal.specs.Journal.{entered_at, entered_commands, entries_of, is_same_entry, HasEntriesBefore}
 

@@ -11,21 +11,21 @@ use Rattle.xw_fill.specs.Position.{position_of, filled_in}
 use Rattle.xw_fill.specs.Search.{found, due, end}
 use Rattle.xw_fill.specs.declared.search.Filling.{Filling}
 use Rattle.xw_fill.specs.declared.search.Filling.TheVariants.{Filled, NoFill, Limit}
-use Rattle.xw_autofill.specs.NamedFill.{IsAutofilled, is_named}
+use Rattle.xw_fill.specs.NamedFill.{IsAutofilled, is_named}
 use Rattle.xw_lines.specs.Spoken.{NeverStops, broken_by}
 use Rattle.xw_lines.specs.declared.outcome.AnswerFault.{AnswerFault}
 use Rattle.xw_lines.specs.declared.outcome.AnswerFault.TheVariants.{WriteFailed, Stopped}
 use Rattle.xw_lines.specs.declared.outcome.Step.TheVariants.{Accepted}
 use Rattle.xw_feas.specs.State.{State as Position}
-use Rattle.xw_session.specs.declared.refusal.Refusal.{Refusal}
+use Rattle.xw_answers.specs.declared.refusal.Refusal.{Refusal}
 use Rattle.xw_session.specs.State.{State}
 use Rattle.xw_session.specs.Resuming.{MayBeDone}
 use Rattle.xw_session.specs.Reply.{Reply, fill_tried, filling_name, shown}
-use Rattle.xw_session.specs.Text.{word_line}
+use Rattle.xw_answers.specs.Text.{word_line}
 use Rattle.xw_session.specs.Autofill.{names_of, IsAutofillDue, IsAutofillReply}
 use Rattle.xw_session.specs.Answer.{IsDue, Replies, Answers, AnswersParsed, step_of, state_after}
-use Rattle.xw_journal.specs.declared.effect.Effect.TheVariants.{Letters}
-use Rattle.xw_journal.specs.Journal.{effect_of, effect_of_parsed}
+use Rattle.xw_commands.specs.declared.command.Kind.TheVariants.{Search}
+use Rattle.xw_commands.specs.Kind.{kind_of, kind_of_line}
 
 -- the grid has the size that it had before
 pub record HasSizeOf (before after : Grid) : Type 0 where
@@ -62,24 +62,24 @@ autofilled_size : (state : State) (lights : List LightArg) (reply : Reply) → I
 autofilled_size state lights reply a =
     subst (λ (r : Reply). HasSizeOf state.position.grid r.state.position.grid) (sym a.is) (autofill_size (is_named state.position (names_of lights)) state.position a.position a.filling a.done)
 
-search_size : (state : State) (command : Command) (reply : Reply) → effect_of command ≡ Letters → (due : Result Reply Refusal) → IsDue state command due → due ≡ Ok reply → HasSizeOf state.position.grid reply.state.position.grid
+search_size : (state : State) (command : Command) (reply : Reply) → kind_of command ≡ Search → (due : Result Reply Refusal) → IsDue state command due → due ≡ Ok reply → HasSizeOf state.position.grid reply.state.position.grid
 search_size state (commands.Fill limit) reply e due owed is = fill_size state limit reply (owed ∙ is)
 search_size state (commands.Autofill limit seed lights) reply e due owed is = autofilled_size state lights reply (subst (λ (d : Result Reply Refusal). IsAutofillDue state (names_of lights) d) is owed)
 search_size state other reply e due owed is = cc
 
-accepted_size : (state : State) (command : Command) (reply : Result Reply Refusal) (after : State) → effect_of command ≡ Letters → Replies state command reply → Accepted ≡ step_of reply → after ≡ state_after state reply
+accepted_size : (state : State) (command : Command) (reply : Result Reply Refusal) (after : State) → kind_of command ≡ Search → Replies state command reply → Accepted ≡ step_of reply → after ≡ state_after state reply
     → HasSizeOf state.position.grid after.position.grid
 accepted_size state command (Ok reply) after e (due, owed, fits) step is = subst (λ (s : State). HasSizeOf state.position.grid s.position.grid) (sym is) (search_size state command reply e due owed fits)
 accepted_size state command (Err refusal) after e replies step is = cc
 
-parsed_size : (state after : State) (parsed : Result (Option Command) SyntaxFault) (answer : List ℕ) → effect_of_parsed parsed ≡ Letters → AnswersParsed state parsed Accepted answer after
+parsed_size : (state after : State) (parsed : Result (Option Command) SyntaxFault) (answer : List ℕ) → kind_of_line parsed ≡ Search → AnswersParsed state parsed Accepted answer after
     → HasSizeOf state.position.grid after.position.grid
 parsed_size state after (Ok (Some command)) answer e (reply, replies, step, is, left) = accepted_size state command reply after e replies step left
 parsed_size state after (Ok None) answer e said = cc
 parsed_size state after (Err fault) answer e said = cc
 
 -- an accepted search keeps the size of the grid
-pub searched_size : (state after : State) (line answer : List ℕ) → effect_of_parsed (command_of line) ≡ Letters → Answers state line Accepted answer after
+pub searched_size : (state after : State) (line answer : List ℕ) → kind_of_line (command_of line) ≡ Search → Answers state line Accepted answer after
     → HasSizeOf state.position.grid after.position.grid
 searched_size state after line answer e said = parsed_size state after (command_of line) answer e said
 

@@ -2,7 +2,7 @@
 use Rattle.std.specs.Prelude.{ℕ, Bool, not, ◌&&◌, List, [], ◌∷◌, ◌++◌, Option, Some, None, codes, if◌then◌else◌, bytes_eq}
 use Rattle.std.specs.List.{list_any}
 use Rattle.xw_commands.specs.declared.command.Command.{Command}
-use Rattle.xw_session.specs.Record.{command_lines}
+use Rattle.xw_answers.specs.Record.{command_lines}
 
 -- the comment before a group
 abbrev pub begin_line : List ℕ

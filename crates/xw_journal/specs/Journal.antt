@@ -8,43 +8,17 @@ use Rattle.xw_lines.specs.declared.outcome.Step.{Step}
 use Rattle.xw_lines.specs.declared.outcome.Step.TheVariants.{Accepted, Silent}
 use Rattle.xw_commands.specs.Command.{command_of}
 use Rattle.xw_commands.specs.declared.command.Command.{Command}
-use Rattle.xw_commands.specs.declared.command.Command.TheVariants as commands
+use Rattle.xw_commands.specs.declared.command.Kind.{Kind}
+use Rattle.xw_commands.specs.declared.command.Kind.TheVariants.{Query, Change, Search}
+use Rattle.xw_commands.specs.Kind.{kind_of}
 use Rattle.xw_commands.specs.declared.command.SyntaxFault.{SyntaxFault}
 use Rattle.xw_session.specs.Answer.{Answers}
-use Rattle.xw_session.specs.Record.{letter_commands}
+use Rattle.xw_answers.specs.Record.{letter_commands}
 use Rattle.xw_session.specs.State.{State}
 use Rattle.xw_session.specs.Resuming.{MayBeDone}
 use Rattle.xw_journal.specs.Group.{grouped}
 use Rattle.xw_journal.specs.declared.cause.Cause.{Cause}
 use Rattle.xw_journal.specs.declared.cause.Cause.TheVariants.{Journal, Memory}
-use Rattle.xw_journal.specs.declared.effect.Effect.{Effect}
-use Rattle.xw_journal.specs.declared.effect.Effect.TheVariants.{Nothing, Change, Letters}
-
--- ---- what a command changes if it is accepted
-
--- queries change nothing, searches may enter letters, and every other command makes the change that it states
-abbrev pub effect_of : Command → Effect
-effect_of (commands.Match pattern) = Nothing
-effect_of commands.Circles = Nothing
-effect_of commands.Show = Nothing
-effect_of commands.Lights = Nothing
-effect_of (commands.Words named most) = Nothing
-effect_of (commands.Choices named most) = Nothing
-effect_of (commands.Letters spot) = Nothing
-effect_of (commands.Tally spot) = Nothing
-effect_of commands.Duplicates = Nothing
-effect_of commands.Unlisted = Nothing
-effect_of commands.Unmatched = Nothing
-effect_of commands.Suggest = Nothing
-effect_of (commands.Why named) = Nothing
-effect_of (commands.Tell _) = Nothing
-effect_of (commands.Fill limit) = Letters
-effect_of (commands.Autofill limit seed lights) = Letters
-effect_of other = Change
-
-abbrev pub effect_of_parsed : Result (Option Command) SyntaxFault → Effect
-effect_of_parsed (Ok (Some command)) = effect_of command
-effect_of_parsed other = Nothing
 
 -- ---- the letters that a search entered
 
@@ -74,13 +48,13 @@ pub record HasEntriesBefore (before after : Grid) (entries : List (Option ℕ)) 
 -- ---- what is written to the journal
 
 -- the text that makes the change again: each line ends with an LF
-abbrev pub text_of_effect : Effect → List ℕ → Grid → Grid → List ℕ
-text_of_effect Nothing line before after = []
-text_of_effect Change line before after = line ++ 10 ∷ []
-text_of_effect Letters line before after = grouped (entered_commands before after)
+abbrev pub text_of_kind : Kind → List ℕ → Grid → Grid → List ℕ
+text_of_kind Query line before after = []
+text_of_kind Change line before after = line ++ 10 ∷ []
+text_of_kind Search line before after = grouped (entered_commands before after)
 
 abbrev pub text_of_parsed : Result (Option Command) SyntaxFault → List ℕ → Grid → Grid → List ℕ
-text_of_parsed (Ok (Some command)) line before after = text_of_effect (effect_of command) line before after
+text_of_parsed (Ok (Some command)) line before after = text_of_kind (kind_of command) line before after
 text_of_parsed other line before after = []
 
 -- the text for a line, from the grids before and after it: empty unless the line was accepted and changes the session
@@ -89,21 +63,21 @@ journal_text before line Accepted after = text_of_parsed (command_of line) line 
 journal_text before line other after = []
 
 -- a text as the journal takes it: each change, and each search, ends with a flush
-abbrev pub taken : Effect → List ℕ → List ℕ
-taken Nothing text = []
+abbrev pub taken : Kind → List ℕ → List ℕ
+taken Query text = []
 taken Change text = text ++ flushed ∷ []
-taken Letters text = text ++ flushed ∷ []
+taken Search text = text ++ flushed ∷ []
 
 -- the entries that were kept before a search are those of an earlier grid
-abbrev pub WereKept : Effect → Grid → Grid → List (Option ℕ) → Type 0
-WereKept effect before after entries = effect ≡ Letters → HasEntriesBefore before after entries
+abbrev pub WereKept : Kind → Grid → Grid → List (Option ℕ) → Type 0
+WereKept kind before after entries = kind ≡ Search → HasEntriesBefore before after entries
 
--- the text for a line with this effect, with its flush
-abbrev pub events_of_effect : Effect → List ℕ → Grid → Grid → List ℕ
-events_of_effect effect line before after = taken effect (text_of_effect effect line before after)
+-- the text for a line of this kind, with its flush
+abbrev pub events_of_kind : Kind → List ℕ → Grid → Grid → List ℕ
+events_of_kind kind line before after = taken kind (text_of_kind kind line before after)
 
 abbrev pub events_of_parsed : Result (Option Command) SyntaxFault → List ℕ → Grid → Grid → List ℕ
-events_of_parsed (Ok (Some command)) line before after = events_of_effect (effect_of command) line before after
+events_of_parsed (Ok (Some command)) line before after = events_of_kind (kind_of command) line before after
 events_of_parsed other line before after = []
 
 -- the text for a line with its flush

@@ -5,17 +5,18 @@ ghost use Rattle.xw_commands.specs.Command.{command_of};
 ghost use Rattle.xw_lines.specs.Cut.{held};
 ghost use Rattle.xw_lines.specs.Device.{flushed};
 ghost use Rattle.xw_lines.specs.Sends.{Sends};
-ghost use Rattle.xw_session.specs.Record.{command_lines, letter_commands};
+ghost use Rattle.xw_answers.specs.Record.{command_lines, letter_commands};
 ghost use Rattle.xw_journal.specs.Group.{grouped};
-ghost use Rattle.xw_journal.specs.Journal.{effect_of_parsed, entered_commands, events_of_effect, journal_events, HasEntriesBefore, WereKept};
+ghost use Rattle.xw_commands.specs.Kind.{kind_of_line};
+ghost use Rattle.xw_journal.specs.Journal.{entered_commands, events_of_kind, journal_events, HasEntriesBefore, WereKept};
 
-use crate::effect::Effect;
 use crate::entries::Entries;
 use crate::group::{BEGIN, END};
+use xw_answers::record::write_letter;
+use xw_commands::command::Kind;
 use xw_grid::{Cell, Grid};
 use xw_lines::device::{self, Sink, WriteFailed};
 use xw_lines::outcome::Step;
-use xw_session::write_letter;
 
 /// Writes the command that enters the letter of a cell, unless the cell has the entry that it had before.
 fn write_unless<J: Sink>(
@@ -89,17 +90,17 @@ fn write_line<J: Sink>(journal: &mut J, line: &[u8]) -> Result<(), WriteFailed>
 /// Writes the text of an accepted line to the journal, and flushes it, unless the line changes nothing.
 fn keep<J: Sink>(
     journal: &mut J,
-    effect: Effect,
+    kind: Kind,
     line: &[u8],
     before: &Entries,
     grid: &Grid,
 ) -> Result<(), WriteFailed>
-    ensures { (was : AnyGrid) → WereKept effect was grid.now before.now → Sends J.transcript J.failures journal.old journal.new result (events_of_effect effect line.now was grid.now) }
+    ensures { (was : AnyGrid) → WereKept kind was grid.now before.now → Sends J.transcript J.failures journal.old journal.new result (events_of_kind kind line.now was grid.now) }
 {
-    match effect {
-        Effect::Nothing => return Ok(()),
-        Effect::Change => write_line(journal, line)?,
-        Effect::Letters => write_group(journal, before, grid)?,
+    match kind {
+        Kind::Query => return Ok(()),
+        Kind::Change => write_line(journal, line)?,
+        Kind::Search => write_group(journal, before, grid)?,
     }
     flush(journal)
 }
@@ -108,18 +109,18 @@ fn keep<J: Sink>(
 pub fn keep_accepted<J: Sink>(
     journal: &mut J,
     step: Step,
-    effect: Effect,
+    kind: Kind,
     line: Option<&[u8]>,
     before: &Entries,
     grid: &Grid,
 ) -> Result<(), WriteFailed>
     ensures events { (was : AnyGrid) (whole : List ℕ) → held whole ≡ option_map (λ bytes. bytes.now) line.entry
-        → effect ≡ effect_of_parsed (command_of whole) → (effect ≡ Effect.Letters → step ≡ Step.Accepted → HasEntriesBefore was grid.now before.now)
+        → kind ≡ kind_of_line (command_of whole) → (kind ≡ Kind.Search → step ≡ Step.Accepted → HasEntriesBefore was grid.now before.now)
         → Sends J.transcript J.failures journal.old journal.new result (journal_events was whole step grid.now) }
     ensures accepted { OnErr result (step ≡ Step.Accepted) }
 {
     match (step, line) {
-        (Step::Accepted, Some(line)) => keep(journal, effect, line, before, grid),
+        (Step::Accepted, Some(line)) => keep(journal, kind, line, before, grid),
         _ => Ok(()),
     }
 }

@@ -2,7 +2,6 @@
 #![tactic(auto)]
 
 mod cause;
-mod effect;
 mod entries;
 pub mod file;
 mod group;

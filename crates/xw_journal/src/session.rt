@@ -5,11 +5,11 @@ ghost use Rattle.xw_journal.specs.declared.cause.Cause.{Cause as AnyCause};
 ghost use Rattle.xw_journal.specs.Journal.{AnswersJournaled, StopsAtJournal, IsExecuted, IsHalted, journaled_state};
 
 use crate::cause::Cause;
-use crate::effect::{Effect, effect_of_line};
 use crate::entries::Entries;
 use crate::journal::keep_accepted;
 use std::alloc::{AllocError, Global};
 use std::marker::Model;
+use xw_commands::command::{Kind, kind_of_parsed, parse_held};
 use xw_feas::feasible::Feasible;
 use xw_feas::searchable::Searchable;
 use xw_lines::device::{self, Sink, Source};
@@ -122,15 +122,16 @@ fn execute<E: Searchable, J: Sink>(
     ensures err { IfErr result (λ why. (cause later : Option AnyCause) → IsHalted (journaled_state session.old (J.transcript journal.old) (J.failures journal.old) cause)
         (option_map (λ bytes. bytes.now) line.entry) why (journaled_state session.new (J.transcript journal.new) (J.failures journal.new) later)) }
 {
-    let effect = effect_of_line(line);
-    if effect == Effect::Letters {
+    let parsed = parse_held(line);
+    let kind = kind_of_parsed(&parsed);
+    if kind == Kind::Search {
         before.copy(session.grid());
     }
     answer.clear();
-    let Ok(step) = session.handle(line, answer) else {
+    let Ok(step) = session.execute(parsed, answer) else {
         return Err(Cause::Memory);
     };
-    match keep_accepted(journal, step, effect, line, before, session.grid()) {
+    match keep_accepted(journal, step, kind, line, before, session.grid()) {
         Ok(()) => Ok(step),
         Err(_) => Err(Cause::Journal),
     }

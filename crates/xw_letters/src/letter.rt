@@ -70,7 +70,7 @@ impl Letter {
     }
 }
 
-/// Does nothing useful at run time; it gives the prover the invariant of each letter of the slice.
+/// Gives the prover the invariant of each letter of the slice. It has no effect at run time.
 pub fn are_letters(word: &[Letter])
     ensures { All IsLetter word.now }
 {

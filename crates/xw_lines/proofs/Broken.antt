@@ -13,23 +13,5 @@ module _ {S R W : Type 0} (Answers : S → List ℕ → Step → List ℕ → S 
   pub broken-run : (fault : AnswerFault) → HasFailedFor fault (write_failures sink) (write_failures sink')
       → StopsIn Answers (broken_by Answers Stops fault) start text end (written sink) (written sink')
       → IsRun Answers Stops read is_at_end read_failures written write_failures (broken_end fault) start end source source' sink sink'
-  broken-run WriteFailed failed stops = record {
-    done = tt;
-    read_failed = tt;
-    write_failed = (text, passed, failed, stops);
-    stopped = tt;
-    endless = tt;
-    memory = tt;
-    unfailed = tt;
-    reads = reads;
-  }
-  broken-run Stopped failed stops = record {
-    done = tt;
-    read_failed = tt;
-    write_failed = tt;
-    stopped = (text, passed, stops);
-    endless = tt;
-    memory = tt;
-    unfailed = tt;
-    reads = reads;
-  }
+  broken-run WriteFailed failed stops = (text, passed, failed, stops, reads)
+  broken-run Stopped failed stops = (text, passed, stops, reads)

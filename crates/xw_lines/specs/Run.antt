@@ -16,8 +16,8 @@ pub record Speaks {S : Type 0} (Answers : S → List ℕ → Step → List ℕ �
   pub spoken : Spoken Answers start lines out count state
   pub transcript-is : transcript ≡ begun ++ out
 
--- The output after `begun` is the flushed answers to some first lines of the text. The answer to the next line was not finished, as
--- `Breaks` says. The state is the one after all these lines, including the last.
+-- The output after `begun` is the flushed answers to the first lines of the text, and then what `Breaks` says of the next line, whose
+-- answer was cut short. The state is the one after all these lines, including the last.
 pub record StopsIn {S : Type 0} (Answers : S → List ℕ → Step → List ℕ → S → Type 0) (Breaks : S → List ℕ → S → List ℕ → List ℕ → Type 0) (start : S) (text : List ℕ) (state : S) (begun transcript : List ℕ) : Type 0 where
   pub before : List (List ℕ)
   pub line : List ℕ
@@ -36,107 +36,39 @@ pub record Progress {S : Type 0} (Answers : S → List ℕ → Step → List ℕ
   pub piece-is : piece ≡ held (last_piece text)
   pub refused-is : refused ≡ saturated count
 
--- how a run ends if an answer was not finished
+-- how a run ends if an answer was cut short
 abbrev pub broken_end : AnswerFault → RunEnd
 broken_end faults.WriteFailed = WriteFailed
 broken_end faults.Stopped = Stopped
 
--- a fact that holds if the run ended in one way
-abbrev pub IfDone : RunEnd → (ℕ → Type 0) → Type 0
-IfDone (Done refused) P = P refused
-IfDone ReadFailed P = Unit {0}
-IfDone WriteFailed P = Unit {0}
-IfDone Stopped P = Unit {0}
-IfDone Endless P = Unit {0}
-IfDone Memory P = Unit {0}
-
-abbrev pub OnReadFailed : RunEnd → Type 0 → Type 0
-OnReadFailed (Done refused) P = Unit {0}
-OnReadFailed ReadFailed P = P
-OnReadFailed WriteFailed P = Unit {0}
-OnReadFailed Stopped P = Unit {0}
-OnReadFailed Endless P = Unit {0}
-OnReadFailed Memory P = Unit {0}
-
-abbrev pub OnWriteFailed : RunEnd → Type 0 → Type 0
-OnWriteFailed (Done refused) P = Unit {0}
-OnWriteFailed ReadFailed P = Unit {0}
-OnWriteFailed WriteFailed P = P
-OnWriteFailed Stopped P = Unit {0}
-OnWriteFailed Endless P = Unit {0}
-OnWriteFailed Memory P = Unit {0}
-
-abbrev pub OnStopped : RunEnd → Type 0 → Type 0
-OnStopped (Done refused) P = Unit {0}
-OnStopped ReadFailed P = Unit {0}
-OnStopped WriteFailed P = Unit {0}
-OnStopped Stopped P = P
-OnStopped Endless P = Unit {0}
-OnStopped Memory P = Unit {0}
-
-abbrev pub OnEndless : RunEnd → Type 0 → Type 0
-OnEndless (Done refused) P = Unit {0}
-OnEndless ReadFailed P = Unit {0}
-OnEndless WriteFailed P = Unit {0}
-OnEndless Stopped P = Unit {0}
-OnEndless Endless P = P
-OnEndless Memory P = Unit {0}
-
-abbrev pub OnMemory : RunEnd → Type 0 → Type 0
-OnMemory (Done refused) P = Unit {0}
-OnMemory ReadFailed P = Unit {0}
-OnMemory WriteFailed P = Unit {0}
-OnMemory Stopped P = Unit {0}
-OnMemory Endless P = Unit {0}
-OnMemory Memory P = P
-
-abbrev pub UnlessBroken : RunEnd → Type 0 → Type 0
-UnlessBroken (Done refused) P = P
-UnlessBroken ReadFailed P = P
-UnlessBroken WriteFailed P = Unit {0}
-UnlessBroken Stopped P = Unit {0}
-UnlessBroken Endless P = P
-UnlessBroken Memory P = P
-
--- the reader's count of failures after a run: a run ends at the first read that fails, so it rises by one or not at all
-abbrev pub read_failures_after : RunEnd → ℕ → ℕ
-read_failures_after (Done refused) failures = failures
-read_failures_after ReadFailed failures = counted_up failures
-read_failures_after WriteFailed failures = failures
-read_failures_after Stopped failures = failures
-read_failures_after Endless failures = failures
-read_failures_after Memory failures = failures
-
--- What a run did, and how it ended. `read`, `is_at_end` and `read_failures` are the ghost functions of the reader, `written` and
--- `write_failures` those of the writer. `start`, `source` and `sink` are the line handler, the reader and the writer before the run,
--- `end`, `source'` and `sink'` after it.
-pub record IsRun {S R W : Type 0} (Answers : S → List ℕ → Step → List ℕ → S → Type 0) (Stops : S → List ℕ → S → List ℕ → List ℕ → Type 0) (read : R → List ℕ) (is_at_end : R → Bool) (read_failures : R → ℕ) (written : W → List ℕ) (write_failures : W → ℕ)
-    (result : RunEnd) (start end : S) (source source' : R) (sink sink' : W) : Type 0 where
-  -- The reader reached its end, and all lines are answered.
-  pub done : IfDone result (λ refused. (text : List ℕ) × (read source' ≡ read source ++ text)
-      × IsTrue (is_at_end source')
-      × (count : ℕ) × (refused ≡ saturated count)
-      × Speaks Answers start (lines_of text) count end (written sink) (written sink'))
-  -- The reader failed in this call. All complete lines before the failure are answered.
-  pub read_failed : OnReadFailed result ((text : List ℕ) × (read source' ≡ read source ++ text)
-      × HasFailed (read_failures source) (read_failures source')
-      × (count : ℕ)
-      × Speaks Answers start (ended_lines text) count end (written sink) (written sink'))
-  -- The writer failed in this call, or took no bytes.
-  pub write_failed : OnWriteFailed result ((text : List ℕ) × (read source' ≡ read source ++ text)
-      × HasFailed (write_failures sink) (write_failures sink')
-      × StopsIn Answers (BreaksOff Answers) start text end (written sink) (written sink'))
-  -- The line handler stopped.
-  pub stopped : OnStopped result ((text : List ℕ) × (read source' ≡ read source ++ text)
-      × StopsIn Answers Stops start text end (written sink) (written sink'))
-  -- At least `u64::MAX` bytes were read, and the reader did not end.
-  pub endless : OnEndless result ((text : List ℕ) × (read source' ≡ read source ++ text)
-      × (2 ^ 64 - 1 ≤ length text)
-      × (count : ℕ)
-      × Speaks Answers start (ended_lines text) count end (written sink) (written sink'))
-  -- Neither the reader nor the writer was called.
-  pub memory : OnMemory result ((source' ≡ source) × (sink' ≡ sink) × (end ≡ start))
-  -- The writer failed in no other case, except perhaps where the line handler stopped: after a failed write or flush the run stops.
-  pub unfailed : UnlessBroken result (write_failures sink' ≡ write_failures sink)
-  -- The reader failed once if the end says so, and never otherwise: no failed read is ignored.
-  pub reads : read_failures source' ≡ read_failures_after result (read_failures source)
+-- What a run did, by how it ended. The ghost functions of the reader are `read`, `is_at_end` and `read_failures`; those of the writer
+-- are `written` and `write_failures`. Before the run, the line handler, the reader and the writer are `start`, `source` and `sink`;
+-- after it they are `end`, `source'` and `sink'`. A run ends at the first read, write or flush that fails.
+abbrev pub IsRun : {S R W : Type 0} → (S → List ℕ → Step → List ℕ → S → Type 0) → (S → List ℕ → S → List ℕ → List ℕ → Type 0) → (R → List ℕ) → (R → Bool) → (R → ℕ) → (W → List ℕ) → (W → ℕ)
+    → RunEnd → S → S → R → R → W → W → Type 0
+-- The reader came to its end, and all lines are answered. No read failed, and no write.
+IsRun Answers Stops read is_at_end read_failures written write_failures (Done refused) start end source source' sink sink' =
+    (text : List ℕ) × (read source' ≡ read source ++ text) × IsTrue (is_at_end source')
+    × (count : ℕ) × (refused ≡ saturated count) × Speaks Answers start (lines_of text) count end (written sink) (written sink')
+    × (read_failures source' ≡ read_failures source) × (write_failures sink' ≡ write_failures sink)
+-- A read failed. All complete lines before it are answered. No write failed.
+IsRun Answers Stops read is_at_end read_failures written write_failures ReadFailed start end source source' sink sink' =
+    (text : List ℕ) × (read source' ≡ read source ++ text) × HasFailed (read_failures source) (read_failures source')
+    × (count : ℕ) × Speaks Answers start (ended_lines text) count end (written sink) (written sink')
+    × (read_failures source' ≡ counted_up (read_failures source)) × (write_failures sink' ≡ write_failures sink)
+-- A write or a flush failed, or a write took no bytes. The lines before that answer are answered. No read failed.
+IsRun Answers Stops read is_at_end read_failures written write_failures WriteFailed start end source source' sink sink' =
+    (text : List ℕ) × (read source' ≡ read source ++ text) × HasFailed (write_failures sink) (write_failures sink')
+    × StopsIn Answers (BreaksOff Answers) start text end (written sink) (written sink') × (read_failures source' ≡ read_failures source)
+-- The line handler stopped at a line. The lines before it are answered. No read failed.
+IsRun Answers Stops read is_at_end read_failures written write_failures Stopped start end source source' sink sink' =
+    (text : List ℕ) × (read source' ≡ read source ++ text) × StopsIn Answers Stops start text end (written sink) (written sink')
+    × (read_failures source' ≡ read_failures source)
+-- At least `u64::MAX` bytes were read, and the reader did not end. All complete lines are answered. No read failed, and no write.
+IsRun Answers Stops read is_at_end read_failures written write_failures Endless start end source source' sink sink' =
+    (text : List ℕ) × (read source' ≡ read source ++ text) × (2 ^ 64 - 1 ≤ length text)
+    × (count : ℕ) × Speaks Answers start (ended_lines text) count end (written sink) (written sink')
+    × (read_failures source' ≡ read_failures source) × (write_failures sink' ≡ write_failures sink)
+-- An allocation failed before the first read. Neither the reader nor the writer was called.
+IsRun Answers Stops read is_at_end read_failures written write_failures Memory start end source source' sink sink' =
+    (source' ≡ source) × (sink' ≡ sink) × (end ≡ start)

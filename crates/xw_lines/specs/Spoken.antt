@@ -1,4 +1,4 @@
--- Which answers a list of lines may get.
+-- The answers that a list of lines may get.
 use Rattle.std.specs.Prelude.{◌≡◌, ℕ, ◌+◌, List, [], ◌∷◌, ◌++◌, Option}
 use Rattle.xw_lines.specs.Cut.{held}
 use Rattle.xw_lines.specs.Device.{Begins, HasFailed, flushed}
@@ -46,16 +46,16 @@ pub record BreaksOff {S : Type 0} (Answers : S → List ℕ → Step → List �
   pub answers : Answers start line outcome answer end
   pub begins : Begins old new answer
 
--- How the answer to a line was not finished. `Stops state line next old new` says that the handler may stop at the line.
+-- How the answer to a line was cut short. `Stops state line next old new` says that the handler may stop at the line.
 abbrev pub broken_by : {S : Type 0} → (S → List ℕ → Step → List ℕ → S → Type 0) → (S → List ℕ → S → List ℕ → List ℕ → Type 0) → AnswerFault → S → List ℕ → S → List ℕ → List ℕ → Type 0
 broken_by Answers Stops WriteFailed = BreaksOff Answers
 broken_by Answers Stops Stopped = Stops
 
--- the answer to any line whose buffered form is this piece was not finished
+-- the answer was cut short, for each line whose buffered form is this piece
 abbrev pub BreaksPiece : {S : Type 0} → (S → List ℕ → Step → List ℕ → S → Type 0) → (S → List ℕ → S → List ℕ → List ℕ → Type 0) → AnswerFault → S → Option (List ℕ) → S → List ℕ → List ℕ → Type 0
 BreaksPiece Answers Stops fault start piece end old new = (line : List ℕ) → held line ≡ piece → broken_by Answers Stops fault start line end old new
 
--- the writer failed if that is the fault
+-- the writer failed, if the fault is `WriteFailed`
 abbrev pub HasFailedFor : AnswerFault → ℕ → ℕ → Type 0
 HasFailedFor WriteFailed old new = HasFailed old new
 HasFailedFor Stopped old new = Unit {0}

@@ -1,8 +1,7 @@
 //! Reads lines and writes their answers.
-ghost use Rattle.std.specs.Prelude.{◌≡◌, ℕ, ◌+◌, ◌<◌, ◌≤◌, List, [], ◌∷◌, ◌++◌, length, drop, position, Some, IfOk, IfErr, IfSome, IfNone, OnOk, OnErr};
+ghost use Rattle.std.specs.Prelude.{◌≡◌, ℕ, ◌+◌, ◌<◌, ◌≤◌, List, [], ◌∷◌, ◌++◌, length, drop, Some, IfOk, IfErr, IfSome, IfNone, OnOk, OnErr};
 ghost use Rattle.std.specs.Option.{option_map};
 ghost use Rattle.xw_lines.specs.Cut.{lines_of, HasNoLf, EndsLine};
-ghost use Rattle.xw_text.specs.Lines.{is_line_feed};
 ghost use Rattle.xw_lines.specs.Device.{flushed, saturated, HasFailed};
 ghost use Rattle.xw_lines.specs.Spoken.{Answered, BreaksPiece, HasFailedFor, broken_by, refusals, flush_after};
 ghost use Rattle.xw_lines.specs.Run.{Speaks, StopsIn, Progress, IsRun, broken_end};
@@ -11,6 +10,7 @@ use crate::device::{Sink, Source, WriteFailed};
 use crate::line_buffer::LineBuffer;
 use crate::outcome::{AnswerFault, RunEnd, Step};
 use std::alloc::Global;
+use xw_text::lines::line_end;
 
 /// The maximum length of a line in bytes, without its LF.
 pub const LINE_LIMIT: usize = 4096;
@@ -100,12 +100,6 @@ fn answer_piece<S: LineHandler, W: Sink>(
     Ok(())
 }
 
-fn first_lf(bytes: &[u8]) -> Option<usize>
-    ensures { result ≡ position is_line_feed bytes.now }
-{
-    bytes.iter().position(|byte| *byte == b'\n')
-}
-
 /// Returns the index of the first LF at `from` or later.
 pub fn next_lf(bytes: &[u8], from: usize) -> Option<usize>
     requires { from ≤ length bytes.now }
@@ -113,7 +107,7 @@ pub fn next_lf(bytes: &[u8], from: usize) -> Option<usize>
     ensures ends { IfSome result (λ end. EndsLine bytes.now from end) }
     ensures none { IfNone result (HasNoLf (drop from bytes.now)) }
 {
-    match first_lf(&bytes[from..]) {
+    match line_end(&bytes[from..]) {
         Some(more) => Some(from + more),
         None => None,
     }

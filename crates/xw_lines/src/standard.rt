@@ -1,5 +1,6 @@
 //! Adapters from `Read` to `Source` and from `Write` to `Sink`.
 ghost use Rattle.std.specs.Prelude.{◌≡◌, ◌≤◌, [], length, IfOk, true, false};
+ghost use Rattle.std.specs.Io.KnownBytes.{ReadConsumes, WriteAppends};
 
 use crate::device::{DeviceFault, Sink, Source};
 use crate::history::History;
@@ -55,13 +56,14 @@ impl<R: Read> Source for FromRead<R> {
 
 /// Reads once, and retries when a signal interrupts the read.
 fn read_retrying<R: Read>(reader: &mut R, buffer: &mut [u8]) -> Result<usize, DeviceFault>
-    ensures { IfOk result (λ count. count ≤ length buffer.new) }
+    ensures bound { IfOk result (λ count. count ≤ length buffer.new) }
+    ensures bytes { ReadConsumes (R.remaining reader.old) (R.remaining reader.new) result buffer.new }
 {
     for _ in 0..u64::MAX {
         match reader.read(buffer) {
             Ok(count) => return Ok(count),
-            Err(error) => {
-                if error.kind() != ErrorKind::Interrupted {
+            Err(fault) => {
+                if fault.kind() != ErrorKind::Interrupted {
                     return Err(DeviceFault);
                 }
             }
@@ -131,11 +133,12 @@ impl<W: Write> Sink for ToWrite<W> {
 
 /// Writes once, and retries when a signal interrupts the write.
 fn write_retrying<W: Write>(writer: &mut W, bytes: &[u8]) -> Result<usize, DeviceFault>
-    ensures { IfOk result (λ count. count ≤ length bytes.now) }
+    ensures bound { IfOk result (λ count. count ≤ length bytes.now) }
+    ensures bytes { WriteAppends (W.contents writer.old) (W.contents writer.new) result bytes.now }
 {
     for _ in 0..u64::MAX {
         match writer.write(bytes) {
-            Ok(count) => return Ok(count),
+            Ok(taken) => return Ok(taken),
             Err(error) => {
                 if error.kind() != ErrorKind::Interrupted {
                     return Err(DeviceFault);

@@ -5,3 +5,4 @@ pub mod Made
 pub mod Next
 pub mod Noting
 mod Saving
+pub mod Trying

@@ -6,8 +6,6 @@ mod noted;
 mod placing;
 pub mod searching;
 mod settling;
-#[cfg(test)]
-mod tests;
 mod written;
 
 pub use live::Live;

@@ -2,11 +2,15 @@
 ghost use Rattle.xw_live.specs.Engine.{IsKept, IsKept-prop};
 
 use crate::live::Live;
+use crate::settling::{keep_letters, try_settle};
+use crate::written::Written;
 use std::snapshot::Snapshot;
-use xw_feas::edit::Refusal;
+use xw_feas::edit::{Edit, Refusal};
+use xw_feas::grid_edit::edit_letters;
 use xw_feas::searchable::Searchable;
 use xw_grid::grid::Grid;
 use xw_letters::letter::Letter;
+use xw_net::change::Change;
 use xw_net::net::Net;
 use xw_words::bank::Bank;
 
@@ -18,6 +22,52 @@ pub struct Saved {
     pub(crate) net: Net,
     pub(crate) bank: Snapshot<Bank>,
     ghost kept: { IsKept (record { grid = grid; words = bank.value.words }) net } by { IsKept-prop (record { grid = grid; words = bank.value.words }) net },
+}
+
+impl Live {
+    ghost use Rattle.std.specs.Prelude.{◌≡◌, ◌≤◌, true, false};
+    ghost use Rattle.xw_feas.specs.State.{is_of_letters, action_of};
+    ghost use Rattle.xw_feas.specs.Trying.{IsTried};
+    ghost use Rattle.xw_live.specs.Idle.{is_list};
+    ghost use Rattle.xw_live.specs.Live.{state_of};
+    ghost use Rattle.xw_live.specs.Saved.{saved_state};
+
+    /// Tries an edit that keeps the lights and the dictionary, except for `Write`: it stops at the first watched light that
+    /// dies, and copies the state back from `mark`.
+    fn try_letters(
+        &mut self,
+        edit: &Edit<'_>,
+        watched: &[bool],
+        mark: &Saved,
+    ) -> Result<Option<usize>, Refusal>
+        requires letters { is_of_letters (action_of edit.now) ≡ true }
+        requires few { is_list (action_of edit.now) ≡ false }
+        requires marked { saved_state mark.now ≡ state_of self.old }
+        ensures tried { IsTried (state_of self.old) (action_of edit.now) watched.now result (state_of self.new) }
+        ensures risen { self.old.spent ≤ self.new.spent }
+    {
+        let written = Written::of(&self.grid, &self.lights, edit);
+        edit_letters(&mut self.grid, &self.lights, edit)?;
+        self.grid.well_formed();
+        keep_letters(&mut self.before, &self.net);
+        let change = Change::Letters(written.as_slice());
+        let (dead, spent) = try_settle(
+            &mut self.net,
+            self.spent,
+            &change,
+            &self.grid,
+            &self.lights,
+            &self.bank,
+            watched,
+        );
+        self.spent = spent;
+        let Some(light) = dead else {
+            return Ok(None);
+        };
+        self.net.copy_from(&mark.net, &self.grid, &mark.grid, &self.lights, &self.bank);
+        self.grid.copy_from(&mark.grid);
+        Ok(Some(light))
+    }
 }
 
 impl Searchable for Live {
@@ -63,8 +113,32 @@ impl Searchable for Live {
         std::mem::swap(&mut self.net, &mut snapshot.net);
     }
 
+    fn try_edit(
+        &mut self,
+        edit: &Edit<'_>,
+        watched: &[bool],
+        mark: &Saved,
+    ) -> Result<Option<usize>, Refusal> {
+        if let Edit::Write(_) = *edit {
+            self.edit_counted(edit)?;
+            return Ok(None);
+        }
+        self.try_letters(edit, watched, mark)
+    }
+
     fn tally(&self, light: usize, position: usize, letter: Letter) -> usize {
         self.net.tally(
+            &self.grid,
+            &self.lights,
+            &self.bank,
+            light,
+            position,
+            letter,
+        )
+    }
+
+    fn promise(&self, light: usize, position: usize, letter: Letter) -> u64 {
+        self.net.promise(
             &self.grid,
             &self.lights,
             &self.bank,

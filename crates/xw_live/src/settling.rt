@@ -1,13 +1,15 @@
 //! The steps of an edit that update the net.
-ghost use Rattle.std.specs.Prelude.{◌≡◌, ◌+◌, ◌≤◌, ℕ, length, if◌then◌else◌, true, false, is_some, IsTrue, Some, IfErr, OnOk, OnErr};
+ghost use Rattle.std.specs.Prelude.{◌≡◌, ◌+◌, ◌<◌, ◌≤◌, ℕ, length, if◌then◌else◌, true, false, is_some, slice_index_or, IsTrue, Some, IfSome, IfNone, IfErr, OnOk, OnErr};
 ghost use Rattle.xw_words.specs.Bank.{has_room};
 ghost use Rattle.xw_words.specs.Dictionary.{Dictionary, add_answer, IsNew};
 ghost use Rattle.xw_grid.specs.Light.{lights_of};
+ghost use Rattle.xw_feas.specs.Board.{board_of};
 ghost use Rattle.xw_feas.specs.Rows.{grows};
 ghost use Rattle.xw_feas.specs.State.{State, Action, action_of};
 ghost use Rattle.xw_feas.specs.WellFormed.{IsWellFormed};
 ghost use Rattle.xw_net.specs.Change.{before_of, cells_of, fields_of, IsChange, IsWordEdit};
 ghost use Rattle.xw_net.specs.Cost.{RoseWithinCost};
+ghost use Rattle.xw_net.specs.Filled.{IsStoppedAt};
 ghost use Rattle.xw_live.specs.Engine.{IsKept};
 ghost use Rattle.xw_live.specs.Idle.{is_symmetry, IsIdle};
 ghost use Rattle.xw_net.specs.Net.{StandsFor, StoodFor, IsSettledFor, IsAlike, known_counts, sets_of};
@@ -56,6 +58,41 @@ pub fn settle(
     let mut rows = Counted::new(bank, spent);
     net.settle(&mut rows, change, grid, lights);
     rows.spent()
+}
+
+/// Updates a net as `settle` does, but stops at the first watched light that has no feasible word after the change, and
+/// returns it. Also returns the ticks so far.
+pub fn try_settle(
+    net: &mut Net,
+    spent: u64,
+    change: &Change<'_>,
+    grid: &Grid,
+    lights: &Lights,
+    bank: &Bank,
+    watched: &[bool],
+) -> (Option<usize>, u64)
+    requires lights { lights.now ≡ lights_of grid.now }
+    requires inside { AreInside grid.now (cells_of change.now) }
+    requires cells { length (sets_of net.old) ≡ length grid.now.squares }
+    requires stood { StoodFor (before_of lights.now change.now) (known_counts bank.now.words) net.old }
+    requires room { HasRoomBetween (before_of lights.now change.now) lights.now (known_counts bank.now.words) net.old net.old.spare }
+    ensures risen { spent ≤ result.1 }
+    ensures none_waits { is_some net.new.spare ≡ false }
+    ensures kept { IfNone result.0 ((before : State) (action : Action) →
+        IsChange before (record { grid = grid.now; words = bank.now.words }) action (fields_of lights.now change.now) →
+        ∥ IsSettledFor before net.old ∥₁ →
+        IsKept (record { grid = grid.now; words = bank.now.words }) net.new) }
+    ensures stopped { IfSome result.0 (λ light. (before : State) (action : Action) →
+        IsChange before (record { grid = grid.now; words = bank.now.words }) action (fields_of lights.now change.now) →
+        ∥ IsSettledFor before net.old ∥₁ →
+        ∥ IsStoppedAt (board_of grid.now) bank.now.words net.new light ∥₁) }
+    ensures within { IfSome result.0 (λ light. light < length lights.now) }
+    ensures watched { IfSome result.0 (λ light. slice_index_or watched.now light false ≡ true) }
+{
+    known_distinct(bank);
+    let mut reads = Counted::new(bank, spent);
+    let dead = net.try_settle(&mut reads, change, grid, lights, watched);
+    (dead, reads.spent())
 }
 
 /// Updates a net after a word was added or struck. `word` is its length and index. Returns the

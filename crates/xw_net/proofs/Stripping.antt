@@ -11,3 +11,5 @@ pub mod LeftByStripping
 pub mod EmptiedCells
 pub mod EmptiedAtOnce
 pub mod NotedLight
+pub mod DeadLights
+pub mod StoppedNets

@@ -87,7 +87,7 @@ module _ (board : Board) where
     pub all : is_fill board cell old ≡ false → HasAll board letters cell
     pub marked : is_fill board cell old ≡ false → (light position : ℕ) → IsPositionIn board light position → cell_at board light position ≡ cell → in_chain light ≡ true
 
-  -- a cell stays such a cell
+  -- the edited cell is in such a state after a step if it was before
   abbrev pub StaysEdited : List ℕ → ListOfLights → ListOfLights → List ℕ → ListOfLights → ListOfLights → ℕ → Option ℕ → Type 0
   StaysEdited letters queue chain letters' queue' chain' cell old =
       IsEdited (set_has letters) (is_marked queue.marks) (is_marked chain.marks) cell old → IsEdited (set_has letters') (is_marked queue'.marks) (is_marked chain'.marks) cell old
@@ -96,7 +96,7 @@ module _ (board : Board) where
   abbrev pub IsNarrowed : Option (ℕ × ℕ) → ℕ → List RowOfBits → List RowOfBits → List RowOfBits → Type 0
   IsNarrowed word light base rows rows' = IsNarrowedRow word (length (light_at board light)) (bits_in rows light) (bits_in base light) (bits_in rows' light)
 
-  -- so do the rows of the queued lights
+  -- the rows of all queued lights keep only base words
   abbrev pub AreNarrowed : Option (ℕ × ℕ) → List RowOfBits → (ℕ → Bool) → List RowOfBits → List RowOfBits → Type 0
   AreNarrowed word base in_queue rows rows' =
       (light : ℕ) → light < length board.lights → in_queue light ≡ true → IsNarrowed word light base rows rows'

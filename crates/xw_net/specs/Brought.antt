@@ -32,7 +32,7 @@ abbrev pub CostsAtMost : Board → (ℕ → List Entry) → (ℕ → Bool) → �
 CostsAtMost board entries is_read ticks ticks' =
     (member : ℕ → Bool) → ((light : ℕ) → light < length board.lights → is_read light ≡ true → member light ≡ true) → ticks' ≤ ticks + base_cost board entries member
 
--- the base rows that were read are right if they were, except perhaps for the changed word
+-- the base rows that were read are right if, before, they were right except perhaps for the changed word
 abbrev pub AreRead : Board → (ℕ → List Entry) → Option (ℕ × ℕ) → (ℕ → Bool) → List RowOfBits → List RowOfBits → Type 0
 AreRead board entries word is_read base base' =
     (light : ℕ) → light < length board.lights → is_read light ≡ true → IsRowBut board entries word light (bits_in base light) → bits_in base' light ≡ base_row board entries light
@@ -78,7 +78,7 @@ module _ (before after : Board) (old new : Dictionary) (same : ℕ → Option �
     pub seeds : (light position letter : ℕ) → IsPositionIn after light position → IsTrue (letters' (cell_at after light position) letter)
         → ¬ IsTrue (letters (cell_at after light position) letter) → IsTrue (seed light)
 
--- nothing is pending, and each light that is not a seed is ready for stripping
+-- the net is ready for stripping, except at the seeds
 pub record IsReadyBut (board : Board) (dictionary : Dictionary) (marks : Marks) (seed : ℕ → Bool) : Type 0 where
   pub lights : (light choice : ℕ) → marks.words light choice ≡ true → light < length board.lights
   pub words : (light choice : ℕ) → seed light ≡ false → marks.words light choice ≡ true → is_base_at board dictionary light choice ≡ true

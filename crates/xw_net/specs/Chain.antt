@@ -18,14 +18,14 @@ module _ (board : Board) (old new : Net) where
   abbrev pub BringsBack : Type 0
   BringsBack = (dictionary : Dictionary) → IsBase board dictionary old.base.items → IsBrought board dictionary (marks_of old) (marks_of new) (is_marked new.chain.marks)
 
-  -- from where a chain may start, it is a revival
+  -- if the chain starts in a state that `IsBegun` allows, the result is a revival
   abbrev pub RevivesChain : Type 0
   RevivesChain =
       (before : Board) (words words' : Dictionary) (same : ℕ → Option ℕ) (choices letters : ℕ → ℕ → Bool) → IsBase board words' old.base.items
       → IsBegun before board words words' same choices letters (word_stands old) (letter_stands old) (is_marked old.chain.marks)
       → IsRevived before board words words' same choices letters (word_stands new) (letter_stands new)
 
-  -- then every supported family is in the net
+  -- if the net had exactly what was feasible before the edit, it has every supported family after the chain
   abbrev pub CoversFeasible : Type 0
   CoversFeasible =
       (before : Board) (words words' : Dictionary) (same : ℕ → Option ℕ) (choices letters : ℕ → ℕ → Bool) → IsBase board words' old.base.items
@@ -33,7 +33,7 @@ module _ (board : Board) (old new : Net) where
       → IsBegun before board words words' same choices letters (word_stands old) (letter_stands old) (is_marked old.chain.marks)
       → CoversSupported board words' (word_stands new) (letter_stands new)
 
-  -- and the net is ready for stripping
+  -- a net that is ready for stripping except at the seeds is ready everywhere after the revival
   abbrev pub ReadiesChain : Type 0
   ReadiesChain =
       (entries : ℕ → List Entry) (dictionary : Dictionary) → IsSetting board entries dictionary → IsBase board dictionary old.base.items

@@ -1,4 +1,4 @@
--- The description of an edit that a net is given.
+-- What a net is told of an edit.
 use Rattle.std.specs.Prelude.{◌≡◌, ℕ, ◌<◌, Bool, not, List, [], map, length, Option, Some, None, Result, Ok, Err, slice_get, Contains}
 use Rattle.xw_words.specs.declared.fault.WordFault.{WordFault}
 use Rattle.xw_words.specs.declared.bank.Added.{Added}

@@ -77,8 +77,8 @@ module _ (board : Board) (dictionary : Dictionary) where
 abbrev pub HasQueued : Board → (ℕ → Bool) → Marks → Type 0
 HasQueued board member marks = (light : ℕ) → light < length board.lights → marks.queued light ≡ true → member light ≡ true
 
--- what the cost of stripping is measured by: the lights it may reach, the letters at its start, and
--- a budget of ticks
+-- what bounds the cost of stripping: the lights that it may reach, the letters at its start, and a
+-- budget of ticks
 pub record Measure : Type 0 where
   pub member : ℕ → Bool
   pub letters : ℕ → ℕ → Bool

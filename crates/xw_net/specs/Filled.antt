@@ -5,6 +5,7 @@ use Rattle.xw_letters.specs.Letter.{is_capital}
 use Rattle.xw_words.specs.Dictionary.{Dictionary, Entry, row, most_words}
 use Rattle.xw_feas.specs.Board.{Board, light_at}
 use Rattle.xw_feas.specs.Choices.{IsExact}
+use Rattle.xw_feas.specs.Feasible.{IsFeasibleWord}
 use Rattle.xw_net.specs.Marks.{IsPositionIn, slot_at, IsHolding, IsReady, IsSettledNet}
 use Rattle.xw_net.specs.Room.{row_at}
 use Rattle.xw_net.specs.Nets.{marks_of, word_stands, letter_stands, held_in, pending_in, queued_in, IsShaped, IsChained, HasBits}
@@ -63,3 +64,17 @@ pub record IsFilled (board : Board) (dictionary : Dictionary) (net : Net) : Type
   pub exact : IsExact board dictionary (word_stands net) (letter_stands net)
   pub pending : (slot letter : ℕ) → pending_in net slot letter ≡ false
   pub quiet : IsQuiet net
+
+-- stripping stopped before the net was settled: the base rows are right and no work is left, so that another net can be
+-- copied over it
+pub record IsStopped (board : Board) (dictionary : Dictionary) (net : Net) : Type 0 where
+  pub whole : IsWholeNet board (row dictionary) net
+  pub is_base : IsBase board dictionary net.base.items
+  pub lights : (light choice : ℕ) → word_stands net light choice ≡ true → light < length board.lights
+  pub pending : (slot letter : ℕ) → pending_in net slot letter ≡ false
+  pub quiet : IsQuiet net
+
+-- it stopped at a light that has no feasible word
+pub record IsStoppedAt (board : Board) (dictionary : Dictionary) (net : Net) (light : ℕ) : Type 0 where
+  pub dead : (word : List ℕ) → ¬ IsFeasibleWord board dictionary light word
+  pub stopped : IsStopped board dictionary net

@@ -17,7 +17,7 @@ nowhere = 2 ^ 64 - 1
 abbrev pub cut : ℕ → ℕ → ℕ
 cut first held = if nat_le first held then nowhere else held
 
--- the same, but nothing is forgotten if `first` is `nowhere`
+-- the support, forgotten if its index is at least `first`; nothing is forgotten if `first` is `nowhere`
 abbrev pub lose : ℕ → ℕ → ℕ
 lose first held = if nat_lt first nowhere then cut first held else held
 
@@ -33,13 +33,13 @@ abbrev pub KeepsFewer : List ℕ → List ℕ → Type 0
 KeepsFewer pending pending' = (slot letter : ℕ) → set_has pending' slot letter ≡ true → set_has pending slot letter ≡ true
 
 module _ (board : Board) (light : ℕ) where
-  -- the supports of the light changed in this way,
+  -- `change` was applied to each support of the light
   abbrev pub ChangesHeld : (ℕ → ℕ) → List ℕ → List ℕ → Type 0
   ChangesHeld change held held' =
       (position letter : ℕ) → position < length (light_at board light) → is_capital letter ≡ true
       → slice_index held' (26 * slot_at board light position + (letter - 65)) ≡ change (slice_index held (26 * slot_at board light position + (letter - 65)))
 
-  -- and those at other slots stay
+  -- the supports at the slots of other lights stay
   abbrev pub KeepsHeld : List ℕ → List ℕ → Type 0
   KeepsHeld held held' =
       (slot letter : ℕ) → ((position : ℕ) → position < length (light_at board light) → slot_at board light position ≡ slot → ⊥) → is_capital letter ≡ true

@@ -16,15 +16,15 @@ module _ (board : Board) where
   abbrev pub HasFewCells : Type 0
   HasFewCells = length board.open_cells < 2 ^ 32
 
-  -- there is a set of letters for each cell,
+  -- the list has a set of letters for each cell
   abbrev pub AreByCell : List ℕ → Type 0
   AreByCell sets = length sets ≡ length board.open_cells
 
-  -- for each slot,
+  -- the list has a set of letters for each slot
   abbrev pub AreBySlot : List ℕ → Type 0
   AreBySlot sets = length sets ≡ 2 * length board.open_cells
 
-  -- and an index for each slot and letter
+  -- the list has an index for each slot and letter
   abbrev pub AreHeld : List ℕ → Type 0
   AreHeld held = length held ≡ 52 * length board.open_cells
 
@@ -129,11 +129,11 @@ module _ (board : Board) (dictionary : Dictionary) where
     pub sound : IsSound marks
     pub held : (light position letter : ℕ) → IsPositionIn board light position → free light ≡ false → marks.letters (cell_at board light position) letter ≡ true → IsHeld marks light position letter
 
-  -- between two steps: each letter at a light that is not queued has a support
+  -- the invariant between two steps: each letter at a light that is not queued has a support
   abbrev pub IsReady : Marks → Type 0
   IsReady marks = IsKept marks marks.queued
 
-  -- at the end: in addition, no light is queued and nothing is pending
+  -- the invariant at the end of stripping: in addition, no light is queued and nothing is pending
   pub record IsSettledNet (marks : Marks) : Type 0 where
     pub ready : IsReady marks
     pub none_queued : (light : ℕ) → light < length board.lights → marks.queued light ≡ false

@@ -1,4 +1,7 @@
--- A net as its callers see it.
+-- A net as its callers see it. Besides these definitions, the public contracts of `Net` cite those of `Change.antt` (what a
+-- net is told of an edit), `Update.antt` (what settling does), `Region.antt` and `Cost.antt` (what it may cost),
+-- `Settling.antt` (how a caller meets its conditions), and the sizes and copies of nets in `Nets.antt`, `Room.antt`,
+-- `Fit.antt`, `Copy.antt`, `Tally.antt` and `Sizes.antt`. The other files are for inner functions and proofs.
 use Rattle.std.specs.Prelude.{◌≡◌, ℕ, ◌+◌, ◌≤◌, Bool, true, false, List, [], ◌∷◌, ◌++◌, map, drop, length, slice_index_or, position, Option, Some, None, option_map, IsTrue}
 use Rattle.std.specs.List.{range_with_len}
 use Rattle.xw_words.specs.Dictionary.{Dictionary, row}
@@ -33,18 +36,20 @@ sets_of net = net.letters.items
 abbrev pub flags_at : List Light → Net → ℕ → List Bool
 flags_at lights net light = slice_index_or (flags_of lights net) light []
 
--- the net is settled: it has exactly the feasible words and letters, and is ready for the next edit
+-- The net is settled for a layout and a dictionary: it has exactly the feasible words and letters (`exact`), and its other
+-- arrays are as the next update needs them (`filled`).
 pub record IsSettledOn (layout : Layout) (dictionary : Dictionary) (net : Net) : Type 0 where
   pub rows : HasRows layout.board dictionary (flags_of layout.lights net) (sets_of net)
   pub exact : IsExact layout.board dictionary (flag_at (flags_of layout.lights net)) (set_has (sets_of net))
   pub filled : IsFilled layout.board dictionary net
 
--- the net is settled for the grid and the dictionary
+-- the net is settled for the grid and the dictionary of a state: what holds before `Net::revive` and after `Net::strip`
 abbrev pub IsSettledFor : State → Net → Type 0
 IsSettledFor state net = IsSettledOn (layout_of state.grid) state.words net
 
--- the net is revived after an edit: it has all that is feasible, and perhaps more, and only lights
--- of the region are queued
+-- The net is revived after an edit: what holds between `Net::revive` and `Net::strip`. It has all that is feasible, and
+-- perhaps more. Every light where something may have to be removed is queued, and all queued lights are in the edit's
+-- region.
 pub record IsRevivedFor (before now : State) (action : Action) (net : Net) : Type 0 where
   pub unstripped : IsUnstripped (board_of now.grid) now.words net
   pub queued : (member : List ℕ → Bool) → IsRegion before now action member → (light : ℕ) → queued_in net light ≡ true → IsTrue (member (light_at (board_of now.grid) light))
@@ -69,8 +74,8 @@ pub record StandsFor (lights : List Light) (net : Net) : Type 0 where
   pub are_lights : lights_of state.grid ≡ lights
   pub settled : ∥ IsSettledFor state net ∥₁
 
--- the net is settled for some grid with these lights, and since then at most one word of each
--- length has become known
+-- the net is settled for some grid with these lights and some dictionary, and since then at most one
+-- word of each length has become known
 pub record StoodFor (lights : List Light) (counts : ℕ → ℕ) (net : Net) : Type 0 where
   pub stands : StandsFor lights net
   pub near : (len : ℕ) → (known_counts stands.state.words len ≤ counts len) × (counts len ≤ known_counts stands.state.words len + 1)
@@ -79,8 +84,8 @@ pub record StoodFor (lights : List Light) (counts : ℕ → ℕ) (net : Net) : T
 abbrev pub first_from : List Bool → ℕ → Option ℕ
 first_from flags from = option_map (λ index. from + index) (position (λ flag. flag) (drop from flags))
 
--- the new net has the answers of the old one, and is settled for whatever the old one was. If it
--- has the same spare arrays, it has at least the old one's room
+-- The new net has the answers of the old one, and is settled for every layout and dictionary for which
+-- the old one was. If it has the same spare arrays, it has at least the old one's room.
 pub record IsAlike (old new : Net) : Type 0 where
   pub flags : (lights : List Light) → flags_of lights new ≡ flags_of lights old
   pub sets : sets_of new ≡ sets_of old

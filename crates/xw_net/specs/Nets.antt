@@ -64,7 +64,7 @@ pub record IsChained (board : Board) (net : Net) : Type 0 where
   pub base : length board.lights ≤ vec_len net.base
   pub chain : length net.chain.marks ≡ length board.lights
 
--- what stripping leaves as it is; no room is lost
+-- what stripping does not change; no row loses room
 pub record IsLeft (old new : Net) : Type 0 where
   pub base : new.base ≡ old.base
   pub chain : new.chain ≡ old.chain

@@ -27,7 +27,7 @@ pub record Arrays : Type 0 where
   pub queue : ListOfLights
   pub chain : ListOfLights
 
--- these arrays of a net
+-- the arrays of a net that the start of an update writes
 abbrev pub arrays_of : Net → Arrays
 arrays_of net = record { rows = net.rows.items; base = net.base.items; letters = net.letters.items; queue = net.queue; chain = net.chain }
 
@@ -74,7 +74,7 @@ pub record IsOpening (grid : Grid) (board : Board) (lights : List Light) (entrie
   pub spread : IsSpread board (set_has old.letters) (set_has new.letters) (is_marked new.chain.marks) (is_waiting new.chain.lights) no_positions
   pub freed : (cell : ℕ) → IsFreed grid change.before lights (length change.before) cell → HasAll board (set_has new.letters) cell
   pub prepared : Prepares board entries change.word old.rows new.rows old.base new.base new.queue new.chain
-  -- no other light is
+  -- no other light was queued or marked
   pub queued_within : MarksOnly (IsTouched grid board lights change) old.queue new.queue
   pub within : MarksOnly (MayGain grid board lights change old.letters old.queue) old.chain new.chain
 

@@ -39,7 +39,7 @@ module _ (before after : List Light) where
     pub bits : (light : ℕ) → light < length after → (row_at new light).bits ≡ bits_from old (counts (size_at after light)) (same_before before after light)
     pub room : (light : ℕ) → light < length after → room_from old (counts (size_at after light)) (same_before before after light) ≤ (row_at new light).room
 
-  -- the same for flags
+  -- a light that stays has its old flag at its new index, and the flag of a new light is false
   pub record AreFlagsMoved (old new : List Bool) : Type 0 where
     pub long : length new ≡ length after
     pub flags : (light : ℕ) → light < length after → slice_index_or new light false ≡ flag_from old (same_before before after light)

@@ -46,7 +46,7 @@ pub record IsRoomier (old new : Net) : Type 0 where
   pub chain : IsRoomierList old.chain new.chain
   pub rest : new ≡ record old { rows = new.rows; base = new.base; queue = new.queue; chain = new.chain }
 
--- for these lights and numbers of known words:
+-- The sizes of rows for these lights and numbers of known words:
 module _ (lights : List Light) (counts : ℕ → ℕ) where
   -- each light's row has a bit for each known word of its length
   abbrev pub HaveBits : List RowOfBits → Type 0

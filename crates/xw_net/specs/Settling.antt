@@ -1,4 +1,4 @@
--- How a caller of a net meets the conditions of `settle` and `revive`.
+-- How a caller of a net meets the conditions of `Net::settle` and `Net::revive`.
 use Rattle.std.specs.Prelude.{◌≡◌, ℕ, true, false, is_some, List, None, Ok, length, vec_len}
 use Rattle.xw_words.specs.Dictionary.{Entry}
 use Rattle.xw_grid.specs.Grid.{Grid, IsGrid}
@@ -17,8 +17,8 @@ use Rattle.xw_net.specs.Net.{HasRoomFor, IsSettledFor, StoodFor, known_counts}
 use Rattle.xw_net.specs.Room.{counts_of}
 use Rattle.xw_net.specs.Update.{AreInside}
 
--- the change tells of an edit what it has to: the edit was applied to a well-formed state, and the change has the cells that
--- it wrote, each with its entry before, the lights before it, and the word that it added or struck
+-- The edit was applied to a well-formed state, and the change tells what it has to: the cells that the edit wrote, each with
+-- its entry before; the lights before it; and the word that it added or struck.
 pub record IsTold (before now : State) (action : Action) (change : Fields) : Type 0 where
   pub made : after before action ≡ Ok now
   pub formed_before : IsWellFormed before
@@ -26,25 +26,25 @@ pub record IsTold (before now : State) (action : Action) (change : Fields) : Typ
   pub lights : change.before ≡ lights_of before.grid
   pub word : change.word ≡ word_changed before.words action
 
--- the conditions on a change and a net, but for the room
+-- the conditions on a change and a net, except those on the room
 pub record CanSettle (grid : Grid) (lights : List Light) (entries : ℕ → List Entry) (change : Change) (net : Net) : Type 0 where
   pub inside : AreInside grid (cells_of change)
   pub long : AreLong (board_of grid) entries
   pub cells : vec_len net.letters ≡ length grid.squares
   pub stood : StoodFor (before_of lights change) (counts_of entries) net
 
--- a change that tells of an edit describes it. That the grid after the edit is a grid is known of every `Grid`
+-- A change that tells of an edit describes it. The condition `IsGrid` holds of every `Grid`.
 abbrev pub ToldIsChange : Type 0
 ToldIsChange = (before now : State) (action : Action) (change : Fields) → IsTold before now action change → IsGrid now.grid → IsChange before now action change
 
--- an edit of which a net is told that was settled before it, with reads of the words after it
+-- A net that was settled before an edit is told of it. The reads return the words after the edit.
 pub record IsToldOf (before now : State) (action : Action) (lights : List Light) (entries : ℕ → List Entry) (change : Change) (net : Net) : Type 0 where
   pub told : IsTold before now action (fields_of lights change)
   pub grid : IsGrid now.grid
   pub reads : AreReadsOf entries now.words
   pub settled : ∥ IsSettledFor before net ∥₁
 
--- then the conditions are met
+-- if a net is told of an edit in this way, it meets the conditions
 abbrev pub ToldCanSettle : Type 0
 ToldCanSettle =
     (before now : State) (action : Action) (lights : List Light) (entries : ℕ → List Entry) (change : Change) (net : Net) → IsToldOf before now action lights entries change net
@@ -57,7 +57,8 @@ RoomIsKept =
     → is_some net.spare ≡ false → lights ≡ before_of lights change → SameCounts before.words now.words
     → HasRoomBetween (before_of lights change) lights (counts_of entries) net net.spare
 
--- for any other edit the room is there that `reserve` makes: without spare arrays for the same lights, with them for the same words
+-- For any other edit, the room that `Net::reserve` made is enough. Without spare arrays, the edit must keep the lights; with them, it
+-- must keep the words.
 abbrev pub RoomIsReserved : Type 0
 RoomIsReserved =
     (before now : State) (action : Action) (lights : List Light) (entries : ℕ → List Entry) (change : Change) (net : Net) → IsToldOf before now action lights entries change net

@@ -41,7 +41,7 @@ pub record Lit : Type 0 where
   pub restart : List ℕ
   pub queued : List Bool
 
--- these arrays, with the marks of the queue
+-- the arrays that a revival changes, as a record
 abbrev pub lit : List RowOfBits → List Bool → List ℕ → ListOfLights → Lit
 lit rows entered restart queue = record { rows = rows; entered = entered; restart = restart; queued = queue.marks }
 
@@ -58,11 +58,11 @@ module _ (board : Board) where
   abbrev pub HasAll : (ℕ → ℕ → Bool) → ℕ → Type 0
   HasAll letters cell = (letter : ℕ) → may_stand board cell letter ≡ true → letters cell letter ≡ true
 
-  -- all searches for a support in the light start at the first word again,
+  -- all searches for a support in the light start at the first word again
   abbrev pub RestartsLight : ℕ → List ℕ → Type 0
   RestartsLight light restart = (position letter : ℕ) → position < length (light_at board light) → is_capital letter ≡ true → set_has restart (slot_at board light position) letter ≡ true
 
-  -- and those in other lights as before
+  -- searches for a support in other lights start where they would have before
   abbrev pub OtherSlotsStay : ℕ → List ℕ → List ℕ → Type 0
   OtherSlotsStay light restart restart' = (slot : ℕ) → ((position : ℕ) → position < length (light_at board light) → slot_at board light position ≡ slot → ⊥)
       → slice_index_or restart' slot 0 ≡ slice_index_or restart slot 0
@@ -79,7 +79,7 @@ module _ (board : Board) where
     pub from : (cell letter : ℕ) → new cell letter ≡ true → (old cell letter || may_stand board cell letter) ≡ true
     pub stay : (cell letter : ℕ) → may_stand board cell letter ≡ true → old cell letter ≡ true → new cell letter ≡ true
 
-  -- the same of the arrays before and after a step, with the positions that are still to come
+  -- a step keeps `IsSpread`; `coming` and `coming'` are the positions still to come before and after it
   abbrev pub SpreadsOn : (ℕ → ℕ → Bool) → (ℕ → ℕ → Bool) → List ℕ → ListOfLights → (ℕ → ℕ → Bool) → List ℕ → ListOfLights → Type 0
   SpreadsOn start coming letters chain coming' letters' chain' =
       IsSpread start (set_has letters) (is_marked chain.marks) (is_waiting chain.lights) coming → IsSpread start (set_has letters') (is_marked chain'.marks) (is_waiting chain'.lights) coming'
@@ -100,7 +100,7 @@ module _ (board : Board) where
   Reaches letters chain chain' =
       (member : ℕ → Bool) → IsReachClosed letters member → ((light : ℕ) → is_marked chain.marks light ≡ true → member light ≡ true) → (light : ℕ) → is_marked chain'.marks light ≡ true → member light ≡ true
 
-  -- the same of one step
+  -- a step of a spread reaches only lights of each such set
   abbrev pub ReachesFrom : (ℕ → ℕ → Bool) → (ℕ → ℕ → Bool) → List ℕ → ListOfLights → ListOfLights → Type 0
   ReachesFrom start coming letters chain chain' = IsSpread start (set_has letters) (is_marked chain.marks) (is_waiting chain.lights) coming → Reaches start chain chain'
 

@@ -1,8 +1,9 @@
 -- What a step of stripping keeps.
-use Rattle.std.specs.Prelude.{◌≡◌, ◌⊎◌, ℕ, ◌≤◌, ◌+◌, ◌||◌, ◌==◌, Bool, true, false, List}
+use Rattle.std.specs.Prelude.{◌≡◌, ◌⊎◌, ℕ, ◌<◌, ◌≤◌, ◌+◌, ◌||◌, ◌==◌, Bool, true, false, List, length}
 use Rattle.xw_words.specs.Dictionary.{Dictionary, Entry}
 use Rattle.xw_feas.specs.Board.{Board}
 use Rattle.xw_feas.specs.Choices.{IsExact}
+use Rattle.xw_feas.specs.Feasible.{IsFeasibleWord}
 use Rattle.xw_net.specs.Marks.{IsPositionIn, IsSlot, IsSetting, IsHeld, IsHolding, IsReady, IsSettledNet, Stays, cell_at, slot_at}
 use Rattle.xw_net.specs.Due.{Measure, IsUnderway, IsClosed, HasQueued, and_light, set_cost}
 use Rattle.xw_net.specs.Nets.{marks_of, word_stands, letter_stands, pending_in, queued_in, Waits, left_of, IsShaped, IsLeft, HasBits}
@@ -14,7 +15,7 @@ use Rattle.xw_net.specs.declared.position.Position.{Position}
 abbrev pub IsQueuedToo : ℕ → Net → Net → Type 0
 IsQueuedToo light old new = (other : ℕ) → queued_in new other ≡ (queued_in old other || (other == light))
 
--- every light that waited if it was queued still does
+-- queued lights stay in the queue: if a light's flag implied that it is there, it still does
 abbrev pub WaitMore : Net → Net → Type 0
 WaitMore old new = (light : ℕ) → Waits old light → Waits new light
 
@@ -32,9 +33,13 @@ pub record IsStruck (old new : Net) : Type 0 where
 abbrev pub IsLeftPending : Net → Net → Type 0
 IsLeftPending old new = new ≡ record old { pending = new.pending; queue = new.queue }
 
--- and letters
+-- only letters, pending letters and the queue changed
 abbrev pub IsStruckFrom : Net → Net → Type 0
 IsStruckFrom old new = new ≡ record old { letters = new.letters; pending = new.pending; queue = new.queue }
+
+-- the net has no word of the light
+abbrev pub IsEmptied : Net → ℕ → Type 0
+IsEmptied net light = (choice : ℕ) → word_stands net light choice ≡ false
 
 -- no letter came back
 abbrev pub StandFewer : Net → Net → Type 0
@@ -54,12 +59,12 @@ module _ (board : Board) where
   PendAtSlots old new = (slot letter : ℕ) → pending_in new slot letter ≡ true → (pending_in old slot letter ≡ true) ⊎ IsSlot board slot
 
   module _ (entries : ℕ → List Entry) where
-    -- the arrays have the right sizes, with a bit for each known word
+    -- what stripping needs of a net: its arrays have the right sizes, with a bit for each known word
     pub record IsStrippable (net : Net) : Type 0 where
       pub shaped : IsShaped board net
       pub bits : HasBits board entries net
 
-    -- they still have, and what stripping leaves as it is has stayed
+    -- what each step of stripping keeps: the sizes, and all that stripping does not change
     pub record IsStep (old new : Net) : Type 0 where
       pub shaped : IsShaped board new
       pub bits : HasBits board entries new
@@ -90,51 +95,60 @@ module _ (board : Board) where
     abbrev pub KeepsHolding : Net → Net → Type 0
     KeepsHolding old new = (dictionary : Dictionary) → IsSetting board entries dictionary → IsHolding board dictionary (marks_of old) → IsHolding board dictionary (marks_of new)
 
-    -- what a check of letters keeps: it takes the net no further from its end, and leaves all that
-    -- it makes pending to queued lights
+    -- what a check of letters keeps: the measure of the remaining work does not grow, queued lights stay
+    -- in the queue, held words have their letters, and letters become pending only at slots of lights
     pub record IsCheck (old new : Net) : Type 0 where
       pub fewer : left_of new ≤ left_of old
       pub waits : WaitMore old new
       pub holding : KeepsHolding old new
       pub pending : PendAtSlots old new
 
-    -- the invariant of stripping is kept, and the ticks stay within budget: by a step,
+    -- a step keeps the invariant of stripping, and the ticks stay within the budget
     abbrev pub StepsOn : Net → ℕ → Net → ℕ → Type 0
     StepsOn old ticks new ticks' =
         (dictionary : Dictionary) (measure : Measure) → IsSetting board entries dictionary
         → IsUnderway board dictionary measure (marks_of old) (queued_in old) ticks → IsUnderway board dictionary measure (marks_of new) (queued_in new) ticks'
 
-    -- by a step that removes words from a queued light,
+    -- a step that removes words from a queued light keeps the invariant and the budget
     abbrev pub StrikesOn : ℕ → Net → ℕ → Net → ℕ → Type 0
     StrikesOn light old ticks new ticks' =
         (dictionary : Dictionary) (measure : Measure) → IsSetting board entries dictionary → queued_in old light ≡ true → measure.member light ≡ true
         → IsUnderway board dictionary measure (marks_of old) (queued_in old) ticks → IsUnderway board dictionary measure (marks_of new) (queued_in new) ticks'
 
-    -- and by one that checks letters of a light that counts as queued
+    -- a step that checks letters of a light, which counts as queued, keeps the invariant and the budget
     abbrev pub ChecksOn : ℕ → Net → ℕ → Net → ℕ → Type 0
     ChecksOn light old ticks new ticks' =
         (dictionary : Dictionary) (measure : Measure) → IsSetting board entries dictionary → measure.member light ≡ true
         → IsUnderway board dictionary measure (marks_of old) (and_light (queued_in old) light) ticks → IsUnderway board dictionary measure (marks_of new) (and_light (queued_in new) light) ticks'
 
-    -- stripping leaves nothing pending,
+    -- stripping leaves nothing pending
     abbrev pub LeavesNonePending : Net → Net → Type 0
     LeavesNonePending old new =
         (dictionary : Dictionary) → IsSetting board entries dictionary → IsReady board dictionary (marks_of old) → ((slot letter : ℕ) → pending_in old slot letter ≡ true → IsSlot board slot)
         → (slot letter : ℕ) → pending_in new slot letter ≡ false
 
-    -- settles the marks,
+    -- stripping settles the marks
     abbrev pub SettlesMarks : Net → Net → Type 0
     SettlesMarks old new = (dictionary : Dictionary) → IsSetting board entries dictionary → IsReady board dictionary (marks_of old) → IsSettledNet board dictionary (marks_of new)
 
-    -- leaves exactly the feasible words and letters,
+    -- stripping leaves exactly the feasible words and letters
     abbrev pub LeavesFeasible : Net → Net → Type 0
     LeavesFeasible old new = (dictionary : Dictionary) → IsSetting board entries dictionary → IsReady board dictionary (marks_of old) → IsExact board dictionary (word_stands new) (letter_stands new)
 
-    -- and prepares the net for the next edit
+    -- stripping prepares the net for the next edit
     abbrev pub FillsNet : Net → Net → Type 0
     FillsNet old new = (dictionary : Dictionary) → IsSetting board entries dictionary → IsUnstripped board dictionary old → IsFilled board dictionary new
 
-    -- it spends at most the cost of a set of lights that has the queued ones and is closed
+    -- a light is dead if all that was feasible was in the net: it has no feasible word
+    abbrev pub Dies : Net → ℕ → Type 0
+    Dies old light = (dictionary : Dictionary) → IsSetting board entries dictionary → IsReady board dictionary (marks_of old) → (word : List ℕ) → ¬ IsFeasibleWord board dictionary light word
+
+    -- only lights of the board have words
+    abbrev pub StandsOnBoard : Net → Net → Type 0
+    StandsOnBoard old new =
+        (dictionary : Dictionary) → IsSetting board entries dictionary → IsReady board dictionary (marks_of old) → (light choice : ℕ) → word_stands new light choice ≡ true → light < length board.lights
+
+    -- stripping spends at most the cost of a set of lights that has the queued ones and is closed
     abbrev pub StripsWithin : Net → ℕ → ℕ → Type 0
     StripsWithin old ticks ticks' =
         (dictionary : Dictionary) (member : ℕ → Bool) → IsSetting board entries dictionary → IsReady board dictionary (marks_of old) → IsClosed board dictionary member (letter_stands old) → HasQueued board member (marks_of old)

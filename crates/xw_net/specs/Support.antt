@@ -26,7 +26,7 @@ pub record Strikes (words : List Entry) (position pending alive : ℕ) (old new 
 abbrev pub AreApart : ℕ → ℕ → Type 0
 AreApart pending alive = (letter : ℕ) → has pending letter ≡ true → has alive letter ≡ false
 
--- the same of the bits of a row, if the sets are apart
+-- words are removed from a row in this way, if no letter is in both sets
 abbrev pub StrikesRow : List Entry → ℕ → ℕ → ℕ → List Bool → List Bool → Type 0
 StrikesRow words position pending alive old new = AreApart pending alive → Strikes words position pending alive (λ word. slice_index_or old word false) (λ word. slice_index_or new word false)
 
@@ -40,7 +40,7 @@ pub record Held : Type 0 where
   pub indices : List ℕ
   pub restart : List ℕ
 
--- the two arrays together
+-- the supports that two arrays hold
 abbrev pub holds : List ℕ → List ℕ → Held
 holds indices restart = record { indices = indices; restart = restart }
 

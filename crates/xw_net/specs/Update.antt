@@ -1,4 +1,5 @@
--- What each phase of an update leaves for the next one, for every edit that the change describes.
+-- What each phase of an update leaves for the next one. A net stores neither the edit nor the dictionary. So each statement
+-- holds for every state before the edit, every edit that the change describes, and every dictionary that the reads return.
 use Rattle.std.specs.Prelude.{◌≡◌, ℕ, ◌+◌, ◌≤◌, Bool, true, List, Option, Contains}
 use Rattle.xw_words.specs.Dictionary.{Dictionary, Entry}
 use Rattle.xw_grid.specs.declared.cell.Cell.{Cell}
@@ -14,7 +15,7 @@ use Rattle.xw_net.specs.Region.{IsRegion, cost}
 use Rattle.xw_net.specs.Cost.{revival_cost, stripping_cost}
 use Rattle.xw_net.specs.Nets.{IsShaped, IsChained, HasBits, IsQueue}
 use Rattle.xw_net.specs.Brought.{HasBase}
-use Rattle.xw_net.specs.Filled.{AreLong, HasRowRoom, IsUnstripped, IsFilled}
+use Rattle.xw_net.specs.Filled.{AreLong, HasRowRoom, IsUnstripped, IsFilled, IsStoppedAt}
 use Rattle.xw_net.specs.Change.{Fields, IsChange, AreReadsOf}
 use Rattle.xw_net.specs.Net.{IsSettledFor, IsRevivedFor}
 use Rattle.xw_net.specs.Steps.{PendLess}
@@ -48,7 +49,7 @@ pub record KeepsRoom (old new : Net) : Type 0 where
   pub rows : (light : ℕ) → (row_at old.rows.items light).room ≤ (row_at new.rows.items light).room
   pub base : (light : ℕ) → (row_at old.base.items light).room ≤ (row_at new.base.items light).room
 
--- the net is ready for the revival, and what an edit leaves as it is has stayed
+-- the net is ready for the revival, and what `begin` must not change has stayed
 pub record IsBegun (board : Board) (entries : ℕ → List Entry) (old new : Net) : Type 0 where
   pub sized : IsSized board entries new
   pub queue : IsQueue new
@@ -67,10 +68,16 @@ MovesTo before after entries old new =
     (was now : State) → before ≡ lights_of was.grid → after ≡ lights_of now.grid → AreReadsOf entries now.words → IsFilled (board_of was.grid) was.words old → IsMoved was now old new
 
 module _ (grid : Grid) (entries : ℕ → List Entry) where
-  -- a stripped net is settled
+  -- `Net::strip`: if the net had all that is feasible, and perhaps more, and was ready for stripping (`IsUnstripped`), then
+  -- it is now settled: it has exactly what is feasible.
   abbrev pub StripsTo : Net → Net → Type 0
   StripsTo old new =
       (words : Dictionary) → AreReadsOf entries words → IsWellFormed (state_of grid words) → IsUnstripped (board_of grid) words old → IsSettledFor (state_of grid words) new
+
+  -- a net that was stripped as far as a dead light is stopped there
+  abbrev pub StripsUntil : Net → Net → ℕ → Type 0
+  StripsUntil old new light =
+      (words : Dictionary) → AreReadsOf entries words → IsWellFormed (state_of grid words) → IsUnstripped (board_of grid) words old → IsStoppedAt (board_of grid) words new light
 
   -- stripping spends at most its cost in the edit's region
   abbrev pub StripsInRegion : Net → ℕ → ℕ → Type 0
@@ -79,7 +86,7 @@ module _ (grid : Grid) (entries : ℕ → List Entry) where
       → IsRevivedFor before (state_of grid words) action old → IsRegion before (state_of grid words) action member → ticks' ≤ ticks + stripping_cost (state_of grid words) member
 
   module _ (change : Fields) where
-    -- a net that was adapted to the lights is opened
+    -- a net that was adapted to the lights is ready for the revival
     abbrev pub Opens : Net → Net → Type 0
     Opens old new =
         (before : State) (words : Dictionary) (action : Action) (settled : Net) → AreReadsOf entries words → IsChange before (state_of grid words) action change
@@ -92,32 +99,39 @@ module _ (grid : Grid) (entries : ℕ → List Entry) where
         → IsFilled (board_of before.grid) before.words settled → IsMoved before (state_of grid words) settled old
         → HasRowRoom board entries old.rows.items → HasRowRoom board entries old.base.items → IsRevivedFor before (state_of grid words) action new
 
-    -- that spends at most the cost of a revival in the edit's region
+    -- that revival spends at most the cost of reviving the lights of the edit's region
     abbrev pub RevivesMovedInRegion : Net → ℕ → ℕ → Type 0
     RevivesMovedInRegion old ticks ticks' =
         (before : State) (words : Dictionary) (action : Action) (settled : Net) (member : List ℕ → Bool) → AreReadsOf entries words → IsChange before (state_of grid words) action change
         → IsFilled (board_of before.grid) before.words settled → IsMoved before (state_of grid words) settled old
         → IsRegion before (state_of grid words) action member → ticks' ≤ ticks + revival_cost (state_of grid words) member
 
-    -- a net that was settled before the edit is revived
+    -- `Net::revive`: if the net was settled before the edit, then it is now revived: it has all that is feasible after the
+    -- edit, and perhaps more.
     abbrev pub Revives : Net → Net → Type 0
     Revives old new =
         (before : State) (words : Dictionary) (action : Action) → AreReadsOf entries words → IsChange before (state_of grid words) action change
         → IsSettledFor before old → IsRevivedFor before (state_of grid words) action new
 
-    -- that spends at most the cost of a revival in the edit's region
+    -- `Net::revive` spends at most the cost of reviving the lights of the edit's region
     abbrev pub RevivesInRegion : Net → ℕ → ℕ → Type 0
     RevivesInRegion old ticks ticks' =
         (before : State) (words : Dictionary) (action : Action) (member : List ℕ → Bool) → AreReadsOf entries words → IsChange before (state_of grid words) action change
         → IsSettledFor before old → IsRegion before (state_of grid words) action member → ticks' ≤ ticks + revival_cost (state_of grid words) member
 
-    -- a net that was settled before the edit is settled after it
+    -- `Net::settle`: if the net was settled before the edit, then it is settled after it: it has exactly what is feasible.
     abbrev pub Settles : Net → Net → Type 0
     Settles old new =
         (before : State) (words : Dictionary) (action : Action) → AreReadsOf entries words → IsChange before (state_of grid words) action change
         → IsSettledFor before old → IsSettledFor (state_of grid words) new
 
-    -- that spends at most the cost of an update in the edit's region
+    -- or stopped at a light that is dead after it
+    abbrev pub SettlesUntil : Net → Net → ℕ → Type 0
+    SettlesUntil old new light =
+        (before : State) (words : Dictionary) (action : Action) → AreReadsOf entries words → IsChange before (state_of grid words) action change
+        → IsSettledFor before old → IsStoppedAt (board_of grid) words new light
+
+    -- an update spends at most its cost in the edit's region
     abbrev pub SettlesInRegion : Net → ℕ → ℕ → Type 0
     SettlesInRegion old ticks ticks' =
         (before : State) (words : Dictionary) (action : Action) (member : List ℕ → Bool) → AreReadsOf entries words → IsChange before (state_of grid words) action change

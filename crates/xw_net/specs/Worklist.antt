@@ -1,11 +1,11 @@
--- Lists of lights that wait, each at most once.
+-- Lists of waiting lights, each on the list at most once.
 use Rattle.std.specs.Prelude.{◌≡◌, ℕ, ◌+◌, ◌≤◌, Bool, true, false, not, ◌==◌, nat_eq, List, [], length, replicate, slice_index_or, count_by}
 use Rattle.std.specs.List.{list_any, IsDistinct}
 use Rattle.xw_feas.specs.Board.{Board}
 
 -- a list of lights
 pub record ListOfLights : Type 0 where
-  -- for each light whether it is marked: it is from when it is put on the list until it is released
+  -- for each light whether it is marked: it is marked when it is put on the list, and stays so until it is released
   pub marks : List Bool
   -- the lights that wait on the list
   pub lights : List ℕ
@@ -36,7 +36,7 @@ pub record IsIdle (count : ℕ) (list : ListOfLights) : Type 0 where
   pub lights : list.lights ≡ []
   pub room : count ≤ list.room
 
--- the list is the same, except that it may have more room
+-- the list is unchanged, except that it may have more room
 pub record IsRoomierList (old new : ListOfLights) : Type 0 where
   pub marks : new.marks ≡ old.marks
   pub lights : new.lights ≡ old.lights
@@ -62,7 +62,7 @@ pub record Grows (old new : ListOfLights) : Type 0 where
 abbrev pub MarksAll : (ℕ → Type 0) → ListOfLights → Type 0
 MarksAll these list = (light : ℕ) → these light → is_marked list.marks light ≡ true
 
--- each light that was marked is one of these
+-- each light that was newly marked is one of these
 abbrev pub MarksOnly : (ℕ → Type 0) → ListOfLights → ListOfLights → Type 0
 MarksOnly these old new =
     (member : ℕ → Bool) → ((light : ℕ) → is_marked old.marks light ≡ true → member light ≡ true) → ((light : ℕ) → these light → member light ≡ true) → (light : ℕ) → is_marked new.marks light ≡ true → member light ≡ true

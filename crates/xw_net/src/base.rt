@@ -84,22 +84,6 @@ fn base_chunk<R: Rows>(
     }
 }
 
-/// Sets the bit of each known word of a length that is active, and clears the others.
-fn read_active<R: Rows>(rows: &mut R, len: usize, row: &mut BitRow)
-    requires { length row.old.bits ≡ length (R.entries rows.old len) }
-    ensures entries { R.entries rows.new ≡ R.entries rows.old }
-    ensures risen { R.ticks rows.old ≤ R.ticks rows.new }
-    ensures len { length row.new.bits ≡ length row.old.bits }
-    ensures bits { (i : ℕ) → slice_index_or row.new.bits i false ≡ is_active (R.entries rows.old len) i }
-    ensures room { row.new.room ≡ row.old.room }
-    ensures cost { R.ticks rows.new ≤ R.ticks rows.old + chunks_of (length row.old.bits) }
-{
-    for chunk in 0..row.len().div_ceil(64) {
-        let words = rows.active(len, chunk);
-        row.set_chunk(chunk, words);
-    }
-}
-
 /// Keeps the words that have the letter of the light's cell at a position. Does nothing if the cell
 /// is empty.
 fn keep_agreeing<R: Rows>(
@@ -135,7 +119,7 @@ fn read_open<R: Rows>(rows: &mut R, board: &Board<'_>, cells: &Cells, row: &mut 
     ensures room { row.new.room ≡ row.old.room }
     ensures cost { R.ticks rows.new ≤ R.ticks rows.old + (length cells.now + 1) * chunks_of (length row.old.bits) }
 {
-    read_active(rows, cells.len(), row);
+    rows.read_active(cells.len(), row);
     for position in 0..cells.len() {
         keep_agreeing(rows, board, cells, position, row);
     }

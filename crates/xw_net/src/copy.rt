@@ -84,6 +84,7 @@ impl Net {
     ghost use Rattle.std.specs.Prelude.{◌≡◌, false, is_some, IfOk, IfErr};
     ghost use Rattle.xw_grid.specs.Light.{lights_of};
     ghost use Rattle.xw_feas.specs.Board.{board_of};
+    ghost use Rattle.xw_net.specs.Brought.{IsBase};
     ghost use Rattle.xw_net.specs.Copy.{CanCopy, IsCopy, AreBaseRowsAlike};
     ghost use Rattle.xw_net.specs.Net.{IsSettledFor};
     ghost use Rattle.xw_net.specs.Update.{state_of};
@@ -121,8 +122,8 @@ impl Net {
         self.restart.as_mut_slice().copy_from_slice(&net.restart);
     }
 
-    /// Copies the words and letters of `net`, which stands for the grid `after`, to this net, which stands for the grid
-    /// `before`. Both have the same lights and dictionary. It allocates nothing.
+    /// Copies the words and letters of `net`, which stands for the grid `after`, to this net, whose base rows are those of the
+    /// grid `before`. Both have the same lights and dictionary. It allocates nothing.
     pub fn copy_from(
         &mut self,
         net: &Net,
@@ -134,7 +135,7 @@ impl Net {
         requires lights { lights.now ≡ lights_of after.now }
         requires same_lights { lights.now ≡ lights_of before.now }
         requires can { CanCopy lights.now net.now self.old }
-        requires before { ∥ IsSettledFor (state_of before.now bank.now.words) self.old ∥₁ }
+        requires before { IsBase (board_of before.now) bank.now.words self.old.base.items }
         requires after { ∥ IsSettledFor (state_of after.now bank.now.words) net.now ∥₁ }
         ensures copied { IsCopy lights.now net.now self.new }
         ensures spare { self.new.spare ≡ self.old.spare }

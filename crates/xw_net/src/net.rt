@@ -65,13 +65,13 @@ fn with_all(set: LetterSet, more: LetterSet) -> LetterSet
 }
 
 impl Net {
-    ghost use Rattle.std.specs.Prelude.{◌≡◌, ℕ, ◌+◌, ◌-◌, ◌*◌, ◌<◌, ◌≤◌, true, false, not, ◌||◌, ◌&&◌, ◌==◌, length, slice_index_or};
+    ghost use Rattle.std.specs.Prelude.{◌≡◌, ℕ, ◌+◌, ◌-◌, ◌*◌, ◌<◌, ◌≤◌, true, false, not, ◌||◌, ◌&&◌, ◌==◌, length, slice_index_or, IfSome, IfNone};
     ghost use Rattle.xw_letters.specs.Letter.{IsLetter};
     ghost use Rattle.xw_letters.specs.LetterSet.{has};
     ghost use Rattle.xw_feas.specs.Board.{light_at};
     ghost use Rattle.xw_net.specs.Marks.{side_of, IsPositionIn, Drops, LeavesPending, cell_at, slot_at};
     ghost use Rattle.xw_net.specs.Nets.{marks_of, letter_stands, pending_in, queued_in, IsShaped, IsLeft, IsThere, IsQueue, Waits, left_of};
-    ghost use Rattle.xw_net.specs.Steps.{IsQueuedToo, IsCheck, IsStruck, StandFewer, OthersStand, IsLetterHeld, IsStruckFrom, IsLeftPending, IsStrippable, IsStep, WaitMore, PendLess, IsCleared, PendAtSlots, ArePositionHeld, AreLightHeld, KeepSupports, KeepsHolding, StepsOn, StrikesOn, ChecksOn, FillsNet, StripsWithin};
+    ghost use Rattle.xw_net.specs.Steps.{IsQueuedToo, IsCheck, IsStruck, StandFewer, OthersStand, IsLetterHeld, IsStruckFrom, IsLeftPending, IsStrippable, IsStep, WaitMore, PendLess, IsCleared, PendAtSlots, ArePositionHeld, AreLightHeld, KeepSupports, KeepsHolding, StepsOn, StrikesOn, ChecksOn, FillsNet, StripsWithin, IsEmptied, Dies, StandsOnBoard};
     ghost use Rattle.xw_net.specs.Worklist.{is_waiting};
 
     /// Removes from a light the words with a pending letter at a position.
@@ -301,8 +301,29 @@ impl Net {
         }
     }
 
-    /// Processes a light that was taken from the queue.
-    fn see_to<R: Rows>(&mut self, rows: &mut R, board: &Board<'_>, light: usize)
+    /// Whether a light is watched and has no word left.
+    fn is_dead(&self, light: usize, watched: &[bool]) -> bool
+        requires rows { light < length self.now.rows.items }
+        requires entered { light < length self.now.entered.items }
+        ensures watched { result ≡ true → slice_index_or watched.now light false ≡ true }
+        ensures emptied { result ≡ true → IsEmptied self.now light }
+    {
+        if light >= watched.len() || !watched[light] || self.entered[light] {
+            return false;
+        }
+        let words = self.rows[light].count();
+        words == 0
+    }
+
+    /// Processes a light that was taken from the queue. Stops if the light is watched and has no word left, and returns
+    /// whether it did.
+    fn see_to<R: Rows>(
+        &mut self,
+        rows: &mut R,
+        board: &Board<'_>,
+        light: usize,
+        watched: &[bool],
+    ) -> bool
         requires net { IsStrippable board.now (R.entries rows.old) self.old }
         requires light { light < length board.now.lights }
         requires queued { queued_in self.old light ≡ true }
@@ -310,15 +331,21 @@ impl Net {
         ensures entries { R.entries rows.new ≡ R.entries rows.old }
         ensures risen { R.ticks rows.old ≤ R.ticks rows.new }
         ensures step { IsStep board.now (R.entries rows.old) self.old self.new }
-        ensures fewer { left_of self.new ≤ left_of self.old }
-        ensures waits { (other : ℕ) → ((other ≡ light → ⊥) → Waits self.old other) → Waits self.new other }
-        ensures holding { KeepsHolding board.now (R.entries rows.old) self.old self.new }
-        ensures pending { PendAtSlots board.now self.old self.new }
+        ensures fewer { result ≡ false → left_of self.new ≤ left_of self.old }
+        ensures waits { result ≡ false → (other : ℕ) → ((other ≡ light → ⊥) → Waits self.old other) → Waits self.new other }
+        ensures holding { result ≡ false → KeepsHolding board.now (R.entries rows.old) self.old self.new }
+        ensures pending { result ≡ false → PendAtSlots board.now self.old self.new }
         ensures kept { StepsOn board.now (R.entries rows.old) self.old (R.ticks rows.old) self.new (R.ticks rows.new) }
+        ensures watched { result ≡ true → slice_index_or watched.now light false ≡ true }
+        ensures emptied { result ≡ true → IsEmptied self.new light }
     {
         self.strike_light(rows, board, light);
+        if self.is_dead(light, watched) {
+            return true;
+        }
         self.queue.release(light);
         self.keep_light(rows, board, light);
+        false
     }
 
     /// Notes a light that has no letter left at its first cell, unless one was noted before.
@@ -336,8 +363,48 @@ impl Net {
         }
     }
 
+    /// Notes a light that has no word left, unless another was noted before.
+    fn note_dead(&mut self, light: usize)
+        ensures { self.new ≡ record self.old { emptied = self.new.emptied } }
+    {
+        if self.emptied == NOWHERE {
+            self.emptied = light;
+        }
+    }
+
     /// Strips the net: processes queued lights until the words and letters left support one
-    /// another.
+    /// another. Stops at the first watched light without a word, and returns it.
+    pub(crate) fn strip_watching<R: Rows>(
+        &mut self,
+        rows: &mut R,
+        board: &Board<'_>,
+        watched: &[bool],
+    ) -> Option<usize>
+        requires net { IsStrippable board.now (R.entries rows.old) self.old }
+        requires queue { IsQueue self.old }
+        ensures entries { R.entries rows.new ≡ R.entries rows.old }
+        ensures risen { R.ticks rows.old ≤ R.ticks rows.new }
+        ensures step { IsStep board.now (R.entries rows.old) self.old self.new }
+        ensures filled { IfNone result (FillsNet board.now (R.entries rows.old) self.old self.new) }
+        ensures cost { StripsWithin board.now (R.entries rows.old) self.old (R.ticks rows.old) (R.ticks rows.new) }
+        ensures watched { IfSome result (λ light. slice_index_or watched.now light false ≡ true) }
+        ensures within { IfSome result (λ light. light < length board.now.lights) }
+        ensures dies { IfSome result (Dies board.now (R.entries rows.old) self.old) }
+        ensures stands { IfSome result (λ light. StandsOnBoard board.now (R.entries rows.old) self.old self.new) }
+    {
+        self.emptied = NOWHERE;
+        let mut turn = 0;
+        while let Some(light) = self.queue.take_turn(&mut turn) {
+            if self.see_to(rows, board, light, watched) {
+                self.note_dead(light);
+                return Some(light);
+            }
+            self.note_emptied(board, light);
+        }
+        None
+    }
+
+    /// Strips the net to the end.
     pub(crate) fn strip_queued<R: Rows>(&mut self, rows: &mut R, board: &Board<'_>)
         requires net { IsStrippable board.now (R.entries rows.old) self.old }
         requires queue { IsQueue self.old }
@@ -347,11 +414,6 @@ impl Net {
         ensures filled { FillsNet board.now (R.entries rows.old) self.old self.new }
         ensures cost { StripsWithin board.now (R.entries rows.old) self.old (R.ticks rows.old) (R.ticks rows.new) }
     {
-        self.emptied = NOWHERE;
-        let mut turn = 0;
-        while let Some(light) = self.queue.take_turn(&mut turn) {
-            self.see_to(rows, board, light);
-            self.note_emptied(board, light);
-        }
+        let _ = self.strip_watching(rows, board, &[]);
     }
 }

@@ -1,4 +1,4 @@
-//! Counts the words of a light by letter.
+//! Counts and weighs the words of a light by letter.
 ghost use Rattle.std.specs.Prelude.{◌≡◌, ◌*◌, ◌^◌, ◌<◌, ◌≤◌, ◌&&◌, ◌==◌, length, if◌then◌else◌};
 ghost use Rattle.xw_net.specs.Tally.{row_tally};
 
@@ -45,9 +45,31 @@ fn count_row<R: Rows>(
     ensures tally { result ≡ row_tally row.now.bits (R.entries rows.old len) position letter 0 (length row.now.bits) }
     ensures small { result < 2 ^ 58 }
 {
+    let _ = row.len();
     let mut total = 0;
-    for chunk in 0..row.len().div_ceil(64) {
+    let mut from = 0;
+    while let Some(chunk) = row.next_chunk(from) {
         total += count_chunk(rows, row, len, position, letter, chunk);
+        from = chunk + 1;
+    }
+    total
+}
+
+/// The weight of the words of the row that have the letter at the position. No proof depends on it.
+fn weigh_row<R: Rows>(
+    rows: &mut R,
+    row: &BitRow,
+    len: usize,
+    position: usize,
+    letter: Letter,
+) -> u64 {
+    let _ = row.len();
+    let mut total: u64 = 0;
+    let mut from = 0;
+    while let Some(chunk) = row.next_chunk(from) {
+        let words = row.chunk(chunk) & rows.column(len, position, letter, chunk);
+        total = total.saturating_add(rows.weight(len, chunk, words));
+        from = chunk + 1;
     }
     total
 }
@@ -89,5 +111,30 @@ impl Net {
         let listed = count_row(&mut rows, row, cells.len(), position, letter);
         let here = board.letter(cells.at(position));
         listed + count_entered(self.entered[light], here.byte(), letter.byte())
+    }
+
+    /// The weight of the words of a light that have the letter at a position: their number, if all grades are equal. It is
+    /// a hint for a search; the contract promises nothing.
+    pub fn promise(
+        &self,
+        grid: &Grid,
+        lights: &Lights,
+        bank: &Bank,
+        light: usize,
+        position: usize,
+        letter: Letter,
+    ) -> u64
+        requires lights { lights.now ≡ lights_of grid.now }
+        requires settled { ∥ IsSettledFor (record { grid = grid.now; words = bank.now.words }) self.now ∥₁ }
+        requires light { light < length lights.now }
+        requires position { position < length (light_at (board_of grid.now) light) }
+    {
+        let board = Board::new(grid, lights);
+        let cells = board.light(light);
+        let mut rows = Counted::new(bank, 0);
+        let row = &self.rows[light];
+        let listed = weigh_row(&mut rows, row, cells.len(), position, letter);
+        let here = board.letter(cells.at(position));
+        listed.saturating_add(count_entered(self.entered[light], here.byte(), letter.byte()) as u64)
     }
 }

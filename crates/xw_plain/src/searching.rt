@@ -85,6 +85,10 @@ impl Searchable for Plain {
         total
     }
 
+    fn promise(&self, light: usize, position: usize, letter: Letter) -> u64 {
+        self.tally(light, position, letter) as u64
+    }
+
     fn emptied(&self) -> Option<usize> {
         None
     }

@@ -1,4 +1,4 @@
--- A light without feasible words has a reason.
+-- Each light without feasible words has a reason.
 use Rattle.std.proofs.Common.{◌≡◌, ℕ, zero, suc, ◌+◌, ◌<◌, ◌≤◌, Bool, true, false, List, length, set, Option, Some, None, refl, sym, ◌∙◌, subst, arith, inl, inr}
 use Rattle.std.specs.Prelude.{◌⊎◌, is_some, count_by}
 use Rattle.std.proofs.lemmas.Bool.{cases_Bool, cases_eq, false≢true}

@@ -1,4 +1,4 @@
--- Lists of the entered cells.
+-- The lists of entered cells, and what writing them does to the entries.
 use Rattle.std.proofs.Common.{◌≡◌, ℕ, zero, suc, ◌+◌, ◌*◌, ◌<◌, ◌≤◌, Bool, true, false, List, [], ◌∷◌, ◌++◌, map, take, drop, length, get_or, set, Option, Some, None, refl, sym, ◌∙◌, ap, subst, arith, inl, inr}
 use Rattle.std.specs.Prelude.{◌⊎◌, All, Contains, is_some}
 use Rattle.std.specs.List.Sorted.{IsPermutation}
@@ -188,7 +188,7 @@ list_part_from state now list from is part =
     (λ written. written.1 ≡ entry_in (entries_of state) (index_of state.grid written.0)) (λ written h. h.1) list is.sound)))
     part
 
--- and leads to it from any part
+-- writing the list leads to its entries from any part of the entries
 pub list_written : (state : State) (now part : List (Option ℕ)) (list : List (Cell × Option ℕ)) → IsPart now (entries_of state) → IsPart part (entries_of state) → IsListOf state part list → written_in now (by_index state.grid list) ≡ part
 list_written state now part list now_is part_is is =
     written_is (by_index state.grid list) now part (now_is.long ∙ sym part_is.long)

@@ -1,4 +1,4 @@
--- What leaving out entries leads to.
+-- Leaving out entries, and writing them back, leads to a reason.
 use Rattle.std.proofs.Common.{◌≡◌, ℕ, zero, suc, ◌+◌, ◌<◌, ◌≤◌, Bool, true, false, cond, List, [], ◌∷◌, map, drop, length, get_or, set, Option, Some, None, refl, sym, ◌∙◌, ap, subst, arith, inl, inr, IfSome}
 use Rattle.std.specs.Prelude.{◌⊎◌, ◌==◌, All, is_some, count_by}
 use Rattle.std.specs.List.{AllWithin}
@@ -22,7 +22,7 @@ use Rattle.xw_reason.specs.Sparing.{CanBeWritten, by_index, written_in, IsListOf
 use Rattle.xw_reason.proofs.Writing.{position_at, same_entries, entry_of_open}
 use Rattle.xw_reason.proofs.Listing.{entry_within, IsPart-itself, IsPart-then, IsPart-none, no_entry, list_good, list_written, list_part_from}
 
--- what holds of each element holds of the one at hand
+-- a property of each element of a list holds of the current one
 pub of_item : {X : Type 0} (P : X → Type 0) (xs : List X) (k : ℕ) (x : X) → k < length xs → x ≡ get_or xs k x → All P xs → P x
 of_item P xs k x below is all = subst P (sym is) (all k x below)
 
@@ -185,7 +185,7 @@ needed_along start now light list differs = needed_from start now light (entries
 
 -- ---- writing the lists of a room
 
--- the list is written where only entries have changed
+-- a list of a room can be written in each state that differs from the start only in entries
 pub good_by : (start now : State) (part : List (Option ℕ)) (list items : List (Cell × Option ℕ)) → IsWellFormed start → DiffersInEntries start now → IsPart part (entries_of start) → IsListOf start part items → list ≡ items → All (CanBeWritten now.grid) list
 good_by start now part list items formed differs is_part is same =
     All-same (CanBeWritten now.grid) list items same

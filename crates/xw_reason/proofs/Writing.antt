@@ -99,7 +99,7 @@ writing before now answers answers_now list result is good edited =
 
 -- ---- the entries after a list was written
 
--- the list holds what it is to lead to, and every cell that has another entry now
+-- the list has the wanted entry of each of its cells, and it has every cell whose entry differs from the wanted one
 pub written_is : (list : List (ℕ × Option ℕ)) (now to : List (Option ℕ)) → length now ≡ length to → All (λ written. written.1 ≡ entry_in to written.0) list
     → ((cell : ℕ) → cell < length to → (entry_in now cell ≡ entry_in to cell) ⊎ Contains (map (λ written. written.0) list) cell)
     → written_in now list ≡ to

@@ -1,4 +1,4 @@
--- The definition of a reason why a light has no feasible word: entries that leave it none, and none of which can be spared.
+-- The definition of a reason why a light has no feasible word: a minimal set of entries that leaves it none.
 use Rattle.std.specs.Prelude.{◌≡◌, ℕ, Bool, true, false, List, map, length, slice_index_or, slice_set, Option, Some, None}
 use Rattle.xw_grid.specs.declared.cell.LightName.{LightName}
 use Rattle.xw_grid.specs.Light.{lights_of, index_named}
@@ -17,7 +17,7 @@ entry_in entries cell = slice_index_or entries cell None
 abbrev pub entries_of : State → List (Option ℕ)
 entries_of state = (board_of state.grid).entries
 
--- with these entries alone, the light has no feasible word
+-- whether the light has no feasible word with these entries alone
 abbrev pub leaves_none : Position → ℕ → List (Option ℕ) → Bool
 leaves_none position light entries = lacks_words (holding position entries) light
 
@@ -34,8 +34,8 @@ no_entries entries = map (λ entry. None) entries
 abbrev pub IsMinimal : Position → ℕ → List (Option ℕ) → Type 0
 IsMinimal position light entries = (cell letter : ℕ) → entry_in entries cell ≡ Some letter → leaves_none position light (slice_set entries cell None) ≡ false
 
--- entries of the position that leave the light no feasible word, and none of which can be spared: none at all if the light
--- has no feasible word even in the empty grid
+-- Entries of the position that leave the light no feasible word. None of them can be spared, and there are none if the
+-- light has no feasible word even in the empty grid.
 pub record IsReason (position : Position) (light : ℕ) (entries : List (Option ℕ)) : Type 0 where
   pub part : IsPart entries position.board.entries
   pub dead : leaves_none position light entries ≡ true

@@ -26,7 +26,7 @@ CanBeWritten grid written = (is_open grid written.0 ≡ true) × IsSquare (Open 
 abbrev pub emptied : Cell × Option ℕ → Cell × Option ℕ
 emptied written = (written.0, None)
 
--- the list writes these entries into each cell that is entered
+-- the list has each cell that is entered in the state, with what these entries have there
 pub record IsListOf (state : State) (entries : List (Option ℕ)) (list : List (Cell × Option ℕ)) : Type 0 where
   pub sound : All (λ written. (is_open state.grid written.0 ≡ true) × (written.1 ≡ entry_in entries (index_of state.grid written.0))) list
   pub all : (cell letter : ℕ) → entry_in (entries_of state) cell ≡ Some letter → Contains list (cell_at state.grid cell, entry_in entries cell)
@@ -41,7 +41,7 @@ pub record IsRoom (state : State) (room : Room) : Type 0 where
 abbrev pub IsNeeded : Position → ℕ → List (Option ℕ) → ℕ → Type 0
 IsNeeded position light entries cell = (letter : ℕ) → entry_in entries cell ≡ Some letter → leaves_none position light (slice_set entries cell None) ≡ false
 
--- the same in a state, for a cell of its grid
+-- the cell of a state's grid is empty, or the light has a feasible word without its entry
 abbrev pub IsNeededIn : State → ℕ → Cell → Type 0
 IsNeededIn state light cell = IsNeeded (position_of state) light (entries_of state) (index_of state.grid cell)
 

@@ -43,7 +43,7 @@ pub fn write_cell<E: Feasible>(engine: &mut E, cell: Cell, letter: Option<Letter
     write(engine, &[(cell, letter)]);
 }
 
-/// Each cell that has an entry, with its letter.
+/// Lists each cell that has an entry, with its letter. Returns `Memory` if an allocation fails.
 pub fn entered_cells<E: Feasible>(
     alloc: Global,
     engine: &E,
@@ -62,7 +62,7 @@ pub fn entered_cells<E: Feasible>(
     Ok(list)
 }
 
-/// The same cells without letters.
+/// Lists the same cells without letters. Returns `Memory` if an allocation fails.
 pub fn emptied(
     alloc: Global,
     list: &[(Cell, Option<Letter>)],
@@ -77,7 +77,7 @@ pub fn emptied(
     Ok(empty)
 }
 
-/// Room for the entry of each cell.
+/// Allocates a list with room for the entry of each cell of the grid. Returns `Memory` if the allocation fails.
 pub fn room_for_entries<E: Feasible>(
     alloc: Global,
     engine: &E,
@@ -88,7 +88,7 @@ pub fn room_for_entries<E: Feasible>(
     vec![in alloc; None; board(engine).cell_count()].map_err(|_| NoReason::Memory)
 }
 
-/// Notes the entry of each cell.
+/// Copies the entry of each cell, in reading order.
 pub fn note_entries<E: Feasible>(engine: &E, entries: &mut [Option<Letter>])
     requires { length entries.old ≡ length (entries_of (E.state engine.now)) }
     ensures { entries.new ≡ entries_of (E.state engine.now) }

@@ -1,5 +1,5 @@
-//! Says why a light has no feasible word: a set of entries that leaves it none, and of which none can be spared. Works
-//! over any engine that implements `Feasible`.
+//! Finds why a light has no feasible word: a set of entries that leaves it none, and that is minimal. Works over any
+//! engine that implements `Feasible`.
 #![tactic(auto)]
 
 mod entries;

@@ -1,4 +1,4 @@
-//! The order in which entries are left out. No proof depends on it.
+//! The order in which entries are left out. It decides which reason is found; no proof depends on it.
 ghost use Rattle.std.specs.List.Sorted.{IsPermutation};
 
 use xw_grid::cell::{Cell, Direction};
@@ -12,7 +12,7 @@ fn gap(at: u32, first: u32, last: u32) -> u32 {
         .saturating_add(at.saturating_sub(last))
 }
 
-/// Rows plus columns from a cell to the nearest cell of a light.
+/// The number of rows plus the number of columns from a cell to the nearest cell of a light.
 fn distance(light: &Light, cell: Cell) -> u32 {
     let Cell { row, col } = light.start;
     let steps = light.size.saturating_sub(1);

@@ -1,4 +1,4 @@
-//! Leaving out entries that a light can spare: without them, it still has no feasible word.
+//! Leaves out the entries that a reason can spare: without them, the light still has no feasible word.
 ghost use Rattle.std.specs.Prelude.{◌≡◌, ◌<◌, All, true, false, count_by, is_some};
 ghost use Rattle.xw_grid.specs.Grid.{is_open, index_of};
 ghost use Rattle.xw_fill.specs.Position.{position_of, DiffersInEntries};
@@ -12,7 +12,8 @@ use xw_fill::scan::word_count;
 use xw_grid::cell::Cell;
 use xw_letters::letter::Letter;
 
-/// Empties a cell, unless it is empty or the light then has a feasible word. Returns whether it was emptied.
+/// Empties a cell if it has an entry that can be spared: without it, the light still has no feasible word. Returns whether
+/// the cell was emptied.
 fn spare<E: Feasible>(engine: &mut E, light: usize, cell: Cell) -> bool
     requires light { light < light_count (position_of (E.state engine.old)) }
     requires open { is_open (E.state engine.old).grid cell ≡ true }
@@ -32,7 +33,7 @@ fn spare<E: Feasible>(engine: &mut E, light: usize, cell: Cell) -> bool
     false
 }
 
-/// Goes through the cells once and empties each that the light can spare. Returns whether any was emptied.
+/// Goes through the cells once and empties each whose entry can be spared. Returns whether any was emptied.
 fn spare_once<E: Feasible>(engine: &mut E, light: usize, list: &[(Cell, Option<Letter>)]) -> bool
     requires light { light < light_count (position_of (E.state engine.old)) }
     requires open { All (λ written. is_open (E.state engine.old).grid written.0 ≡ true) list.now }
@@ -53,7 +54,7 @@ fn spare_once<E: Feasible>(engine: &mut E, light: usize, list: &[(Cell, Option<L
     spared
 }
 
-/// Goes through the cells again and again, until the light can spare none of their entries.
+/// Repeats `spare_once` until no entry of the cells can be spared.
 pub fn spare_all<E: Feasible>(engine: &mut E, light: usize, list: &[(Cell, Option<Letter>)])
     requires light { light < light_count (position_of (E.state engine.old)) }
     requires open { All (λ written. is_open (E.state engine.old).grid written.0 ≡ true) list.now }

@@ -14,7 +14,7 @@ use xw_fill::scan::{light_at, word_count};
 use xw_grid::cell::{Cell, LightName};
 use xw_letters::letter::Letter;
 
-/// How many entries are tried first, those nearest to the light; then twice as many, and so on.
+/// How many entries are tried first: those nearest to the light. Each later try has twice as many.
 const NEAREST: usize = 4;
 
 /// Why there is no reason.
@@ -28,8 +28,8 @@ pub enum NoReason {
     Memory,
 }
 
-/// What a search needs besides the engine: the entered cells, those farthest from the light first, with their letters and
-/// without, and room for the entry of each cell.
+/// The memory of a search. `entered` lists the entered cells with their letters, the farthest from the light first;
+/// `emptied` lists the same cells without letters. `reason` has room for the entry of each cell of the grid.
 #[derive(Drop)]
 pub struct Room {
     pub entered: Vec<(Cell, Option<Letter>)>,
@@ -56,8 +56,8 @@ impl Room {
     }
 }
 
-/// Leaves a reason in the grid. The lists have the entered cells, those farthest from the light first, with their letters
-/// and without. The grid is emptied, and the entries come back from the nearest on, until they leave the light no word.
+/// Leaves just a reason in the grid. The two lists are those of `Room`. Empties the grid, writes back the nearest entries
+/// until they leave the light no feasible word, and then leaves out those that can be spared.
 fn leave_reason<E: Feasible>(
     engine: &mut E,
     light: usize,
@@ -86,7 +86,7 @@ fn leave_reason<E: Feasible>(
     spare_all(engine, light, entered);
 }
 
-/// Finds a reason, and writes all entries back.
+/// Finds a reason, copies it into the room, and writes all entries back.
 fn find<E: Feasible>(engine: &mut E, light: usize, room: &mut Room)
     requires light { light < light_count (position_of (E.state engine.old)) }
     requires dead { lacks_words (position_of (E.state engine.old)) light ≡ true }

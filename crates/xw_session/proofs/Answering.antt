@@ -1,26 +1,23 @@
 -- Answering commands.
 use Rattle.std.proofs.Common.{◌≡◌, ℕ, true, leb, List, ◌++◌, length, refl, subst, sym, ◌∙◌, inl, inr, arith}
-use Rattle.std.proofs.lemmas.Bool.{cases_Bool, cases_lt}
-use Rattle.std.proofs.lemmas.Bool.Decides.{nat_tests}
 use Rattle.std.specs.Prelude.{Option, Some, None, Result, Ok, Err, IfOk, nat_lt}
 use Rattle.xw_lines.specs.Sends.{Sends}
 use Rattle.xw_lines.specs.Device.{Begins, HasFailed}
 use Rattle.xw_lines.proofs.SendsLemmas.{sends-then, stops-within}
 use Rattle.xw_lines.specs.declared.outcome.Step.{Step}
 use Rattle.xw_lines.specs.declared.outcome.Step.TheVariants.{Silent, Refused}
-use Rattle.xw_commands.specs.declared.command.SyntaxFault.TheVariants as syntax
 use Rattle.xw_lines.specs.Cut.{held}
-use Rattle.xw_lines.specs.Spoken.{Answered, BreaksPiece, NeverStops, AnswersPiece}
+use Rattle.xw_lines.specs.Spoken.{Answered, BreaksPiece, NeverStops}
 use Rattle.xw_lines.specs.declared.outcome.AnswerFault.TheVariants.{WriteFailed}
 use Rattle.xw_commands.specs.Command.{command_of}
-use Rattle.xw_session.specs.Text.{accepted, refused}
+use Rattle.xw_answers.specs.Text.{accepted, refused}
 use Rattle.xw_commands.specs.declared.command.SyntaxFault.{SyntaxFault}
 use Rattle.xw_session.specs.State.{State}
 use Rattle.xw_commands.specs.declared.command.Command.{Command}
-use Rattle.xw_session.specs.declared.refusal.Refusal.{Refusal}
-use Rattle.xw_session.specs.declared.refusal.Refusal.TheVariants as refusals
+use Rattle.xw_answers.specs.declared.refusal.Refusal.{Refusal}
+use Rattle.xw_answers.specs.declared.refusal.Refusal.TheVariants as refusals
 use Rattle.xw_session.specs.Reply.{Reply, shown, reply_to, want_of}
-use Rattle.xw_session.specs.Answer.{Answers, IsReply, IsDue, AnswersBy, AnswersTo, AnswersParsed, AnswersLine, Edits, reply_of, text_of, step_of}
+use Rattle.xw_session.specs.Answer.{Answers, IsReply, IsDue, AnswersBy, AnswersTo, AnswersParsed, AnswersParsedBy, Edits, reply_of, text_of, step_of}
 
 -- a command was executed or refused, and then its answer was written
 pub edit_answers : {S E T : Type 0} (transcript : S → List ℕ) (failures : S → ℕ) (state after : State) (command : Command) (done : Result T Refusal) (result : Result Step E) (old new : S)
@@ -41,26 +38,25 @@ edit_answers transcript failures state after command done result old new is edit
 )
 
 -- a line with a command
-pub line_answers : {S E : Type 0} (transcript : S → List ℕ) (failures : S → ℕ) (state after : State) (line : List ℕ) (command : Command) (result : Result Step E) (old new : S)
-    → Ok (Some command) ≡ command_of line → AnswersTo transcript failures state command result after old new → AnswersLine transcript failures state line result after old new
-line_answers transcript failures state after line command result old new is (due, owed, a) = record {
+pub line_answers : {S E : Type 0} (transcript : S → List ℕ) (failures : S → ℕ) (state after : State) (command : Command) (result : Result Step E) (old new : S)
+    → AnswersTo transcript failures state command result after old new → AnswersParsedBy transcript failures state (Ok (Some command)) result after old new
+line_answers transcript failures state after command result old new (due, owed, a) = record {
   outcome = step_of a.reply;
   answer = text_of a.reply;
-  fits = subst (λ parsed. AnswersParsed state parsed (step_of a.reply) (text_of a.reply) after) is (a.reply, (due, owed, a.fits), refl, refl, a.effect);
+  fits = (a.reply, (due, owed, a.fits), refl, refl, a.effect);
   sends = a.sends;
   is = a.step;
 }
 
 -- a line that is not a valid command
-pub line_refused : {S E : Type 0} (transcript : S → List ℕ) (failures : S → ℕ) (state : State) (line : List ℕ) (fault : SyntaxFault) (result : Result Step E) (old new : S)
-    → Err fault ≡ command_of line
+pub line_refused : {S E : Type 0} (transcript : S → List ℕ) (failures : S → ℕ) (state : State) (fault : SyntaxFault) (result : Result Step E) (old new : S)
     → ((g : State) → Sends transcript failures old new result (text_of (reply_of {T = Unit {0}} (Err (refusals.Syntax fault)) g)))
     → ((g : State) → IfOk result (λ o. o ≡ step_of (reply_of {T = Unit {0}} (Err (refusals.Syntax fault)) g)))
-    → AnswersLine transcript failures state line result state old new
-line_refused transcript failures state line fault result old new is sends outcome = record {
+    → AnswersParsedBy transcript failures state (Err fault) result state old new
+line_refused transcript failures state fault result old new sends outcome = record {
   outcome = Refused;
   answer = refused (refusals.Syntax fault);
-  fits = subst (λ parsed. AnswersParsed state parsed Refused (refused (refusals.Syntax fault)) state) is (refl, refl, refl);
+  fits = (refl, refl, refl);
   sends = sends state;
   is = outcome state;
 }
@@ -148,48 +144,20 @@ not_silent P reply (Err error) is = tt
 
 -- ---- the pieces that a run passes on
 
-held_is : (whole line : List ℕ) → held whole ≡ Some line → whole ≡ line
-held_is whole line h =
-    elim (cases_Bool (leb (length whole) 4096)) [
-      | inl small ↦ let same : Some whole ≡ Some line = rw small at h in cc
-      | inr large ↦ let none : None ≡ Some line = rw large at h in cc
-    ]
+module _ (parsed : Result (Option Command) SyntaxFault) (piece : Option (List ℕ)) (read : (whole : List ℕ) → held whole ≡ piece → parsed ≡ command_of whole) where
+  pub piece_answered : {S E : Type 0} (transcript : S → List ℕ) (failures : S → ℕ) (state after : State) (step : Step) (old new : S)
+      → AnswersParsedBy {E = E} transcript failures state parsed (Ok step) after old new → Answered Answers state piece step after (transcript old) (transcript new)
+  piece_answered transcript failures state after step old new a = record {
+    answer = a.answer;
+    fits = λ whole h. subst (λ s. Answers state whole s a.answer after) (sym a.is) (subst (λ p. AnswersParsed state p a.outcome a.answer after) (read whole h) a.fits);
+    transcript = a.sends.0;
+  }
 
-too_long : (whole : List ℕ) → held whole ≡ None → command_of whole ≡ Err syntax.LineTooLong
-too_long whole h =
-    elim (cases_lt 4096 (length whole)) [
-      | inl large ↦ let test : nat_lt 4096 (length whole) ≡ true = grind (arith, nat_tests, large) in rw test refl
-      | inr small ↦
-          let test : leb (length whole) 4096 ≡ true = grind (arith, nat_tests, small) in
-          let some : Some whole ≡ None = rw test at h in cc
-    ]
-
-pub piece_answered : {S E : Type 0} (transcript : S → List ℕ) (failures : S → ℕ) (state after : State) (line : List ℕ) (step : Step) (old new : S)
-    → AnswersLine {E = E} transcript failures state line (Ok step) after old new → Answered Answers state (Some line) step after (transcript old) (transcript new)
-piece_answered transcript failures state after line step old new a = record {
-  answer = a.answer;
-  fits = λ whole h. subst (λ s. Answers state whole s a.answer after) (sym a.is) (subst (λ l. Answers state l a.outcome a.answer after) (sym (held_is whole line h)) a.fits);
-  transcript = a.sends.0;
-}
-
-pub piece_broke_off : {S E : Type 0} (transcript : S → List ℕ) (failures : S → ℕ) (state after : State) (line : List ℕ) (error : E) (old new : S)
-    → AnswersLine transcript failures state line (Err error) after old new → BreaksPiece Answers NeverStops WriteFailed state (Some line) after (transcript old) (transcript new)
-piece_broke_off transcript failures state after line error old new a = λ whole h. record {
-  outcome = a.outcome;
-  answer = a.answer;
-  answers = subst (λ l. Answers state l a.outcome a.answer after) (sym (held_is whole line h)) a.fits;
-  begins = a.sends.0;
-}
-
--- a line that is too long is refused
-pub long_piece : (state : State) → AnswersPiece Answers state None Refused (refused (refusals.Syntax syntax.LineTooLong)) state
-long_piece state whole h =
-    subst (λ parsed. AnswersParsed state parsed Refused (refused (refusals.Syntax syntax.LineTooLong)) state) (sym (too_long whole h)) (refl, refl, refl)
-
-pub long_piece_broke_off : (state : State) (old new : List ℕ) → Begins old new (refused (refusals.Syntax syntax.LineTooLong)) → BreaksPiece Answers NeverStops WriteFailed state None state old new
-long_piece_broke_off state old new begins = λ whole h. record {
-  outcome = Refused;
-  answer = refused (refusals.Syntax syntax.LineTooLong);
-  answers = long_piece state whole h;
-  begins = begins;
-}
+  pub piece_broke_off : {S E : Type 0} (transcript : S → List ℕ) (failures : S → ℕ) (state after : State) (error : E) (old new : S)
+      → AnswersParsedBy transcript failures state parsed (Err error) after old new → BreaksPiece Answers NeverStops WriteFailed state piece after (transcript old) (transcript new)
+  piece_broke_off transcript failures state after error old new a = λ whole h. record {
+    outcome = a.outcome;
+    answer = a.answer;
+    answers = subst (λ p. AnswersParsed state p a.outcome a.answer after) (read whole h) a.fits;
+    begins = a.sends.0;
+  }

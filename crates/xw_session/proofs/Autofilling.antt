@@ -9,11 +9,11 @@ use Rattle.xw_feas.specs.State.{State as Position}
 use Rattle.xw_feas.specs.declared.edit.Refusal.{Refusal as EditRefusal}
 use Rattle.xw_fill.specs.declared.search.Filling.{Filling}
 use Rattle.xw_fill.specs.declared.search.Filling.TheVariants as fillings
-use Rattle.xw_autofill.specs.NamedFill.{IsAutofilled, is_named, AreLights, IsRefusal}
-use Rattle.xw_session.specs.declared.refusal.Refusal.{Refusal}
-use Rattle.xw_session.specs.Refusal.{refusal_of}
+use Rattle.xw_fill.specs.NamedFill.{IsAutofilled, is_named, AreLights, IsRefusal}
+use Rattle.xw_answers.specs.declared.refusal.Refusal.{Refusal}
+use Rattle.xw_answers.specs.Refusal.{refusal_of}
 use Rattle.xw_session.specs.State.{State}
-use Rattle.xw_session.specs.Text.{word_line}
+use Rattle.xw_answers.specs.Text.{word_line}
 use Rattle.xw_session.specs.Reply.{Reply, name_of_light, filling_name, grid_memory}
 use Rattle.xw_session.specs.Autofill.{names_of, IsAutofillDue}
 use Rattle.xw_session.specs.Answer.{IsReply, fill_reply, state_after}

@@ -23,8 +23,8 @@ use Rattle.xw_feas.specs.Board.{board_of, light_at, allows, agrees, is_wholly_en
 use Rattle.xw_feas.specs.Feasible.{base_words, base_words_at}
 use Rattle.xw_feas.proofs.BoardLemmas.{entry-square, length-lights, light_at-board}
 use Rattle.xw_feas.proofs.LightsLemmas.{found_by_name}
-use Rattle.xw_session.specs.Text.{letter_or_dot, pattern, pattern_of, light_of}
-use Rattle.xw_session.proofs.LightTexts.{light_short}
+use Rattle.xw_answers.specs.Text.{letter_or_dot, pattern, pattern_of, light_of}
+use Rattle.xw_answers.proofs.LightTexts.{light_short}
 
 -- ---- the letters of cells
 

@@ -1,14 +1,23 @@
 -- The lines of choices.
-use Rattle.std.proofs.Common.{◌≡◌, ℕ, zero, suc, ◌+◌, ◌-◌, ◌<◌, ◌≤◌, Bool, true, false, cond, ◌&&◌, List, [], ◌∷◌, ◌++◌, map, length, get_or, take, drop, refl, sym, ◌∙◌, ap, arith, append_assoc, append-nil, drop-cons}
-use Rattle.std.specs.Prelude.{filter, flat_map}
+use Rattle.std.proofs.Common.{◌≡◌, ℕ, Option, Some, None, zero, suc, ◌+◌, ◌-◌, ◌<◌, ◌≤◌, Bool, true, false, cond, ◌&&◌, List, [], ◌∷◌, ◌++◌, map, length, get_or, take, drop, refl, sym, ◌∙◌, ap, arith, append_assoc, append-nil, drop-cons}
+use Rattle.std.specs.Prelude.{◌==◌, filter, flat_map, position, unwrap_or, Result, Err}
 use Rattle.std.proofs.lemmas.List.{get_or-drop, length-drop, get_or-map}
-use Rattle.xw_words.specs.Dictionary.{Entry, row}
+use Rattle.xw_letters.specs.Letter.{folded}
+use Rattle.xw_words.specs.declared.fault.WordFault.TheVariants as words
+use Rattle.xw_words.specs.Dictionary.{Entry, row, index_of_word}
+use Rattle.xw_words.specs.Word.{is_bad_letter}
 use Rattle.xw_feas.specs.Board.{light_at, agrees}
 use Rattle.xw_feas.specs.Feasible.{base_words, base_words_at}
-use Rattle.xw_fill.specs.Position.{Position}
+use Rattle.xw_feas.specs.State.{State}
+use Rattle.xw_fill.specs.Position.{Position, position_of}
 use Rattle.xw_fill.specs.FeasibleWords.{is_feasible_word, feasible_words}
 use Rattle.xw_fill.specs.Search.{light_count, is_entered, spelling}
 use Rattle.xw_fill.specs.Words.{spellings_at, words_left, IsNextWord, HasNoMore}
+use Rattle.xw_answers.specs.declared.refusal.Refusal.{Refusal}
+use Rattle.xw_answers.specs.declared.refusal.Refusal.TheVariants as refusals
+use Rattle.xw_session.specs.State.{State as Session}
+use Rattle.xw_session.specs.Reply.{weighed, weighed_from}
+use Rattle.xw_session.specs.Choices.{known_index, spelled_index, first_index, words_from}
 
 -- ---- the words from an index on
 
@@ -43,6 +52,22 @@ none_left position light from none =
     let sp = spellings_at position light in
     none_pass (is_feasible_word position light) (drop from sp) (λ k below. ap (is_feasible_word position light) (get_or-drop from sp k []) ∙ none (from + k) (omega arith) (omega (arith, below, length-drop from sp)))
 
+-- ---- the words to begin with
+
+module _ (state : State) (light : ℕ) where
+  abbrev all : List (List ℕ)
+  all = feasible_words (position_of state) light
+
+  -- from an index on, or all
+  pub words_from_index : (first : Option ℕ) → all ≡ words_left (position_of state) light 0 → is_entered (position_of state) light ≡ false → words_from state light first ≡ words_left (position_of state) light (unwrap_or first 0)
+  words_from_index None known unentered = known
+  words_from_index (Some index) known unentered = ap (λ b. cond b (feasible_words (position_of state) light) (words_left (position_of state) light index)) unentered
+
+  -- all of a wholly entered light
+  pub words_of_entered : (first : Option ℕ) → is_entered (position_of state) light ≡ true → words_from state light first ≡ words_from state light None
+  words_of_entered None entered = refl
+  words_of_entered (Some index) entered = ap (λ b. cond b (feasible_words (position_of state) light) (words_left (position_of state) light index)) entered
+
 -- ---- the first words
 
 pub take_next : (n : ℕ) (x : List ℕ) (xs : List (List ℕ)) → 0 < n → take n (x ∷ xs) ≡ x ∷ take (n - 1) xs
@@ -74,3 +99,21 @@ one_word position light below entered some =
       by_test : (b : Bool) → 0 < length (cond b (spelling position light ∷ []) []) → cond b (spelling position light ∷ []) [] ≡ spelling position light ∷ []
       by_test true h = refl
       by_test false h = absurd (omega (arith, h))
+
+-- ---- the index of the word to begin with
+
+module _ (state : State) (light : ℕ) (bytes : List ℕ) where
+  pub with_bad_letter : (at : ℕ) → position is_bad_letter bytes ≡ Some at → Err (refusals.Word (words.BadLetter (at + 1))) ≡ first_index state light (Some bytes)
+  with_bad_letter at e = sym (ap (λ bad. spelled_index state light bad bytes) e)
+
+  pub of_other_length : position is_bad_letter bytes ≡ None → (length bytes == length (light_at (position_of state).board light)) ≡ false → Err refusals.PlaceLength ≡ first_index state light (Some bytes)
+  of_other_length letters other =
+      sym (ap (λ bad. spelled_index state light bad bytes) letters ∙ ap (λ b. cond b (known_index (index_of_word state.words (map folded bytes))) (Err refusals.PlaceLength)) other)
+
+  pub of_this_length : position is_bad_letter bytes ≡ None → (length bytes == length (light_at (position_of state).board light)) ≡ true → (found : Option ℕ) → found ≡ index_of_word state.words (map folded bytes) → known_index found ≡ first_index state light (Some bytes)
+  of_this_length letters same found e =
+      ap known_index e ∙ sym (ap (λ bad. spelled_index state light bad bytes) letters ∙ ap (λ b. cond b (known_index (index_of_word state.words (map folded bytes))) (Err refusals.PlaceLength)) same)
+
+-- the reply, by the light and the index
+pub weighed_by : (state : Session) (light most : ℕ) (first : Option (List ℕ)) (found : Option ℕ) (from : Result (Option ℕ) Refusal) → found ≡ Some light → from ≡ first_index state.position light first → weighed state found most first ≡ weighed_from state light most from
+weighed_by state light most first found from is e = ap (λ f. weighed state f most first) is ∙ ap (weighed_from state light most) (sym e)

@@ -24,11 +24,11 @@ use Rattle.xw_fill.specs.FeasibleLetters.{feasible_letters}
 use Rattle.xw_fill.specs.FeasibleWords.{feasible_words}
 use Rattle.xw_fill.proofs.FeasibleWordsLemmas.{answered_words}
 use Rattle.xw_fill.proofs.FeasibleLettersLemmas.{answered_letters}
-use Rattle.xw_session.specs.declared.refusal.Refusal.{Refusal}
-use Rattle.xw_session.specs.declared.refusal.Refusal.TheVariants as refusals
-use Rattle.xw_session.specs.Refusal.{refusal_of}
+use Rattle.xw_answers.specs.declared.refusal.Refusal.{Refusal}
+use Rattle.xw_answers.specs.declared.refusal.Refusal.TheVariants as refusals
+use Rattle.xw_answers.specs.Refusal.{refusal_of}
 use Rattle.xw_session.specs.State.{State}
-use Rattle.xw_session.specs.Text.{word_line, change_line, letters_line}
+use Rattle.xw_answers.specs.Text.{word_line, change_line, letters_line}
 use Rattle.xw_session.specs.Tally.{tally_line}
 use Rattle.xw_session.specs.Reply.{Reply, filling_name, changes_between, moved, want_of_action, lettered, tallied, shown, fill_tried, grid_memory}
 use Rattle.xw_session.specs.Answer.{IsReply, edit_reply, fill_reply, state_after}

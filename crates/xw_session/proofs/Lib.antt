@@ -1,4 +1,3 @@
-pub mod Gathering
 pub mod Answering
 pub mod Engine
 pub mod Autofilling
@@ -7,14 +6,7 @@ pub mod Tallying
 pub mod Erasing
 pub mod BaseWords
 pub mod Choosing
-pub mod Sending
-pub mod Bars
-pub mod LetterTexts
-pub mod LightTexts
-pub mod Escapes
-pub mod FieldTexts
 pub mod Report
 pub mod TextMode
-pub mod Recording
 pub mod Resumed
 pub mod Opened

@@ -5,7 +5,7 @@ use Rattle.xw_grid.specs.Edit.{blank}
 use Rattle.xw_grid.specs.Grid.{Grid}
 use Rattle.xw_grid.specs.Puzzle.{PuzzleShown}
 use Rattle.xw_feas.specs.State.{State as Position}
-use Rattle.xw_session.specs.Record.{known_counts}
+use Rattle.xw_answers.specs.Record.{known_counts}
 use Rattle.xw_session.specs.State.{State}
 use Rattle.xw_session.specs.Opening.{empty_puzzle, opened_on}
 

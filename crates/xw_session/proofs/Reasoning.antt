@@ -8,8 +8,8 @@ use Rattle.xw_reason.specs.declared.why.NoReason.{NoReason}
 use Rattle.xw_reason.specs.declared.why.NoReason.TheVariants as reasons
 use Rattle.xw_reason.specs.Reason.{IsReasonOf, IsRefused}
 use Rattle.xw_reason.proofs.Existence.{reason_exists}
-use Rattle.xw_session.specs.declared.refusal.Refusal.{Refusal}
-use Rattle.xw_session.specs.declared.refusal.Refusal.TheVariants as refusals
+use Rattle.xw_answers.specs.declared.refusal.Refusal.{Refusal}
+use Rattle.xw_answers.specs.declared.refusal.Refusal.TheVariants as refusals
 use Rattle.xw_session.specs.State.{State}
 use Rattle.xw_session.specs.Reply.{Reply, grid_memory}
 use Rattle.xw_session.specs.Why.{entry_lines, IsWhyDue}

@@ -11,9 +11,9 @@ use Rattle.xw_commands.specs.Command.{command_of}
 use Rattle.xw_commands.specs.declared.command.Command.{Command}
 use Rattle.xw_commands.specs.declared.command.SyntaxFault.{SyntaxFault}
 use Rattle.xw_session.specs.Answer.{Answers, AnswersParsed}
-use Rattle.xw_session.specs.Text.{refused}
-use Rattle.xw_session.specs.declared.refusal.Refusal.{Refusal}
-use Rattle.xw_session.specs.declared.refusal.Refusal.TheVariants as refusals
+use Rattle.xw_answers.specs.Text.{refused}
+use Rattle.xw_answers.specs.declared.refusal.Refusal.{Refusal}
+use Rattle.xw_answers.specs.declared.refusal.Refusal.TheVariants as refusals
 use Rattle.xw_session.specs.declared.resuming.Stop.{Stop}
 use Rattle.xw_session.specs.declared.resuming.Stop.TheVariants.{NoCommand, Memory}
 use Rattle.xw_session.specs.State.{State}

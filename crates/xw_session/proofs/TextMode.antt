@@ -6,13 +6,13 @@ use Rattle.xw_commands.specs.declared.command.Field.{Field}
 use Rattle.xw_commands.specs.declared.command.TextMode.{TextMode}
 use Rattle.xw_commands.specs.declared.command.TextMode.TheVariants.{Behind}
 use Rattle.xw_session.specs.declared.session.putting.Target.{Target}
-use Rattle.xw_session.specs.declared.refusal.Refusal.{Refusal}
-use Rattle.xw_session.specs.declared.refusal.Refusal.TheVariants as refusals
+use Rattle.xw_answers.specs.declared.refusal.Refusal.{Refusal}
+use Rattle.xw_answers.specs.declared.refusal.Refusal.TheVariants as refusals
 use Rattle.xw_session.specs.State.{State}
-use Rattle.xw_session.specs.Escape.{text_spelled}
+use Rattle.xw_answers.specs.Escape.{text_spelled, has_nul}
 use Rattle.xw_session.specs.Put.{target_of, has_target, text_at, with_text_at, with_piece}
-use Rattle.xw_session.specs.Reply.{Reply, put, edited, has_nul, want_of_text, grid_memory}
-use Rattle.xw_session.proofs.Escapes.{nul_spelled}
+use Rattle.xw_session.specs.Reply.{Reply, put, edited, want_of_text, grid_memory}
+use Rattle.xw_answers.proofs.Escapes.{nul_spelled}
 
 spelled_some : (found : Option (List ℕ)) → is_some found ≡ true → (piece : List ℕ) × (found ≡ Some piece)
 spelled_some None e = cc

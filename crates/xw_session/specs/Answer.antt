@@ -14,24 +14,25 @@ use Rattle.xw_lines.specs.declared.outcome.Step.TheVariants.{Silent, Accepted, R
 use Rattle.xw_commands.specs.declared.command.Command.{Command}
 use Rattle.xw_commands.specs.declared.command.Command.TheVariants as commands
 use Rattle.xw_commands.specs.declared.command.SyntaxFault.{SyntaxFault}
-use Rattle.xw_session.specs.declared.refusal.Refusal.{Refusal}
-use Rattle.xw_session.specs.declared.refusal.Refusal.TheVariants as refusals
+use Rattle.xw_answers.specs.declared.refusal.Refusal.{Refusal}
+use Rattle.xw_answers.specs.declared.refusal.Refusal.TheVariants as refusals
 use Rattle.xw_commands.specs.Command.{command_of}
 use Rattle.xw_reason.specs.declared.why.NoReason.{NoReason}
-use Rattle.xw_session.specs.Refusal.{refusal_of, refusal_without_reason}
+use Rattle.xw_answers.specs.Refusal.{refusal_of}
+use Rattle.xw_session.specs.Why.{refusal_without_reason, IsWhyDue, entry_lines}
 use Rattle.xw_session.specs.Reply.{Reply, reply_to, want_of, want_of_action, name_of_light, moved, filling_name}
 use Rattle.xw_session.specs.Autofill.{names_of, IsAutofillDue}
-use Rattle.xw_session.specs.Why.{IsWhyDue, entry_lines}
 use Rattle.xw_lines.specs.Sends.{Sends}
 use Rattle.xw_session.specs.State.{State}
-use Rattle.xw_session.specs.Text.{accepted, refused, word_line, change_line}
+use Rattle.xw_answers.specs.Text.{accepted, refused, word_line, change_line}
 
 -- an allowed reply: the specified one, or `want` (Memory) if the specified one is not a refusal
 abbrev pub IsReply : Result Reply Refusal → Option Refusal → Result Reply Refusal → Type 0
 IsReply due want (Ok reply) = due ≡ Ok reply
 IsReply due want (Err refusal) = (due ≡ Err refusal) ⊎ (IsOk due × (want ≡ Some refusal))
 
--- a reply that the command may get if no allocation fails: more than one for autofill and why, and one for any other command
+-- A reply that the command may get if no allocation fails. For autofill and why there can be more than one such reply; for
+-- any other command there is exactly one.
 abbrev pub IsDue : State → Command → Result Reply Refusal → Type 0
 IsDue state (commands.Autofill limit seed lights) due = IsAutofillDue state (names_of lights) due
 IsDue state (commands.Why named) due = IsWhyDue state (name_of_light named) due
@@ -74,7 +75,7 @@ AnswersTo transcript failures state command result after old new =
 
 -- ---- what single functions of a session do
 
--- the command asks for this edit, or is refused before it
+-- the command stands for this edit of the engine, or is refused before any edit
 abbrev pub Asks : State → Command → Result Edit Refusal → Type 0
 Asks state command (Ok edit) = IsDue state command (moved state (after state.position (action_of edit))) × (want_of state command ≡ want_of_action state (action_of edit))
 Asks state command (Err refusal) = IsDue state command (Err refusal)
@@ -99,7 +100,7 @@ abbrev pub why_reply : Grid → Result (Vec (Option ℕ) Global) NoReason → St
 why_reply grid (Ok entries) state = Ok (record { lines = entry_lines grid entries.items; state = state })
 why_reply grid (Err refusal) state = Err (refusal_without_reason refusal)
 
--- the command, which has one allowed reply, was executed or refused, and the state is the one that its reply leaves
+-- A command with one allowed reply was executed or refused, and left the state that its reply has.
 abbrev pub Edits : {T : Type 0} → State → Command → Result T Refusal → State → Type 0
 Edits state command result after = IsReply (reply_to state command) (want_of state command) (reply_of result after) × (after ≡ state_after state (reply_of result after))
 
@@ -115,11 +116,15 @@ AnswersParsed state (Err fault) step answer after = (step ≡ Refused) × (answe
 abbrev pub Answers : State → List ℕ → Step → List ℕ → State → Type 0
 Answers state line = AnswersParsed state (command_of line)
 
--- The line was answered on a writer, or a prefix of an answer was written if the writer failed. Its effect remains in
--- both cases.
-pub record AnswersLine {S E : Type 0} (transcript : S → List ℕ) (failures : S → ℕ) (state : State) (line : List ℕ) (result : Result Step E) (after : State) (old new : S) : Type 0 where
+-- The parsed line was answered on a writer, or a prefix of an answer was written if the writer failed. Its effect
+-- remains in both cases.
+pub record AnswersParsedBy {S E : Type 0} (transcript : S → List ℕ) (failures : S → ℕ) (state : State) (parsed : Result (Option Command) SyntaxFault) (result : Result Step E) (after : State) (old new : S) : Type 0 where
   pub outcome : Step
   pub answer : List ℕ
-  pub fits : Answers state line outcome answer after
+  pub fits : AnswersParsed state parsed outcome answer after
   pub sends : Sends transcript failures old new result answer
   pub is : IfOk result (λ s. s ≡ outcome)
+
+-- the line was answered on a writer, as `AnswersParsedBy` says of a parsed line
+abbrev pub AnswersLine : {S E : Type 0} → (S → List ℕ) → (S → ℕ) → State → List ℕ → Result Step E → State → S → S → Type 0
+AnswersLine transcript failures state line result after old new = AnswersParsedBy transcript failures state (command_of line) result after old new

@@ -3,18 +3,19 @@ use Rattle.std.specs.Prelude.{◌≡◌, List, map, Result, Ok, Err}
 use Rattle.xw_grid.specs.declared.cell.LightName.{LightName}
 use Rattle.xw_feas.specs.State.{State as Position}
 use Rattle.xw_fill.specs.declared.search.Filling.{Filling}
-use Rattle.xw_autofill.specs.NamedFill.{IsAutofilled, is_named, AreLights}
+use Rattle.xw_fill.specs.NamedFill.{IsAutofilled, is_named, AreLights}
 use Rattle.xw_commands.specs.declared.command.LightArg.{LightArg}
-use Rattle.xw_session.specs.declared.refusal.Refusal.{Refusal}
-use Rattle.xw_session.specs.declared.refusal.Refusal.TheVariants as refusals
-use Rattle.xw_session.specs.Text.{word_line}
+use Rattle.xw_answers.specs.declared.refusal.Refusal.{Refusal}
+use Rattle.xw_answers.specs.declared.refusal.Refusal.TheVariants as refusals
+use Rattle.xw_answers.specs.Text.{word_line}
 use Rattle.xw_session.specs.State.{State}
 use Rattle.xw_session.specs.Reply.{Reply, name_of_light, filling_name}
 
 abbrev pub names_of : List LightArg → List LightName
 names_of lights = map name_of_light lights
 
--- the reply names how a search for a fill of the named lights may end; its state is one that such an end may leave
+-- The reply to a search for a fill of the named lights: it names one way in which the search may end, and has a state that
+-- this end may leave.
 pub record IsAutofillReply (state : State) (names : List LightName) (reply : Reply) : Type 0 where
   pub lights : AreLights state.position names
   pub filling : Filling
@@ -22,7 +23,7 @@ pub record IsAutofillReply (state : State) (names : List LightName) (reply : Rep
   pub done : IsAutofilled (is_named state.position names) state.position position filling
   pub is : reply ≡ record { lines = word_line (filling_name filling); state = record state { position = position } }
 
--- a reply that autofill may get if no allocation fails: such a reply, or NoLight if some name is that of no light
+-- a reply that autofill may get if no allocation fails: such a reply, or NoLight if a name in the list is that of no light
 abbrev pub IsAutofillDue : State → List LightName → Result Reply Refusal → Type 0
 IsAutofillDue state names (Ok reply) = IsAutofillReply state names reply
 IsAutofillDue state names (Err refusal) = (refusal ≡ refusals.NoLight) × ((AreLights state.position names) → ⊥)

@@ -24,11 +24,11 @@ is_complete position (Some light) = is_entered (position_of position) light
 abbrev pub is_held : Position → Direction → Cell → Bool
 is_held position direction cell = is_complete position (index_through (lights_of position.grid) (crossing direction) cell)
 
--- the cell has a letter; if complete words are spared, none of them crosses there
+-- whether the cell is to be emptied: it has a letter, and no complete word crosses there if complete words are spared
 abbrev pub is_erased : Position → Bool → Direction → Cell → Bool
 is_erased position spares direction cell = is_some (entry position.grid cell) && not (spares && is_held position direction cell)
 
--- such cells of a light
+-- the cells of a light that are to be emptied
 abbrev pub erased_if : Position → Bool → Light → List Cell
 erased_if position spares light = filter (is_erased position spares light.name.direction) (cells_of light)
 

@@ -1,16 +1,11 @@
 pub mod State
-pub mod Escape
-pub mod Refusal
-pub mod Text
-pub mod Show
+pub mod Found
 pub mod Told
 pub mod Tally
 pub mod Erase
 pub mod Unmatched
 pub mod Choices
-pub mod Stats
 pub mod Put
-pub mod Spelling
 pub mod Record
 pub mod Reply
 pub mod Autofill

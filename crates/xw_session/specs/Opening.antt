@@ -4,7 +4,7 @@ use Rattle.xw_words.specs.Dictionary.{Dictionary}
 use Rattle.xw_grid.specs.Edit.{blank}
 use Rattle.xw_grid.specs.Clue.{no_clues}
 use Rattle.xw_grid.specs.Puzzle.{PuzzleShown}
-use Rattle.xw_session.specs.Record.{known_counts}
+use Rattle.xw_answers.specs.Record.{known_counts}
 use Rattle.xw_session.specs.State.{State}
 
 -- the puzzle without texts, clues and circles on an empty grid of 15 rows and columns

@@ -1,4 +1,4 @@
--- Where `text` and `more` put a text, and what they do.
+-- The targets of `text` and `more`, and what the two commands do to the text there.
 use Rattle.std.specs.Prelude.{ℕ, Bool, true, List, [], ◌∷◌, ◌++◌}
 use Rattle.xw_grid.specs.Grid.{Grid, is_inside}
 use Rattle.xw_grid.specs.Clue.{clue_at, with_clue}

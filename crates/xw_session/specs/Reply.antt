@@ -30,26 +30,27 @@ use Rattle.xw_commands.specs.declared.command.LightArg.{LightArg}
 use Rattle.xw_commands.specs.declared.command.TextField.{TextField}
 use Rattle.xw_commands.specs.declared.command.Command.{Command}
 use Rattle.xw_commands.specs.declared.command.Command.TheVariants as commands
-use Rattle.xw_session.specs.declared.refusal.Refusal.{Refusal}
-use Rattle.xw_session.specs.declared.refusal.Refusal.TheVariants as refusals
-use Rattle.xw_session.specs.Refusal.{refusal_of}
+use Rattle.xw_answers.specs.declared.refusal.Refusal.{Refusal}
+use Rattle.xw_answers.specs.declared.refusal.Refusal.TheVariants as refusals
+use Rattle.xw_answers.specs.Refusal.{refusal_of}
 use Rattle.xw_commands.specs.declared.command.Report.{Report}
 use Rattle.xw_commands.specs.declared.command.Report.TheVariants.{Cells, Counts, Texts, Stats, Record}
 use Rattle.xw_commands.specs.declared.command.TextMode.{TextMode}
 use Rattle.xw_commands.specs.declared.command.Field.{Field}
 use Rattle.xw_session.specs.State.{State, with_text_in}
 pub use Rattle.xw_session.specs.State.{cell_of}
-use Rattle.xw_session.specs.Escape.{text_spelled}
+use Rattle.xw_answers.specs.Escape.{text_spelled, has_nul}
 use Rattle.xw_session.specs.Tally.{tally_lines}
 use Rattle.xw_session.specs.Erase.{erased_cells, emptied}
 use Rattle.xw_session.specs.Unmatched.{unmatched_lines}
-use Rattle.xw_session.specs.Choices.{choice_lines}
+use Rattle.xw_session.specs.Choices.{first_index, choice_lines}
 use Rattle.xw_session.specs.Told.{cell_lines, count_lines, text_lines}
-use Rattle.xw_session.specs.Stats.{stat_lines}
+use Rattle.xw_answers.specs.Stats.{stat_lines}
 use Rattle.xw_session.specs.Record.{record_lines}
 use Rattle.xw_session.specs.Put.{target_of, has_target, with_piece}
-use Rattle.xw_session.specs.Text.{word_line, light_lines, circle_lines, change_line, letters_line, counted_lines, light_of, duplicate_line, spelled_line, suggestion_line}
-use Rattle.xw_session.specs.Show.{show_lines}
+use Rattle.xw_answers.specs.Text.{word_line, light_lines, circle_lines, change_line, letters_line, counted_lines, light_of, spelled_line}
+use Rattle.xw_session.specs.Found.{duplicate_line, suggestion_line}
+use Rattle.xw_answers.specs.Show.{show_lines}
 
 -- the answer lines before `ok`, and the state after the command
 pub record Reply : Type 0 where
@@ -107,9 +108,6 @@ abbrev pub erased : State → Option Light → Result Reply Refusal
 erased state None = Err refusals.NoLight
 erased state (Some light) = moved state (after state.position (list_written (emptied (erased_cells state.position light))))
 
-abbrev pub has_nul : List ℕ → Bool
-has_nul text = list_any (nat_eq 0) text
-
 -- the clue is stored at the light's start cell and direction
 abbrev pub with_clue_of : State → Option Light → List ℕ → Result Reply Refusal
 with_clue_of state None text = Err refusals.NoLight
@@ -119,7 +117,7 @@ with_clue_of state (Some light) text = if has_nul text then Err refusals.NulByte
 abbrev pub written : State → TextField → List ℕ → Result Reply Refusal
 written state field text = if has_nul text then Err refusals.NulByte else edited (record state { texts = with_text_in state.texts field text })
 
--- the text replaces the one in the field or is appended to it
+-- the text that a spelling stands for replaces the text of a field, or is appended to it; None is a wrong escape
 abbrev pub put : State → TextMode → Field → Option (List ℕ) → Result Reply Refusal
 put state putting field None = Err refusals.Escape
 put state putting field (Some text) =
@@ -153,10 +151,15 @@ worded state None most = Err refusals.NoLight
 worded state (Some light) most =
     shown state (counted_lines (length (feasible_words (position_of state.position) light)) (first_words most (feasible_words (position_of state.position) light)))
 
--- the first feasible words of a light with what each leaves
-abbrev pub weighed : State → Option ℕ → ℕ → Result Reply Refusal
-weighed state None most = Err refusals.NoLight
-weighed state (Some light) most = shown state (choice_lines state.position light most)
+-- the first feasible words of a light, from an index on, with what each leaves
+abbrev pub weighed_from : State → ℕ → ℕ → Result (Option ℕ) Refusal → Result Reply Refusal
+weighed_from state light most (Ok from) = shown state (choice_lines state.position light from most)
+weighed_from state light most (Err refusal) = Err refusal
+
+-- the first feasible words of a light, from a named word on, with what each leaves
+abbrev pub weighed : State → Option ℕ → ℕ → Option (List ℕ) → Result Reply Refusal
+weighed state None most first = Err refusals.NoLight
+weighed state (Some light) most first = weighed_from state light most (first_index state.position light first)
 
 -- the feasible letters of an open cell
 abbrev pub lettered : State → Cell → Result Reply Refusal
@@ -186,7 +189,8 @@ fill_tried state limit =
 
 -- ---- the reply to each command if no allocation fails
 
--- autofill and why have more than one allowed reply, which IsDue of Answer.antt defines; no command is replayed as one of these
+-- A placeholder for autofill and why, which can have more than one allowed reply; `IsDue` of `Answer.antt` has their rows.
+-- No record has such a command.
 abbrev pub not_determined : Result Reply Refusal
 not_determined = Err refusals.NoLight
 
@@ -209,7 +213,7 @@ reply_to state commands.Circles = shown state (circle_lines state.position.grid 
 reply_to state commands.Show = shown state (show_lines state.position.grid)
 reply_to state commands.Lights = shown state (light_lines state.position.grid)
 reply_to state (commands.Words named most) = worded state (index_named (lights_of state.position.grid) (name_of_light named)) most
-reply_to state (commands.Choices named most) = weighed state (index_named (lights_of state.position.grid) (name_of_light named)) most
+reply_to state (commands.Choices named most first) = weighed state (index_named (lights_of state.position.grid) (name_of_light named)) most first
 reply_to state (commands.Letters spot) = lettered state (cell_of spot)
 reply_to state (commands.Tally spot) = tallied state (cell_of spot)
 reply_to state commands.Duplicates = shown state (flat_map (duplicate_line state.position.grid) (duplicates_of state.position))
@@ -223,32 +227,12 @@ reply_to state (commands.Watch is_on) = edited (record state { is_watched = is_o
 reply_to state (commands.Tell telling) = shown state (told_lines state telling)
 reply_to state (commands.Put putting field spelling) = put state putting field (text_spelled spelling)
 
--- the command has answer lines before `ok`
-abbrev pub has_lines : Command → Bool
-has_lines (commands.Match pattern) = true
-has_lines commands.Circles = true
-has_lines commands.Show = true
-has_lines commands.Lights = true
-has_lines (commands.Words named most) = true
-has_lines (commands.Choices named most) = true
-has_lines (commands.Letters spot) = true
-has_lines (commands.Tally spot) = true
-has_lines commands.Duplicates = true
-has_lines commands.Unlisted = true
-has_lines commands.Unmatched = true
-has_lines commands.Suggest = true
-has_lines (commands.Why named) = true
-has_lines (commands.Fill limit) = true
-has_lines (commands.Autofill limit seed lights) = true
-has_lines (commands.Tell telling) = true
-has_lines other = false
-
 -- ---- failed allocations
 
 abbrev pub grid_memory : Refusal
 grid_memory = refusals.Grid grids.Memory
 
--- an empty text needs no allocation
+-- a text may need an allocation, unless it is empty
 abbrev pub want_of_text : List ℕ → Option Refusal
 want_of_text [] = None
 want_of_text (byte ∷ bytes) = Some grid_memory
@@ -259,33 +243,16 @@ want_of_action state action = option_map refusal_of (want_of_edit state.position
 -- the refusal that a failed allocation gives, if the command may allocate
 abbrev pub want_of : State → Command → Option Refusal
 want_of state (commands.Size width height) = Some grid_memory
-want_of state (commands.Symmetry kind) = None
 want_of state (commands.Add word) = want_of_action state (word_added word)
-want_of state (commands.Strike word) = None
-want_of state (commands.Match pattern) = None
-want_of state (commands.Set spot letter) = None
-want_of state (commands.Clear spot) = None
-want_of state (commands.Place named word) = None
-want_of state (commands.Erase named) = None
 want_of state (commands.Block spot) = Some grid_memory
 want_of state (commands.Bar spot side) = Some grid_memory
 want_of state (commands.Clue named text) = want_of_text text
 want_of state (commands.Write field text) = want_of_text text
 want_of state (commands.Circle spot) = if is_circled state.circles (cell_of spot) then None else Some grid_memory
-want_of state commands.Circles = None
-want_of state commands.Show = None
-want_of state commands.Lights = None
-want_of state (commands.Words named most) = None
-want_of state (commands.Choices named most) = None
-want_of state (commands.Letters spot) = None
-want_of state (commands.Tally spot) = None
 want_of state commands.Duplicates = Some grid_memory
 want_of state commands.Unlisted = Some grid_memory
-want_of state commands.Unmatched = None
-want_of state commands.Suggest = None
 want_of state (commands.Why named) = Some grid_memory
 want_of state (commands.Fill limit) = Some grid_memory
 want_of state (commands.Autofill limit seed lights) = Some grid_memory
-want_of state (commands.Watch is_on) = None
-want_of state (commands.Tell telling) = None
 want_of state (commands.Put putting field spelling) = want_of_text spelling
+want_of state other = None

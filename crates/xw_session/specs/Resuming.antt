@@ -1,4 +1,4 @@
--- Executing lines without writing their answers.
+-- Replaying lines: their answers are not written, and refused lines are reported.
 use Rattle.std.specs.Prelude.{◌≡◌, ◌≢◌, ◌⊎◌, ℕ, ◌+◌, Bool, true, false, List, [], ◌∷◌, ◌++◌, codes, decimal, length, Option, Some, None, Result, Ok, Err, is_some, if◌then◌else◌}
 use Rattle.xw_words.specs.declared.fault.WordFault.TheVariants as words
 use Rattle.xw_grid.specs.declared.fault.GridFault.TheVariants as grids
@@ -9,18 +9,18 @@ use Rattle.xw_commands.specs.Command.{command_of}
 use Rattle.xw_commands.specs.declared.command.Command.{Command}
 use Rattle.xw_commands.specs.declared.command.Command.TheVariants as commands
 use Rattle.xw_commands.specs.declared.command.SyntaxFault.{SyntaxFault}
-use Rattle.xw_session.specs.declared.refusal.Refusal.{Refusal}
-use Rattle.xw_session.specs.declared.refusal.Refusal.TheVariants as refusals
+use Rattle.xw_answers.specs.declared.refusal.Refusal.{Refusal}
+use Rattle.xw_answers.specs.declared.refusal.Refusal.TheVariants as refusals
 use Rattle.xw_session.specs.declared.resuming.Stop.{Stop}
 use Rattle.xw_session.specs.declared.resuming.Stop.TheVariants.{NoCommand, Memory}
 use Rattle.xw_session.specs.Answer.{Answers}
-use Rattle.xw_session.specs.Escape.{text_spelled}
+use Rattle.xw_answers.specs.Escape.{text_spelled}
 use Rattle.xw_session.specs.State.{State}
-use Rattle.xw_session.specs.Text.{name_of, refused, word_line}
+use Rattle.xw_answers.specs.Text.{name_of, refused, word_line}
 
 -- ---- lines that are not commands
 
--- why a command is none after all: the spelling of its text has a wrong escape
+-- why a parsed line is not a command after all: the text of `text` or `more` has a wrong escape
 abbrev pub command_fault : Option Command → Option Refusal
 command_fault (Some (commands.Put putting field spelling)) = if is_some (text_spelled spelling) then None else Some refusals.Escape
 command_fault other = None
@@ -40,21 +40,22 @@ is_memory (refusals.Word words.Memory) = true
 is_memory (refusals.Grid grids.Memory) = true
 is_memory other = false
 
--- from a state the line may be executed and leave this state, refused with this answer or else not refused
+-- In a state the line may be executed and leave this state. It is refused with this answer or, if None, not refused.
 abbrev pub IsAnswered : State → List ℕ → Option (List ℕ) → State → Type 0
 IsAnswered state line None after = (step : Step) × (answer : List ℕ) × Answers state line step answer after × (step ≢ Refused)
 IsAnswered state line (Some answer) after = Answers state line Refused answer after
 
--- from a state a command may be accepted, or refused for this reason other than memory, and leave this state
+-- In a state the command may be executed and leave this state. It is refused for this reason, which is not a failed
+-- allocation, or, if None, not refused.
 abbrev pub IsDone : State → List ℕ → Option Refusal → State → Type 0
 IsDone state line None after = (line_fault line ≡ None) × IsAnswered state line None after
 IsDone state line (Some refusal) after = (line_fault line ≡ None) × IsAnswered state line (Some (refused refusal)) after × (is_memory refusal ≡ false)
 
--- from a state the line may leave this state, whatever its answer
+-- in a state the line may be executed and leave this state, whatever its answer
 abbrev pub MayBeDone : State → List ℕ → State → Type 0
 MayBeDone state line after = (step : Step) × (answer : List ℕ) × Answers state line step answer after
 
--- ---- what is reported
+-- ---- reports
 
 abbrev pub count : Option Refusal → ℕ
 count None = 0
@@ -68,11 +69,13 @@ abbrev pub told_of : List ℕ → ℕ → Option Refusal → List ℕ
 told_of file number None = []
 told_of file number (Some refusal) = refused_line file number refusal
 
--- the text was written and no write failed, or a write failed; the arguments are the transcript and the failures of the writer
+-- The text was written and no write failed, or a write failed. The first two arguments are the writer's transcript and its
+-- count of failures.
 abbrev pub Tells : {S : Type 0} → (S → List ℕ) → (S → ℕ) → S → S → List ℕ → Type 0
 Tells transcript failures old new text = ((transcript new ≡ transcript old ++ text) × (failures new ≡ failures old)) ⊎ HasFailed (failures old) (failures new)
 
--- how the line with this number ends: executed and perhaps reported, not a command, or with a failed allocation
+-- How the replay of one line ends. `Ok`: the line was executed, and reported if it was refused. `NoCommand`: it is not a
+-- command, and nothing was done. `Memory`: an allocation failed, and the line may have been executed.
 abbrev pub ResumesLine : {S : Type 0} → (S → List ℕ) → (S → ℕ) → List ℕ → ℕ → State → List ℕ → Result ℕ Stop → State → S → S → Type 0
 ResumesLine transcript failures file number state line (Ok refused) after old new =
     (refusal : Option Refusal) × IsDone state line refusal after × (refused ≡ count refusal) × Tells transcript failures old new (told_of file number refusal)
@@ -83,8 +86,8 @@ ResumesLine transcript failures file number state line (Err Memory) after old ne
 
 -- ---- all lines
 
--- the commands, the first of which has this line number, may be executed one after another: the reports of refused lines, their
--- number, and the state that is left
+-- These lines may be executed one after another, with these reports of refused lines, this number of them, and this state at
+-- the end. All lines are commands, and the first has this line number.
 abbrev pub AreDone : List ℕ → ℕ → State → List (List ℕ) → List ℕ → ℕ → State → Type 0
 AreDone file number start [] transcript refused end = (transcript ≡ []) × (refused ≡ 0) × (end ≡ start)
 AreDone file number start (line ∷ lines) transcript refused end =
@@ -101,8 +104,9 @@ pub record IsReached (file : List ℕ) (start : State) (lines : List (List ℕ))
   pub numbered : number ≡ length before + 1
   pub done : AreDone file 1 start before transcript refused state
 
--- how a replay ends, what it reports, and the state it leaves: all lines are commands and were executed; or the first line that is
--- not a command is reached, and is not executed; or an allocation failed for a line, which may have been executed
+-- How a replay ends, what it reports, and the state that it leaves. `Ok`: all lines are commands and were executed.
+-- `NoCommand`: the lines before the first that is not a command were executed. `Memory`: an allocation failed for a line,
+-- which may have been executed.
 abbrev pub Resumes : List ℕ → State → List (List ℕ) → Result ℕ Stop → List ℕ → State → Type 0
 Resumes file start lines (Ok refused) transcript end = AreDone file 1 start lines transcript refused end
 Resumes file start lines (Err (NoCommand number refusal)) transcript end =

@@ -9,9 +9,9 @@ use Rattle.xw_feas.specs.State.{State as Position}
 use Rattle.xw_fill.specs.Position.{position_of}
 use Rattle.xw_fill.specs.FeasibleWords.{feasible_words}
 use Rattle.xw_fill.specs.FeasibleLetters.{feasible_letters}
-use Rattle.xw_session.specs.Text.{line_of}
+use Rattle.xw_answers.specs.Text.{line_of}
 
--- how far a cell of a light is from the first cell of the light
+-- the position of a cell in a light, by the first cell of the light
 abbrev pub distance : Direction → Cell → Cell → ℕ
 distance Across first cell = cell.col - first.col
 distance Down first cell = cell.row - first.row
@@ -25,7 +25,7 @@ abbrev pub words_with : Position → Direction → Cell → ℕ → ℕ → ℕ
 words_with position direction cell letter light =
     count_by (λ word. slice_index word (distance direction (start_of position.grid light) cell) == letter) (feasible_words (position_of position) light)
 
--- the same for the light through the cell; None if there is no light
+-- that number for the light in a direction through the cell; None if there is no such light
 abbrev pub tally_at : Position → Direction → Cell → ℕ → Option ℕ
 tally_at position direction cell letter = option_map (words_with position direction cell letter) (index_through (lights_of position.grid) direction cell)
 

@@ -4,14 +4,17 @@ use Rattle.std.specs.List.{range_with_len}
 use Rattle.xw_grid.specs.declared.cell.LightName.{LightName}
 use Rattle.xw_grid.specs.Grid.{Grid, cell_at}
 use Rattle.xw_grid.specs.Light.{lights_of, index_named}
+use Rattle.xw_grid.specs.declared.fault.GridFault.TheVariants as grids
+use Rattle.xw_reason.specs.declared.why.NoReason.{NoReason}
+use Rattle.xw_reason.specs.declared.why.NoReason.TheVariants as reasons
 use Rattle.xw_reason.specs.Reason.{entry_in, IsReasonOf, IsLight}
-use Rattle.xw_session.specs.declared.refusal.Refusal.{Refusal}
-use Rattle.xw_session.specs.declared.refusal.Refusal.TheVariants as refusals
-use Rattle.xw_session.specs.Text.{entry_line}
+use Rattle.xw_answers.specs.declared.refusal.Refusal.{Refusal}
+use Rattle.xw_answers.specs.declared.refusal.Refusal.TheVariants as refusals
+use Rattle.xw_answers.specs.Text.{entry_line}
 use Rattle.xw_session.specs.State.{State}
 use Rattle.xw_session.specs.Reply.{Reply}
 
--- the line of a cell, by its index in reading order
+-- the line of a cell with an entry, by the cell's index in reading order
 abbrev pub entry_told : Grid → List (Option ℕ) → ℕ → List ℕ
 entry_told grid entries index = entry_line (cell_at grid index) (entry_in entries index)
 
@@ -34,3 +37,9 @@ IsWhyRefusal state name refusal =
 abbrev pub IsWhyDue : State → LightName → Result Reply Refusal → Type 0
 IsWhyDue state name (Ok reply) = IsWhyReply state name reply
 IsWhyDue state name (Err refusal) = IsWhyRefusal state name refusal
+
+-- the refusal where there is no reason
+abbrev pub refusal_without_reason : NoReason → Refusal
+refusal_without_reason reasons.NoLight = refusals.NoLight
+refusal_without_reason reasons.Alive = refusals.Alive
+refusal_without_reason reasons.Memory = refusals.Grid grids.Memory

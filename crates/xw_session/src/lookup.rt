@@ -1,11 +1,9 @@
-//! Finds lights by the names in command lines.
-ghost use Rattle.std.specs.Prelude.{◌≡◌, ◌≤◌, IfSome, IfNone, slice_get};
-ghost use Rattle.std.specs.Option.{option_and_then};
-ghost use Rattle.xw_grid.specs.Light.{index_named};
+//! Reads the names of lights in command lines.
+ghost use Rattle.std.specs.Prelude.{◌≡◌, ◌≤◌, IfSome, IfNone};
 ghost use Rattle.xw_session.specs.Reply.{name_of_light};
 
 use xw_commands::command::LightArg;
-use xw_grid::{Light, LightName, Lights};
+use xw_grid::LightName;
 
 /// Converts a light's name from a command. Returns `None` if its number does not fit in 16 bits.
 pub fn light_name(named: LightArg) -> Option<LightName>
@@ -19,11 +17,4 @@ pub fn light_name(named: LightArg) -> Option<LightName>
         }),
         Err(_) => None,
     }
-}
-
-/// Returns the light with this name, if the grid has one.
-pub fn light_named(lights: &Lights, name: LightName) -> Option<Light>
-    ensures { result ≡ option_and_then (slice_get lights.now) (index_named lights.now name) }
-{
-    lights.get(lights.index(name)?)
 }

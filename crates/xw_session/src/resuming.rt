@@ -1,15 +1,15 @@
 //! Replays the lines of a session file into a session.
 ghost use Rattle.std.specs.Prelude.{◌≡◌, ℕ, ◌≤◌, List, IfOk, OnOk, OnErr, option_map};
 ghost use Rattle.xw_lines.specs.Cut.{lines_of};
-ghost use Rattle.xw_session.specs.Text.{refused, word_line, name_of};
-ghost use Rattle.xw_session.specs.declared.refusal.Refusal.{Refusal};
+ghost use Rattle.xw_answers.specs.Text.{refused, word_line, name_of};
+ghost use Rattle.xw_answers.specs.declared.refusal.Refusal.{Refusal};
 ghost use Rattle.xw_session.specs.Resuming.{line_fault as fault_of_line, is_memory as is_want_of_memory, refused_line, IsAnswered, MayBeDone, ResumesLine, Resumes, Tells};
 
-use crate::escape::is_spelling;
-use crate::refusal::Refusal;
 use crate::session::Session;
 use crate::vec_sink::VecSink;
 use std::alloc::{AllocError, Global};
+use xw_answers::escape::is_spelling;
+use xw_answers::refusal::Refusal;
 use xw_commands::command::{self, Command};
 use xw_feas::searchable::Searchable;
 use xw_lines::{Sink, Step, device};

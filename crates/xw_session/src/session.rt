@@ -20,19 +20,21 @@ ghost use Rattle.xw_lines.specs.Run.{IsRun};
 ghost use Rattle.xw_lines.specs.Sends.{Sends};
 ghost use Rattle.xw_lines.specs.Spoken.{NeverStops};
 ghost use Rattle.xw_session.specs.State.{State};
-ghost use Rattle.xw_session.specs.Record.{known_counts};
-ghost use Rattle.xw_session.specs.Reply.{cell_of, has_lines};
-ghost use Rattle.xw_session.specs.Answer.{AnswersTo, AnswersLine, Answers, reply_of, text_of, step_of};
+ghost use Rattle.xw_answers.specs.Record.{known_counts};
+ghost use Rattle.xw_commands.specs.Kind.{kind_of, answers_lines};
+ghost use Rattle.xw_session.specs.Reply.{cell_of};
+ghost use Rattle.xw_session.specs.Answer.{AnswersTo, AnswersParsedBy, AnswersLine, Answers, reply_of, text_of, step_of};
 
-use crate::record::{LENGTHS, known_words};
-use crate::refusal::Refusal;
-use crate::text;
 use std::alloc::Global;
 use std::marker::Model;
-use xw_commands::command::{self, CellArg, Command, SyntaxFault};
+use xw_answers::record::{LENGTHS, known_words};
+use xw_answers::refusal::Refusal;
+use xw_answers::text;
+use xw_commands::command::{self, CellArg, Command, Kind, SyntaxFault};
 use xw_feas::edit::Refusal as EditRefusal;
 use xw_feas::feasible::Feasible;
 use xw_feas::searchable::Searchable;
+use xw_fill::named_lights::Hint;
 use xw_grid::puzzle::{Puzzle, Texts};
 use xw_grid::{Cell, Circles, Clues, Grid, GridFault};
 use xw_lines::device::{Sink, Source, WriteFailed};
@@ -40,7 +42,8 @@ use xw_lines::outcome::{AnswerFault, RunEnd, Step};
 use xw_lines::run::{self, LineHandler};
 
 /// A session over an engine: the puzzle, the watch, and the word counts at the start. `begun` holds, for each length,
-/// how many words were known when the session started.
+/// how many words were known when the session started. `hint` is what the last `autofill` left to the next one, if nothing
+/// has changed since.
 #[derive(Drop)]
 pub struct Session<E: Feasible> {
     alloc: Global,
@@ -50,6 +53,7 @@ pub struct Session<E: Feasible> {
     circles: Circles,
     is_watched: bool,
     begun: [usize; LENGTHS],
+    hint: Option<Hint>,
 }
 
 impl<E: Feasible> Model for Session<E> {
@@ -82,6 +86,13 @@ fn end_answer<W: Sink>(sink: &mut W, done: Result<(), Refusal>) -> Result<Step, 
             text::write_refused(sink, refusal)?;
             Ok(Step::Refused)
         }
+    }
+}
+
+/// Forgets what a search left if the search cannot go on.
+fn forget_if(hint: &mut Option<Hint>, is_over: bool) {
+    if is_over {
+        *hint = None;
     }
 }
 
@@ -142,6 +153,7 @@ impl<E: Feasible> Session<E> {
             circles,
             is_watched: false,
             begun,
+            hint: None,
         }
     }
 
@@ -206,8 +218,24 @@ impl<E: Feasible> Session<E> {
 impl<E: Searchable> Session<E> {
     ghost use Rattle.xw_commands.specs.declared.command.Command.TheVariants as commands;
 
-    /// Executes a command and writes its answer.
+    /// Executes a command and writes its answer. A change that is not refused ends the search that `autofill` could go on
+    /// with.
     fn answer<W: Sink>(&mut self, command: Command<'_>, sink: &mut W) -> Result<Step, WriteFailed>
+        ensures { AnswersTo W.transcript W.failures self.old command.entry result self.new sink.old sink.new }
+    {
+        let is_change = command.kind() == Kind::Change;
+        let step = self.answer_any(command, sink);
+        let is_refused = matches!(step, Ok(Step::Refused));
+        forget_if(&mut self.hint, is_change && !is_refused);
+        step
+    }
+
+    /// Executes a command and writes its answer.
+    fn answer_any<W: Sink>(
+        &mut self,
+        command: Command<'_>,
+        sink: &mut W,
+    ) -> Result<Step, WriteFailed>
         ensures { AnswersTo W.transcript W.failures self.old command.entry result self.new sink.old sink.new }
     {
         match command {
@@ -238,7 +266,7 @@ impl<E: Searchable> Session<E> {
         command: Command<'_>,
         sink: &mut W,
     ) -> Result<Step, WriteFailed>
-        requires { has_lines command ≡ true }
+        requires { answers_lines (kind_of command) ≡ true }
         ensures { AnswersTo W.transcript W.failures self.old command.entry result self.new sink.old sink.new }
     {
         match command {
@@ -247,7 +275,9 @@ impl<E: Searchable> Session<E> {
             Command::Show => self.answer_show(sink),
             Command::Lights => self.answer_lights(sink),
             Command::Words(named, most) => self.answer_words(named, most, sink),
-            Command::Choices(named, most) => self.answer_choices(named, most, sink),
+            Command::Choices(named, most, first) => {
+                self.answer_choices(named, most, &first, sink)
+            }
             Command::Letters(spot) => self.answer_letters(spot, sink),
             Command::Tally(spot) => self.answer_tally(spot, sink),
             Command::Duplicates => self.answer_duplicates(sink),
@@ -264,17 +294,29 @@ impl<E: Searchable> Session<E> {
         }
     }
 
-    /// Executes a line, which must not contain its LF, and writes its answer. A silent line has no answer. After an
-    /// error a prefix of the answer was written, and the effect of the line remains.
-    pub fn step<W: Sink>(&mut self, line: &[u8], sink: &mut W) -> Result<Step, WriteFailed>
-        ensures answer { AnswersLine W.transcript W.failures self.old line.now result self.new sink.old sink.new }
+    /// Executes a parsed line and writes its answer. A silent line has no answer. After an error a prefix of the answer
+    /// was written, and the effect of the line remains.
+    pub fn execute<W: Sink>(
+        &mut self,
+        parsed: Result<Option<Command<'_>>, SyntaxFault>,
+        sink: &mut W,
+    ) -> Result<Step, WriteFailed>
+        ensures answer { AnswersParsedBy W.transcript W.failures self.old parsed.entry result self.new sink.old sink.new }
         ensures silent { IfOk result (λ step. step ≡ Step.Silent → sink.new ≡ sink.old) }
     {
-        match command::parse(line) {
+        match parsed {
             Ok(None) => Ok(Step::Silent),
             Ok(Some(command)) => self.answer(command, sink),
             Err(fault) => end_answer(sink, Err(Refusal::Syntax(fault))),
         }
+    }
+
+    /// Executes a line, which must not contain its LF, and writes its answer, as `execute` does.
+    pub fn step<W: Sink>(&mut self, line: &[u8], sink: &mut W) -> Result<Step, WriteFailed>
+        ensures answer { AnswersLine W.transcript W.failures self.old line.now result self.new sink.old sink.new }
+        ensures silent { IfOk result (λ step. step ≡ Step.Silent → sink.new ≡ sink.old) }
+    {
+        self.execute(command::parse(line), sink)
     }
 
     /// Reads lines until the reader ends, and writes the answer of each. Each answer is flushed before the next one is
@@ -298,15 +340,7 @@ impl<E: Searchable> LineHandler for Session<E> {
     ghost stops = { NeverStops };
 
     fn handle<W: Sink>(&mut self, line: Option<&[u8]>, sink: &mut W) -> Result<Step, AnswerFault> {
-        match line {
-            Some(line) => {
-                let step = self.step(line, sink)?;
-                Ok(step)
-            }
-            None => {
-                text::write_refused(sink, Refusal::Syntax(SyntaxFault::LineTooLong))?;
-                Ok(Step::Refused)
-            }
-        }
+        let step = self.execute(command::parse_held(line), sink)?;
+        Ok(step)
     }
 }

@@ -7,7 +7,7 @@ use Rattle.xw_commands.specs.declared.command.Command.TheVariants as commands
 use Rattle.xw_commands.specs.declared.command.SyntaxFault.{SyntaxFault}
 use Rattle.xw_lines.specs.declared.outcome.Step.{Step}
 use Rattle.xw_lines.specs.declared.outcome.Step.TheVariants.{Silent, Refused}
-use Rattle.xw_session.specs.declared.refusal.Refusal.{Refusal}
+use Rattle.xw_answers.specs.declared.refusal.Refusal.{Refusal}
 use Rattle.xw_session.specs.State.{State}
 use Rattle.xw_commands.specs.Command.{command_of}
 use Rattle.xw_session.specs.Reply.{Reply, reply_to, want_of}
@@ -37,7 +37,7 @@ determined state commands.Circles due left e owed = owed
 determined state commands.Show due left e owed = owed
 determined state commands.Lights due left e owed = owed
 determined state (commands.Words named most) due left e owed = owed
-determined state (commands.Choices named most) due left e owed = owed
+determined state (commands.Choices named most first) due left e owed = owed
 determined state (commands.Letters spot) due left e owed = owed
 determined state (commands.Tally spot) due left e owed = owed
 determined state commands.Duplicates due left e owed = owed

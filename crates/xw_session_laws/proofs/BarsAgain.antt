@@ -16,10 +16,10 @@ use Rattle.xw_grid.proofs.EdgeLemmas.{is_between-IsEdgeBetween}
 use Rattle.xw_grid.proofs.GridLemmas.{cell_at-inside, index_of-cell_at, same_cell-cell_at, get_set, length-cells, get_or-map-cells}
 use Rattle.xw_feas.specs.State.{with_grid as with_edited, by_fault}
 use Rattle.xw_commands.specs.declared.command.Command.TheVariants as commands
-use Rattle.xw_session.specs.declared.record.Part.TheVariants as parts
+use Rattle.xw_answers.specs.declared.record.Part.TheVariants as parts
 use Rattle.xw_session.specs.State.{State}
 use Rattle.xw_session.specs.Reply.{moved}
-use Rattle.xw_session.specs.Record.{spot_of, cell_commands, part_commands}
+use Rattle.xw_answers.specs.Record.{spot_of, cell_commands, part_commands}
 use Rattle.xw_session_laws.specs.Replay.{state_left, replayed, with_grid, BarsAreOnEdges}
 use Rattle.xw_session_laws.proofs.Replaying.{next_done}
 use Rattle.xw_session_laws.proofs.CellsAgain.{each_cell_again, mixed, mixed_more, mixed_next, mixed_same, mixed_all, length-mixed, four_times}

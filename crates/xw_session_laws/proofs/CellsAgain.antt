@@ -22,10 +22,10 @@ use Rattle.xw_feas.specs.State.{with_grid as with_edited, by_fault}
 use Rattle.xw_grid.proofs.GridLemmas.{cell_at-inside, index_of-cell_at, same_cell-cell_at, get_set, length-cells, get_or-map-cells}
 use Rattle.xw_commands.specs.declared.command.Command.{Command}
 use Rattle.xw_commands.specs.declared.command.Command.TheVariants as commands
-use Rattle.xw_session.specs.declared.record.Part.TheVariants.{Letters, Blocks}
+use Rattle.xw_answers.specs.declared.record.Part.TheVariants.{Letters, Blocks}
 use Rattle.xw_session.specs.State.{State}
 use Rattle.xw_session.specs.Reply.{moved, with_letter}
-use Rattle.xw_session.specs.Record.{spot_of, letter_commands, block_commands, cell_commands, part_commands}
+use Rattle.xw_answers.specs.Record.{spot_of, letter_commands, block_commands, cell_commands, part_commands}
 use Rattle.xw_session_laws.specs.Replay.{state_left, replayed, bared, with_grid}
 use Rattle.xw_session_laws.proofs.Replaying.{replayed_both, next_done}
 

@@ -20,11 +20,11 @@ use Rattle.xw_grid.specs.Clue.{ClueMap, is_circled, with_circle}
 use Rattle.xw_grid.proofs.ClueLemmas.{same_at}
 use Rattle.xw_grid.proofs.GridLemmas.{cell_at-inside, take-cells, all-cells}
 use Rattle.xw_commands.specs.declared.command.Command.TheVariants as commands
-use Rattle.xw_session.specs.declared.record.Part.TheVariants.{Circles}
-use Rattle.xw_session.specs.declared.refusal.Refusal.TheVariants as refusals
+use Rattle.xw_answers.specs.declared.record.Part.TheVariants.{Circles}
+use Rattle.xw_answers.specs.declared.refusal.Refusal.TheVariants as refusals
 use Rattle.xw_session.specs.State.{State}
 use Rattle.xw_session.specs.Reply.{edited}
-use Rattle.xw_session.specs.Record.{spot_of, cell_commands, part_commands}
+use Rattle.xw_answers.specs.Record.{spot_of, cell_commands, part_commands}
 use Rattle.xw_session_laws.specs.Replay.{state_left, replayed, with_grid}
 use Rattle.xw_session_laws.proofs.Replaying.{next_done}
 use Rattle.xw_session_laws.proofs.CellsAgain.{each_cell_again, square_is}

@@ -8,10 +8,10 @@ use Rattle.xw_grid.specs.Grid.{Grid, IsGrid, cell_at}
 use Rattle.xw_grid.specs.Clue.{Texts, ClueMap, no_clues, clue_at, text_at, with_clue}
 use Rattle.xw_grid.proofs.GridLemmas.{cell_at-inside}
 use Rattle.xw_commands.specs.declared.command.Field.TheVariants as fields
-use Rattle.xw_session.specs.declared.record.Part.TheVariants.{Clues}
+use Rattle.xw_answers.specs.declared.record.Part.TheVariants.{Clues}
 use Rattle.xw_session.specs.State.{State}
-use Rattle.xw_session.specs.Reply.{has_nul}
-use Rattle.xw_session.specs.Record.{spot_of, clue_commands, cell_commands, part_commands}
+use Rattle.xw_answers.specs.Escape.{has_nul}
+use Rattle.xw_answers.specs.Record.{spot_of, clue_commands, cell_commands, part_commands}
 use Rattle.xw_session_laws.specs.Replay.{replayed, with_grid, AreTextsFrom, clues_of}
 use Rattle.xw_session_laws.proofs.Replaying.{replayed_both, text_again}
 use Rattle.xw_session_laws.proofs.CellsAgain.{each_cell_again}

@@ -24,12 +24,12 @@ use Rattle.xw_commands.specs.declared.command.TextField.{TextField}
 use Rattle.xw_commands.specs.declared.command.TextField.TheVariants.{Title, Author, Copyright, Notes}
 use Rattle.xw_commands.specs.Command.{command_named, command_in, command_of, whole}
 use Rattle.xw_lines.specs.Cut.{HasNoLf}
-use Rattle.xw_session.specs.Escape.{letter_for, escaped, is_end, spelled_at, escaped_text}
+use Rattle.xw_answers.specs.Escape.{letter_for, escaped, is_end, spelled_at, escaped_text}
 use Rattle.xw_commands.specs.Line.{without_cr, first_word, trimmed_start, trimmed_end, trimmed}
 use Rattle.xw_commands.specs.Reading.{◌>>=◌, given, number, byte, word, text, side, direction, switch, symmetry, spot, text_name, field_named, field}
 use Rattle.xw_commands.specs.Names.{direction_name, side_name, symmetry_name, switch_name, field_name, clue_name, text_fields}
-use Rattle.xw_session.specs.Spelling.{in_field, command_words, command_line}
-use Rattle.xw_session.specs.Text.{line_of}
+use Rattle.xw_answers.specs.Spelling.{in_field, command_words, command_line}
+use Rattle.xw_answers.specs.Text.{line_of}
 use Rattle.xw_session_laws.proofs.LinesRead.{spaced, line_parts, first_read, reads_word, then_read, is_high, each_weaker, IsHigh, high_word, short_number, high_number, reads_number, reads_spot, reads_byte, reads_key, reads_side, reads_direction, reads_switch, reads_symmetry, space_first, both, list_all_both}
 use Rattle.xw_commands.proofs.Passing.{each_passes}
 use Rattle.xw_session_laws.proofs.SpelledLines.{IsInked, inked, starts_inked, spelled_trimmed}
@@ -244,7 +244,7 @@ IsRecorded commands.Circles = ⊥
 IsRecorded commands.Show = ⊥
 IsRecorded commands.Lights = ⊥
 IsRecorded (commands.Words named most) = ⊥
-IsRecorded (commands.Choices named most) = ⊥
+IsRecorded (commands.Choices named most first) = ⊥
 IsRecorded (commands.Letters at) = ⊥
 IsRecorded (commands.Tally at) = ⊥
 IsRecorded commands.Duplicates = ⊥
@@ -354,7 +354,7 @@ read_again commands.Circles is = absurd is
 read_again commands.Show is = absurd is
 read_again commands.Lights is = absurd is
 read_again (commands.Words named most) is = absurd is
-read_again (commands.Choices named most) is = absurd is
+read_again (commands.Choices named most first) is = absurd is
 read_again (commands.Letters at) is = absurd is
 read_again (commands.Tally at) is = absurd is
 read_again commands.Duplicates is = absurd is

@@ -8,16 +8,17 @@ use Rattle.xw_grid.specs.Edit.{blank}
 use Rattle.xw_grid.specs.Clue.{no_clues}
 use Rattle.xw_session.specs.State.{State}
 use Rattle.xw_session.specs.Reply.{Reply}
-use Rattle.xw_session.specs.Text.{accepted, refused}
-use Rattle.xw_session.specs.declared.refusal.Refusal.TheVariants as refusals
+use Rattle.xw_answers.specs.Text.{accepted, refused}
+use Rattle.xw_answers.specs.declared.refusal.Refusal.TheVariants as refusals
 use Rattle.xw_commands.specs.declared.command.SyntaxFault.TheVariants as faults
-use Rattle.xw_session.specs.Record.{known_counts, record_commands, record_lines}
+use Rattle.xw_answers.specs.Record.{known_counts}
+use Rattle.xw_session.specs.Record.{record_commands, record_lines}
 use Rattle.xw_lines.specs.Cut.{lines_of}
 use Rattle.xw_lines.specs.declared.outcome.Step.TheVariants.{Accepted, Refused}
 use Rattle.xw_journal.specs.File.{form_of, kept_lines}
 use Rattle.xw_journal.specs.Journal.{journal_text, taken}
 use Rattle.xw_journal.specs.declared.file.Form.TheVariants.{Begun, Named, Whole, Cut}
-use Rattle.xw_journal.specs.declared.effect.Effect.TheVariants.{Change}
+use Rattle.xw_commands.specs.declared.command.Kind.TheVariants.{Change}
 use Rattle.xw_session_laws.specs.Replay.{replayed, replayed_lines}
 use Rattle.xw_session_laws.specs.Journals.{IsJournaled, without_flushes}
 
@@ -25,7 +26,7 @@ abbrev words_of_two : List Entry → Dictionary
 words_of_two entries = set (replicate 256 []) 2 entries
 
 abbrev first_word : Entry
-first_word = record { word = codes "AS"; active = true }
+first_word = record { word = codes "AS"; active = true; grade = 70 }
 
 -- a session that knows one word
 abbrev at_first : State
@@ -43,7 +44,7 @@ abbrev later : State
 later = record {
   position = record {
     grid = record { width = 2; height = 1; squares = Open (Some 65) ∷ Open None ∷ []; right = true ∷ false ∷ []; below = false ∷ false ∷ []; symmetry = kinds.Half };
-    words = words_of_two (record first_word { active = false } ∷ record { word = codes "AT"; active = true } ∷ []);
+    words = words_of_two (record first_word { active = false } ∷ record { word = codes "AT"; active = true; grade = 100 } ∷ []);
   };
   texts = record { title = []; author = codes "one"; copyright = []; notes = [] };
   clues = record { across = (record { row = 1; col = 1 }, codes "First") ∷ []; down = [] };

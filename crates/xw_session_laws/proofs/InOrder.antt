@@ -12,7 +12,7 @@ use Rattle.xw_grid.specs.declared.cell.Cell.{Cell}
 use Rattle.xw_grid.specs.Grid.{Grid, is_inside, index_of, cell_at, cells, same_cell, cell_cmp}
 use Rattle.xw_grid.specs.Clue.{Texts, text_at, is_circled}
 use Rattle.xw_grid.proofs.GridLemmas.{index_of-lt, cell_at-index_of, same_cell-cell_at, take-cells, all-cells}
-use Rattle.xw_session.specs.Reply.{has_nul}
+use Rattle.xw_answers.specs.Escape.{has_nul}
 use Rattle.xw_session_laws.specs.Replay.{AreFrom, AreTextsFrom}
 use Rattle.xw_session_laws.proofs.CirclesAgain.{in_order}
 

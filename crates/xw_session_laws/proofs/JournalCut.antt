@@ -15,7 +15,7 @@ use Rattle.xw_commands.specs.declared.command.Command.TheVariants as commands
 use Rattle.xw_commands.specs.declared.command.CellArg.{CellArg}
 use Rattle.xw_session.specs.State.{State}
 use Rattle.xw_session.specs.Answer.{Answers}
-use Rattle.xw_session.specs.Record.{spot_of, letter_commands}
+use Rattle.xw_answers.specs.Record.{spot_of, letter_commands}
 use Rattle.xw_journal.specs.Group.{begin_line, end_line, begins_group, ends_group, complete, grouped}
 use Rattle.xw_journal.specs.Journal.{is_same_entry, entered_at, entered_commands, journal_text}
 use Rattle.xw_journal.proofs.Groups.{IsClosed, none_closed, plain_closed, ended_closed, open_dropped}
@@ -145,17 +145,18 @@ no_end (command ∷ commands) (line ∷ first) tail recorded e behind =
 -- none of the lines is done
 nothing_done : (start end : State) (lines : List (List ℕ)) (journal : List ℕ) → IsJournaled start lines journal end → AreFirstLines start lines journal end []
 nothing_done start end lines journal done = record {
-  more = lines_of journal;
-  of_journal = refl;
-  done = [];
-  others = lines;
-  of_lines = refl;
-  bytes = [];
-  rest = journal;
-  parts = refl;
-  mid = start;
-  so_far = (refl, refl);
-  further = done;
+  begins = (lines_of journal, refl);
+  parts = record {
+    done = [];
+    others = lines;
+    of_lines = refl;
+    bytes = [];
+    rest = journal;
+    of_journal = refl;
+    mid = start;
+    so_far = (refl, refl);
+    further = done;
+  };
   are = refl;
   again = refl;
 }
@@ -227,21 +228,23 @@ module _ (start mid end : State) (line : List ℕ) (lines : List (List ℕ)) (ou
     -- the line is done
     line_done : (first tail : List (List ℕ)) → first ≡ lines_of text ++ tail → AreFirstLines mid lines others end tail → AreFirstLines start (line ∷ lines) journal end first
     line_done first tail first-is cuts =
-        let plain_done = plain_front cuts.done cuts.others (subst AllHaveNoLf cuts.of_lines plain_lines) in
-        let more_done = journal_replays cuts.done mid cuts.mid cuts.bytes (grid_after_line start is line outcome answer mid said) plain_done cuts.so_far in
+        let p = cuts.parts in
+        let plain_done = plain_front p.done p.others (subst AllHaveNoLf p.of_lines plain_lines) in
+        let more_done = journal_replays p.done mid p.mid p.bytes (grid_after_line start is line outcome answer mid said) plain_done p.so_far in
         record {
-          more = cuts.more;
-          of_journal = all_lines ∙ ap (λ xs. lines_of text ++ xs) cuts.of_journal ∙ sym (append_assoc (lines_of text) tail cuts.more) ∙ ap (λ xs. xs ++ cuts.more) (sym first-is);
-          done = line ∷ cuts.done;
-          others = cuts.others;
-          of_lines = ap (λ xs. line ∷ xs) cuts.of_lines;
-          bytes = text ++ cuts.bytes;
-          rest = cuts.rest;
-          parts = journal-is ∙ ap (λ xs. text ++ xs) cuts.parts ∙ sym (append_assoc text cuts.bytes cuts.rest);
-          mid = cuts.mid;
-          so_far = (outcome, answer, mid, cuts.bytes, said, cuts.so_far, refl);
-          further = cuts.further;
-          are = first-is ∙ ap (λ xs. lines_of text ++ xs) cuts.are ∙ sym (both_there start mid cuts.mid text cuts.bytes one more_done);
+          begins = (cuts.begins.0, all_lines ∙ ap (λ xs. lines_of text ++ xs) cuts.begins.1 ∙ sym (append_assoc (lines_of text) tail cuts.begins.0) ∙ ap (λ xs. xs ++ cuts.begins.0) (sym first-is));
+          parts = record {
+            done = line ∷ p.done;
+            others = p.others;
+            of_lines = ap (λ xs. line ∷ xs) p.of_lines;
+            bytes = text ++ p.bytes;
+            rest = p.rest;
+            of_journal = journal-is ∙ ap (λ xs. text ++ xs) p.of_journal ∙ sym (append_assoc text p.bytes p.rest);
+            mid = p.mid;
+            so_far = (outcome, answer, mid, p.bytes, said, p.so_far, refl);
+            further = p.further;
+          };
+          are = first-is ∙ ap (λ xs. lines_of text ++ xs) cuts.are ∙ sym (both_there start mid p.mid text p.bytes one more_done);
           again = ap (replayed_lines start) first-is ∙ both_replayed start (lines_of text) tail ∙ ap (option_and_then (λ mid. replayed_lines mid tail)) (lines_again start mid text one) ∙ cuts.again;
         }
 

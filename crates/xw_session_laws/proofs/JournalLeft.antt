@@ -66,19 +66,17 @@ module _ {R : Type 0} (read : R → List ℕ) (result : RunEnd) (start end : Jou
 module _ {R W : Type 0} (read : R → List ℕ) (is_at_end : R → Bool) (read_failures : R → ℕ) (written : W → List ℕ) (write_failures : W → ℕ) where
   pub run_leaves : RunsLeaveJournals read is_at_end read_failures written write_failures
   run_leaves (Done refused) start end source source' sink sink' is are none run =
-      let done = run.done in leaves_all read (Done refused) start end source source' is are none done.0 done.1 done.3 (written sink) (written sink') done.5
+      leaves_all read (Done refused) start end source source' is are none run.0 run.1 run.3 (written sink) (written sink') run.5
   run_leaves ReadFailed start end source source' sink sink' is are none run =
-      let done = run.read_failed in leaves_ended read ReadFailed start end source source' is are none done.0 done.1 done.3 (written sink) (written sink') done.4
+      leaves_ended read ReadFailed start end source source' is are none run.0 run.1 run.3 (written sink) (written sink') run.4
   run_leaves WriteFailed start end source source' sink sink' is are none run =
-      let done = run.write_failed in leaves_broken read WriteFailed start end source source' is are none done.0 done.1 (written sink) (written sink') done.3
+      leaves_broken read WriteFailed start end source source' is are none run.0 run.1 (written sink) (written sink') run.3
   run_leaves Stopped start end source source' sink sink' is are none run =
-      let done = run.stopped in
-      let bytes_read = (bytes_parted (read source) done.0 (subst AreBytes done.1 are)).1 in
-      let begun = stopped_journaled start end done.0 (written sink) (written sink') is bytes_read done.2 in
-      leaves_begun read Stopped start end source source' is are none done.0 done.1 begun.0 begun.1 begun.2 begun.3 tt tt
+      let bytes_read = (bytes_parted (read source) run.0 (subst AreBytes run.1 are)).1 in
+      let begun = stopped_journaled start end run.0 (written sink) (written sink') is bytes_read run.2 in
+      leaves_begun read Stopped start end source source' is are none run.0 run.1 begun.0 begun.1 begun.2 begun.3 tt tt
   run_leaves Endless start end source source' sink sink' is are none run =
-      let done = run.endless in leaves_ended read Endless start end source source' is are none done.0 done.1 done.3 (written sink) (written sink') done.4
+      leaves_ended read Endless start end source source' is are none run.0 run.1 run.3 (written sink) (written sink') run.4
   run_leaves Memory start end source source' sink sink' is are none run =
-      let same = run.memory in
-      leaves_whole read Memory start end source source' is are none [] (ap read same.0 ∙ sym (append-nil (read source))) [] [] refl
-      (record { bytes = []; journaled = (refl, ap (λ (s : JournaledState). s.state) same.2); written = ap (λ (s : JournaledState). without_flushes s.journal) same.2 ∙ sym (append-nil (without_flushes start.journal)) })
+      leaves_whole read Memory start end source source' is are none [] (ap read run.0 ∙ sym (append-nil (read source))) [] [] refl
+      (record { bytes = []; journaled = (refl, ap (λ (s : JournaledState). s.state) run.2); written = ap (λ (s : JournaledState). without_flushes s.journal) run.2 ∙ sym (append-nil (without_flushes start.journal)) })

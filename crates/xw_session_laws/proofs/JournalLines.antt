@@ -12,14 +12,15 @@ use Rattle.xw_lines.proofs.Cuts.{cut-with_lfs}
 use Rattle.xw_commands.specs.declared.command.Command.{Command}
 use Rattle.xw_commands.specs.declared.command.SyntaxFault.{SyntaxFault}
 use Rattle.xw_commands.specs.Command.{command_of}
-use Rattle.xw_session.specs.declared.refusal.Refusal.{Refusal}
+use Rattle.xw_answers.specs.declared.refusal.Refusal.{Refusal}
 use Rattle.xw_session.specs.State.{State}
 use Rattle.xw_session.specs.Reply.{Reply}
 use Rattle.xw_session.specs.Answer.{IsDue, Replies, step_of, state_after, AnswersParsed, Answers}
 use Rattle.xw_journal.specs.Group.{begin_line, end_line, grouped}
-use Rattle.xw_journal.specs.declared.effect.Effect.{Effect}
-use Rattle.xw_journal.specs.declared.effect.Effect.TheVariants.{Nothing, Change, Letters}
-use Rattle.xw_journal.specs.Journal.{effect_of, entered_commands, text_of_effect, text_of_parsed, journal_text}
+use Rattle.xw_commands.specs.declared.command.Kind.{Kind}
+use Rattle.xw_commands.specs.declared.command.Kind.TheVariants.{Query, Change, Search}
+use Rattle.xw_commands.specs.Kind.{kind_of}
+use Rattle.xw_journal.specs.Journal.{entered_commands, text_of_kind, text_of_parsed, journal_text}
 use Rattle.xw_session_laws.specs.Replay.{state_left, replayed, left_by_line, replayed_lines}
 use Rattle.xw_session_laws.proofs.AnsweredAgain.{both_replayed}
 use Rattle.xw_session_laws.proofs.CommandsRead.{line_without_lf}
@@ -45,7 +46,7 @@ IsChange state line text next = (text ≡ line ++ 10 ∷ []) × (left_by_line st
 pub record Enters (state : State) (line text : List ℕ) (next : State) : Type 0 where
   pub command : Command
   pub is : command_of line ≡ Ok (Some command)
-  pub searches : effect_of command ≡ Letters
+  pub searches : kind_of command ≡ Search
   pub answer : List ℕ
   pub answers : Answers state line Accepted answer next
   pub text-is : text ≡ grouped (entered_commands state.position.grid next.position.grid)
@@ -73,40 +74,40 @@ module _ (state : State) (is : IsGrid state.position.grid) where
     text = journal_text state.position.grid line outcome next.position.grid
 
     module _ (command : Command) (read : command_of line ≡ Ok (Some command)) (reply : Reply) (step : outcome ≡ Accepted) (same : next ≡ reply.state) where
-      text_is : text ≡ text_of_effect (effect_of command) line state.position.grid next.position.grid
+      text_is : text ≡ text_of_kind (kind_of command) line state.position.grid next.position.grid
       text_is =
           ap (λ step. journal_text state.position.grid line step next.position.grid) step
           ∙ ap (λ found. text_of_parsed found line state.position.grid next.position.grid) read
 
-      by_letters : effect_of command ≡ Letters → AreRecorded (entered_commands state.position.grid next.position.grid) → replayed state (entered_commands state.position.grid next.position.grid) ≡ Some next → Leaves state line text next
+      by_letters : kind_of command ≡ Search → AreRecorded (entered_commands state.position.grid next.position.grid) → replayed state (entered_commands state.position.grid next.position.grid) ≡ Some next → Leaves state line text next
       by_letters effect recorded done = inr (inr (record {
         command = command;
         is = read;
         searches = effect;
         answer = answer;
         answers = subst (λ step. Answers state line step answer next) step said;
-        text-is = text_is ∙ ap (λ effect. text_of_effect effect line state.position.grid next.position.grid) effect;
+        text-is = text_is ∙ ap (λ effect. text_of_kind effect line state.position.grid next.position.grid) effect;
         recorded = recorded;
         done = done;
       }))
 
-      by_effect : (effect : Effect) → effect_of command ≡ effect → HasEffect effect state command reply → Leaves state line text next
-      by_effect Nothing effect left = inl (text_is ∙ ap (λ effect. text_of_effect effect line state.position.grid next.position.grid) effect, same ∙ left)
+      by_effect : (effect : Kind) → kind_of command ≡ effect → HasEffect effect state command reply → Leaves state line text next
+      by_effect Query effect left = inl (text_is ∙ ap (λ effect. text_of_kind effect line state.position.grid next.position.grid) effect, same ∙ left)
       by_effect Change effect left =
-          inr (inl (text_is ∙ ap (λ effect. text_of_effect effect line state.position.grid next.position.grid) effect, ap (left_by_line state) read ∙ ap state_left left ∙ ap Some (sym same), (command, read)))
-      by_effect Letters effect (inl left) =
+          inr (inl (text_is ∙ ap (λ effect. text_of_kind effect line state.position.grid next.position.grid) effect, ap (left_by_line state) read ∙ ap state_left left ∙ ap Some (sym same), (command, read)))
+      by_effect Search effect (inl left) =
           let stays : state ≡ next = sym (same ∙ left) in
           by_letters effect
           (subst (λ (s : State). AreRecorded (entered_commands state.position.grid s.position.grid)) stays none_recorded)
           (subst (λ (s : State). replayed state (entered_commands state.position.grid s.position.grid) ≡ Some s) stays none_again)
-      by_effect Letters effect (inr (position, left, done)) =
+      by_effect Search effect (inr (position, left, done)) =
           let moves : record state { position = position } ≡ next = sym (same ∙ left) in
           by_letters effect
           (subst (λ (s : State). AreRecorded (entered_commands state.position.grid s.position.grid)) moves (search_recorded state is position done))
           (subst (λ (s : State). replayed state (entered_commands state.position.grid s.position.grid) ≡ Some s) moves (search_again state is position done))
 
     by_reply : (command : Command) → command_of line ≡ Ok (Some command) → (reply : Result Reply Refusal) → Replies state command reply → outcome ≡ step_of reply → next ≡ state_after state reply → Leaves state line text next
-    by_reply command read (Ok reply) (due, owed, fits) step same = by_effect command read reply step same (effect_of command) refl (effected state is reply command (subst (IsDue state command) fits owed))
+    by_reply command read (Ok reply) (due, owed, fits) step same = by_effect command read reply step same (kind_of command) refl (effected state is reply command (subst (IsDue state command) fits owed))
     by_reply command read (Err refusal) replies step same = inl (ap (λ step. journal_text state.position.grid line step next.position.grid) step, same)
 
     by_parsed : (found : Result (Option Command) SyntaxFault) → command_of line ≡ found → AnswersParsed state found outcome answer next → Leaves state line text next

@@ -22,14 +22,15 @@ use Rattle.xw_commands.specs.declared.command.Command.TheVariants as commands
 use Rattle.xw_commands.specs.declared.command.CellArg.{CellArg}
 use Rattle.xw_session.specs.State.{State}
 use Rattle.xw_session.specs.Answer.{Answers}
-use Rattle.xw_session.specs.Record.{command_lines}
-use Rattle.xw_session.specs.Spelling.{command_line}
+use Rattle.xw_answers.specs.Record.{command_lines}
+use Rattle.xw_answers.specs.Spelling.{command_line}
 use Rattle.xw_journal.specs.Group.{complete, grouped}
-use Rattle.xw_journal.specs.Journal.{effect_of, entered_commands, text_of_effect, text_of_parsed, journal_text, taken, events_of_parsed, journal_events, JournaledState, AnswersJournaled, IsUnjournaled, IsUnkept, IsCause, StopsAtJournal}
+use Rattle.xw_commands.specs.Kind.{kind_of}
+use Rattle.xw_journal.specs.Journal.{entered_commands, text_of_kind, text_of_parsed, journal_text, taken, events_of_parsed, journal_events, JournaledState, AnswersJournaled, IsUnjournaled, IsUnkept, IsCause, StopsAtJournal}
 use Rattle.xw_journal.specs.declared.cause.Cause.{Cause}
 use Rattle.xw_journal.specs.declared.cause.Cause.TheVariants.{Journal, Memory}
-use Rattle.xw_journal.specs.declared.effect.Effect.{Effect}
-use Rattle.xw_journal.specs.declared.effect.Effect.TheVariants.{Nothing, Change, Letters}
+use Rattle.xw_commands.specs.declared.command.Kind.{Kind}
+use Rattle.xw_commands.specs.declared.command.Kind.TheVariants.{Query, Change, Search}
 use Rattle.xw_session_laws.specs.Journals.{IsJournaled, AreFirstLines, without_flushes, AreBytes, HasJournaled, HasBegunJournal}
 use Rattle.xw_session_laws.proofs.CommandsRead.{IsSmallSpot, IsRecorded}
 use Rattle.xw_session_laws.proofs.RecordRead.{AreRecorded}
@@ -90,17 +91,17 @@ text_unmarked state line text next are (inr (inr enters)) =
     subst IsUnmarked (sym enters.text-is)
     (group_unmarked (entered_commands state.position.grid next.position.grid) enters.recorded (entered_sets state.position.grid next.position.grid (cells next.position.grid)))
 
-taken_unmarked : (effect : Effect) (text : List ℕ) → (effect ≡ Nothing → text ≡ []) → IsUnmarked text → without_flushes (taken effect text) ≡ text
-taken_unmarked Nothing text none plain = sym (none refl)
+taken_unmarked : (effect : Kind) (text : List ℕ) → (effect ≡ Query → text ≡ []) → IsUnmarked text → without_flushes (taken effect text) ≡ text
+taken_unmarked Query text none plain = sym (none refl)
 taken_unmarked Change text none plain = flushes_joined text (flushed ∷ []) ∙ append-nil (without_flushes text) ∙ plain
-taken_unmarked Letters text none plain = flushes_joined text (flushed ∷ []) ∙ append-nil (without_flushes text) ∙ plain
+taken_unmarked Search text none plain = flushes_joined text (flushed ∷ []) ∙ append-nil (without_flushes text) ∙ plain
 
-nothing_written : (effect : Effect) (line : List ℕ) (before after : Grid) → effect ≡ Nothing → text_of_effect effect line before after ≡ []
-nothing_written effect line before after is = ap (λ effect. text_of_effect effect line before after) is
+nothing_written : (effect : Kind) (line : List ℕ) (before after : Grid) → effect ≡ Query → text_of_kind effect line before after ≡ []
+nothing_written effect line before after is = ap (λ effect. text_of_kind effect line before after) is
 
 parsed_unmarked : (parsed : Result (Option Command) SyntaxFault) (line : List ℕ) (before after : Grid) → IsUnmarked (text_of_parsed parsed line before after)
     → without_flushes (events_of_parsed parsed line before after) ≡ text_of_parsed parsed line before after
-parsed_unmarked (Ok (Some command)) line before after plain = taken_unmarked (effect_of command) (text_of_effect (effect_of command) line before after) (nothing_written (effect_of command) line before after) plain
+parsed_unmarked (Ok (Some command)) line before after plain = taken_unmarked (kind_of command) (text_of_kind (kind_of command) line before after) (nothing_written (kind_of command) line before after) plain
 parsed_unmarked (Ok None) line before after plain = refl
 parsed_unmarked (Err fault) line before after plain = refl
 

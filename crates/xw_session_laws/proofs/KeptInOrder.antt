@@ -15,7 +15,7 @@ use Rattle.xw_grid.specs.declared.cell.Direction.TheVariants.{Across, Down}
 use Rattle.xw_grid.specs.Grid.{Grid, is_inside, index_of, cell_at, cell_cmp}
 use Rattle.xw_grid.specs.Clue.{Texts, ClueMap, with_text, with_circle, with_clue}
 use Rattle.xw_grid.proofs.GridLemmas.{cell_at-index_of}
-use Rattle.xw_session.specs.Reply.{has_nul}
+use Rattle.xw_answers.specs.Escape.{has_nul}
 use Rattle.xw_session_laws.specs.Replay.{AreFrom, AreTextsFrom, clues_of}
 use Rattle.xw_session_laws.proofs.CirclesAgain.{in_order}
 use Rattle.xw_session_laws.proofs.Replaying.{same_order}

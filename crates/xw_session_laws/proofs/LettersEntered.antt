@@ -17,8 +17,8 @@ use Rattle.xw_commands.specs.declared.command.Command.{Command}
 use Rattle.xw_commands.specs.declared.command.Command.TheVariants as commands
 use Rattle.xw_session.specs.State.{State}
 use Rattle.xw_session.specs.Reply.{with_letter}
-use Rattle.xw_session.specs.Record.{spot_of, letter_commands}
-use Rattle.xw_session.proofs.LightTexts.{cell_in_order}
+use Rattle.xw_answers.specs.Record.{spot_of, letter_commands}
+use Rattle.xw_answers.proofs.LightTexts.{cell_in_order}
 use Rattle.xw_journal.specs.Journal.{is_same_entry, entered_at, entered_commands}
 use Rattle.xw_session_laws.specs.Replay.{state_left, replayed}
 use Rattle.xw_session_laws.proofs.Replaying.{next_done}

@@ -30,34 +30,35 @@ use Rattle.xw_fill.specs.FeasibleLetters.{feasible_letters}
 use Rattle.xw_fill.specs.FeasibleWords.{feasible_words}
 use Rattle.xw_fill.specs.declared.search.Filling.{Filling}
 use Rattle.xw_fill.specs.declared.search.Filling.TheVariants as fillings
-use Rattle.xw_autofill.specs.NamedFill.{IsAutofilled, is_named}
+use Rattle.xw_fill.specs.NamedFill.{IsAutofilled, is_named}
 use Rattle.xw_commands.specs.declared.command.Command.{Command}
 use Rattle.xw_commands.specs.declared.command.Command.TheVariants as commands
 use Rattle.xw_commands.specs.declared.command.CellArg.{CellArg}
 use Rattle.xw_commands.specs.declared.command.Field.{Field}
 use Rattle.xw_commands.specs.declared.command.TextField.{TextField}
 use Rattle.xw_commands.specs.declared.command.TextMode.{TextMode}
-use Rattle.xw_session.specs.declared.refusal.Refusal.{Refusal}
-use Rattle.xw_session.specs.declared.refusal.Refusal.TheVariants as refusals
+use Rattle.xw_answers.specs.declared.refusal.Refusal.{Refusal}
+use Rattle.xw_answers.specs.declared.refusal.Refusal.TheVariants as refusals
 use Rattle.xw_session.specs.declared.session.putting.Target.{Target}
 use Rattle.xw_session.specs.declared.session.putting.Target.TheVariants as targets
 use Rattle.xw_commands.specs.declared.command.TextMode.TheVariants.{Instead, Behind}
-use Rattle.xw_session.specs.Refusal.{refusal_of}
+use Rattle.xw_answers.specs.Refusal.{refusal_of}
 use Rattle.xw_session.specs.Autofill.{names_of}
 use Rattle.xw_session.specs.Tally.{tally_lines}
 use Rattle.xw_session.specs.Erase.{erased_cells, emptied}
 use Rattle.xw_session.specs.Unmatched.{unmatched_lines}
-use Rattle.xw_session.specs.Choices.{choice_lines}
+use Rattle.xw_session.specs.Choices.{first_index, choice_lines}
 use Rattle.xw_session.specs.Answer.{IsDue}
-use Rattle.xw_session.specs.Escape.{text_spelled}
+use Rattle.xw_answers.specs.Escape.{text_spelled, has_nul}
 use Rattle.xw_session.specs.State.{State, with_text_in, cell_of}
 use Rattle.xw_session.specs.Put.{target_of, has_target, text_at, with_text_at, with_piece}
-use Rattle.xw_session.specs.Show.{show_lines}
-use Rattle.xw_session.specs.Text.{word_line, light_lines, circle_lines, letters_line, counted_lines, duplicate_line, spelled_line, suggestion_line}
-use Rattle.xw_session.specs.Reply.{Reply, reply_to, edited, shown, moved, watch_lines, with_letter, resized, matched, with_clue_of, erased, has_nul, written, circle_toggled, worded, weighed, put, light_named, name_of_light, told_lines, first_words, filling_name}
-use Rattle.xw_journal.specs.declared.effect.Effect.{Effect}
-use Rattle.xw_journal.specs.declared.effect.Effect.TheVariants.{Nothing, Change, Letters}
-use Rattle.xw_journal.specs.Journal.{effect_of}
+use Rattle.xw_answers.specs.Show.{show_lines}
+use Rattle.xw_answers.specs.Text.{word_line, light_lines, circle_lines, letters_line, counted_lines, spelled_line}
+use Rattle.xw_session.specs.Found.{duplicate_line, suggestion_line}
+use Rattle.xw_session.specs.Reply.{Reply, reply_to, edited, shown, moved, watch_lines, with_letter, resized, matched, with_clue_of, erased, written, circle_toggled, worded, weighed, weighed_from, put, light_named, name_of_light, told_lines, first_words, filling_name}
+use Rattle.xw_commands.specs.declared.command.Kind.{Kind}
+use Rattle.xw_commands.specs.declared.command.Kind.TheVariants.{Query, Change, Search}
+use Rattle.xw_commands.specs.Kind.{kind_of}
 use Rattle.xw_session_laws.proofs.SessionKept.{ok_state}
 use Rattle.xw_session_laws.proofs.GridsKept.{blank_good, letter_good, with_words_good, with_letter_good, with_word_good, emptied_good, with_orbit_good, with_bar_good, with_symmetry_good, square_good, filled_good}
 
@@ -101,10 +102,10 @@ end_is_fill position is there =
 
 -- ---- what a reply leaves, by the effect of its command
 
-abbrev pub HasEffect : Effect → State → Command → Reply → Type 0
-HasEffect Nothing state command reply = reply.state ≡ state
+abbrev pub HasEffect : Kind → State → Command → Reply → Type 0
+HasEffect Query state command reply = reply.state ≡ state
 HasEffect Change state command reply = reply_to state command ≡ Ok reply
-HasEffect Letters state command reply = (reply.state ≡ state) ⊎ ((next : Position) × (reply.state ≡ record state { position = next }) × IsSearched state.position next)
+HasEffect Search state command reply = (reply.state ≡ state) ⊎ ((next : Position) × (reply.state ≡ record state { position = next }) × IsSearched state.position next)
 
 module _ (state : State) (is : IsGrid state.position.grid) (reply : Reply) where
   by_test : (P : Type 0) (b : Bool) (x y : Result Reply Refusal) → (x ≡ Ok reply → P) → (b ≡ false → y ≡ Ok reply → P) → (if b then x else y) ≡ Ok reply → P
@@ -130,9 +131,13 @@ module _ (state : State) (is : IsGrid state.position.grid) (reply : Reply) where
   of_light None most e = refused_not Stays refusals.NoLight e
   of_light (Some light) most e = when_shown (counted_lines (length (feasible_words (position_of state.position) light)) (first_words most (feasible_words (position_of state.position) light))) e
 
-  of_choices : (light : Option ℕ) (most : ℕ) → weighed state light most ≡ Ok reply → Stays
-  of_choices None most e = refused_not Stays refusals.NoLight e
-  of_choices (Some light) most e = when_shown (choice_lines state.position light most) e
+  of_choices_from : (light most : ℕ) (from : Result (Option ℕ) Refusal) → weighed_from state light most from ≡ Ok reply → Stays
+  of_choices_from light most (Ok from) e = when_shown (choice_lines state.position light from most) e
+  of_choices_from light most (Err refusal) e = refused_not Stays refusal e
+
+  of_choices : (light : Option ℕ) (most : ℕ) (first : Option (List ℕ)) → weighed state light most first ≡ Ok reply → Stays
+  of_choices None most first e = refused_not Stays refusals.NoLight e
+  of_choices (Some light) most first e = of_choices_from light most (first_index state.position light first) e
 
   of_cell : (cell : Cell) (lines : List ℕ) → (if not (is_inside state.position.grid cell) then Err (refusals.Grid grids.OutOfGrid) else if is_block state.position.grid cell then Err (refusals.Grid grids.OnBlock) else shown state lines) ≡ Ok reply → Stays
   of_cell cell lines e =
@@ -159,7 +164,7 @@ module _ (state : State) (is : IsGrid state.position.grid) (reply : Reply) where
 
   -- ---- all commands
 
-  pub effected : (command : Command) → IsDue state command (Ok reply) → HasEffect (effect_of command) state command reply
+  pub effected : (command : Command) → IsDue state command (Ok reply) → HasEffect (kind_of command) state command reply
   effected (commands.Size width height) e = e
   effected (commands.Symmetry kind) e = e
   effected (commands.Add word) e = e
@@ -178,7 +183,7 @@ module _ (state : State) (is : IsGrid state.position.grid) (reply : Reply) where
   effected commands.Show e = when_shown (show_lines state.position.grid) e
   effected commands.Lights e = when_shown (light_lines state.position.grid) e
   effected (commands.Words named most) e = of_light (index_named (lights_of state.position.grid) (name_of_light named)) most e
-  effected (commands.Choices named most) e = of_choices (index_named (lights_of state.position.grid) (name_of_light named)) most e
+  effected (commands.Choices named most first) e = of_choices (index_named (lights_of state.position.grid) (name_of_light named)) most first e
   effected (commands.Letters at) e = of_cell (cell_of at) (letters_line (feasible_letters (position_of state.position) (index_of state.position.grid (cell_of at)))) e
   effected (commands.Tally at) e = of_cell (cell_of at) (tally_lines state.position (cell_of at)) e
   effected commands.Duplicates e = when_shown (flat_map (duplicate_line state.position.grid) (duplicates_of state.position)) e
@@ -293,7 +298,7 @@ module _ (state : State) (is : IsGrid state.position.grid) (reply : Reply) where
   grid_left commands.Show e = good_quiet (effected commands.Show e)
   grid_left commands.Lights e = good_quiet (effected commands.Lights e)
   grid_left (commands.Words named most) e = good_quiet (effected (commands.Words named most) e)
-  grid_left (commands.Choices named most) e = good_quiet (effected (commands.Choices named most) e)
+  grid_left (commands.Choices named most first) e = good_quiet (effected (commands.Choices named most first) e)
   grid_left (commands.Letters at) e = good_quiet (effected (commands.Letters at) e)
   grid_left (commands.Tally at) e = good_quiet (effected (commands.Tally at) e)
   grid_left commands.Duplicates e = good_quiet (effected commands.Duplicates e)

@@ -22,7 +22,7 @@ use Rattle.xw_commands.specs.Line.{is_blank, is_ink, is_digit, number_in, byte_i
 use Rattle.xw_commands.specs.declared.command.CellArg.{CellArg}
 use Rattle.xw_commands.specs.Reading.{Reading, ◌>>=◌, given, wanted, word, number, byte, lookup, key_word, direction, side, symmetry, switch, spot}
 use Rattle.xw_commands.specs.Names.{direction_name, side_name, symmetry_name, switch_name, directions, sides, symmetries, switches}
-use Rattle.xw_session.specs.Text.{line_of}
+use Rattle.xw_answers.specs.Text.{line_of}
 
 -- ---- words with a space between them
 

@@ -24,7 +24,7 @@ use Rattle.xw_files.proofs.PuzLemmas.Taken.{clues_at-takes}
 use Rattle.xw_commands.specs.declared.command.TextField.{TextField}
 use Rattle.xw_commands.specs.declared.command.TextField.TheVariants.{Title, Author, Copyright, Notes}
 use Rattle.xw_session.specs.Put.{text_of_field}
-use Rattle.xw_session.specs.Reply.{has_nul}
+use Rattle.xw_answers.specs.Escape.{has_nul}
 use Rattle.xw_session_laws.specs.Replay.{BarsAreOnEdges, AreFrom, AreTextsFrom, clues_of, SessionsOpen}
 use Rattle.xw_session_laws.proofs.KeptInOrder.{circle_kept, clue_kept}
 use Rattle.xw_session_laws.proofs.SessionOpened.{IsKept, session_on, made_edges, no_clues_kept, BeginInside, lights_begin_inside}

@@ -16,11 +16,12 @@ use Rattle.xw_commands.specs.declared.command.Command.{Command}
 use Rattle.xw_commands.specs.declared.command.Field.TheVariants as fields
 use Rattle.xw_commands.specs.declared.command.TextField.{TextField}
 use Rattle.xw_commands.specs.declared.command.TextField.TheVariants.{Title, Author, Copyright, Notes}
-use Rattle.xw_session.specs.declared.record.Part.TheVariants as parts
-use Rattle.xw_session.specs.declared.record.Section.TheVariants as sections
+use Rattle.xw_answers.specs.declared.record.Part.TheVariants as parts
+use Rattle.xw_session.specs.declared.session.recording.Section.TheVariants as sections
 use Rattle.xw_session.specs.State.{State, with_text_in}
 use Rattle.xw_session.specs.Put.{text_of_field}
-use Rattle.xw_session.specs.Record.{word_commands, section_commands, record_sections, record_commands}
+use Rattle.xw_answers.specs.Record.{word_commands}
+use Rattle.xw_session.specs.Record.{section_commands, record_sections, record_commands}
 use Rattle.xw_session_laws.specs.Replay.{replayed, bared, with_grid, with_words, BeganWith}
 use Rattle.xw_session_laws.proofs.Replaying.{replayed_both, text_again, size_again, symmetry_again}
 use Rattle.xw_session_laws.proofs.WordsAgain.{words_again}

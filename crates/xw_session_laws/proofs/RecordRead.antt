@@ -20,19 +20,20 @@ use Rattle.xw_commands.specs.declared.command.Command.TheVariants as commands
 use Rattle.xw_commands.specs.declared.command.Field.{Field}
 use Rattle.xw_commands.specs.declared.command.Field.TheVariants as fields
 use Rattle.xw_commands.specs.declared.command.SyntaxFault.{SyntaxFault}
-use Rattle.xw_session.specs.declared.record.Part.{Part}
-use Rattle.xw_session.specs.declared.record.Part.TheVariants as parts
-use Rattle.xw_session.specs.declared.record.Section.{Section}
-use Rattle.xw_session.specs.declared.record.Section.TheVariants as sections
+use Rattle.xw_answers.specs.declared.record.Part.{Part}
+use Rattle.xw_answers.specs.declared.record.Part.TheVariants as parts
+use Rattle.xw_session.specs.declared.session.recording.Section.{Section}
+use Rattle.xw_session.specs.declared.session.recording.Section.TheVariants as sections
 use Rattle.xw_session.specs.State.{State}
 use Rattle.xw_commands.specs.Command.{command_of}
 use Rattle.xw_lines.specs.Cut.{Cut, cut, lines_of, last_line, with_lfs, AllHaveNoLf}
 use Rattle.xw_session.specs.Put.{text_of_field}
 use Rattle.xw_session.specs.Reply.{reply_to}
-use Rattle.xw_session.specs.Record.{spot_of, piece_at, further_pieces, more_command, text_commands, add_command, strike_commands, row_commands, length_commands, letter_commands, clue_commands, cell_commands, part_commands, section_commands, record_sections, record_commands, command_lines, record_lines}
+use Rattle.xw_answers.specs.Record.{spot_of, piece_at, further_pieces, more_command, text_commands, add_command, strike_commands, row_commands, length_commands, letter_commands, clue_commands, cell_commands, part_commands, command_lines}
+use Rattle.xw_session.specs.Record.{section_commands, record_sections, record_commands, record_lines}
 use Rattle.xw_session_laws.specs.Replay.{state_left, replayed, left_by_line, replayed_lines, BeganWith}
 use Rattle.xw_lines.proofs.Cuts.{cut-with_lfs}
-use Rattle.xw_session.proofs.LightTexts.{cell_in_order}
+use Rattle.xw_answers.proofs.LightTexts.{cell_in_order}
 use Rattle.xw_session_laws.proofs.CellsAgain.{square_is}
 use Rattle.xw_session_laws.proofs.CommandsRead.{IsRecorded, IsKnownWord, IsSmallField, line_without_lf, read_again}
 

@@ -28,7 +28,7 @@ use Rattle.xw_grid.proofs.KeptLemmas.{clues_are_kept}
 use Rattle.xw_feas.specs.State.{with_grid, by_fault}
 use Rattle.xw_commands.specs.declared.command.Command.{Command}
 use Rattle.xw_commands.specs.declared.command.Command.TheVariants as commands
-use Rattle.xw_session.specs.declared.record.Section.TheVariants as sections
+use Rattle.xw_session.specs.declared.session.recording.Section.TheVariants as sections
 use Rattle.xw_commands.specs.declared.command.Command.TheVariants.{Put}
 use Rattle.xw_commands.specs.declared.command.Field.{Field}
 use Rattle.xw_commands.specs.declared.command.TextMode.{TextMode}
@@ -37,12 +37,13 @@ use Rattle.xw_commands.specs.declared.command.TextField.TheVariants.{Title, Auth
 use Rattle.xw_session.specs.declared.session.putting.Target.{Target}
 use Rattle.xw_session.specs.declared.session.putting.Target.TheVariants as targets
 use Rattle.xw_session.specs.State.{State}
-use Rattle.xw_session.specs.Escape.{escaped_text}
+use Rattle.xw_answers.specs.Escape.{escaped_text, has_nul}
 use Rattle.xw_session.specs.Put.{target_of, has_target, with_text_at, with_piece}
-use Rattle.xw_session.specs.Reply.{put, reply_to, resized, moved, has_nul}
-use Rattle.xw_session.specs.Record.{piece_at, further_pieces, more_command, text_commands, section_commands}
+use Rattle.xw_session.specs.Reply.{put, reply_to, resized, moved}
+use Rattle.xw_answers.specs.Record.{piece_at, further_pieces, more_command, text_commands}
+use Rattle.xw_session.specs.Record.{section_commands}
 use Rattle.xw_session_laws.specs.Replay.{state_left, replayed}
-use Rattle.xw_session.proofs.Escapes.{reads_back}
+use Rattle.xw_answers.proofs.Escapes.{reads_back}
 use Rattle.xw_session.proofs.TextMode.{last_of_three}
 
 -- ---- one after another

@@ -17,11 +17,11 @@ use Rattle.xw_commands.specs.Command.{command_of}
 use Rattle.xw_lines.specs.declared.outcome.Step.{Step}
 use Rattle.xw_lines.specs.declared.outcome.Step.TheVariants.{Silent, Accepted, Refused}
 use Rattle.xw_lines.specs.Spoken.{refusals as refused_count}
-use Rattle.xw_session.specs.declared.refusal.Refusal.{Refusal}
-use Rattle.xw_session.specs.declared.refusal.Refusal.TheVariants as refusals
+use Rattle.xw_answers.specs.declared.refusal.Refusal.{Refusal}
+use Rattle.xw_answers.specs.declared.refusal.Refusal.TheVariants as refusals
 use Rattle.xw_session.specs.declared.resuming.Stop.TheVariants.{NoCommand, Memory}
-use Rattle.xw_session.specs.Refusal.{refusal_of}
-use Rattle.xw_session.specs.Escape.{text_spelled}
+use Rattle.xw_answers.specs.Refusal.{refusal_of}
+use Rattle.xw_answers.specs.Escape.{text_spelled}
 use Rattle.xw_session.specs.Reply.{reply_to, want_of, want_of_text, put, grid_memory}
 use Rattle.xw_grid.specs.Clue.{is_circled}
 use Rattle.xw_words.specs.Dictionary.{add_answer}
@@ -29,7 +29,7 @@ use Rattle.xw_words.specs.declared.bank.Added.{Added}
 use Rattle.xw_words.specs.declared.bank.Added.TheVariants.{New, Returned}
 use Rattle.xw_session.specs.Resuming.{AreDone, IsDone, command_fault, count, is_memory, line_fault, parsed_fault, told_of}
 use Rattle.xw_session.specs.State.{State, cell_of}
-use Rattle.xw_session.specs.Text.{refused}
+use Rattle.xw_answers.specs.Text.{refused}
 use Rattle.xw_session_laws.specs.Replay.{left_by_line, replayed_lines, state_left, WantsMemory}
 use Rattle.xw_session_laws.specs.Resumed.{LinesAreResumed}
 use Rattle.xw_session_laws.proofs.AnsweredAgain.{some_left, both_replayed, line_left, line_wants}
@@ -111,7 +111,7 @@ wanted state commands.Circles refusal e = cc
 wanted state commands.Show refusal e = cc
 wanted state commands.Lights refusal e = cc
 wanted state (commands.Words named most) refusal e = cc
-wanted state (commands.Choices named most) refusal e = cc
+wanted state (commands.Choices named most first) refusal e = cc
 wanted state (commands.Letters spot) refusal e = cc
 wanted state (commands.Tally spot) refusal e = cc
 wanted state commands.Duplicates refusal e = grid_wanted refusal e

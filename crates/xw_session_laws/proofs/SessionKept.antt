@@ -31,7 +31,7 @@ use Rattle.xw_fill.specs.Search.{found, due, end}
 use Rattle.xw_fill.specs.Suggesting.{suggestion}
 use Rattle.xw_fill.specs.declared.search.Filling.{Filling}
 use Rattle.xw_fill.specs.declared.search.Filling.TheVariants as fillings
-use Rattle.xw_autofill.specs.NamedFill.{IsAutofilled, is_named}
+use Rattle.xw_fill.specs.NamedFill.{IsAutofilled, is_named}
 use Rattle.xw_grid.specs.Puzzle.{TextsShown}
 use Rattle.xw_commands.specs.declared.command.Command.{Command}
 use Rattle.xw_commands.specs.declared.command.Command.TheVariants as commands
@@ -43,24 +43,25 @@ use Rattle.xw_commands.specs.declared.command.TextField.{TextField}
 use Rattle.xw_commands.specs.declared.command.TextField.TheVariants.{Title, Author, Copyright, Notes}
 use Rattle.xw_commands.specs.declared.command.SyntaxFault.{SyntaxFault}
 use Rattle.xw_lines.specs.declared.outcome.Step.{Step}
-use Rattle.xw_session.specs.declared.refusal.Refusal.{Refusal}
-use Rattle.xw_session.specs.declared.refusal.Refusal.TheVariants as refusals
+use Rattle.xw_answers.specs.declared.refusal.Refusal.{Refusal}
+use Rattle.xw_answers.specs.declared.refusal.Refusal.TheVariants as refusals
 use Rattle.xw_session.specs.declared.session.putting.Target.{Target}
 use Rattle.xw_session.specs.declared.session.putting.Target.TheVariants as targets
-use Rattle.xw_session.specs.Refusal.{refusal_of}
+use Rattle.xw_answers.specs.Refusal.{refusal_of}
 use Rattle.xw_session.specs.Autofill.{names_of}
 use Rattle.xw_session.specs.Why.{entry_lines}
 use Rattle.xw_session.specs.Tally.{tally_lines}
 use Rattle.xw_session.specs.Erase.{erased_cells, emptied}
 use Rattle.xw_session.specs.Unmatched.{unmatched_lines}
-use Rattle.xw_session.specs.Choices.{choice_lines}
+use Rattle.xw_session.specs.Choices.{first_index, choice_lines}
 use Rattle.xw_session.specs.Answer.{IsDue, Replies, state_after, AnswersParsed}
-use Rattle.xw_session.specs.Escape.{text_spelled}
+use Rattle.xw_answers.specs.Escape.{text_spelled, has_nul}
 use Rattle.xw_session.specs.State.{State, with_text_in, cell_of}
 use Rattle.xw_session.specs.Put.{target_of, has_target, text_of_field, text_at, with_text_at, with_piece}
-use Rattle.xw_session.specs.Show.{show_lines}
-use Rattle.xw_session.specs.Text.{word_line, light_lines, circle_lines, letters_line, counted_lines, duplicate_line, spelled_line, suggestion_line}
-use Rattle.xw_session.specs.Reply.{Reply, edited, shown, moved, watch_lines, with_letter, resized, matched, with_clue_of, erased, has_nul, written, circle_toggled, worded, weighed, lettered, tallied, put, light_named, name_of_light, told_lines, first_words, filling_name}
+use Rattle.xw_answers.specs.Show.{show_lines}
+use Rattle.xw_answers.specs.Text.{word_line, light_lines, circle_lines, letters_line, counted_lines, spelled_line}
+use Rattle.xw_session.specs.Found.{duplicate_line, suggestion_line}
+use Rattle.xw_session.specs.Reply.{Reply, edited, shown, moved, watch_lines, with_letter, resized, matched, with_clue_of, erased, written, circle_toggled, worded, weighed, weighed_from, lettered, tallied, put, light_named, name_of_light, told_lines, first_words, filling_name}
 use Rattle.xw_session_laws.specs.Replay.{BarsAreOnEdges, AreFrom, AreTextsFrom, clues_of, BeganWith, SessionsBegin}
 use Rattle.xw_session_laws.proofs.InOrder.{plain_at}
 use Rattle.xw_session_laws.proofs.KeptInOrder.{circle_kept, clue_kept, cells_there, texts_there}
@@ -345,9 +346,13 @@ module _ (words : Dictionary) (state : State) (is : BeganWith words state) where
     by_words_of (Some light) most e =
         when_shown (counted_lines (length (feasible_words (position_of state.position) light)) (first_words most (feasible_words (position_of state.position) light))) e
 
-    by_choices : (light : Option ℕ) (most : ℕ) → weighed state light most ≡ Ok reply → Kept
-    by_choices None most e = not_refused refusals.NoLight e
-    by_choices (Some light) most e = when_shown (choice_lines state.position light most) e
+    by_choices_from : (light most : ℕ) (from : Result (Option ℕ) Refusal) → weighed_from state light most from ≡ Ok reply → Kept
+    by_choices_from light most (Ok from) e = when_shown (choice_lines state.position light from most) e
+    by_choices_from light most (Err refusal) e = not_refused refusal e
+
+    by_choices : (light : Option ℕ) (most : ℕ) (first : Option (List ℕ)) → weighed state light most first ≡ Ok reply → Kept
+    by_choices None most first e = not_refused refusals.NoLight e
+    by_choices (Some light) most first e = by_choices_from light most (first_index state.position light first) e
 
     by_letters : (cell : Cell) → lettered state cell ≡ Ok reply → Kept
     by_letters cell e =
@@ -413,7 +418,7 @@ module _ (words : Dictionary) (state : State) (is : BeganWith words state) where
     reply_kept commands.Show e = when_shown (show_lines state.position.grid) e
     reply_kept commands.Lights e = when_shown (light_lines state.position.grid) e
     reply_kept (commands.Words named most) e = by_words_of (index_named (lights_of state.position.grid) (name_of_light named)) most e
-    reply_kept (commands.Choices named most) e = by_choices (index_named (lights_of state.position.grid) (name_of_light named)) most e
+    reply_kept (commands.Choices named most first) e = by_choices (index_named (lights_of state.position.grid) (name_of_light named)) most first e
     reply_kept (commands.Letters at) e = by_letters (cell_of at) e
     reply_kept (commands.Tally at) e = by_tally (cell_of at) e
     reply_kept commands.Duplicates e = when_shown (flat_map (duplicate_line state.position.grid) (duplicates_of state.position)) e

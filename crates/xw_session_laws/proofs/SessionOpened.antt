@@ -1,12 +1,12 @@
 -- A session opened on a puzzle.
-use Rattle.std.proofs.Common.{◌≡◌, ℕ, zero, suc, true, false, List, [], ◌∷◌, map, filter, get_or, replicate, refl, sym, ap, subst, inl, inr, arith}
+use Rattle.std.proofs.Common.{◌≡◌, ℕ, zero, suc, true, false, List, [], ◌∷◌, map, filter, length, take, get_or, replicate, refl, sym, ap, subst, inl, inr, arith}
 use Rattle.std.specs.List.{AllByRecursion}
 use Rattle.std.proofs.lemmas.Bool.{cases_lt}
-use Rattle.std.proofs.lemmas.List.{get_or_past}
+use Rattle.std.proofs.lemmas.List.{get_or_past, length-drop}
 use Rattle.std.proofs.lemmas.List.Elements.{recursion_from_All}
 use Rattle.std.proofs.lemmas.List.FromFn.{get_or-map-range_with_len, length-map-range_with_len}
 use Rattle.xw_words.specs.Dictionary.{Dictionary, Entry}
-use Rattle.xw_words.specs.WordList.{known, has_length, entries_among, listed}
+use Rattle.xw_words.specs.WordList.{Scored, known, has_length, entries_among, listed}
 use Rattle.xw_grid.specs.declared.cell.Direction.{Direction}
 use Rattle.xw_grid.specs.declared.cell.Direction.TheVariants.{Across, Down}
 use Rattle.xw_grid.specs.declared.cell.Square.{Square}
@@ -20,8 +20,8 @@ use Rattle.xw_feas.specs.WellFormed.{IsWellFormed}
 use Rattle.xw_grid.specs.Puzzle.{PuzzleShown}
 use Rattle.xw_commands.specs.declared.command.TextField.{TextField}
 use Rattle.xw_session.specs.Put.{text_of_field}
-use Rattle.xw_session.specs.Reply.{has_nul}
-use Rattle.xw_session_laws.specs.Replay.{BarsAreOnEdges, AreFrom, AreTextsFrom, clues_of, ComeFirst, NoneIsStruck, BeganWith, opened_on}
+use Rattle.xw_answers.specs.Escape.{has_nul}
+use Rattle.xw_session_laws.specs.Replay.{BarsAreOnEdges, AreFrom, AreTextsFrom, clues_of, unstruck, ComeFirst, NoneIsStruck, BeganWith, opened_on}
 use Rattle.xw_session_laws.proofs.KeptEdges.{blank_edges}
 
 -- the properties that a session takes from a puzzle
@@ -70,18 +70,24 @@ no_row zero index = refl
 no_row (suc count) zero = refl
 no_row (suc count) (suc index) = no_row count index
 
+none_first : ComeFirst [] []
+none_first = (refl, λ k d within. absurd (omega arith))
+
 pub no_words : NoneIsStruck (replicate 256 [])
-no_words count = subst (λ entries. ComeFirst entries entries) (sym (no_row 256 count)) refl
+no_words count = subst (λ entries. ComeFirst entries entries) (sym (no_row 256 count)) none_first
 
-all_known : (words : List (List ℕ)) → ComeFirst (map known words) (map known words)
-all_known [] = refl
-all_known (word ∷ words) = ap (λ entries. known word ∷ entries) (all_known words)
+known_are_unstruck : (words : List Scored) → map known words ≡ map unstruck (take (length (map known words)) (map known words))
+known_are_unstruck [] = refl
+known_are_unstruck (word ∷ words) = ap (λ entries. known word ∷ entries) (known_are_unstruck words)
 
-pub words_listed : (words : List (List ℕ)) → NoneIsStruck (listed words)
+all_known : (words : List Scored) → ComeFirst (map known words) (map known words)
+all_known words = (known_are_unstruck words, λ k d within. absurd (omega (arith, within, length-drop (length (map known words)) (map known words))))
+
+pub words_listed : (words : List Scored) → NoneIsStruck (listed words)
 words_listed words count =
     elim (cases_lt count 256) [
       | inl few ↦
           subst (λ entries. ComeFirst entries entries) (sym (get_or-map-range_with_len (entries_among words) 0 256 count count [] few (omega arith))) (all_known (filter (has_length count) words))
       | inr many ↦
-          subst (λ entries. ComeFirst entries entries) (sym (get_or_past (listed words) count [] (omega (arith, many, length-map-range_with_len (entries_among words) 0 256)))) refl
+          subst (λ entries. ComeFirst entries entries) (sym (get_or_past (listed words) count [] (omega (arith, many, length-map-range_with_len (entries_among words) 0 256)))) none_first
     ]

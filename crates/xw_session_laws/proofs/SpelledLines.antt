@@ -9,7 +9,7 @@ use Rattle.std.proofs.lemmas.Grind.{flat_map-append}
 use Rattle.xw_text.proofs.Position.{position_is_some}
 use Rattle.xw_lines.specs.Cut.{HasNoLf}
 use Rattle.xw_commands.specs.Line.{is_ink, first_index, trimmed_start, trimmed_end, trimmed}
-use Rattle.xw_session.specs.Escape.{letter_for, escaped, is_end, spelled_at, escaped_text}
+use Rattle.xw_answers.specs.Escape.{letter_for, escaped, is_end, spelled_at, escaped_text}
 
 -- ---- no LF
 

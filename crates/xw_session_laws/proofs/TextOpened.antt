@@ -26,7 +26,7 @@ use Rattle.xw_files.proofs.TextLemmas.Takes.{header_takes, tag_takes, text_takes
 use Rattle.xw_commands.specs.declared.command.TextField.{TextField}
 use Rattle.xw_commands.specs.declared.command.TextField.TheVariants.{Title, Author, Copyright, Notes}
 use Rattle.xw_session.specs.Put.{text_of_field}
-use Rattle.xw_session.specs.Reply.{has_nul}
+use Rattle.xw_answers.specs.Escape.{has_nul}
 use Rattle.xw_session_laws.specs.Replay.{BarsAreOnEdges, AreTextsFrom, clues_of, SessionsOpen}
 use Rattle.xw_session_laws.proofs.KeptInOrder.{clue_kept}
 use Rattle.xw_session_laws.proofs.PlainLines.{IsPlainText, ArePlainTexts, all_parts, text_lines_plain, joined_plain}

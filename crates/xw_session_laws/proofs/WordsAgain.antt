@@ -15,14 +15,14 @@ use Rattle.xw_words.specs.declared.bank.Added.{Added}
 use Rattle.xw_words.specs.declared.bank.Added.TheVariants.{New}
 use Rattle.xw_letters.specs.Letter.{IsLetter, folded}
 use Rattle.xw_words.specs.Word.{is_bad_letter, word_of, judged}
-use Rattle.xw_words.specs.Dictionary.{Dictionary, Entry, AreWords, IsDictionary, row, no_entry, entry_at, index_in, most_words, marked, added_at, add_to, add_answer, after_add, struck_at, strike_from, strike_answer, after_strike, answer_on}
+use Rattle.xw_words.specs.Dictionary.{Dictionary, Entry, AreWords, IsDictionary, row, no_entry, entry_at, index_in, most_words, best_grade, marked, added_at, add_to, add_answer, after_add, struck_at, strike_from, strike_answer, after_strike, answer_on}
 use Rattle.xw_text.proofs.Position.{position_is_some, position_is_none}
 use Rattle.xw_feas.specs.State.{answered, with_words as with_dictionary}
 use Rattle.xw_commands.specs.declared.command.Command.{Command}
 use Rattle.xw_commands.specs.declared.command.Command.TheVariants.{Add, Strike}
 use Rattle.xw_session.specs.State.{State}
 use Rattle.xw_session.specs.Reply.{reply_to, moved}
-use Rattle.xw_session.specs.Record.{known_counts, add_command, strike_commands, row_commands, length_commands, word_commands}
+use Rattle.xw_answers.specs.Record.{known_counts, add_command, strike_commands, row_commands, length_commands, word_commands}
 use Rattle.xw_session_laws.specs.Replay.{state_left, replayed, with_words, unstruck, ComeFirst}
 use Rattle.xw_session_laws.proofs.Replaying.{replayed_both, next_done}
 use Rattle.xw_session_laws.proofs.CellsAgain.{mixed, mixed_more, mixed_next, mixed_same, mixed_all, length-mixed}
@@ -83,15 +83,15 @@ module _ (state : State) (word : List ℕ) (entries : List Entry) (fine : IsItse
   words = state.position.words
 
   pub added_again : index_in entries word ≡ None → length entries < most_words
-      → state_left (reply_to state (Add word)) ≡ Some (with_words state (set words (length word) (entries ++ record { word = word; active = true } ∷ [])))
+      → state_left (reply_to state (Add word)) ≡ Some (with_words state (set words (length word) (entries ++ record { word = word; active = true; grade = best_grade } ∷ [])))
   added_again new room =
-      let left : Result Added WordFault → Option State = λ answer. state_left (moved state (with_dictionary state.position (answered (after_add words (map folded word)) answer))) in
+      let left : Result Added WordFault → Option State = λ answer. state_left (moved state (with_dictionary state.position (answered (after_add words (map folded word) None) answer))) in
       let free : nat_le most_words (length entries) ≡ false = grind (arith, nat_tests, room) in
       let answer : add_answer words word ≡ Ok (New (length entries)) =
       ap (answer_on add_to words) fine.0 ∙ ap (λ es. add_to es word) at ∙ ap (added_at entries) new ∙ ap (λ b. if b then Err Full else Ok (New (length entries))) free in
       ap left answer
-      ∙ ap (λ w. Some (with_words state (set words (length w) (row words (length w) ++ record { word = w; active = true } ∷ [])))) fine.1
-      ∙ ap (λ es. Some (with_words state (set words (length word) (es ++ record { word = word; active = true } ∷ [])))) at
+      ∙ ap (λ w. Some (with_words state (set words (length w) (row words (length w) ++ record { word = w; active = true; grade = best_grade } ∷ [])))) fine.1
+      ∙ ap (λ es. Some (with_words state (set words (length word) (es ++ record { word = word; active = true; grade = best_grade } ∷ [])))) at
 
   pub struck_again : (index : ℕ) → index_in entries word ≡ Some index → (entry_at entries index).active ≡ true
       → state_left (reply_to state (Strike word)) ≡ Some (with_words state (set words (length word) (marked entries index false)))
@@ -139,7 +139,7 @@ module _ (state : State) (count : ℕ) (entries : List Entry) (are : AreWords co
 
   -- ---- added
 
-  module _ (n : ℕ) (begun : n ≤ length entries) where
+  module _ (n : ℕ) (begun : n ≤ length entries) (graded : All (λ entry. entry.grade ≡ best_grade) (drop n entries)) where
     abbrev grown : ℕ → List Entry
     grown i = map unstruck (take (n + i) entries)
 
@@ -168,6 +168,9 @@ module _ (state : State) (count : ℕ) (entries : List Entry) (are : AreWords co
           sym (map-append unstruck (take (n + i) entries) (next ∷ []))
           ∙ ap (map unstruck) (sym (take_more entries (n + i) no_entry here) ∙ ap (λ m. take m entries) last)
 
+      best : next.grade ≡ best_grade
+      best = ap (λ (e : Entry). e.grade) (sym (get_or-drop n entries i no_entry)) ∙ graded i no_entry (omega (arith, here, length-drop n entries))
+
       next_added : replayed (with_row (grown i)) (Add next.word ∷ []) ≡ Some (with_row (grown (i + 1)))
       next_added =
           let now = with_row (grown i) in
@@ -175,6 +178,7 @@ module _ (state : State) (count : ℕ) (entries : List Entry) (are : AreWords co
           let room : length (grown i) < most_words = omega (arith, known, here, are.few) in
           next_done now (with_row (grown (i + 1))) (Add next.word) []
           (added_again now next.word (grown i) (itself (n + i) here) at is_new room
+          ∙ ap (λ grade. Some (with_words state (set now.position.words (length next.word) (grown i ++ record { word = next.word; active = true; grade = grade } ∷ [])))) (sym best)
           ∙ ap (λ m. Some (with_words state (set now.position.words m (grown i ++ unstruck next ∷ [])))) (size (n + i) here)
           ∙ ap (λ ws. Some (with_words state ws)) (row_again_set (grown i) (grown i ++ unstruck next ∷ []) ∙ ap (set state.position.words count) one_more))
 
@@ -214,14 +218,14 @@ module _ (state : State) (count : ℕ) (entries : List Entry) (are : AreWords co
     maybe_struck : (active : Bool) → one.active ≡ active → replayed (with_row (struck j)) (if active then [] else Strike one.word ∷ []) ≡ Some (with_row (struck (j + 1)))
     maybe_struck true is =
         let as_it_is : get_or (map unstruck entries) j no_entry ≡ one =
-        get_or-map unstruck entries j no_entry no_entry here ∙ ap (λ active. record { word = one.word; active = active }) (sym is) in
+        get_or-map unstruck entries j no_entry no_entry here ∙ ap (λ active. record { word = one.word; active = active; grade = one.grade }) (sym is) in
         ap (λ es. Some (with_row es)) (sym (mixed_same entries (map unstruck entries) as_long j no_entry here as_it_is))
     maybe_struck false is =
         let now = with_row (struck j) in
         let at : row now.position.words (length one.word) ≡ struck j = ap (row now.position.words) (size j here) ∙ row_is (struck j) in
         let mark : marked (struck j) j false ≡ struck (j + 1) =
-        ap (λ (e : Entry). set (struck j) j (record { word = e.word; active = false })) before_it
-        ∙ ap (λ active. set (struck j) j (record { word = one.word; active = active })) (sym is)
+        ap (λ (e : Entry). set (struck j) j (record { word = e.word; active = false; grade = e.grade })) before_it
+        ∙ ap (λ active. set (struck j) j (record { word = one.word; active = active; grade = one.grade })) (sym is)
         ∙ sym (mixed_more entries (map unstruck entries) as_long j no_entry here) in
         next_done now (with_row (struck (j + 1))) (Strike one.word) []
         (struck_again now one.word (struck j) (itself j here) at j its_index (ap (λ (e : Entry). e.active) before_it)
@@ -233,13 +237,13 @@ module _ (state : State) (count : ℕ) (entries : List Entry) (are : AreWords co
       each_item_again strike_commands no_entry entries (λ j. with_row (struck j)) (λ j here. maybe_struck j here (get_or entries j no_entry).active refl)
       ∙ ap (λ es. Some (with_row es)) (mixed_all entries (map unstruck entries) (length entries) as_long refl)
 
-  pub row_again : (n : ℕ) → n ≤ length entries → row state.position.words count ≡ map unstruck (take n entries) → replayed state (row_commands entries n) ≡ Some (with_row entries)
-  row_again n begun at =
+  pub row_again : (n : ℕ) → n ≤ length entries → All (λ entry. entry.grade ≡ best_grade) (drop n entries) → row state.position.words count ≡ map unstruck (take n entries) → replayed state (row_commands entries n) ≡ Some (with_row entries)
+  row_again n begun graded at =
       let start : with_row (map unstruck (take n entries)) ≡ state =
       ap (λ es. with_row es) (sym at) ∙ ap (λ ws. with_words state ws) (set-get_or state.position.words count []) in
       ap (λ s. replayed s (row_commands entries n)) (sym start)
       ∙ replayed_both (with_row (map unstruck (take n entries))) (map add_command (drop n entries)) (flat_map strike_commands entries)
-      ∙ ap (option_and_then (λ mid. replayed mid (flat_map strike_commands entries))) (all_added n begun)
+      ∙ ap (option_and_then (λ mid. replayed mid (flat_map strike_commands entries))) (all_added n begun graded)
       ∙ all_struck
 
 -- ---- the whole dictionary
@@ -247,7 +251,7 @@ module _ (state : State) (count : ℕ) (entries : List Entry) (are : AreWords co
 -- there are no more entries at the start than now
 pub no_more : (begun entries : List Entry) → ComeFirst begun entries → length begun ≤ length entries
 no_more begun entries first =
-    let size : length begun ≡ length (take (length begun) entries) = ap length first ∙ length-map (take (length begun) entries) unstruck in
+    let size : length begun ≡ length (take (length begun) entries) = ap length first.0 ∙ length-map (take (length begun) entries) unstruck in
     omega (arith, size, length-take (length begun) entries)
 
 none_to_add : (n : ℕ) → row_commands [] n ≡ []
@@ -256,7 +260,7 @@ none_to_add (suc n) = refl
 
 none_unstruck : (begun : List Entry) → ComeFirst begun [] → begun ≡ []
 none_unstruck [] first = refl
-none_unstruck (e ∷ begun) first = cc
+none_unstruck (e ∷ begun) first = let lists = first.0 in cc
 
 module _ (state : State) (begun words : Dictionary) (is : IsDictionary words) (was : length begun ≡ 256) (now : state.position.words ≡ begun)
     (first : (count : ℕ) → ComeFirst (row begun count) (row words count)) where
@@ -277,13 +281,13 @@ module _ (state : State) (begun words : Dictionary) (is : IsDictionary words) (w
     length_again = elim (cases_lt k 2) [
       | inl short ↦
           let none : row words k ≡ [] = is.none_shorter k short in
-          let none_begun : row begun k ≡ [] = none_unstruck (row begun k) (first k ∙ ap (λ es. map unstruck (take (length (row begun k)) es)) none) in
+          let none_begun : row begun k ≡ [] = none_unstruck (row begun k) ((first k).0 ∙ ap (λ es. map unstruck (take (length (row begun k)) es)) none, λ i d within. absurd (omega (arith, within, length-drop {A = Entry} (length (row begun k)) []))) in
           ap (λ es. replayed (after k) (row_commands es (length (row begun k)))) none
           ∙ ap (replayed (after k)) (none_to_add (length (row begun k)))
           ∙ ap (λ ws. Some (with_words state ws)) (sym (mixed_same words begun as_many k [] within (none_begun ∙ sym none)))
       | inr several ↦
           let long : length (after k).position.words ≡ 256 = length-mixed words begun as_many k [] within ∙ is.lengths in
-          row_again (after k) k (row words k) (is.words k) several (omega (arith, below)) long (length (row begun k)) (no_more (row begun k) (row words k) (first k)) (row_now ∙ first k)
+          row_again (after k) k (row words k) (is.words k) several (omega (arith, below)) long (length (row begun k)) (no_more (row begun k) (row words k) (first k)) (first k).1 (row_now ∙ (first k).0)
           ∙ ap (λ ws. Some (with_words state ws)) (sym (mixed_more words begun as_many k [] within))
     ]
 

@@ -55,25 +55,27 @@ JournalsAreRefusedForMemoryOnly =
 
 -- ---- a part of a journal
 
--- `first` are the first lines of a journal of `lines`: those of the given lines `done`, each with all that it wrote. They leave the
--- state after `done`.
-pub record AreFirstLines (start : State) (lines : List (List ℕ)) (journal : List ℕ) (end : State) (first : List (List ℕ)) : Type 0 where
-  -- they are the first lines of the journal
-  pub more : List (List ℕ)
-  pub of_journal : lines_of journal ≡ first ++ more
-  -- the given lines whose text they have, with their journal, and the others
+-- A journal of `lines` in two parts: that of the lines `done`, and that of the others.
+pub record IsParted (start : State) (lines : List (List ℕ)) (journal : List ℕ) (end : State) : Type 0 where
   pub done : List (List ℕ)
   pub others : List (List ℕ)
   pub of_lines : lines ≡ done ++ others
   pub bytes : List ℕ
   pub rest : List ℕ
-  pub parts : journal ≡ bytes ++ rest
+  pub of_journal : journal ≡ bytes ++ rest
   pub mid : State
   pub so_far : IsJournaled start done bytes mid
   pub further : IsJournaled mid others rest end
-  pub are : first ≡ lines_of bytes
-  -- the state that they leave
-  pub again : replayed_lines start first ≡ Some mid
+
+-- `first` are the first lines of a journal of `lines`: those of some of the given lines, each with all that it wrote.
+pub record AreFirstLines (start : State) (lines : List (List ℕ)) (journal : List ℕ) (end : State) (first : List (List ℕ)) : Type 0 where
+  -- the lines of the journal begin with them
+  pub begins : (more : List (List ℕ)) × (lines_of journal ≡ first ++ more)
+  -- they are the lines of the first part of the journal
+  pub parts : IsParted start lines journal end
+  pub are : first ≡ lines_of parts.bytes
+  -- they leave the state after that part
+  pub again : replayed_lines start first ≡ Some parts.mid
 
 -- Of any first bytes of a journal, the lines that count are its first lines: each command that was journaled is there with all that it
 -- wrote, or not at all, also a search.
@@ -86,7 +88,7 @@ JournalsAreCutAtLines =
 pub record KeepsFirstLines (start : State) (lines : List (List ℕ)) (journal : List ℕ) (end : State) (file : List ℕ) : Type 0 where
   pub first : List (List ℕ)
   pub are : AreFirstLines start lines journal end first
-  pub again : replayed_lines start (kept_lines file) ≡ Some are.mid
+  pub again : replayed_lines start (kept_lines file) ≡ Some are.parts.mid
 
 -- The first bytes of the file of a journal have a part of its first line only, or keep the first lines of the journal.
 abbrev pub JournalFilesAreCutAtLines : Type 0

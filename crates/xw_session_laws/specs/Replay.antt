@@ -1,7 +1,7 @@
 -- Executing commands one after another when no allocation fails, and the laws of records.
-use Rattle.std.specs.Prelude.{◌≡◌, ℕ, ◌+◌, ◌<◌, ◌≤◌, true, false, List, [], ◌∷◌, ◌++◌, map, take, length, slice_index_or, Option, Some, None, Result, Ok, Err}
+use Rattle.std.specs.Prelude.{◌≡◌, ℕ, ◌+◌, ◌<◌, ◌≤◌, true, false, List, [], ◌∷◌, ◌++◌, map, take, drop, length, All, slice_index_or, Option, Some, None, Result, Ok, Err}
 use Rattle.std.specs.Option.{option_and_then}
-use Rattle.xw_words.specs.Dictionary.{Dictionary, Entry, IsDictionary, row}
+use Rattle.xw_words.specs.Dictionary.{Dictionary, Entry, IsDictionary, row, best_grade}
 use Rattle.xw_grid.specs.declared.cell.Square.{Square}
 use Rattle.xw_grid.specs.declared.cell.Square.TheVariants.{Block, Open}
 use Rattle.xw_grid.specs.declared.cell.Cell.{Cell}
@@ -20,16 +20,18 @@ use Rattle.xw_commands.specs.declared.command.SyntaxFault.{SyntaxFault}
 use Rattle.xw_commands.specs.declared.command.TextField.{TextField}
 use Rattle.xw_lines.specs.declared.outcome.Step.{Step}
 use Rattle.xw_lines.specs.declared.outcome.Step.TheVariants.{Refused}
-use Rattle.xw_session.specs.declared.refusal.Refusal.{Refusal}
+use Rattle.xw_answers.specs.declared.refusal.Refusal.{Refusal}
 use Rattle.xw_commands.specs.Command.{command_of}
 use Rattle.xw_lines.specs.Cut.{lines_of}
 use Rattle.xw_session.specs.Put.{text_of_field}
-use Rattle.xw_session.specs.Record.{known_counts, record_commands, record_lines}
-use Rattle.xw_session.specs.Reply.{Reply, reply_to, want_of, has_nul}
+use Rattle.xw_answers.specs.Record.{known_counts}
+use Rattle.xw_session.specs.Record.{record_commands, record_lines}
+use Rattle.xw_session.specs.Reply.{Reply, reply_to, want_of}
+use Rattle.xw_answers.specs.Escape.{has_nul}
 use Rattle.xw_session.specs.Answer.{Answers}
 use Rattle.xw_lines.specs.Spoken.{Spoken}
 use Rattle.xw_session.specs.State.{State}
-use Rattle.xw_session.specs.Text.{refused}
+use Rattle.xw_answers.specs.Text.{refused}
 
 -- the state after a reply, or None if the command is refused
 abbrev pub state_left : Result Reply Refusal → Option State
@@ -70,9 +72,10 @@ with_words state words = record state { position = record state.position { words
 abbrev pub unstruck : Entry → Entry
 unstruck entry = record entry { active = true }
 
--- the known words begin with those from the start of the session, none of which was struck at the start
+-- the known words begin with those from the start of the session, none of which was struck at the start; each word
+-- that was added since has the greatest grade
 abbrev pub ComeFirst : List Entry → List Entry → Type 0
-ComeFirst begun entries = begun ≡ map unstruck (take (length begun) entries)
+ComeFirst begun entries = (begun ≡ map unstruck (take (length begun) entries)) × All (λ entry. entry.grade ≡ best_grade) (drop (length begun) entries)
 
 -- no bar lies on the border of the grid
 abbrev pub BarsAreOnEdges : Grid → Type 0

@@ -17,15 +17,15 @@ ghost use Rattle.xw_grid.specs.Clue.{no_clues, is_circled};
 ghost use Rattle.xw_files.specs.Puz.Board.{puzzle_at};
 ghost use Rattle.xw_files.specs.Text.Shape.{all_of};
 ghost use Rattle.xw_commands.specs.Line.{trimmed};
-ghost use Rattle.xw_session.specs.Escape.{text_spelled, escaped_text};
+ghost use Rattle.xw_answers.specs.Escape.{text_spelled, escaped_text, has_nul};
 ghost use Rattle.xw_commands.specs.declared.command.Command.{Command};
 ghost use Rattle.xw_commands.specs.declared.command.Field.{Field};
-ghost use Rattle.xw_session.specs.declared.record.Section.TheVariants as sections;
-ghost use Rattle.xw_session.specs.declared.record.Part.TheVariants as parts;
+ghost use Rattle.xw_session.specs.declared.session.recording.Section.TheVariants as sections;
+ghost use Rattle.xw_answers.specs.declared.record.Part.TheVariants as parts;
 ghost use Rattle.xw_session.specs.State.{State};
-ghost use Rattle.xw_session.specs.Reply.{has_nul};
 ghost use Rattle.xw_session.specs.Put.{target_of, has_target, with_text_at};
-ghost use Rattle.xw_session.specs.Record.{known_counts, text_commands, section_commands};
+ghost use Rattle.xw_answers.specs.Record.{known_counts, text_commands};
+ghost use Rattle.xw_session.specs.Record.{section_commands};
 ghost use Rattle.xw_session_laws.specs.Replay.{NoneIsStruck, SessionsBegin, SessionsOpen, SessionsStay, CommandsMakeSessionsAgain, LinesAreReadAgain};
 ghost use Rattle.xw_session_laws.specs.Replay.{LinesMakeSessionsAgain, AnsweredLinesMakeSessionsAgain, RecordsAreRefusedForMemoryOnly, replayed, bared};
 ghost use Rattle.xw_session_laws.specs.Replay.{with_grid, with_words, clues_of, ComeFirst, BarsAreOnEdges, barred, barred_right, AreFrom, AreTextsFrom};
@@ -62,8 +62,9 @@ pub fn commands_follow_one_another()
         → replayed state (front ++ rest) ≡ option_and_then (λ mid. replayed mid rest) (replayed state front) }
 {}
 
-/// The word commands of a record rebuild the dictionary, with the words in the same order and each active or struck as
-/// before. The session must start with the same words, none of them struck.
+/// The word commands of a record rebuild the dictionary, with the words in the same order, each active or struck as before
+/// and with its grade. The session must start with the same words, none of them struck, and each word that was added
+/// since has the greatest grade.
 pub fn words_are_made_again()
     ensures { (state made : State) → IsDictionary state.position.words → IsDictionary made.position.words
         → made.begun ≡ known_counts state.position.words

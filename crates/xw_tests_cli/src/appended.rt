@@ -3,12 +3,12 @@ use std::cell::Cell;
 use std::fs::{Metadata, OpenFile};
 use std::io::{self, ErrorKind, Write};
 use std::test::Fail;
-use xw_cli::journal::{Appended, Place, buffered};
+use xw_disk::appended::{Appended, JournalWriter, Place};
 use xw_lines::{Sink, device};
 
 /// The calls of a file, whether bringing it to the device fails, and whether its name leads to it.
 #[derive(Drop)]
-struct Calls {
+pub struct Calls {
     bytes: Cell<usize>,
     cuts: Cell<u32>,
     writes: Cell<u32>,
@@ -18,7 +18,7 @@ struct Calls {
 }
 
 impl Calls {
-    fn new(fails: bool) -> Calls {
+    pub fn new(fails: bool) -> Calls {
         Calls {
             bytes: Cell::new(0),
             cuts: Cell::new(0),
@@ -32,7 +32,7 @@ impl Calls {
 
 /// A file that takes all bytes.
 #[derive(Drop)]
-struct Noting<'a> {
+pub struct Noting<'a> {
     calls: &'a Calls,
 }
 
@@ -77,7 +77,7 @@ impl<'a> OpenFile for Noting<'a> {
 
 /// The name of such a file.
 #[derive(Drop)]
-struct Name<'a> {
+pub struct Name<'a> {
     calls: &'a Calls,
 }
 
@@ -88,7 +88,7 @@ impl<'a> Place for Name<'a> {
 }
 
 /// Appends to such a file, which is empty at first.
-fn appended<'a>(calls: &'a Calls, is_synced: bool) -> Appended<Noting<'a>, Name<'a>> {
+pub fn appended<'a>(calls: &'a Calls, is_synced: bool) -> Appended<Noting<'a>, Name<'a>> {
     Appended::new(Noting { calls }, Name { calls }, 0, is_synced)
 }
 
@@ -97,7 +97,7 @@ fn appended<'a>(calls: &'a Calls, is_synced: bool) -> Appended<Noting<'a>, Name<
 fn line_is_one_write(rt: HostRuntime) -> Result<(), Fail> {
     for is_synced in [false, true] {
         let calls = Calls::new(false);
-        let mut journal = buffered(rt.alloc(), appended(&calls, is_synced))?;
+        let mut journal = JournalWriter::new(rt.alloc(), appended(&calls, is_synced))?;
         for lines in 1..=3 {
             device::write_all(&mut journal, b"set 1 1 A")?;
             device::write_all(&mut journal, b"\n")?;
@@ -116,7 +116,7 @@ fn line_is_one_write(rt: HostRuntime) -> Result<(), Fail> {
 fn line_is_not_synced(rt: HostRuntime) -> Result<(), Fail> {
     for is_synced in [false, true] {
         let calls = Calls::new(true);
-        let mut journal = buffered(rt.alloc(), appended(&calls, is_synced))?;
+        let mut journal = JournalWriter::new(rt.alloc(), appended(&calls, is_synced))?;
         device::write_all(&mut journal, b"set 1 1 A\n")?;
         assert_eq!(rt; journal.flush().is_err(), is_synced);
         assert_eq!(rt; calls.bytes.get(), if is_synced { 0 } else { 10 });
@@ -128,7 +128,7 @@ fn line_is_not_synced(rt: HostRuntime) -> Result<(), Fail> {
 #[test]
 fn file_is_replaced(rt: HostRuntime) -> Result<(), Fail> {
     let calls = Calls::new(false);
-    let mut journal = buffered(rt.alloc(), appended(&calls, false))?;
+    let mut journal = JournalWriter::new(rt.alloc(), appended(&calls, false))?;
     device::write_all(&mut journal, b"watch on\n")?;
     assert!(rt; journal.flush().is_ok());
     calls.is_there.set(false);
@@ -136,7 +136,6 @@ fn file_is_replaced(rt: HostRuntime) -> Result<(), Fail> {
     assert!(rt; journal.flush().is_err());
     assert_eq!(rt; calls.bytes.get(), 9);
     assert_eq!(rt; calls.cuts.get(), 0);
-    let (appended, _unwritten) = journal.into_writer().into_parts();
-    assert!(rt; appended.is_lost());
+    assert!(rt; journal.into_appended().is_lost());
     Ok(())
 }

@@ -1,9 +1,11 @@
 //! Tests of the output for help and usage errors.
+use std::cell::Cell;
 use std::process::Abort;
 use std::test::Fail;
 use xw_cli::arguments::Usage;
 use xw_cli::explaining::explain;
 use xw_cli::failure::Status;
+use xw_cli::outlet::Output;
 use xw_lines::ToWrite;
 
 /// The expected status and output.
@@ -17,9 +19,10 @@ struct Told<'a> {
 fn explains(rt: &(impl Abort + AllocGlobal), usage: &Usage, name: &str, wanted: Told<'_>) {
     let mut transcript = Vec::new(rt.alloc());
     let mut faults = Vec::new(rt.alloc());
+    let mark = Cell::new(false);
     let status = explain(
         usage,
-        &mut ToWrite::new(&mut transcript),
+        &mut Output::new(ToWrite::new(&mut transcript), &mark),
         &mut ToWrite::new(&mut faults),
     );
     assert_eq!(rt; status, wanted.status, "of {name}");

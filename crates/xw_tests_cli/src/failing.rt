@@ -6,7 +6,7 @@ use std::io::{self, ErrorKind, Read, Seek, SeekFrom, Write};
 use std::process::Abort;
 use std::rt::Files;
 use std::test::Fail;
-use xw_cli::replacing::replace;
+use xw_disk::replacing::replace;
 
 const OLD: &[u8] = b"what stood there";
 

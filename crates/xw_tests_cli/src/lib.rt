@@ -1,4 +1,5 @@
-//! Tests of replacing files while file system calls fail, of the writer of a journal, and of the output for help and usage errors.
+//! Tests of calls over files in memory, of replacing files while file system calls fail, of the writer of a journal, and of the output for
+//! help and usage errors.
 #![tactic(auto)]
 
 #[cfg(test)]
@@ -7,3 +8,5 @@ mod appended;
 mod explained;
 #[cfg(test)]
 mod failing;
+#[cfg(test)]
+mod in_memory;

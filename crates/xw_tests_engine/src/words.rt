@@ -16,9 +16,15 @@ enum Call {
     Reserve(usize, Result<(), WordFault>),
     Judge(&'static [u8], Result<Added, WordFault>),
     Add(&'static [u8], Result<Added, WordFault>),
+    /// A word that is added with a grade.
+    AddGraded(&'static [u8], u8, Result<Added, WordFault>),
     Strike(&'static [u8], Result<usize, WordFault>),
     /// The number of known words of a length.
     Known(usize, usize),
+    /// The grade of a word, by its length and index.
+    Grade(usize, usize, u8),
+    /// Whether words have different grades.
+    IsGraded(bool),
     /// The words that match a pattern, in order.
     Fitting(&'static [u8], &'static [&'static [u8]]),
     /// A two-letter word that is not known.
@@ -58,9 +64,12 @@ fn goes(bank: &mut Bank, call: Call) -> bool {
     match call {
         Call::Reserve(count, wanted) => bank.reserve(count) == wanted,
         Call::Judge(text, wanted) => bank.judge_add(text) == wanted,
-        Call::Add(text, wanted) => bank.add(text) == wanted,
+        Call::Add(text, wanted) => bank.add(text, None) == wanted,
+        Call::AddGraded(text, grade, wanted) => bank.add(text, Some(grade)) == wanted,
         Call::Strike(text, wanted) => bank.strike(text) == wanted,
         Call::Known(length, count) => bank.known(length) == count,
+        Call::Grade(length, index, grade) => bank.grade(length, index) == grade,
+        Call::IsGraded(graded) => bank.is_graded() == graded,
         Call::Fitting(pattern, texts) => lends(bank, pattern, texts) == Ok(true),
         Call::Lacks(first, second) => lacks(bank, first, second),
     }
@@ -85,6 +94,17 @@ struct List {
 
 const NO_SINGLE_LETTERS: &[Call] = &[Call::Known(1, 0)];
 
+const FIVE_GRADES: &[Call] = &[
+    Call::Grade(3, 0, 70),
+    Call::Grade(3, 1, 100),
+    Call::Grade(3, 2, 0),
+    Call::Grade(3, 3, 50),
+    Call::Grade(3, 4, 50),
+    Call::Grade(3, 5, 0),
+    Call::Grade(256, 0, 0),
+    Call::IsGraded(true),
+];
+
 /// Most of these have lines that are skipped, and bytes that are dropped.
 const LISTS: &[List] = &[
     List {
@@ -92,7 +112,18 @@ const LISTS: &[List] = &[
         text: b"CAT;50\r\nco-t\n\nx\ncat\n",
         added: 2,
         skipped: 3,
-        calls: &[Call::Known(3, 2), Call::Fitting(b"c.t", &[b"CAT", b"COT"])],
+        calls: &[
+            Call::Known(3, 2),
+            Call::Fitting(b"c.t", &[b"CAT", b"COT"]),
+            Call::IsGraded(false),
+        ],
+    },
+    List {
+        name: "list_of_grades",
+        text: b"cat;70\r\ncot ;\t250 ; 9\nCAT;3\nbat;-4\nhat;7.5\nmat\n",
+        added: 5,
+        skipped: 1,
+        calls: FIVE_GRADES,
     },
     List {
         name: "lists_of_odd_lines, of nothing",
@@ -178,6 +209,12 @@ const ROOM: &[Call] = &[
     Call::Strike(b"Co", Ok(0)),
     Call::Judge(b"CO", Ok(Added::Returned(0))),
     Call::Add(b"cO", Ok(Added::Returned(0))),
+    Call::Grade(2, 0, 100),
+    Call::Strike(b"CO", Ok(0)),
+    Call::AddGraded(b"co", 20, Ok(Added::Returned(0))),
+    Call::Strike(b"CO", Ok(0)),
+    Call::Add(b"co", Ok(Added::Returned(0))),
+    Call::Grade(2, 0, 20),
     Call::Lacks(b'n', b'o'),
 ];
 
@@ -202,7 +239,7 @@ fn pair(index: usize, turned: bool) -> [u8; 2] {
 
 fn add_pairs(rt: &impl Abort, bank: &mut Bank, count: usize, turned: bool) {
     for index in 0..count {
-        let added = bank.add(&pair(index, turned));
+        let added = bank.add(&pair(index, turned), None);
         assert!(rt;
             added == Ok(Added::New(index)),
             "word {index} of {count} was not added"
@@ -382,7 +419,7 @@ fn add_by(rt: &impl Abort, bank: &mut Bank, step: usize) {
     for turn in 0..1500usize {
         let word = three_letters(turn.wrapping_mul(step) % 1500);
         assert!(rt;
-            bank.add(&word) == Ok(Added::New(turn)),
+            bank.add(&word, None) == Ok(Added::New(turn)),
             "word {turn} in steps of {step} was not added"
         );
     }

@@ -1,10 +1,16 @@
 -- The first line of a text, by the position of its first line feed.
-use Rattle.std.proofs.Common.{◌≡◌, ℕ, zero, suc, ◌+◌, ◌<◌, Bool, true, false, List, [], ◌∷◌, length, get_or, take, drop, ap, ◌∙◌, arith, add-one}
-use Rattle.std.specs.Prelude.{Some, None, position}
-use Rattle.std.proofs.lemmas.Bool.{cond-true, cond-false}
+use Rattle.std.proofs.Common.{◌≡◌, ℕ, zero, suc, ◌+◌, ◌<◌, true, false, List, [], ◌∷◌, length, get_or, take, drop, sym, ap, ◌∙◌, arith, add-one}
+use Rattle.std.specs.Prelude.{Option, Some, None, position}
+use Rattle.std.proofs.lemmas.Bool.{cond-true, cond-false, false_from_ne_true}
 use Rattle.std.proofs.lemmas.List.Quantifiers.{position-Some}
 use Rattle.xw_text.specs.Lines.{is_line_feed, begun, lines_of}
-use Rattle.xw_text.proofs.Position.{position-None}
+use Rattle.xw_text.proofs.Position.{position-None, position_is_some, position_is_none}
+use Rattle.memchr.specs.Find.{IsFirstByte, is_byte}
+
+-- the first byte that is a line feed is at the position of the first line feed
+pub first_line_feed : (xs : List ℕ) (found : Option ℕ) → IsFirstByte (is_byte 10) xs found → found ≡ position is_line_feed xs
+first_line_feed xs None nowhere = sym (position_is_none is_line_feed xs 0 (λ k lt. false_from_ne_true (is_line_feed (get_or xs k 0)) (nowhere k (omega arith) lt)))
+first_line_feed xs (Some end) first = sym (position_is_some is_line_feed xs end 0 first.0.high (λ k lt. false_from_ne_true (is_line_feed (get_or xs k 0)) (first.0.before k (omega arith) lt)) first.1)
 
 -- a line feed ends the first line
 lines_at : (xs : List ℕ) (end : ℕ) → end < length xs → is_line_feed (get_or xs end 0) ≡ true → ((k : ℕ) → k < end → is_line_feed (get_or xs k 0) ≡ false) → lines_of xs ≡ take end xs ∷ lines_of (drop (suc end) xs)

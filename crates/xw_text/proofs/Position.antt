@@ -1,4 +1,4 @@
--- The first index that passes a test.
+-- The index of the first item that passes a test, as std's `position` finds it.
 use Rattle.std.proofs.Common.{◌≡◌, ℕ, zero, suc, ◌+◌, ◌<◌, ◌≤◌, Bool, true, false, cond, not, List, [], ◌∷◌, length, get_or, refl, arith}
 use Rattle.std.specs.Prelude.{Some, None, position}
 use Rattle.std.specs.List.{position_or_len}

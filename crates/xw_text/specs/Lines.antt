@@ -5,7 +5,7 @@ use Rattle.std.specs.Prelude.{ℕ, Bool, List, [], ◌∷◌, ◌++◌, ◌≢�
 abbrev pub is_line_feed : ℕ → Bool
 is_line_feed byte = byte == 10
 
--- adds a byte to the front of the first line; with no line, the byte is one
+-- adds a byte to the front of the first line; if there is no line, the byte becomes one
 abbrev pub begun : ℕ → List (List ℕ) → List (List ℕ)
 begun byte [] = (byte ∷ []) ∷ []
 begun byte (line ∷ lines) = (byte ∷ line) ∷ lines

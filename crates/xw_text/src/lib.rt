@@ -1,4 +1,4 @@
-//! What the lines of a text are.
+//! The lines of a text: what they are, and how to split off the first one.
 #![tactic(auto)]
 
 pub mod lines;

@@ -1,12 +1,15 @@
 //! The first line of a text, and a law about its lines. `specs/Lines.antt` defines them.
-ghost use Rattle.std.specs.Prelude.{◌≡◌, ℕ, ◌<◌, List, ◌∷◌, ◌++◌, length, position};
+ghost use Rattle.std.specs.Prelude.{◌≡◌, ℕ, ◌<◌, List, ◌∷◌, ◌++◌, length, position, IfSome};
 ghost use Rattle.xw_text.specs.Lines.{is_line_feed, HasNoLf, AllHaveNoLf, lines_of, with_lfs, last_line};
 
+use memchr::memchr;
+
 /// The index of the first line feed.
-fn line_end(bytes: &[u8]) -> Option<usize>
-    ensures { result ≡ position is_line_feed bytes.now }
+pub fn line_end(bytes: &[u8]) -> Option<usize>
+    ensures index { result ≡ position is_line_feed bytes.now }
+    ensures within { IfSome result (λ index. index < length bytes.now) }
 {
-    bytes.iter().position(|byte| *byte == b'\n')
+    memchr(b'\n', bytes)
 }
 
 /// Splits off the first line; returns it and the bytes after its line feed.

@@ -1,7 +1,7 @@
 //! The dictionary: all known words, grouped by length.
-ghost use Rattle.std.specs.Prelude.{◌≡◌, ◌≢◌, ℕ, ◌+◌, ◌*◌, ◌<◌, ◌≤◌, Bool, true, false, [], map, replicate, length, Ok, Err, None, All, IsOk, IfErr, IfOk, IfSome, IfNone, OnOk, OnErr, IsOkUnless, position, vec_len};
+ghost use Rattle.std.specs.Prelude.{◌≡◌, ◌≢◌, ℕ, ◌+◌, ◌*◌, ◌<◌, ◌≤◌, Bool, true, false, [], map, replicate, length, slice_index_or, Ok, Err, None, All, IsOk, IfErr, IfOk, IfSome, IfNone, OnOk, OnErr, IsOkUnless, position, vec_len};
 ghost use Rattle.xw_letters.specs.Letter.{folded, IsLetter};
-ghost use Rattle.xw_words.specs.Dictionary.{row as words_of, entry_at, index_of_word, add_answer, answer_on, add_to, after_add, strike_answer, after_strike, IsNew, IsDictionary, matching_answer, reserve_answer, most_words};
+ghost use Rattle.xw_words.specs.Dictionary.{row as words_of, entry_at, index_of_word, add_answer, answer_on, add_to, after_add, strike_answer, after_strike, IsNew, IsDictionary, matching_answer, reserve_answer, most_words, best_grade};
 ghost use Rattle.xw_words.specs.Bank.{has_room, IsKept, KeepsRoom, KeepsOtherRoom};
 ghost use Rattle.xw_words.specs.Word.{is_bad_letter, judged};
 ghost use Rattle.xw_bits.specs.Bits.{has_bit};
@@ -91,6 +91,38 @@ impl Bank {
         }
     }
 
+    /// The grade of word `index` of length `len`, 0 to `BEST_GRADE`; 0 if there is no such word.
+    pub fn grade(&self, len: usize, index: usize) -> u8
+        ensures grade { result ≡ (entry_at (words_of self.now.words len) index).grade }
+        ensures range { result ≤ best_grade }
+    {
+        match self.rows.get(len) {
+            Some(row) => row.grade(index),
+            None => 0,
+        }
+    }
+
+    /// How much these words of the 64 from `64 * chunk` on, of length `len`, weigh in a search: more for better grades,
+    /// and 1 each if all grades are equal. It is a hint; the contract promises nothing.
+    pub(crate) fn weight(&self, len: usize, chunk: usize, words: u64) -> u64 {
+        match self.rows.get(len) {
+            Some(row) => row.weight(chunk, words),
+            None => 0,
+        }
+    }
+
+    /// Whether words had different grades. It is a hint for a search; the contract promises nothing.
+    pub fn is_graded(&self) -> bool {
+        let mut least = u8::MAX;
+        let mut greatest = 0;
+        for row in &self.rows {
+            let range = row.grade_range();
+            least = least.min(range.0);
+            greatest = greatest.max(range.1);
+        }
+        least < greatest
+    }
+
     /// The letters of word `index` of length `len`.
     pub fn word(&self, len: usize, index: usize) -> &[Letter]
         requires { index < length (words_of self.now.words len) }
@@ -154,6 +186,19 @@ impl Bank {
         }
     }
 
+    /// A bit for each known word of length `len`: whether it is active. Returns `None` only if no word of
+    /// this length is known.
+    pub(crate) fn active_row(&self, len: usize) -> Option<&BitRow>
+        ensures len { IfSome result (λ row. length row.now.bits ≡ length (words_of self.now.words len)) }
+        ensures bits { IfSome result (λ row. (i : ℕ) → slice_index_or row.now.bits i false ≡ word_is_active (words_of self.now.words len) i) }
+        ensures none { IfNone result ((i : ℕ) → word_is_active (words_of self.now.words len) i ≡ false) }
+    {
+        match self.rows.get(len) {
+            Some(row) => Some(row.active_row()),
+            None => None,
+        }
+    }
+
     /// What `add` would return if no allocation failed.
     pub fn judge_add(&self, bytes: &[u8]) -> Result<Added, WordFault>
         ensures { result ≡ add_answer self.now.words bytes.now }
@@ -162,16 +207,18 @@ impl Bank {
         self.rows[bytes.len()].judge_add(bytes)
     }
 
-    /// Adds a word: appends a new one, or makes a struck one active again.
+    /// Adds a word: appends a new one, or makes a struck one active again. A grade that is given, at
+    /// most `BEST_GRADE`, becomes the word's; else a new word has `BEST_GRADE`, and a struck one
+    /// keeps its grade.
     ///
     /// Returns `BadLetter` for the first byte that is not a letter, then `Length` for a length
     /// outside 2 to 255, then `Known` if the word is active, `Full` if `MOST_WORDS` words of this
     /// length are known, and `Memory` if an allocation fails. The words stay as they were on an
     /// error.
-    pub fn add(&mut self, bytes: &[u8]) -> Result<Added, WordFault>
+    pub fn add(&mut self, bytes: &[u8], grade: Option<u8>) -> Result<Added, WordFault>
         ensures answer { result ≢ Err WordFault.Memory → result ≡ add_answer self.old.words bytes.now }
         ensures memory { result ≡ Err WordFault.Memory → IsNew (add_answer self.old.words bytes.now) }
-        ensures ok { IfOk result (λ added. self.new.words ≡ after_add self.old.words (map folded bytes.now) added) }
+        ensures ok { IfOk result (λ added. self.new.words ≡ after_add self.old.words (map folded bytes.now) grade added) }
         ensures err { OnErr result (self.new.words ≡ self.old.words) }
         ensures room { KeepsOtherRoom (length bytes.now) self.old self.new }
         ensures room_at_err { OnErr result (KeepsRoom self.old self.new) }
@@ -179,19 +226,23 @@ impl Bank {
     {
         judge_word(bytes)?;
         let row = &mut self.rows[bytes.len()];
-        row.add(self.alloc, bytes)
+        row.add(self.alloc, bytes, grade)
     }
 
     /// Like `add`, for a word that is spelled already.
-    pub(crate) fn add_word(&mut self, word: &[Letter]) -> Result<Added, WordFault>
+    pub(crate) fn add_word(
+        &mut self,
+        word: &[Letter],
+        grade: Option<u8>,
+    ) -> Result<Added, WordFault>
         requires { All IsLetter word.now }
         ensures answer { result ≢ Err WordFault.Memory → result ≡ answer_on add_to self.old.words (judged None (length word.now) word.now) }
-        ensures ok { IfOk result (λ added. self.new.words ≡ after_add self.old.words word.now added) }
+        ensures ok { IfOk result (λ added. self.new.words ≡ after_add self.old.words word.now grade added) }
         ensures err { OnErr result (self.new.words ≡ self.old.words) }
     {
         judge_length(word.len())?;
         let row = &mut self.rows[word.len()];
-        row.add_word(self.alloc, word)
+        row.add_word(self.alloc, word, grade)
     }
 
     /// Strikes a word and returns its index. The word stays known. Returns `BadLetter` or `Length`
@@ -247,18 +298,19 @@ impl Bank {
         row.reserve(self.alloc, expected)
     }
 
-    /// Adds a word that is not known, in reserved room, and returns its index.
-    pub fn add_reserved(&mut self, word: &[Letter]) -> usize
+    /// Adds a word that is not known, in reserved room, and returns its index. Its grade is as
+    /// `add` says.
+    pub fn add_reserved(&mut self, word: &[Letter], grade: Option<u8>) -> usize
         requires room { has_room self.old (length word.now) ≡ true }
         requires unknown { index_of_word self.old.words word.now ≡ None }
         ensures index { result ≡ length (words_of self.old.words (length word.now)) }
-        ensures words { self.new.words ≡ after_add self.old.words word.now (Added.New result) }
+        ensures words { self.new.words ≡ after_add self.old.words word.now grade (Added.New result) }
         ensures room { KeepsOtherRoom (length word.now) self.old self.new }
     {
         are_letters(word);
         let row = &mut self.rows[word.len()];
         let index = row.len();
-        row.add_reserved(word);
+        row.add_reserved(word, grade);
         index
     }
 }

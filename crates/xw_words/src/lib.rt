@@ -6,11 +6,13 @@ mod block;
 mod columns;
 pub mod counted;
 pub mod fault;
+mod grade;
 mod index;
 pub mod matching;
 mod row;
 pub mod rows;
 mod sieve;
+mod weights;
 pub mod word;
 pub mod word_list;
 

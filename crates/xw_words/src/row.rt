@@ -1,8 +1,9 @@
 //! The known words of one length.
 ghost use Rattle.xw_bits.specs.Bits.{has_bit};
 ghost use Rattle.xw_words.specs.Columns.{has_letter, has_one_of, is_active, AreFits, IsColumn, AreColumns};
-ghost use Rattle.std.specs.Prelude.{◌≡◌, ℕ, ◌+◌, ◌*◌, ◌<◌, ◌≤◌, ◌||◌, ◌==◌, Bool, true, false, None, [], ◌∷◌, ◌++◌, length, take, map, position, OnOk, OnErr, IfOk, IfErr, IfSome, IfNone, ◌≢◌, vec_len, vec_capacity};
-ghost use Rattle.xw_words.specs.Dictionary.{entry_at, marked, index_in, add_to, added_at, with_added, strike_from, IsNew, most_words};
+ghost use Rattle.xw_words.specs.Matching.{HasFits};
+ghost use Rattle.std.specs.Prelude.{◌≡◌, ℕ, ◌+◌, ◌*◌, ◌<◌, ◌≤◌, ◌||◌, ◌==◌, Bool, true, false, None, [], ◌∷◌, ◌++◌, length, slice_index_or, take, map, position, OnOk, OnErr, IfOk, IfErr, IfSome, IfNone, ◌≢◌, vec_len, vec_capacity};
+ghost use Rattle.xw_words.specs.Dictionary.{entry_at, marked, regraded, index_in, add_to, added_at, with_added, grade_given, strike_from, IsNew, most_words, best_grade};
 ghost use Rattle.xw_letters.specs.Letter.{folded};
 ghost use Rattle.xw_words.specs.Word.{is_bad_letter, is_bad_in_pattern};
 
@@ -10,6 +11,7 @@ use crate::bank::Added;
 use crate::columns::{LETTERS, grow_columns, push_word};
 use crate::fault::WordFault;
 use crate::index::Index;
+use crate::weights::Weights;
 use crate::word::{LONGEST, spell};
 use std::alloc::{AllocError, Global};
 use std::marker::Model;
@@ -18,6 +20,9 @@ use xw_letters::letter::Letter;
 
 /// The largest number of known words of one length.
 pub const MOST_WORDS: usize = 1048576;
+
+/// The greatest grade of a word.
+pub const BEST_GRADE: u8 = 100;
 
 /// The least number of words by which a row grows.
 const LEAST_GROWTH: usize = 64;
@@ -37,6 +42,7 @@ fn grown(known: usize, expected: usize) -> usize
 /// Reserves room for `words` words in total.
 fn reserve_words(
     active: &mut BitRow,
+    grades: &mut Vec<u8>,
     letters: &mut Vec<Letter>,
     word_len: usize,
     words: usize,
@@ -45,15 +51,20 @@ fn reserve_words(
     requires few { words ≤ most_words }
     requires short { word_len ≤ 255 }
     requires letters { length letters.old.items ≡ length active.old.bits * word_len }
+    requires grades { length grades.old.items ≡ length active.old.bits }
     ensures bits { active.new.bits ≡ active.old.bits }
     ensures room_stays { active.old.room ≤ active.new.room }
+    ensures grades_stay { grades.new.items ≡ grades.old.items }
+    ensures grades_capacity { vec_capacity grades.old ≤ vec_capacity grades.new }
     ensures items { letters.new.items ≡ letters.old.items }
     ensures capacity { vec_capacity letters.old ≤ vec_capacity letters.new }
     ensures room { OnOk result (words ≤ active.new.room) }
+    ensures grades_room { OnOk result (words ≤ vec_capacity grades.new) }
     ensures letters_room { OnOk result (words * word_len ≤ vec_capacity letters.new) }
 {
     let more = words - active.len();
     active.reserve(words)?;
+    grades.reserve_exact(more)?;
     letters.reserve_exact(more * word_len)?;
     Ok(())
 }
@@ -67,6 +78,25 @@ fn append(letters: &mut Vec<Letter>, word: &[Letter])
     let _ = letters.extend_from_slice(word);
 }
 
+/// Appends a grade within the capacity.
+fn append_grade(grades: &mut Vec<u8>, grade: u8)
+    requires { vec_len grades.old < vec_capacity grades.old }
+    ensures items { grades.new.items ≡ grades.old.items ++ grade ∷ [] }
+    ensures capacity { vec_capacity grades.old ≤ vec_capacity grades.new }
+{
+    let _ = grades.push(grade);
+}
+
+/// The grade of an added word: the one that is given, at most `BEST_GRADE`, or else `usual`.
+fn grade_or(given: Option<u8>, usual: u8) -> u8
+    ensures { result ≡ grade_given given usual }
+{
+    match given {
+        Some(grade) => grade.min(BEST_GRADE),
+        None => usual,
+    }
+}
+
 /// The known words of one length, in the order they were first added.
 #[derive(Drop)]
 pub struct Row {
@@ -74,6 +104,8 @@ pub struct Row {
     letters: Vec<Letter>,
     index: Index,
     active: BitRow,
+    grades: Vec<u8>,
+    weights: Weights,
     columns: Vec<BitRow>,
     reserved: usize,
 }
@@ -104,6 +136,8 @@ impl Row {
             letters: Vec::new(alloc),
             index: Index::new(alloc),
             active: BitRow::new(alloc),
+            grades: Vec::new(alloc),
+            weights: Weights::new(),
             columns: Vec::new(alloc),
             reserved: 0,
         }
@@ -124,6 +158,40 @@ impl Row {
         index < self.active.len() && self.active.has(index)
     }
 
+    /// The grade of word `index`; 0 if there is no such word.
+    pub fn grade(&self, index: usize) -> u8
+        ensures { result ≡ (entry_at self.now.entries index).grade }
+    {
+        if index < self.grades.len() {
+            self.grades[index]
+        } else {
+            0
+        }
+    }
+
+    /// How much these words of a chunk of 64 words weigh in a search. The contract promises nothing.
+    pub fn weight(&self, chunk: usize, words: u64) -> u64 {
+        if self.weights.are_equal() {
+            return u64::from(words.count_ones());
+        }
+        let first = chunk.saturating_mul(64);
+        let mut total: u64 = 0;
+        let mut left = words;
+        for _ in 0..words.count_ones() {
+            let index = first.saturating_add(left.trailing_zeros() as usize);
+            if let Some(grade) = self.grades.get(index) {
+                total = total.saturating_add(self.weights.of_grade(*grade));
+            }
+            left &= left.wrapping_sub(1);
+        }
+        total
+    }
+
+    /// The least and the greatest grade that a word of the row had. The contract promises nothing.
+    pub fn grade_range(&self) -> (u8, u8) {
+        (self.weights.least(), self.weights.greatest())
+    }
+
     /// The letters of word `index`.
     pub fn word(&self, index: usize) -> &[Letter]
         requires { index < length self.now.entries }
@@ -132,14 +200,16 @@ impl Row {
         &self.letters[index * self.word_len..(index + 1) * self.word_len]
     }
 
-    /// Makes word `index` active or struck.
-    pub fn mark(&mut self, index: usize, active: bool)
+    /// Makes word `index` active or struck, with this grade.
+    fn mark(&mut self, index: usize, active: bool, grade: u8)
         requires { index < length self.old.entries }
-        ensures entries { self.new.entries ≡ marked self.old.entries index active }
+        ensures entries { self.new.entries ≡ regraded self.old.entries index active grade }
         ensures word_len { self.new.word_len ≡ self.old.word_len }
         ensures room { self.new.room ≡ self.old.room }
     {
+        self.weights.note(grade);
         self.active.put(index, active);
+        self.grades[index] = grade;
     }
 
     /// The index of a word, active or struck.
@@ -168,6 +238,14 @@ impl Row {
     {
         self.note(word);
         self.find(word)
+    }
+
+    /// A bit for each word: whether it is active.
+    pub fn active_row(&self) -> &BitRow
+        ensures len { length result.now.bits ≡ length self.now.entries }
+        ensures bits { (i : ℕ) → slice_index_or result.now.bits i false ≡ is_active self.now.entries i }
+    {
+        &self.active
     }
 
     /// A bit for each of the 64 words of a chunk: whether it is active. The first word is the
@@ -254,15 +332,42 @@ impl Row {
         fits
     }
 
+    /// A row of bits that has each word that matches the pattern: the column of the first letter from
+    /// position `from` on, or the row of active words if there is none. Also returns the position after
+    /// that letter.
+    pub fn sieve_from(&self, pattern: &[u8], from: usize) -> (&BitRow, usize)
+        requires length { length pattern.now ≡ self.now.word_len }
+        requires good { position is_bad_in_pattern pattern.now ≡ None }
+        requires from { from ≤ length pattern.now }
+        ensures row { HasFits (map folded pattern.now) self.now.entries result.0.now.bits }
+        ensures next { result.1 ≤ length pattern.now }
+    {
+        let _ = &self.word_len;
+        for position in from..pattern.len() {
+            if pattern[position] != b'.' {
+                let letter = Letter::capital(pattern[position]);
+                if let Some(column) = self.column_of(position, letter) {
+                    return (column, position + 1);
+                }
+            }
+        }
+        (self.active_row(), pattern.len())
+    }
+
     /// Adds the word that the bytes spell: appends a new one, or makes a struck one active again.
-    pub fn add(&mut self, alloc: Global, bytes: &[u8]) -> Result<Added, WordFault>
+    pub fn add(
+        &mut self,
+        alloc: Global,
+        bytes: &[u8],
+        grade: Option<u8>,
+    ) -> Result<Added, WordFault>
         requires letters { position is_bad_letter bytes.now ≡ None }
         requires length { length bytes.now ≡ self.old.word_len }
         requires long { 2 ≤ self.old.word_len }
         ensures word_len { self.new.word_len ≡ self.old.word_len }
         ensures answer { result ≢ Err WordFault.Memory → result ≡ add_to self.old.entries (map folded bytes.now) }
         ensures memory { result ≡ Err WordFault.Memory → IsNew (add_to self.old.entries (map folded bytes.now)) }
-        ensures ok { IfOk result (λ added. self.new.entries ≡ with_added self.old.entries (map folded bytes.now) added) }
+        ensures ok { IfOk result (λ added. self.new.entries ≡ with_added self.old.entries (map folded bytes.now) grade added) }
         ensures err { OnErr result (self.new.entries ≡ self.old.entries) }
         ensures room_at_err { OnErr result (self.new.room ≡ self.old.room) }
         ensures room_at_return { (index : ℕ) → result ≡ Ok (Added.Returned index) → self.new.room ≡ self.old.room }
@@ -270,52 +375,63 @@ impl Row {
         let _ = &self.word_len;
         let mut letters = [Letter::first(); LONGEST];
         spell(&mut letters, bytes);
-        self.add_word(alloc, &letters[..bytes.len()])
+        self.add_word(alloc, &letters[..bytes.len()], grade)
     }
 
     /// Adds a word: appends a new one, or makes a struck one active again.
-    pub fn add_word(&mut self, alloc: Global, word: &[Letter]) -> Result<Added, WordFault>
+    pub fn add_word(
+        &mut self,
+        alloc: Global,
+        word: &[Letter],
+        grade: Option<u8>,
+    ) -> Result<Added, WordFault>
         requires length { length word.now ≡ self.old.word_len }
         requires long { 2 ≤ self.old.word_len }
         ensures word_len { self.new.word_len ≡ self.old.word_len }
         ensures answer { result ≢ Err WordFault.Memory → result ≡ add_to self.old.entries word.now }
         ensures memory { result ≡ Err WordFault.Memory → IsNew (add_to self.old.entries word.now) }
-        ensures ok { IfOk result (λ added. self.new.entries ≡ with_added self.old.entries word.now added) }
+        ensures ok { IfOk result (λ added. self.new.entries ≡ with_added self.old.entries word.now grade added) }
         ensures err { OnErr result (self.new.entries ≡ self.old.entries) }
         ensures room_at_err { OnErr result (self.new.room ≡ self.old.room) }
         ensures room_at_return { (index : ℕ) → result ≡ Ok (Added.Returned index) → self.new.room ≡ self.old.room }
     {
         match self.seek(word) {
-            Some(index) => self.add_again(index),
-            None => self.add_new(alloc, word),
+            Some(index) => self.add_again(index, grade),
+            None => self.add_new(alloc, word, grade),
         }
     }
 
     /// Makes a struck word active again; refuses an active one.
-    fn add_again(&mut self, index: usize) -> Result<Added, WordFault>
+    fn add_again(&mut self, index: usize, grade: Option<u8>) -> Result<Added, WordFault>
         requires { index < length self.old.entries }
         ensures word_len { self.new.word_len ≡ self.old.word_len }
         ensures answer { result ≡ added_at self.old.entries (Some index) }
-        ensures ok { OnOk result (self.new.entries ≡ marked self.old.entries index true) }
+        ensures ok { OnOk result (self.new.entries ≡ regraded self.old.entries index true (grade_given grade (entry_at self.old.entries index).grade)) }
         ensures err { OnErr result (self.new.entries ≡ self.old.entries) }
         ensures room { self.new.room ≡ self.old.room }
     {
         if self.is_active(index) {
             return Err(WordFault::Known);
         }
-        self.mark(index, true);
+        let grade = grade_or(grade, self.grade(index));
+        self.mark(index, true, grade);
         Ok(Added::Returned(index))
     }
 
     /// Appends a word that is not known.
-    fn add_new(&mut self, alloc: Global, word: &[Letter]) -> Result<Added, WordFault>
+    fn add_new(
+        &mut self,
+        alloc: Global,
+        word: &[Letter],
+        grade: Option<u8>,
+    ) -> Result<Added, WordFault>
         requires length { length word.now ≡ self.old.word_len }
         requires long { 2 ≤ self.old.word_len }
         requires unknown { index_in self.old.entries word.now ≡ None }
         ensures word_len { self.new.word_len ≡ self.old.word_len }
         ensures answer { result ≢ Err WordFault.Memory → result ≡ added_at self.old.entries None }
         ensures memory { result ≡ Err WordFault.Memory → IsNew (added_at self.old.entries None) }
-        ensures ok { OnOk result (self.new.entries ≡ self.old.entries ++ record { word = word.now; active = true } ∷ []) }
+        ensures ok { OnOk result (self.new.entries ≡ self.old.entries ++ record { word = word.now; active = true; grade = grade_given grade best_grade } ∷ []) }
         ensures err { OnErr result (self.new.entries ≡ self.old.entries) }
         ensures room { OnErr result (self.new.room ≡ self.old.room) }
         ensures added { IfOk result (λ added. IsNew (Ok added)) }
@@ -325,7 +441,7 @@ impl Row {
             return Err(WordFault::Full);
         }
         self.reserve(alloc, 0)?;
-        self.add_reserved(word);
+        self.add_reserved(word, grade);
         Ok(Added::New(index))
     }
 
@@ -361,7 +477,7 @@ impl Row {
         spell(&mut letters, bytes);
         match self.find(&letters[..bytes.len()]) {
             Some(index) if self.is_active(index) => {
-                self.mark(index, false);
+                self.mark(index, false, self.grade(index));
                 Ok(index)
             }
             _ => Err(WordFault::Unknown),
@@ -386,18 +502,24 @@ impl Row {
         }
         let words = grown(known, expected);
         grow_columns(alloc, &mut self.columns, LETTERS * self.word_len, words)?;
-        reserve_words(&mut self.active, &mut self.letters, self.word_len, words)?;
+        reserve_words(
+            &mut self.active,
+            &mut self.grades,
+            &mut self.letters,
+            self.word_len,
+            words,
+        )?;
         self.reserved = words;
         Ok(())
     }
 
     /// Appends a word that is not known, in reserved room.
-    pub fn add_reserved(&mut self, word: &[Letter])
+    pub fn add_reserved(&mut self, word: &[Letter], grade: Option<u8>)
         requires length { length word.now ≡ self.old.word_len }
         requires room { self.old.room ≡ true }
         requires unknown { index_in self.old.entries word.now ≡ None }
         ensures word_len { self.new.word_len ≡ self.old.word_len }
-        ensures entries { self.new.entries ≡ self.old.entries ++ record { word = word.now; active = true } ∷ [] }
+        ensures entries { self.new.entries ≡ self.old.entries ++ record { word = word.now; active = true; grade = grade_given grade best_grade } ∷ [] }
         ensures few { length self.old.entries < most_words }
         ensures long { 2 ≤ length word.now }
     {
@@ -405,6 +527,9 @@ impl Row {
         self.index.insert(&self.letters, word, index as u32);
         push_word(&mut self.columns, word, index);
         self.active.push(true);
+        let grade = grade_or(grade, BEST_GRADE);
+        self.weights.note(grade);
+        append_grade(&mut self.grades, grade);
         append(&mut self.letters, word);
     }
 }

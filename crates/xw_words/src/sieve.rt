@@ -1,5 +1,6 @@
-//! Filters a row of words by a set of letters at a position, eight chunks at a time.
-ghost use Rattle.std.specs.Prelude.{◌≡◌, ℕ, ◌+◌, ◌*◌, ◌/◌, ◌<◌, ◌≤◌, false, length, bit_or, slice_index, slice_index_or};
+//! Filters a row of words by a set of letters at a position. It skips chunks that are clear, and takes
+//! eight chunks at a time where the row is dense.
+ghost use Rattle.std.specs.Prelude.{◌≡◌, ℕ, ◌+◌, ◌*◌, ◌^◌, ◌<◌, ◌≤◌, false, length, bit_or, slice_index, slice_index_or};
 ghost use Rattle.xw_bits.specs.Bits.{has_bit};
 ghost use Rattle.xw_words.specs.Columns.{column_at, TellsOneOf, IsSifted};
 ghost use Rattle.xw_words.specs.Rows.{chunks_in};
@@ -49,7 +50,7 @@ fn chunk_with(columns: &[BitRow], letters: LetterSet, at: usize) -> u64
 }
 
 /// In one block, keeps the words that have one of the letters, or those that have none if `keep` is
-/// false. It reads no column if the block is clear.
+/// false.
 fn sift_block(row: &mut BitRow, columns: &[BitRow], letters: LetterSet, keep: bool, at: usize)
     requires many { length columns.now ≡ 26 }
     requires within { (k : ℕ) → k < 26 → 64 * at + 448 < length (column_at columns.now k).bits }
@@ -60,9 +61,6 @@ fn sift_block(row: &mut BitRow, columns: &[BitRow], letters: LetterSet, keep: bo
     ensures above { (i : ℕ) → 64 * at + 512 ≤ i → slice_index_or row.new.bits i false ≡ slice_index_or row.old.bits i false }
     ensures room { row.new.room ≡ row.old.room }
 {
-    if row.is_clear(at) {
-        return;
-    }
     let found = block_with(columns, letters, at);
     if keep {
         row.keep_block(at, found);
@@ -82,43 +80,30 @@ fn sift_chunk(row: &mut BitRow, columns: &[BitRow], letters: LetterSet, keep: bo
     ensures above { (i : ℕ) → 64 * at + 64 ≤ i → slice_index_or row.new.bits i false ≡ slice_index_or row.old.bits i false }
     ensures room { row.new.room ≡ row.old.room }
 {
-    let own = row.chunk(at);
-    if own == 0 {
-        return;
-    }
     let found = chunk_with(columns, letters, at);
-    if keep {
-        row.set_chunk(at, own & found);
+    row.keep_chunk(at, if keep { found } else { !found });
+}
+
+/// Filters the block at a chunk if the row is dense there, else the chunk. Returns the chunk after it.
+fn sift_at(row: &mut BitRow, columns: &[BitRow], letters: LetterSet, keep: bool, at: usize) -> usize
+    requires many { length columns.now ≡ 26 }
+    requires long { (k : ℕ) → k < 26 → length (column_at columns.now k).bits ≡ 64 * chunks_in (length row.old.bits) }
+    requires row { 64 * at < length row.old.bits }
+    ensures next { at < result }
+    ensures small { result < 2 ^ 57 }
+    ensures len { length row.new.bits ≡ length row.old.bits }
+    ensures below { (i : ℕ) → i < 64 * at → slice_index_or row.new.bits i false ≡ slice_index_or row.old.bits i false }
+    ensures inside { (i : ℕ) → 64 * at ≤ i → i < 64 * result → IsSifted columns.now letters keep row.old.bits row.new.bits i }
+    ensures above { (i : ℕ) → 64 * result ≤ i → slice_index_or row.new.bits i false ≡ slice_index_or row.old.bits i false }
+    ensures room { row.new.room ≡ row.old.room }
+{
+    let _ = row.len();
+    if row.is_dense(at) {
+        sift_block(row, columns, letters, keep, at);
+        at + BLOCK
     } else {
-        row.set_chunk(at, own & !found);
-    }
-}
-
-/// Filters all whole blocks of the row.
-fn sift_blocks(row: &mut BitRow, columns: &[BitRow], letters: LetterSet, keep: bool)
-    requires many { length columns.now ≡ 26 }
-    requires long { (k : ℕ) → k < 26 → length (column_at columns.now k).bits ≡ 64 * chunks_in (length row.old.bits) }
-    ensures len { length row.new.bits ≡ length row.old.bits }
-    ensures inside { (i : ℕ) → i < 512 * (length row.old.bits / 512) → IsSifted columns.now letters keep row.old.bits row.new.bits i }
-    ensures above { (i : ℕ) → 512 * (length row.old.bits / 512) ≤ i → slice_index_or row.new.bits i false ≡ slice_index_or row.old.bits i false }
-    ensures room { row.new.room ≡ row.old.room }
-{
-    for block in 0..row.len() / 512 {
-        sift_block(row, columns, letters, keep, BLOCK * block);
-    }
-}
-
-/// Filters the chunks after the last whole block.
-fn sift_rest(row: &mut BitRow, columns: &[BitRow], letters: LetterSet, keep: bool)
-    requires many { length columns.now ≡ 26 }
-    requires long { (k : ℕ) → k < 26 → length (column_at columns.now k).bits ≡ 64 * chunks_in (length row.old.bits) }
-    ensures len { length row.new.bits ≡ length row.old.bits }
-    ensures below { (i : ℕ) → i < 512 * (length row.old.bits / 512) → slice_index_or row.new.bits i false ≡ slice_index_or row.old.bits i false }
-    ensures inside { (i : ℕ) → 512 * (length row.old.bits / 512) ≤ i → IsSifted columns.now letters keep row.old.bits row.new.bits i }
-    ensures room { row.new.room ≡ row.old.room }
-{
-    for chunk in row.len() / 512 * BLOCK..row.len().div_ceil(64) {
-        sift_chunk(row, columns, letters, keep, chunk);
+        sift_chunk(row, columns, letters, keep, at);
+        at + 1
     }
 }
 
@@ -131,6 +116,8 @@ pub(crate) fn sift(row: &mut BitRow, columns: &[BitRow], letters: LetterSet, kee
     ensures bits { (i : ℕ) → IsSifted columns.now letters keep row.old.bits row.new.bits i }
     ensures room { row.new.room ≡ row.old.room }
 {
-    sift_blocks(row, columns, letters, keep);
-    sift_rest(row, columns, letters, keep);
+    let mut from = 0;
+    while let Some(chunk) = row.next_chunk(from) {
+        from = sift_at(row, columns, letters, keep, chunk);
+    }
 }

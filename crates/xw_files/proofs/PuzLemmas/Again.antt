@@ -1,4 +1,4 @@
--- The bytes written for a puzzle are a `.puz` file of it, also with allowed bytes appended.
+-- The bytes written for a puzzle are a `.puz` file of it, with or without allowed bytes appended.
 use Rattle.std.proofs.Common.{◌≡◌, ◌≢◌, ℕ, suc, ◌+◌, ◌*◌, ◌<◌, ◌^◌, Bool, true, false, cond, List, [], ◌∷◌, ◌++◌, map, length, replicate, nat_eq, refl, sym, ap, ◌∙◌, subst, arith, append_assoc, Ok, Err}
 use Rattle.std.specs.Prelude.{Result, Option, Some, None, All, IfOk}
 use Rattle.std.specs.List.{list_any}
@@ -172,7 +172,7 @@ written_again puzzle tail is right small none =
       circles = marked.marked;
     }
 
--- the same for the result of a writer
+-- the result of a writer is a file of its puzzle, with or without bytes appended
 pub gives-again : {Z : Type 0} (result : Result (Vec ℕ Z) WriteFault) (puzzle : PuzzleShown) → IsGrid puzzle.grid → write_fault puzzle ≡ None → IfOk result (λ bytes. bytes.items ≡ spelled_puzzle puzzle)
     → IfOk result (λ bytes. (tail : List ℕ) → AreBytes tail → (circled_cells puzzle ≡ [] → HasNoGext tail) → IsPuz (bytes.items ++ tail) puzzle)
 gives-again (Ok bytes) puzzle is right e = λ tail small none. subst (λ xs. IsPuz (xs ++ tail) puzzle) (sym e) (written_again puzzle tail is right small none)

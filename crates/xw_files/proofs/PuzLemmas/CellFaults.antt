@@ -1,4 +1,4 @@
--- The first cell whose byte stands for nothing, and the number of clues.
+-- The first cell whose byte is not a square, and the number of clues.
 use Rattle.std.proofs.Common.{◌≡◌, ◌≢◌, ℕ, zero, suc, ◌+◌, ◌*◌, ◌/◌, ◌<◌, ◌≤◌, List, [], ◌∷◌, map, take, drop, length, get_or, nat_lt, refl, sym, ap, ◌∙◌, subst, arith, inl, inr, Ok, Err}
 use Rattle.std.specs.Prelude.{Option, Some, None}
 use Rattle.std.proofs.lemmas.Bool.{cases_lt}
@@ -73,7 +73,7 @@ index_less width p q wide less = elim (cases_lt p q) [
       ]
 ]
 
--- the first byte that stands for nothing, j bytes after the first
+-- the first byte that is not a square, j bytes after the first
 record BadAt (width index : ℕ) (bytes : List ℕ) (fault : ReadFault) : Type 0 where
   j : ℕ
   is : BadCell (cell_in width (index + j)) ≡ fault
@@ -133,7 +133,7 @@ cell_first bytes fields fault says clear e = elim (bind_err (squares_at fields.h
   | inr squares ↦ cc
 ]
 
--- each byte of which squares are read stands for one
+-- if squares are read from bytes, each byte is a square
 each-stands : (bytes : List ℕ) (squares : List Square) (i : ℕ) → map square_of bytes ≡ map (λ square. Some square) squares → i < length bytes → square_of (get_or bytes i 0) ≡ None → ⊥
 each-stands [] squares i e h none = absurd (omega (arith, h))
 each-stands (byte ∷ bytes) [] i e h none = absurd (let n : suc (length (map square_of bytes)) ≡ 0 = ap length e in omega (arith, n))

@@ -1,4 +1,4 @@
--- What the result of a comparison says.
+-- What follows from the result of a comparison.
 use Rattle.std.proofs.Common.{◌≡◌, ℕ, ◌<◌, ◌≤◌, Bool, true, false, not, nat_eq, nat_lt, refl, rules}
 
 pub below : (n m : ℕ) → n < m → nat_lt n m ≡ true

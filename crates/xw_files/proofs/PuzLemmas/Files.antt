@@ -1,4 +1,4 @@
--- A file that was written is read again.
+-- The fields of a file that was written are read back.
 use Rattle.std.proofs.Common.{◌≡◌, ℕ, ◌+◌, ◌*◌, ◌≤◌, List, [], ◌∷◌, ◌++◌, length, take, drop, nat_lt, false, refl, arith, rules, Ok, length-append}
 use Rattle.std.proofs.Math.Seq.{take-append_seam, drop-append_seam}
 use Rattle.xw_files.specs.Puz.Reading.{Fields, cell_count, clues_at, texts_at, boards_at, fields_at}

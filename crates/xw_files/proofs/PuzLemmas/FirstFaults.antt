@@ -148,7 +148,7 @@ first_fault bytes fault small e = elim (bind_err (fields_at bytes) puzzle_of fau
 pub no_fault : (bytes : List ℕ) (puzzle : PuzzleShown) → AreBytes bytes → puzzle_at bytes ≡ Ok puzzle → HasNoFault bytes
 no_fault bytes puzzle small e = let fields = bind_ok (fields_at bytes) puzzle_of puzzle e in none_later bytes (puzzle_clear bytes fields.0 small fields.1 puzzle fields.2)
 
--- the same of what a reader gives
+-- the fault that a reader returns is the first one
 pub gives-first : (bytes : List ℕ) (result : Result Puzzle ReadFault) → AreBytes bytes → GivesOrLacksMemory puzzle_view result (puzzle_at bytes) → IfErr result (λ fault. (fault ≡ faults.Memory) ⊎ IsFirstFault bytes fault)
 gives-first bytes (Ok puzzle) small e = tt
 gives-first bytes (Err faults.Memory) small e = inl refl

@@ -1,4 +1,4 @@
--- What was read before, followed by what is read next.
+-- Lists that are read in parts: the part that was read, followed by what is read next.
 use Rattle.std.proofs.Common.{◌≡◌, List, [], ◌∷◌, ◌++◌, refl, sym, ap, append_assoc, Ok, Err}
 use Rattle.std.specs.Prelude.{Result}
 use Rattle.xw_files.specs.Steps.{◌>>=◌}

@@ -1,4 +1,4 @@
--- A header that was written is read again.
+-- A header that was written is read back.
 use Rattle.std.proofs.Common.{◌≡◌, ℕ, ◌+◌, ◌*◌, ◌/◌, ◌%◌, ◌<◌, ◌≤◌, ◌^◌, List, [], ◌∷◌, ◌++◌, length, nat_eq, nat_lt, false, refl, sym, arith, rules, Ok}
 use Rattle.std.proofs.Common.{length-append, subst, get_or, drop, drop-cons, zero, suc, ap, ◌∙◌}
 use Rattle.std.proofs.lemmas.List.{append-nil, drop_all}

@@ -1,4 +1,4 @@
--- Whole sections gone through one after another, for one of a kind.
+-- The search through whole sections for a section of rebus cells.
 use Rattle.std.proofs.Common.{◌≡◌, ◌≢◌, ℕ, ◌<◌, Bool, true, false, List, [], ◌∷◌, ◌++◌, length, refl, sym, ap, ◌∙◌, subst, arith, length-append}
 use Rattle.std.specs.Prelude.{Some, None, Ok, Err}
 use Rattle.std.specs.List.{list_any}
@@ -21,7 +21,7 @@ AreLeft bytes rest = (sections : List Section) (tail : List ℕ) → AreSections
 pub left-all : (bytes : List ℕ) → AreLeft bytes bytes
 left-all bytes sections tail are = (sections, are, refl)
 
--- the sections of which the first one stands at the front
+-- the sections of bytes that begin with a whole section
 first-is : (rest others tail : List ℕ) (section : Section) (left : List Section) → AreBytes rest → section_at rest ≡ Some (section, others) → AreSections rest left tail
     → (later : List Section) × (left ≡ section ∷ later) × AreSections others later tail
 first-is rest others tail section [] small at are =
@@ -31,7 +31,7 @@ first-is rest others tail section (first ∷ later) small at are =
     let both = pair_is _ _ (sym (first-read rest tail first later are) ∙ at) in
     (later, ap (λ (p : Section × List ℕ). p.0 ∷ later) both, subst (λ bytes. AreSections bytes later tail) (ap (λ (p : Section × List ℕ). p.1) both) (others-cut rest tail first later are))
 
--- no section stands at the front
+-- there is no whole section at the front
 none-is : (rest tail : List ℕ) (left : List Section) → section_at rest ≡ None → AreSections rest left tail → left ≡ []
 none-is rest tail [] at are = refl
 none-is rest tail (first ∷ later) at are = let bad = sym at ∙ first-read rest tail first later are in cc
@@ -43,7 +43,7 @@ left-less bytes rest others section small at other left sections tail are =
     let next = first-is rest others tail section now.0 small at now.1 in
     (next.0, next.2, now.2 ∙ ap (list_any is_rebus) next.1 ∙ rw other refl)
 
--- one of this kind stands at the front
+-- the section at the front is of this kind
 pub left-found : (bytes rest others : List ℕ) (section : Section) → AreBytes rest → section_at rest ≡ Some (section, others) → is_rebus section ≡ true → AreLeft bytes rest
     → (sections : List Section) (tail : List ℕ) → AreSections bytes sections tail → true ≡ list_any is_rebus sections
 left-found bytes rest others section small at is left sections tail are =
@@ -74,11 +74,11 @@ others-bytes rest others section small at =
 pub fields-of : (bytes : List ℕ) (sections : List Section) → (has : HasSections bytes sections) → fields_at bytes ≡ Ok has.fields
 fields-of bytes sections has = ap fields_at has.cut ∙ fields_at-again has.fields has.reserved has.fits has.reserved_long
 
--- such a file is not read for want of memory alone
+-- cutting such a file into fields fails only if an allocation fails
 pub only-memory : (bytes : List ℕ) (sections : List Section) (fault : ReadFault) → HasSections bytes sections → (fault ≢ faults.Memory → fields_at bytes ≡ Err fault) → fault ≡ faults.Memory
 only-memory bytes sections fault has other = memory-alone fault (λ is. (let bad = sym (fields-of bytes sections has) ∙ other is in cc))
 
--- what is found after the notes is found of the file
+-- the result for the sections after the notes is the result for the file
 pub rebus-told : (bytes : List ℕ) (sections : List Section) (fields : Fields) (found : Bool) → HasSections bytes sections → fields_at bytes ≡ Ok fields
     → ((those : List Section) (tail : List ℕ) → AreSections fields.rest those tail → found ≡ list_any is_rebus those) → found ≡ list_any is_rebus sections
 rebus-told bytes sections fields found has read told =

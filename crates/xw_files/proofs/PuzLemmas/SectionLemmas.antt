@@ -18,7 +18,7 @@ gext-found left less bytes rest section n at is = rw (n, at, is) refl
 pub gext-more : (left less : ℕ) (bytes rest : List ℕ) (section : Section) → left ≡ suc less → section_at bytes ≡ Some (section, rest) → is_gext section ≡ false → gext_among left bytes ≡ gext_among less rest
 gext-more left less bytes rest section n at is = rw (n, at, is) refl
 
--- ---- what was written is read again
+-- ---- what was written is read back
 
 below-false : (n limit : ℕ) → limit ≤ n → nat_lt n limit ≡ false
 below-false n limit h = grind (arith, nat_tests)
@@ -71,7 +71,7 @@ section-again section more fits =
     let Again : List ℕ → Type 0 = λ name. (let s : Section = record { name = name; sum = section.sum; body = section.body } in section_at (section_bytes s ++ more) ≡ Some (s, more)) in
     subst Again (sym (all_items section.name 4 fits.name)) (named-again _ _ _ _ section.sum section.body more fits.size fits.sum)
 
--- ---- what was read is written the same
+-- ---- what was read is spelled by the same bytes
 
 skipped : {A : Type 0} (b : Bool) (o : Option A) (x : A) → cond b None o ≡ Some x → (b ≡ false) × (o ≡ Some x)
 skipped true o x e = cc

@@ -1,4 +1,4 @@
--- The first sum that is another one than the one computed.
+-- The first checksum that differs from the computed one.
 use Rattle.std.proofs.Common.{◌≡◌, ◌≢◌, ℕ, zero, suc, ◌+◌, ◌-◌, ◌<◌, Bool, true, false, cond, List, [], ◌∷◌, length, get_or, nat_eq, refl, sym, ap, ◌∙◌, subst, arith, inl, inr, Ok}
 use Rattle.std.specs.Prelude.{Option, Some, None, ◌⊎◌}
 use Rattle.std.proofs.lemmas.Bool.Decides.{nat_tests}
@@ -81,7 +81,7 @@ before_file : (fields : Fields) → fields.header.cib_sum ≡ (sums_of fields).c
 before_file fields cib Cib less wrong = wrong cib
 before_file fields cib other less wrong = grind (arith, less)
 
--- the masked byte of fields, and the one computed, so many bytes after the first
+-- the masked byte of fields and the computed one, j bytes after the first
 abbrev AreSame : Fields → ℕ → Type 0
 AreSame fields i = get_or fields.header.masked i 0 ≡ get_or (masked_of (sums_of fields)) i 0
 

@@ -75,7 +75,7 @@ clues_at-stops k (suc count) bytes fault e = elim (bind_err (text_at (Clue k) by
   ]
 ]
 
--- so many NULs stand before the one of this text
+-- the number of NULs before the one of this text
 abbrev Stops : ℕ → ℕ → TextName → Type 0
 Stops clues nuls Title = nuls ≡ 0
 Stops clues nuls Author = nuls ≡ 1

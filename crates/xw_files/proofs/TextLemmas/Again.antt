@@ -1,4 +1,4 @@
--- What is spelled is read again.
+-- The tags and texts that a text file spells are read back.
 use Rattle.std.proofs.Common.{◌≡◌, ℕ, ◌+◌, true, false, List, [], ◌∷◌, ◌++◌, length, Option, Some, None, Ok, map, refl, sym, ap, ◌∙◌, arith}
 use Rattle.std.specs.Prelude.{position}
 use Rattle.std.specs.List.{flat_map, AllByRecursion}

@@ -1,4 +1,4 @@
--- Steps of reading, of which the first that fails names the first fault.
+-- Reading in steps: the first step that fails returns the first fault.
 use Rattle.std.proofs.Common.{◌≡◌, ℕ, ◌+◌, ◌<◌, ◌⊎◌, Bool, true, not, ◌&&◌, cond, eqb, leb, Result, Ok, Err, refl, sym, ap, subst, ◌∙◌, inl, inr, arith}
 use Rattle.std.proofs.lemmas.Bool.{cases_eq}
 use Rattle.xw_files.specs.declared.fault.Tag.{Tag}

@@ -1,4 +1,4 @@
--- The rows name the first fault, if they fail.
+-- Reading the rows returns the first fault if it fails.
 use Rattle.std.proofs.Common.{◌≡◌, ℕ, zero, suc, ◌+◌, ◌-◌, ◌<◌, ◌≤◌, ◌⊎◌, true, false, List, [], ◌∷◌, ◌++◌, length, get_or, take, drop, map, Option, Some, None, Result, Ok, Err, refl, sym, ap, subst, ◌∙◌, inl, inr, arith}
 use Rattle.std.specs.Prelude.{position, slice_get}
 use Rattle.std.specs.List.{flat_map, AllByRecursion}
@@ -122,7 +122,7 @@ rows_fine width (row ∷ rows) rest are (suc k) lt = rows_fine width rows rest a
 
 -- ---- rows by their number
 
--- a row is as many lines below the grid tag as its number says
+-- row k is the k-th line below the grid tag
 pub by_number : (lines : Lines) (row k : ℕ) → row ≡ 1 + k → slice_get lines row ≡ slice_get (below lines) k
 by_number lines zero k is = absurd (omega (arith, is))
 by_number [] (suc row) k is = refl
@@ -172,7 +172,7 @@ module _ (lines : Lines) (width height : ℕ) (has : HasSize (below (from_size l
   abbrev AllRows : List Square × Lines → Type 0
   AllRows x = (x.1 ≡ from_across height lines) × (x.0 ≡ flat_map (map square_of) (take height Under)) × NoneBefore lines (location_of (faults.Tag tags.Across))
 
-  -- so many rows from above are right
+  -- the first rows, this many of them, are right
   abbrev FineTo : ℕ → Type 0
   FineTo count = (k : ℕ) → k < count → IsFine width (slice_get Under k)
 

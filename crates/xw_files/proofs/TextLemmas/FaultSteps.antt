@@ -1,4 +1,4 @@
--- Each part of reading names the first fault, if it fails.
+-- Each part of reading returns the first fault if it fails.
 use Rattle.std.proofs.Common.{◌≡◌, ℕ, ◌+◌, Bool, true, false, List, [], ◌∷◌, Option, Some, None, Result, Ok, Err, refl, sym, ap, subst, ◌∙◌, inl, inr}
 use Rattle.std.proofs.lemmas.Bool.{cases_Bool, cond-false}
 use Rattle.xw_files.specs.declared.fault.Tag.{Tag}

@@ -1,4 +1,4 @@
--- Rows and sizes as lines.
+-- Written rows and sizes are valid lines.
 use Rattle.std.proofs.Common.{◌≡◌, ℕ, zero, suc, ◌-◌, ◌*◌, ◌<◌, ◌≤◌, false, eqb, List, [], ◌∷◌, ◌++◌, length, Some, None, map, get_or, take, drop, refl, sym, ap, subst, ◌∙◌, length-drop, take-append-drop, arith}
 use Rattle.std.specs.List.{flat_map, All, AllByRecursion}
 use Rattle.std.proofs.lemmas.Bool.{ne_eqb, le-leb, lt-leb}

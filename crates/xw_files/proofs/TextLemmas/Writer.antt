@@ -1,4 +1,4 @@
--- A puzzle that is written can be read again.
+-- A puzzle that is written reads back.
 use Rattle.std.proofs.Common.{◌≡◌, ℕ, suc, ◌<◌, Bool, true, false, not, ◌&&◌, cond, List, [], ◌∷◌, length, Option, Some, None, Result, Ok, Err, map, get_or, refl, inl, inr, arith}
 use Rattle.std.specs.Prelude.{find, filter}
 use Rattle.std.specs.List.{list_all}

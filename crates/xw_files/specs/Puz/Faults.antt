@@ -1,4 +1,4 @@
--- When each fault of a `.puz` file holds of its bytes, and the order of the faults. No definition here reads a file in steps.
+-- The faults of a `.puz` file, each defined by its bytes and apart from the steps of the reader, and their order.
 use Rattle.std.specs.Prelude.{◌≡◌, ◌≢◌, ◌<◌, ◌≤◌, ◌⊎◌, ℕ, ◌+◌, ◌-◌, ◌*◌, ◌==◌, List, map, length, drop, slice_index, count_by, Some, None}
 use Rattle.xw_grid.specs.declared.cell.Square.{Square}
 use Rattle.xw_grid.specs.Grid.{cell_in}
@@ -18,7 +18,7 @@ use Rattle.xw_files.specs.Puz.Sums.{sum_from, sums_of, masked_of}
 use Rattle.xw_files.specs.Puz.Sections.{Section, AreSections, first_gext}
 use Rattle.xw_files.specs.Puz.Board.{square_of}
 
--- ---- what stands where
+-- ---- fields by their offset
 
 abbrev pub width_in : List ℕ → ℕ
 width_in bytes = slice_index bytes 44
@@ -35,18 +35,18 @@ clue_count_in bytes = number_at 46 bytes
 abbrev pub solution_in : List ℕ → List ℕ
 solution_in bytes = part_at 52 (cells_in bytes) bytes
 
--- how many NULs stand after the boards
+-- the number of NULs after the boards
 abbrev pub nuls_in : List ℕ → ℕ
 nuls_in bytes = count_by (λ byte. byte == 0) (drop (52 + 2 * cells_in bytes) bytes)
 
--- The bytes can be cut into these fields.
+-- the bytes can be cut into these fields
 pub record AreFields (bytes : List ℕ) (fields : Fields) : Type 0 where
   pub reserved : List ℕ
   pub reserved_long : length reserved ≡ 16
   pub fits : FitsFile fields
   pub cut : bytes ≡ file_bytes fields reserved
 
--- This is the first section named GEXT after the notes.
+-- this is the first section named GEXT after the notes
 pub record IsGext (bytes : List ℕ) (section : Section) : Type 0 where
   pub fields : Fields
   pub are : AreFields bytes fields
@@ -57,7 +57,7 @@ pub record IsGext (bytes : List ℕ) (section : Section) : Type 0 where
 
 -- ---- each fault
 
--- Of so many NULs after the boards, none is left for this text: each text before it takes one.
+-- There are too few NULs after the boards to end this text: each text before it takes one.
 abbrev pub LacksNul : ℕ → ℕ → TextName → Type 0
 LacksNul clues nuls Title = nuls < 1
 LacksNul clues nuls Author = nuls < 2
@@ -65,7 +65,7 @@ LacksNul clues nuls Copyright = nuls < 3
 LacksNul clues nuls (Clue k) = (1 ≤ k) × (k ≤ clues) × (nuls < 3 + k)
 LacksNul clues nuls Notes = nuls < 3 + clues + 1
 
--- This sum in the header is not the one of the fields.
+-- This checksum in the header differs from the one of the fields.
 abbrev pub IsWrong : Fields → SumName → Type 0
 IsWrong fields Cib = fields.header.cib_sum ≢ (sums_of fields).cib
 IsWrong fields File = fields.header.file_sum ≢ (sums_of fields).file

@@ -18,21 +18,21 @@ FilesHaveOnePart = (bytes : List ℕ) (puzzle other : PuzzleShown) → IsPuz byt
 abbrev pub BytesAreCut : Type 0
 BytesAreCut = (bytes : List ℕ) → AreBytes bytes → (sections : List Section) × (tail : List ℕ) × AreSections bytes sections tail
 
--- and they do so in only one way
+-- bytes split into whole sections and a tail in only one way
 abbrev pub CutsAreOne : Type 0
 CutsAreOne = (bytes : List ℕ) (sections others : List Section) (tail end : List ℕ) → AreSections bytes sections tail → AreSections bytes others end → (sections ≡ others) × (tail ≡ end)
 
--- What is written is read again as the same file part, with any bytes appended. If no open cell is circled, the
--- appended bytes must have no GEXT section.
+-- What is written reads back with the same file part, even with bytes appended. If no open cell is circled, the appended
+-- bytes must have no GEXT section.
 abbrev pub WrittenIsRead : Type 0
 WrittenIsRead = (puzzle : PuzzleShown) (bytes tail : List ℕ) → IsGrid puzzle.grid → written puzzle ≡ Ok bytes → AreBytes (bytes ++ tail) → (circled_cells puzzle ≡ [] → HasNoGext tail) →
     (read : PuzzleShown) × (puzzle_at (bytes ++ tail) ≡ Ok read) × (part_of read ≡ part_of puzzle)
 
--- reading stops at the first fault that holds
+-- the fault of a file that is not read is its first one
 abbrev pub FirstFaultIsFound : Type 0
 FirstFaultIsFound = (bytes : List ℕ) (fault : ReadFault) → AreBytes bytes → puzzle_at bytes ≡ Err fault → IsFirstFault bytes fault
 
--- and only one fault is the first
+-- only one fault is the first
 abbrev pub FirstFaultIsOne : Type 0
 FirstFaultIsOne = (bytes : List ℕ) (fault other : ReadFault) → IsFirstFault bytes fault → IsFirstFault bytes other → fault ≡ other
 

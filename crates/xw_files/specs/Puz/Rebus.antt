@@ -1,4 +1,4 @@
--- The section of rebus cells, which is told of and not read.
+-- The section of rebus cells. It is reported and not read.
 use Rattle.std.specs.Prelude.{◌≡◌, ℕ, Bool, List, length, nat_eq, codes}
 use Rattle.std.specs.Cmp.Lexicographic.{pointwise}
 use Rattle.xw_files.specs.Puz.Reading.{Fields}
@@ -8,7 +8,7 @@ use Rattle.xw_files.specs.Puz.Sections.{Section, AreSections}
 abbrev pub is_rebus : Section → Bool
 is_rebus section = pointwise nat_eq section.name (codes "GRBS")
 
--- The bytes can be cut as those of a file, and these are the whole sections after its notes.
+-- The bytes can be cut into the fields of a file, and these are the whole sections after its notes.
 pub record HasSections (bytes : List ℕ) (sections : List Section) : Type 0 where
   pub fields : Fields
   pub reserved : List ℕ

@@ -31,14 +31,15 @@ pub record AreSections (bytes : List ℕ) (sections : List Section) (tail : List
   pub cut : bytes ≡ flat_map section_bytes sections ++ tail
   pub end : (section : Section) (more : List ℕ) → FitsSection section → tail ≡ section_bytes section ++ more → ⊥
 
--- the section is named GEXT; and the first such section of a list
+-- whether the section is named GEXT
 abbrev pub is_gext : Section → Bool
 is_gext section = pointwise nat_eq section.name (codes "GEXT")
 
+-- the first section of a list that is named GEXT
 abbrev pub first_gext : List Section → Option Section
 first_gext sections = find is_gext sections
 
--- of the whole sections at the front of the bytes, none is named GEXT
+-- no whole section at the front of the bytes is named GEXT
 pub record HasNoGext (bytes : List ℕ) : Type 0 where
   pub sections : List Section
   pub tail : List ℕ
@@ -54,7 +55,7 @@ AreBytes bytes = (index : ℕ) → slice_index bytes index < 2 ^ 8
 unfoldable pub section_in : ℕ → List ℕ → Section × List ℕ
 section_in size bytes = (record { name = take 4 bytes; sum = number_at 6 bytes; body = part_at 8 size bytes }, drop (9 + size) bytes)
 
--- the same, if the bytes have it whole and end it with a NUL
+-- the same; none if the bytes end before it does, or if it does not end with a NUL
 unfoldable pub section_sized : ℕ → List ℕ → Option (Section × List ℕ)
 section_sized size bytes =
     if nat_lt (length bytes) (9 + size) then None

@@ -1,4 +1,4 @@
--- The bytes written for a puzzle, or why it is not written.
+-- The `.puz` file that is written for a puzzle, or why none is.
 use Rattle.std.specs.Prelude.{◌≡◌, ℕ, ◌+◌, Bool, ◌==◌, List, [], ◌∷◌, ◌++◌, map, length, replicate, Option, Some, None, Result, Ok, Err, if◌then◌else◌, codes}
 use Rattle.std.specs.List.{list_any}
 use Rattle.xw_grid.specs.declared.cell.Cell.{Cell}
@@ -98,11 +98,11 @@ abbrev pub clue_with_nul : ℕ → List (List ℕ) → Option TextName
 clue_with_nul k [] = None
 clue_with_nul k (clue ∷ clues) = if has_nul clue then Some (Clue k) else clue_with_nul (k + 1) clues
 
--- none of some clues, counting from `first`, has a NUL; `next` is the number of the clue after them
+-- no clue of the lights `passed` has a NUL; the first of them is clue number `first`, and `next` is the number after them
 abbrev pub PassesClues : ClueMap → List Light → ℕ → ℕ → Type 0
 PassesClues clues passed first next = (lights : List Light) → clue_with_nul first (map (clue_of clues) (passed ++ lights)) ≡ clue_with_nul next (map (clue_of clues) lights)
 
--- the text is the first of some clues, counting from `first`, that has a NUL
+-- the text is the first clue with a NUL among those of the lights `passed`; the first of them is clue number `first`
 abbrev pub StopsAtClue : ClueMap → List Light → ℕ → TextName → Type 0
 StopsAtClue clues passed first text = (lights : List Light) → clue_with_nul first (map (clue_of clues) (passed ++ lights)) ≡ Some text
 

@@ -1,4 +1,4 @@
--- Which faults a text file has, stated apart from reading, and their order.
+-- The faults of a text file, each defined apart from the steps of the reader, and their order.
 use Rattle.std.specs.Prelude.{◌≡◌, ◌≢◌, ◌⊎◌, ℕ, ◌-◌, ◌<◌, ◌≤◌, true, false, List, [], ◌∷◌, length, take, drop, map, flat_map, Option, Some, None, if◌then◌else◌, slice_get}
 use Rattle.std.specs.List.{prefix_len}
 use Rattle.xw_grid.specs.declared.cell.Direction.{Direction}
@@ -38,7 +38,7 @@ past_lines lines = drop (count_plain lines) lines
 abbrev pub from_title : Lines → Lines
 from_title lines = below lines
 
--- at most one line stands under <TITLE>, <AUTHOR>, <COPYRIGHT> and <SIZE>
+-- under <TITLE>, <AUTHOR>, <COPYRIGHT> and <SIZE> there is at most one line each
 abbrev pub from_author : Lines → Lines
 from_author lines = past_line (below (from_title lines))
 
@@ -51,11 +51,11 @@ from_size lines = past_line (below (from_copyright lines))
 abbrev pub from_grid : Lines → Lines
 from_grid lines = past_line (below (from_size lines))
 
--- one line for each row stands under <GRID>
+-- under <GRID> there is a line for each row
 abbrev pub from_across : ℕ → Lines → Lines
 from_across height lines = drop height (below (from_grid lines))
 
--- the clues stand under <ACROSS> and <DOWN>, up to the next tag line
+-- the clues are under <ACROSS> and <DOWN>, up to the next tag line
 abbrev pub from_down : ℕ → Lines → Lines
 from_down height lines = past_lines (below (from_across height lines))
 
@@ -86,16 +86,16 @@ abbrev pub IsNoRow : ℕ → Option (List ℕ) → Type 0
 IsNoRow width None = Unit {0}
 IsNoRow width (Some line) = (is_tag_line line ≡ true) ⊎ (length line ≢ width)
 
--- the byte in this column, from 1, stands for no square
+-- the byte in this column, from 1, is not that of a square
 abbrev pub HasBadByte : ℕ → Option (List ℕ) → Type 0
 HasBadByte col None = ⊥
 HasBadByte col (Some line) = (byte : ℕ) × (1 ≤ col) × (slice_get line (col - 1) ≡ Some byte) × (is_bad_square byte ≡ true)
 
--- the size line is there, and P holds of its width and height
+-- there is a size line, and P holds of its width and height
 abbrev pub WithSize : Lines → (ℕ → ℕ → Type 0) → Type 0
 WithSize lines P = (width : ℕ) × (height : ℕ) × HasSize (below (from_size lines)) width height × P width height
 
--- the size line is there, this row is one of the grid, and P holds of the width and of the row's line; row 1 is the line after <GRID>
+-- There is a size line, the grid has this row, and P holds of the width and of the row's line. Row 1 is the line after <GRID>.
 abbrev pub WithRow : Lines → ℕ → (ℕ → Option (List ℕ) → Type 0) → Type 0
 WithRow lines row P = WithSize lines (λ width height. (1 ≤ row) × (row ≤ height) × P width (slice_get (from_grid lines) row))
 
@@ -103,15 +103,15 @@ WithRow lines row P = WithSize lines (λ width height. (1 ≤ row) × (row ≤ h
 abbrev pub grid_in : ℕ → ℕ → Lines → Grid
 grid_in width height lines = grid_of width height (flat_map (map square_of) (take height (below (from_grid lines))))
 
--- the lines up to the next tag line are more or fewer than the lights of a direction
+-- there are more lines up to the next tag line than lights of the direction, or fewer
 abbrev pub CountsApart : Direction → Grid → Lines → Type 0
 CountsApart direction grid lines = count_plain lines ≢ length (starts grid direction)
 
 -- ---- faults
 
--- Each fault is stated by itself: it may hold although the lines above it are wrong too. The order below says which one is the first.
+-- Each fault is defined by itself, so it may hold even if lines above it are wrong too. The order below says which one is first.
 
--- the lines have a fault, whichever others they have
+-- the lines have a fault, whether or not they have others
 abbrev pub LinesHave : Lines → ReadFault → Type 0
 LinesHave lines faults.Header = Lacks header lines
 LinesHave lines (faults.Tag tags.Title) = Lacks (name_of tags.Title) (from_title lines)
@@ -129,14 +129,14 @@ LinesHave lines faults.DownCount = WithSize lines (λ width height. CountsApart 
 LinesHave lines (faults.Tag tags.Notepad) = WithSize lines (λ width height. HasOther (name_of tags.Notepad) (from_notes height lines))
 LinesHave lines fault = ⊥
 
--- a text file has a fault, whichever others it has
+-- a text file has a fault, whether or not it has others
 abbrev pub HasFault : List ℕ → ReadFault → Type 0
 HasFault bytes (faults.NulByte offset) = slice_get bytes offset ≡ Some 0
 HasFault bytes fault = LinesHave (text_lines bytes) fault
 
 -- ---- their order
 
--- the tests in their order: NULs, then the parts of the file from the top
+-- the place of a fault in the order: NULs come first, then the parts of the file from the top
 abbrev pub location_of : ReadFault → ℕ
 location_of (faults.NulByte offset) = 0
 location_of faults.Header = 1
@@ -155,14 +155,14 @@ location_of faults.DownCount = 12
 location_of (faults.Tag tags.Notepad) = 13
 location_of fault = 14
 
--- among NULs the offset; in the grid the row, and 0 for its line or the column of a cell
+-- the order within one part: of NULs, the offset; in the grid, the row, and then 0 for its line or the column of a cell
 abbrev pub within_location : ReadFault → ℕ × ℕ
 within_location (faults.NulByte offset) = (offset, 0)
 within_location (faults.GridLine row) = (row, 0)
 within_location (faults.BadCell cell) = (cell.row, cell.col)
 within_location fault = (0, 0)
 
--- one fault is tested before another
+-- one fault comes before another
 abbrev pub ComesBefore : ReadFault → ReadFault → Type 0
 ComesBefore one other = (location_of one < location_of other) ⊎ ((location_of one ≡ location_of other) × IsLess (within_location one) (within_location other))
 

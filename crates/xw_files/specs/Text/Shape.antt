@@ -160,7 +160,7 @@ with_clues direction [] texts clues = clues
 with_clues direction (start ∷ starts) [] clues = clues
 with_clues direction (start ∷ starts) (text ∷ texts) clues = with_clues direction starts texts (with_clue clues start direction text)
 
--- one line for each of these starts; the fault if the next tag line or the end comes earlier or later
+-- one line for each of these starts; `fault` if there are more lines before the next tag line or the end, or fewer
 unfoldable pub clues_at : ReadFault → Direction → List Cell → ClueMap → Lines → Result (ClueMap × Lines) ReadFault
 clues_at fault direction starts clues lines =
     if prefix_len is_plain lines == length starts then Ok (with_clues direction starts (take (length starts) lines) clues, drop (length starts) lines) else Err fault

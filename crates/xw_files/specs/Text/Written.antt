@@ -55,7 +55,7 @@ is_bad_clue direction clues light = same_direction light.name.direction directio
 abbrev pub bad_clue : Direction → ClueMap → List Light → Option ℕ
 bad_clue direction clues lights = position (is_bad_clue direction clues) lights
 
--- how many lights begin at a cell before the one of this direction
+-- the number of lights that begin at a cell and come before the one of this direction
 abbrev pub index_at : Grid → Direction → Cell → ℕ
 index_at grid Across cell = 0
 index_at grid Down cell = if begins grid Across cell then 1 else 0
@@ -75,10 +75,11 @@ bad_field puzzle =
 
 -- ---- the text
 
--- a line that is indented by a tab, and a tag line
+-- a text as a line, which is indented by a tab
 abbrev pub line : List ℕ → List ℕ
 line text = 9 ∷ text ++ 10 ∷ []
 
+-- a tag as a line, which is not indented
 abbrev pub tag_line : List ℕ → List ℕ
 tag_line name = name ++ 10 ∷ []
 

@@ -65,7 +65,8 @@ pub fn grid_of(alloc: Global, header: &Header, solution: &[u8]) -> Result<Grid, 
     Ok(Grid::of_squares(alloc, width, height, squares)?)
 }
 
-/// Returns the grid of a file, read from its header and solution board alone. Returns the first fault of these.
+/// Returns the grid of a file, read from its header and solution board alone. Returns the first fault of these two, or
+/// `Memory` if an allocation fails.
 pub fn grid_of_puz(alloc: Global, bytes: &[u8]) -> Result<Grid, ReadFault>
     ensures { GivesOrLacksMemory (λ grid. grid) result (grid_of_puz bytes.now) }
 {

@@ -9,15 +9,20 @@ use byteorder::{ByteOrder, LittleEndian};
 /// The length of the header in bytes.
 pub const HEADER_LENGTH: usize = 52;
 
-/// The values of the header.
+/// The values of the header, by the table in `docs/formats.md`. Numbers of 16 bits are little-endian in the file.
 #[derive(Clone, Copy, Debug, PartialEq, Eq)]
 pub struct Header {
+    /// The file checksum, at 0x00.
     pub file_sum: u16,
+    /// The CIB checksum, at 0x0E.
     pub cib_sum: u16,
+    /// The masked checksums, at 0x10: four low bytes, then four high bytes.
     pub masked: [u8; 8],
     pub width: u8,
     pub height: u8,
+    /// The number of clues, at 0x2E.
     pub clue_count: u16,
+    /// A field at 0x30 that only the checksums use. `xw` writes 1.
     pub bitmask: u16,
 }
 
@@ -98,12 +103,14 @@ pub fn cib_bytes(header: &Header) -> [u8; 8]
     ]
 }
 
+/// Returns the low byte of a number, which comes first in a file.
 pub fn low_byte(number: u16) -> u8
     ensures { result ≡ number % 256 }
 {
     (number % 256) as u8
 }
 
+/// Returns the high byte of a number.
 pub fn high_byte(number: u16) -> u8
     ensures { result ≡ number / 256 % 256 }
 {

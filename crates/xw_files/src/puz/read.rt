@@ -28,7 +28,7 @@ pub fn read_puz(alloc: Global, bytes: &[u8]) -> Result<Puzzle, ReadFault>
     ensures symmetry { IfOk result (λ puzzle. puzzle.grid.symmetry ≡ Symmetry.None) }
     // The bytes are a `.puz` file of the puzzle that is returned.
     ensures found { IfOk result (λ puzzle. IsPuz bytes.entry.now (puzzle_view puzzle)) }
-    // A file of some puzzle is read as a puzzle with the same file part, unless an allocation fails.
+    // A file of some puzzle is read as a puzzle with the same file part (`part_of`), unless an allocation fails.
     ensures only { (puzzle : PuzzleShown) → IsPuz bytes.entry.now puzzle → IfOk result (λ read. part_of (puzzle_view read) ≡ part_of puzzle) × IsOkUnless result faults.Memory }
     // The fault is `Memory`, or the first one that the bytes have.
     ensures first { IfErr result (λ fault. (fault ≡ faults.Memory) ⊎ IsFirstFault bytes.entry.now fault) }

@@ -1,4 +1,4 @@
-//! Rebus cells: cells with more than one letter, which a file can have and a puzzle does not keep.
+//! Rebus cells: cells with more than one letter. A file can have them; a puzzle does not keep them.
 ghost use Rattle.std.specs.Prelude.{◌≡◌, ℕ, List, IfOk, IsOkUnless};
 ghost use Rattle.std.specs.List.{list_any};
 ghost use Rattle.xw_files.specs.Puz.Sections.{Section as WholeSection, AreSections};
@@ -32,8 +32,8 @@ fn is_among(bytes: &[u8]) -> bool
     false
 }
 
-/// Whether a `.puz` file has a section of rebus cells (`GRBS`) after its notes. Returns the fault of a file without whole
-/// fields, and `Memory` if an allocation fails.
+/// Whether a `.puz` file has a section of rebus cells (`GRBS`) after its notes. Returns the first fault of a file that
+/// cannot be cut into its fields, and `Memory` if an allocation fails.
 pub fn has_rebus(alloc: Global, bytes: &[u8]) -> Result<bool, ReadFault>
     ensures found { IfOk result (λ found. (sections : List WholeSection) → HasSections bytes.now sections → found ≡ list_any is_rebus_section sections) }
     // A file with whole fields is answered, unless an allocation fails.

@@ -9,6 +9,7 @@ use std::marker::Model;
 /// The UTF-8 byte order mark, which is ignored at the start of a file.
 const MARK: [u8; 3] = [0xEF, 0xBB, 0xBF];
 
+/// Returns whether a byte is a space or a tab.
 pub(crate) fn is_blank(byte: u8) -> bool
     ensures { result ≡ is_blank_byte byte }
 {
@@ -33,6 +34,7 @@ pub(crate) fn trim(line: &[u8]) -> &[u8]
     rest
 }
 
+/// Drops a byte order mark at the start of a file.
 pub(crate) fn without_mark(bytes: &[u8]) -> &[u8]
     ensures { result.now ≡ unmarked bytes.now }
 {
@@ -75,6 +77,7 @@ impl<'a> Model for TextLines<'a> {
 }
 
 impl<'a> TextLines<'a> {
+    /// The lines of a file.
     pub(crate) fn new(bytes: &'a [u8]) -> TextLines<'a>
         ensures { result ≡ text_lines bytes.now }
     {
@@ -83,12 +86,14 @@ impl<'a> TextLines<'a> {
         TextLines { next, rest }
     }
 
+    /// The next line, which stays the next one; `None` at the end.
     pub(crate) fn peek(&self) -> Option<&'a [u8]>
         ensures { option_copied result ≡ first_of self.now }
     {
         self.next
     }
 
+    /// Takes the next line; `None` at the end.
     pub(crate) fn next(&mut self) -> Option<&'a [u8]>
         ensures { MatchOption result ((self.old ≡ []) × (self.new ≡ [])) (λ line. self.old ≡ line.now ∷ self.new) }
     {

@@ -107,7 +107,7 @@ fn grid_of_text(alloc: Global, bytes: &[u8]) -> Result<Grid, ReadFault>
     grid(alloc, &mut lines)
 }
 
-/// Returns how many lines the format has between that tag line and a fault.
+/// Returns how many lines the format has between the tag line of `tag_above` and a fault.
 fn lines_due(alloc: Global, bytes: &[u8], fault: ReadFault) -> Result<usize, ReadFault>
     ensures { GivesOrLacksMemory (λ due. due) result (lines_due bytes.now fault) }
 {

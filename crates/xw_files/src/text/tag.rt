@@ -32,12 +32,14 @@ pub(crate) fn names(line: &[u8], tag: &[u8]) -> bool
     line.eq_ignore_ascii_case(tag)
 }
 
+/// Returns whether a line begins with `<`, as every tag does.
 pub(crate) fn is_tag_line(line: &[u8]) -> bool
     ensures { result ≡ is_tag line.now }
 {
     matches!(line, [b'<', ..])
 }
 
+/// Returns the first line of a text file.
 pub(crate) fn header() -> &'static [u8]
     ensures { result.now ≡ codes "<ACROSS PUZZLE>" }
 {

@@ -38,7 +38,7 @@ impl Grid {
         Ok(())
     }
 
-    /// Bars the whole orbit of an edge, or removes its bars; which one depends on the edge itself.
+    /// Bars the whole orbit of an edge if the edge is free, and otherwise removes all bars of the orbit.
     /// Returns `OutOfGrid`, then `Border` if the edge is on the border of the grid.
     pub fn toggle_bar(&mut self, cell: Cell, side: Side) -> Result<(), GridFault>
         ensures ok { OnOk result (bar_toggled self.old cell side ≡ Ok self.new) }
@@ -51,7 +51,7 @@ impl Grid {
         Ok(())
     }
 
-    /// Sets or removes the bars of an edge's orbit.
+    /// Bars the whole orbit of an edge, or removes all its bars.
     fn bar_orbit(&mut self, cell: Cell, side: Side, barred: bool)
         requires { is_edge self.old cell side ≡ true }
         ensures { self.new ≡ with_edges self.old cell side barred }

@@ -22,8 +22,8 @@ impl Grid {
         Ok(())
     }
 
-    /// Turns the whole orbit of a cell into blocks, or opens it; which one depends on the cell
-    /// itself. An opened block is empty; cells that are open keep their letters.
+    /// Turns the whole orbit of a cell into blocks if the cell is open, and otherwise opens the whole
+    /// orbit. An opened block is empty; cells that were open keep their letters.
     ///
     /// Returns `OutOfGrid`, then `Occupied` if the orbit would become blocks and one of its cells
     /// holds a letter.

@@ -42,7 +42,7 @@ impl Grid {
         matches!(self.square(cell), Some(Square::Open(_)))
     }
 
-    /// Writes a letter into an open cell and replaces what it held. Returns `OutOfGrid`, then
+    /// Writes a letter into an open cell, over the letter that may be there. Returns `OutOfGrid`, then
     /// `OnBlock` if the cell is a block.
     pub fn set(&mut self, cell: Cell, letter: Letter) -> Result<(), GridFault>
         ensures ok { OnOk result (set_entry self.old cell (Some letter) ≡ Ok self.new) }

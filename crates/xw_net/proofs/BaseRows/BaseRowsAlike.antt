@@ -1,4 +1,4 @@
--- Lights with the same entries have equal base rows in the nets of two states.
+-- Lights with the same entries have equal base rows for two states.
 use Rattle.std.proofs.Common.{◌≡◌, ℕ, ◌<◌, Bool, true, false, not, ◌&&◌, List, [], ◌∷◌, None, length, map, get_or, refl, sym, ap, ◌∙◌, arith}
 use Rattle.std.specs.Prelude.{Option, is_some}
 use Rattle.std.specs.List.{list_all}
@@ -11,6 +11,7 @@ use Rattle.xw_feas.specs.Board.{Board, board_of, entry, light_at, allows, agrees
 use Rattle.xw_feas.specs.State.{State}
 use Rattle.xw_feas.proofs.BoardLemmas.{length-lights}
 use Rattle.xw_net.specs.Base.{is_base_word, base_bits}
+use Rattle.xw_net.specs.Brought.{IsBase}
 use Rattle.xw_net.specs.Copy.{entries_in}
 use Rattle.xw_net.specs.Net.{IsSettledFor}
 use Rattle.xw_net.specs.Room.{row_at}
@@ -60,26 +61,26 @@ same_entries before after cells others long same =
           ∙ same k within
           ∙ sym (get_or-map (entry after) others k 0 None (omega (arith, within, long)))
 
-module _ (before after : State) (words : after.words ≡ before.words) (lights : lights_of after.grid ≡ lights_of before.grid) (net target : Net) where
-  rows_alike : IsSettledFor before target → IsSettledFor after net → (light : ℕ) → light < length (lights_of after.grid)
+module _ (before after : State) (words : after.words ≡ before.words) (lights : lights_of after.grid ≡ lights_of before.grid) (net target : Net) (own : IsBase (board_of before.grid) before.words target.base.items) where
+  rows_alike : IsSettledFor after net → (light : ℕ) → light < length (lights_of after.grid)
       → entries_in (board_of before.grid) (light_at (board_of before.grid) light) ≡ entries_in (board_of after.grid) (light_at (board_of after.grid) light)
       → (row_at target.base.items light).bits ≡ (row_at net.base.items light).bits
-  rows_alike own settled light below same =
+  rows_alike settled light below same =
       let cells = light_at (board_of before.grid) light in
       let others = light_at (board_of after.grid) light in
       let long : length cells ≡ length others = sym (length-map cells (entry (board_of before.grid))) ∙ ap length same ∙ length-map others (entry (board_of after.grid)) in
       sym (bits_are target.base.items light)
-      ∙ own.filled.is_base light (omega (arith, below, ap length lights, length-lights before.grid))
+      ∙ own light (omega (arith, below, ap length lights, length-lights before.grid))
       ∙ base_alike (board_of before.grid) (board_of after.grid) cells others (row before.words (length cells)) same
       ∙ ap (λ (w : Dictionary). base_bits (board_of after.grid) others (row w (length cells))) (sym words)
       ∙ ap (λ len. base_bits (board_of after.grid) others (row after.words len)) long
       ∙ sym (settled.filled.is_base light (omega (arith, below, length-lights after.grid)))
       ∙ bits_are net.base.items light
 
-  -- the base rows of two settled nets, as far as lights have the same entries
-  pub settled_alike : ∥ IsSettledFor before target ∥₁ → ∥ IsSettledFor after net ∥₁ → (light : ℕ) → light < length (lights_of after.grid)
+  -- the base rows of a net and of a settled one, as far as lights have the same entries
+  pub settled_alike : ∥ IsSettledFor after net ∥₁ → (light : ℕ) → light < length (lights_of after.grid)
       → entries_in (board_of before.grid) (light_at (board_of before.grid) light) ≡ entries_in (board_of after.grid) (light_at (board_of after.grid) light)
       → (row_at target.base.items light).bits ≡ (row_at net.base.items light).bits
-  settled_alike own settled light below same =
+  settled_alike settled light below same =
       let are : IsProp ((row_at target.base.items light).bits ≡ (row_at net.base.items light).bits) = Coded-set (coded_list coded_bool) _ _ in
-      ∥∥₁_elim own are (λ own. ∥∥₁_elim settled are (λ settled. rows_alike own settled light below same))
+      ∥∥₁_elim settled are (λ settled. rows_alike settled light below same)

@@ -7,8 +7,8 @@ use Rattle.xw_words.specs.declared.fault.WordFault.{WordFault}
 use Rattle.xw_words.specs.declared.bank.Added.{Added}
 use Rattle.xw_words.specs.declared.bank.Added.TheVariants.{New, Returned}
 use Rattle.xw_letters.specs.Letter.{folded}
-use Rattle.xw_words.specs.Dictionary.{Entry, Dictionary, row, entry_at, no_entry, marked, add_answer, after_add, strike_answer, after_strike}
-use Rattle.xw_words.proofs.DictionaryLemmas.{word-marked}
+use Rattle.xw_words.specs.Dictionary.{Entry, Dictionary, row, entry_at, no_entry, marked, best_grade, add_answer, after_add, strike_answer, after_strike}
+use Rattle.xw_words.proofs.DictionaryLemmas.{word-regraded}
 use Rattle.xw_grid.specs.declared.cell.Cell.{Cell}
 use Rattle.xw_grid.specs.Grid.{Grid, IsGrid, index_of}
 use Rattle.xw_grid.specs.Light.{lights_of}
@@ -91,27 +91,27 @@ words_but old len index entries agree alike = record {
       row_set (λ n es. AreSpelledAlike (row old n) es) old len entries word_len alike (λ k below. refl) (λ e there. subst (λ n. AreSpelledAlike (row old n) entries) (sym e) there);
 }
 
-added_but : (old new : Dictionary) (word : List ℕ) (answer : Result Added WordFault) → add_answer old word ≡ answer → answered (after_add old (map folded word)) answer ≡ Ok new → AreWordsBut old new (index_added (length word) answer)
+added_but : (old new : Dictionary) (word : List ℕ) (answer : Result Added WordFault) → add_answer old word ≡ answer → answered (after_add old (map folded word) None) answer ≡ Ok new → AreWordsBut old new (index_added (length word) answer)
 added_but old new word (Err fault) is h = cc
 added_but old new word (Ok (Returned index)) is h =
-    let made : after_add old (map folded word) (Returned index) ≡ new = cc in
+    let made : after_add old (map folded word) None (Returned index) ≡ new = cc in
     let len : length (map folded word) ≡ length word = length-map word folded in
     subst (λ (d : Dictionary). AreWordsBut old d (Some (length word, index))) made
-    (subst (λ n. AreWordsBut old (after_add old (map folded word) (Returned index)) (Some (n, index))) len
+    (subst (λ n. AreWordsBut old (after_add old (map folded word) None (Returned index)) (Some (n, index))) len
     (words_but old (length (map folded word)) index (marked (row old (length (map folded word))) index true)
     (set_agrees (row old (length (map folded word))) index _)
-    (λ k below. word-marked (row old (length (map folded word))) index true k no_entry)))
+    (λ k below. word-regraded (row old (length (map folded word))) index true _ k no_entry)))
 added_but old new word (Ok (New index)) is h =
-    let made : after_add old (map folded word) (New index) ≡ new = cc in
+    let made : after_add old (map folded word) None (New index) ≡ new = cc in
     let len : length (map folded word) ≡ length word = length-map word folded in
     let fresh = new_word old word (subst Rattle.xw_words.specs.Dictionary.IsNew (sym is) tt) in
     let last : index ≡ length (row old (length word)) = let answer = fresh.answer in cc in
     let last' : length (row old (length (map folded word))) ≡ index = ap (λ n. length (row old n)) len ∙ sym last in
     subst (λ (d : Dictionary). AreWordsBut old d (Some (length word, index))) made
-    (subst (λ n. AreWordsBut old (after_add old (map folded word) (New index)) (Some (n, index))) len
-    (words_but old (length (map folded word)) index (row old (length (map folded word)) ++ record { word = map folded word; active = true } ∷ [])
-    (subst (λ p. AgreeBut p (row old (length (map folded word))) (row old (length (map folded word)) ++ record { word = map folded word; active = true } ∷ [])) last' (push_agrees (row old (length (map folded word))) _))
-    (λ k below. ap (λ (e : Entry). e.word) (get_or_append_left (row old (length (map folded word))) (record { word = map folded word; active = true } ∷ []) no_entry k below))))
+    (subst (λ n. AreWordsBut old (after_add old (map folded word) None (New index)) (Some (n, index))) len
+    (words_but old (length (map folded word)) index (row old (length (map folded word)) ++ record { word = map folded word; active = true; grade = best_grade } ∷ [])
+    (subst (λ p. AgreeBut p (row old (length (map folded word))) (row old (length (map folded word)) ++ record { word = map folded word; active = true; grade = best_grade } ∷ [])) last' (push_agrees (row old (length (map folded word))) _))
+    (λ k below. ap (λ (e : Entry). e.word) (get_or_append_left (row old (length (map folded word))) (record { word = map folded word; active = true; grade = best_grade } ∷ []) no_entry k below))))
 
 struck_but : (old new : Dictionary) (word : List ℕ) (answer : Result ℕ WordFault) → answered (after_strike old (map folded word)) answer ≡ Ok new → AreWordsBut old new (index_struck (length word) answer)
 struck_but old new word (Err fault) h = cc
@@ -122,7 +122,7 @@ struck_but old new word (Ok index) h =
     (subst (λ n. AreWordsBut old (after_strike old (map folded word) index) (Some (n, index))) len
     (words_but old (length (map folded word)) index (marked (row old (length (map folded word))) index false)
     (set_agrees (row old (length (map folded word))) index _)
-    (λ k below. word-marked (row old (length (map folded word))) index false k no_entry)))
+    (λ k below. word-regraded (row old (length (map folded word))) index false _ k no_entry)))
 
 words_after : (before now : State) (action : Action) → after before action ≡ Ok now → AreWordsBut before.words now.words (word_changed before.words action)
 words_after before now (letter_set cell letter) made = same_words before.words now.words None (with_grid-Ok before now (grid_after before.grid (letter_set cell letter)) made).1

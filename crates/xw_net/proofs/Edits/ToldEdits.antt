@@ -45,20 +45,20 @@ module _ (words new : Dictionary) (bytes : List ℕ) (is : IsDictionary words) w
       let least : 2 ≤ length bytes = leb-true 2 (length bytes) (and_parts _ _ fits).0 in
       IsDictionary-set words (length word) entries is (omega (arith, least, length-map bytes folded)) are
 
-  added : answered (after_add words word) (answer_on add_to words (judged (position is_bad_letter bytes) (length bytes) word)) ≡ Ok new → IsDictionary new
+  added : answered (after_add words word None) (answer_on add_to words (judged (position is_bad_letter bytes) (length bytes) word)) ≡ Ok new → IsDictionary new
   added h = by_letters (position is_bad_letter bytes) refl h where
-    by_answer : position is_bad_letter bytes ≡ None → is_word_length (length bytes) ≡ true → (answer : Result Added WordFault) → add_to (row words (length word)) word ≡ answer → answered (after_add words word) answer ≡ Ok new → IsDictionary new
+    by_answer : position is_bad_letter bytes ≡ None → is_word_length (length bytes) ≡ true → (answer : Result Added WordFault) → add_to (row words (length word)) word ≡ answer → answered (after_add words word None) answer ≡ Ok new → IsDictionary new
     by_answer good fits (Err fault) found g = cc
     by_answer good fits (Ok outcome) found g =
-        let made : after_add words word outcome ≡ new = cc in
-        subst IsDictionary made (replaced (with_added (row words (length word)) word outcome) fits (AreWords-added (length word) (row words (length word)) word outcome (is.words (length word)) refl (letters_folded bytes good) found))
+        let made : after_add words word None outcome ≡ new = cc in
+        subst IsDictionary made (replaced (with_added (row words (length word)) word None outcome) fits (AreWords-added (length word) (row words (length word)) word None outcome (is.words (length word)) refl (letters_folded bytes good) found))
 
     by_length : position is_bad_letter bytes ≡ None → (fits : Bool) → is_word_length (length bytes) ≡ fits
-        → answered (after_add words word) (answer_on add_to words (cond fits (Ok word) (Err faults.Length))) ≡ Ok new → IsDictionary new
+        → answered (after_add words word None) (answer_on add_to words (cond fits (Ok word) (Err faults.Length))) ≡ Ok new → IsDictionary new
     by_length good true fits g = by_answer good fits (add_to (row words (length word)) word) refl g
     by_length good false fits g = cc
 
-    by_letters : (bad : Option ℕ) → position is_bad_letter bytes ≡ bad → answered (after_add words word) (answer_on add_to words (judged bad (length bytes) word)) ≡ Ok new → IsDictionary new
+    by_letters : (bad : Option ℕ) → position is_bad_letter bytes ≡ bad → answered (after_add words word None) (answer_on add_to words (judged bad (length bytes) word)) ≡ Ok new → IsDictionary new
     by_letters None good g = by_length good (is_word_length (length bytes)) refl g
     by_letters (Some at) bad g = cc
 

@@ -1,7 +1,7 @@
 -- A copy of a net is settled for the same states.
 use Rattle.std.proofs.Common.{◌≡◌, ℕ, ◌+◌, ◌-◌, ◌*◌, ◌<◌, ◌≤◌, Bool, false, List, [], ◌∷◌, ◌++◌, length, get_or, refl, sym, ap, ◌∙◌, subst, inl, inr, arith}
 use Rattle.std.specs.Prelude.{vec_len}
-use Rattle.std.specs.Coded.{Coded-set, coded_ℕ, le_prop}
+use Rattle.std.specs.Coded.{Coded-set, coded_ℕ, coded_bool, coded_list, le_prop}
 use Rattle.std.proofs.Math.Logic.{∥∥₁_elim}
 use Rattle.std.proofs.lemmas.Bool.{cases_lt, false_from_ne_true}
 use Rattle.std.proofs.lemmas.List.FromFn.{fill_by_all}
@@ -20,7 +20,8 @@ use Rattle.xw_feas.proofs.BoardLemmas.{length-lights, length-open_cells}
 use Rattle.xw_feas.proofs.FormedLemmas.{length-light_at}
 use Rattle.xw_net.specs.Blank.{IsBlank}
 use Rattle.xw_net.specs.Copy.{IsReusable, CanCopy, IsCopy, AreRowsCopied}
-use Rattle.xw_net.specs.Filled.{IsWholeNet, IsQuiet, IsFilled}
+use Rattle.xw_net.specs.Brought.{IsBase}
+use Rattle.xw_net.specs.Filled.{IsWholeNet, IsQuiet, IsFilled, IsStoppedAt}
 use Rattle.xw_net.specs.Fit.{IsAtRest}
 use Rattle.xw_net.specs.Marks.{IsHolding, IsSettledNet}
 use Rattle.xw_net.specs.Net.{row_flags, flags_of, sets_of, known_counts, IsSettledFor}
@@ -85,6 +86,20 @@ pub settled_reusable : (state : State) (net : Net) → ∥ IsSettledFor state ne
 settled_reusable state net settled =
     ∥∥₁_elim settled (reusable_prop (lights_of state.grid) (known_counts state.words) (length state.grid.squares) net)
     (λ settled. filled_reusable state.grid state.words net settled.filled)
+
+-- a stopped net can be copied into
+pub stopped_reusable : (grid : Grid) (dictionary : Dictionary) (net : Net) (light : ℕ) → ∥ IsStoppedAt (board_of grid) dictionary net light ∥₁ → IsReusable (lights_of grid) (known_counts dictionary) (length grid.squares) net
+stopped_reusable grid dictionary net at stopped =
+    ∥∥₁_elim stopped (reusable_prop (lights_of grid) (known_counts dictionary) (length grid.squares) net) (λ there. whole_reusable grid dictionary net there.stopped.whole there.stopped.quiet there.stopped.pending
+    (λ light choice beyond. false_from_ne_true (word_stands net light choice) (λ stands. let lt = there.stopped.lights light choice stands in omega (arith, lt, beyond, length-lights grid))))
+
+-- its base rows are right
+pub stopped_base : (grid : Grid) (dictionary : Dictionary) (net : Net) (light : ℕ) → ∥ IsStoppedAt (board_of grid) dictionary net light ∥₁ → IsBase (board_of grid) dictionary net.base.items
+stopped_base grid dictionary net at stopped light lt = ∥∥₁_elim stopped (Coded-set (coded_list coded_bool) _ _) (λ there. there.stopped.is_base light lt)
+
+-- the base rows of a settled net are right
+pub settled_base : (state : State) (net : Net) → ∥ IsSettledFor state net ∥₁ → IsBase (board_of state.grid) state.words net.base.items
+settled_base state net settled light lt = ∥∥₁_elim settled (Coded-set (coded_list coded_bool) _ _) (λ settled. settled.filled.is_base light lt)
 
 -- ---- the copy
 

@@ -12,7 +12,12 @@ use Rattle.xw_feas.specs.Board.{board_of, light_at}
 use Rattle.xw_feas.specs.Fits.{stride_of}
 use Rattle.xw_feas.proofs.BoardLemmas.{first_step, index_of-step}
 use Rattle.xw_feas.proofs.FormedLemmas.{light_in, length-light_at, within_lights, index_is, inside_at, same_cell_in, steps_apart}
-use Rattle.xw_net.specs.Marks.{side_of, cell_at, AreSlotsApart}
+use Rattle.xw_feas.specs.Board.{Board}
+use Rattle.xw_feas.specs.State.{State}
+use Rattle.xw_feas.specs.WellFormed.{IsWellFormed}
+use Rattle.xw_net.specs.Change.{AreReadsOf}
+use Rattle.xw_net.specs.Marks.{side_of, cell_at, AreSlotsApart, IsSetting}
+use Rattle.xw_words.specs.Dictionary.{Entry}
 
 abbrev towards : Grid → ℕ → Direction
 towards grid light = (light_in grid light).name.direction
@@ -91,3 +96,8 @@ slots_apart grid light position other other_position here there same =
     let position_there : other_position < length (light_at (board_of grid) light) = subst (λ n. other_position < length (light_at (board_of grid) n)) (sym lights) there.1 in
     let cells_here : get_or (light_at (board_of grid) light) position 0 ≡ get_or (light_at (board_of grid) light) other_position 0 = cells ∙ ap (λ n. cell_at board n other_position) (sym lights) in
     (lights, steps_apart (towards grid light) (light_in grid light).start position other_position (same_cell_in grid light light position other_position here.1 position_there cells_here))
+
+-- the setting of a well-formed state
+pub setting_of : (state : State) (board : Board) (entries : ℕ → List Entry) → board ≡ board_of state.grid → AreReadsOf entries state.words → IsWellFormed state → IsSetting board entries state.words
+setting_of state board entries same read formed =
+    subst (λ b. IsSetting b entries state.words) (sym same) (record { laid_out = formed.board; apart = slots_apart state.grid; words = formed.dictionary; read = read })

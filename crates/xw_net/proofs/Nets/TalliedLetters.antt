@@ -66,17 +66,21 @@ module _ (row : List Bool) (words : List Entry) (position letter : ℕ) where
       ∙ ap (λ n. row_tally row words position letter 0 (64 * chunk) + n) (sum_below-agree (λ k. cond (supports row words position letter (0 + (64 * chunk + k))) 1 0) (λ k. cond (supports row words position letter (64 * chunk + k)) 1 0) 64
       (λ k lt. let same : 0 + (64 * chunk + k) ≡ 64 * chunk + k = omega arith in ap (λ n. cond {A = ℕ} (supports row words position letter n) 1 0) same))
 
-  -- no word past the end is in the row
-  pub tally_whole : (n : ℕ) → length row ≤ n → row_tally row words position letter 0 n ≡ row_tally row words position letter 0 (length row)
+  -- clear bits add nothing
+  pub tally_clear : (m n : ℕ) → m ≤ n → ((i : ℕ) → m ≤ i → i < n → get_or row i false ≡ false) → row_tally row words position letter 0 n ≡ row_tally row words position letter 0 m
   unfolding supports
-  tally_whole n long =
-      let parts : n ≡ length row + (n - length row) = omega arith in
-      ap (row_tally row words position letter 0) parts ∙ sum_below-split (λ k. cond (supports row words position letter (0 + k)) 1 0) (length row) (n - length row)
+  tally_clear m n le clear =
+      let parts : n ≡ m + (n - m) = omega (arith, le) in
+      ap (row_tally row words position letter 0) parts ∙ sum_below-split (λ k. cond (supports row words position letter (0 + k)) 1 0) m (n - m)
       ∙ omega (
         arith,
-        none_below (λ k. supports row words position letter (0 + (length row + k))) (n - length row)
-            (λ k lt. ap (λ b. b && has_letter words position letter (0 + (length row + k))) (get_or_past row (0 + (length row + k)) false (omega arith))),
+        none_below (λ k. supports row words position letter (0 + (m + k))) (n - m)
+            (λ k lt. ap (λ b. b && has_letter words position letter (0 + (m + k))) (clear (0 + (m + k)) (omega arith) (omega (arith, lt)))),
       )
+
+  -- no word past the end is in the row
+  pub tally_whole : (n : ℕ) → length row ≤ n → row_tally row words position letter 0 n ≡ row_tally row words position letter 0 (length row)
+  tally_whole n long = tally_clear (length row) n long (λ i past lt. get_or_past row i false past)
 
   -- a chunk without words
   pub tally_none : (chunk : ℕ) → ((k : ℕ) → k < 64 → has_bit 0 k ≡ get_or row (64 * chunk + k) false) → 0 ≡ row_tally row words position letter (64 * chunk) 64

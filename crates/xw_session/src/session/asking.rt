@@ -3,14 +3,14 @@ ghost use Rattle.std.specs.Prelude.{◌≡◌, IfOk, flat_map, if◌then◌else�
 ghost use Rattle.xw_feas.specs.Changed.{changes_left};
 ghost use Rattle.xw_feas.specs.Changes.{spelled_out};
 ghost use Rattle.xw_lines.specs.Sends.{Sends};
-ghost use Rattle.xw_session.specs.Text.{change_line};
+ghost use Rattle.xw_answers.specs.Text.{change_line};
 ghost use Rattle.xw_session.specs.Answer.{AnswersEdit, AnswersTo, Asks, edit_reply, text_of, step_of};
 ghost use Rattle.xw_session.specs.State.{State};
 
-use crate::lists;
 use crate::lookup::light_name;
-use crate::refusal::Refusal;
 use crate::session::{Session, end_answer};
+use xw_answers::lists;
+use xw_answers::refusal::Refusal;
 use xw_commands::command::{CellArg, LightArg};
 use xw_feas::changed::Changed;
 use xw_feas::edit::{Edit, Refusal as EditRefusal};

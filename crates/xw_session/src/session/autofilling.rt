@@ -1,21 +1,21 @@
 //! Answers `autofill`.
 ghost use Rattle.std.specs.Prelude.{◌≡◌, true, false, IfOk, IfErr, OnErr, IfSome, IfNone, is_some};
 ghost use Rattle.xw_grid.specs.Light.{lights_of, index_named};
-ghost use Rattle.xw_autofill.specs.NamedFill.{IsAutofilled, is_named, AreLights, IsRefusal};
+ghost use Rattle.xw_fill.specs.NamedFill.{IsAutofilled, is_named, AreLights, IsRefusal};
 ghost use Rattle.xw_session.specs.Reply.{name_of_light};
 ghost use Rattle.xw_session.specs.Autofill.{names_of as names_of_lights};
 ghost use Rattle.xw_session.specs.Answer.{AnswersTo};
 
 use crate::lookup::light_name;
-use crate::refusal::Refusal;
 use crate::session::queries::end_filling;
 use crate::session::{Session, end_answer};
 use std::alloc::Global;
-use xw_autofill::named_lights::autofill;
+use xw_answers::refusal::Refusal;
 use xw_commands::command::LightArg;
 use xw_commands::lights::LightArgs;
 use xw_feas::edit::Refusal as EditRefusal;
 use xw_feas::searchable::Searchable;
+use xw_fill::named_lights::{Hint, autofill};
 use xw_fill::search::Filling;
 use xw_grid::{GridFault, LightName};
 use xw_lines::device::{Sink, WriteFailed};
@@ -69,20 +69,22 @@ fn names_of<E: Searchable>(
     Ok(names)
 }
 
-/// Fills these lights, or all lights if there are none, if a search finds a fill within its limit.
+/// Fills these lights, or all lights if there are none, if a search finds a fill within its limit. Goes on with the search
+/// that left the hint, if it was for the same lights and seed.
 fn filled<E: Searchable>(
     alloc: Global,
     engine: &mut E,
     lights: LightArgs<'_>,
     limit: u64,
     seed: u64,
+    hint: &mut Option<Hint>,
 ) -> Result<Filling, EditRefusal>
     ensures ok { IfOk result (IsAutofilled (is_named (E.state engine.old) (names_of_lights lights.entry)) (E.state engine.old) (E.state engine.new)) }
     ensures refused { IfErr result (IsRefusal (E.state engine.old) (names_of_lights lights.entry)) }
     ensures unchanged { OnErr result (E.state engine.new ≡ E.state engine.old) }
 {
     let names = names_of(alloc, engine, lights)?;
-    autofill(alloc, engine, names.as_slice(), limit, seed)
+    autofill(alloc, engine, names.as_slice(), limit, seed, hint)
 }
 
 impl<E: Searchable> Session<E> {
@@ -101,7 +103,14 @@ impl<E: Searchable> Session<E> {
         if !are_lights(&self.engine, lights.copy()) {
             return end_answer(sink, Err(Refusal::NoLight));
         }
-        let filled = filled(self.alloc, &mut self.engine, lights, limit, seed);
+        let filled = filled(
+            self.alloc,
+            &mut self.engine,
+            lights,
+            limit,
+            seed,
+            &mut self.hint,
+        );
         end_filling(sink, filled)
     }
 }

@@ -1,13 +1,15 @@
 //! Commands that change the grid's size, texts, clues, circles or the watch.
 ghost use Rattle.std.specs.Prelude.{◌≡◌, IfOk, IsOk, IsOkUnless, [], true, false};
-ghost use Rattle.xw_session.specs.Reply.{has_nul as has_nul_byte, light_named as light_named_so};
+ghost use Rattle.xw_answers.specs.Escape.{has_nul as has_nul_byte};
+ghost use Rattle.xw_session.specs.Reply.{light_named as light_named_so};
 ghost use Rattle.xw_session.specs.State.{with_text_in};
 ghost use Rattle.xw_session.specs.Answer.{Edits};
 
-use crate::lookup::{light_name, light_named};
-use crate::refusal::Refusal;
+use crate::lookup::light_name;
 use crate::session::Session;
 use std::alloc::Global;
+use xw_answers::lookup::light_named;
+use xw_answers::refusal::Refusal;
 use xw_commands::command::{CellArg, LightArg, TextField};
 use xw_feas::feasible::Feasible;
 use xw_grid::{Circles, Clues, Grid, GridFault, Light};

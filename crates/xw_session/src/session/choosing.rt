@@ -1,49 +1,43 @@
 //! Answers `choices`.
-ghost use Rattle.std.specs.Prelude.{◌≡◌, ◌<◌, true, false, length, slice_index_or, [], ◌∷◌, ◌++◌, codes};
+ghost use Rattle.std.specs.Prelude.{◌≡◌, ◌<◌, true, false, length, slice_index_or, [], ◌∷◌, Some, None};
 ghost use Rattle.xw_grid.specs.Light.{lights_of, index_named};
 ghost use Rattle.xw_fill.specs.Position.{position_of};
 ghost use Rattle.xw_fill.specs.Search.{light_count, is_entered as is_entered_light};
 ghost use Rattle.xw_fill.specs.Suggesting.{IsTriedAt};
 ghost use Rattle.xw_fill.specs.Words.{spellings_at};
 ghost use Rattle.xw_lines.specs.Sends.{Sends};
-ghost use Rattle.xw_session.specs.Text.{line_of};
-ghost use Rattle.xw_session.specs.Choices.{number_or_done as number_or_a_done, choice_line, choice_lines};
+ghost use Rattle.xw_answers.specs.Text.{line_of};
+ghost use Rattle.xw_answers.specs.Token.{token_bytes};
+ghost use Rattle.xw_session.specs.Choices.{number_or_done as number_or_a_done, choice_line, choice_lines, first_index};
 ghost use Rattle.xw_session.specs.Reply.{name_of_light};
 ghost use Rattle.xw_session.specs.Answer.{AnswersTo};
 
 use crate::lookup::light_name;
-use crate::refusal::Refusal;
 use crate::session::{Session, end_answer};
-use crate::spelling::write_letters;
-use crate::text::{self, Pattern};
-use itoa::Buffer;
-use xw_commands::command::LightArg;
+use xw_answers::answer_line::{Token, write_line};
+use xw_answers::refusal::Refusal;
+use xw_answers::text::Pattern;
+use xw_commands::command::{LightArg, Text};
 use xw_feas::feasible::Feasible;
 use xw_fill::choices::{fewest_after, fewest_words};
 use xw_fill::scan::{is_entered, light_at, name_at, next_word_index, word_count};
 use xw_letters::Letter;
-use xw_lines::device::{self, Sink, WriteFailed};
+use xw_lines::device::{Sink, WriteFailed};
 use xw_lines::outcome::Step;
+use xw_words::WordFault;
+use xw_words::word::{LONGEST, bad_letter, spell};
 
-/// Returns the digits of a number, or `done` if there is none.
-fn number_or_done(digits: &mut Buffer, number: Option<usize>) -> &[u8]
-    ensures { result.now ≡ number_or_a_done number }
+/// Returns a number, or `done` if there is none, as a word of a line.
+fn number_or_done(number: Option<usize>) -> Token<'static>
+    ensures { token_bytes result ≡ number_or_a_done number }
 {
     match number {
-        Some(number) => digits.format(number as u64).as_bytes(),
-        None => b"done",
+        Some(number) => Token::Number(number as u64),
+        None => Token::Name("done"),
     }
 }
 
-/// Writes letters and a space.
-fn write_letters_spaced<W: Sink>(sink: &mut W, word: &[Letter]) -> Result<(), WriteFailed>
-    ensures { Sends W.transcript W.failures sink.old sink.new result (word.now ++ codes " ") }
-{
-    write_letters(sink, word)?;
-    device::write_all(sink, b" ")
-}
-
-/// Writes a word, and a number or `done`.
+/// Writes a known word, and a number or `done`.
 fn write_choice<W: Sink>(
     sink: &mut W,
     word: &[Letter],
@@ -51,9 +45,18 @@ fn write_choice<W: Sink>(
 ) -> Result<(), WriteFailed>
     ensures { Sends W.transcript W.failures sink.old sink.new result (line_of (word.now ∷ number_or_a_done fewest ∷ [])) }
 {
-    write_letters_spaced(sink, word)?;
-    let mut digits = Buffer::new();
-    text::write_line(sink, &[number_or_done(&mut digits, fewest)])
+    write_line(sink, &[Token::Letters(word), number_or_done(fewest)])
+}
+
+/// Writes an entered word, and a number or `done`.
+fn write_entered_choice<W: Sink>(
+    sink: &mut W,
+    word: &[u8],
+    fewest: Option<usize>,
+) -> Result<(), WriteFailed>
+    ensures { Sends W.transcript W.failures sink.old sink.new result (line_of (word.now ∷ number_or_a_done fewest ∷ [])) }
+{
+    write_line(sink, &[Token::Bytes(word), number_or_done(fewest)])
 }
 
 /// Returns the known word at an index among those of a light's length.
@@ -81,20 +84,21 @@ fn write_choice_at<E: Feasible, W: Sink>(
     write_choice(sink, known_word(engine, light, index), fewest)
 }
 
-/// Writes the first feasible words, at most `most`, of a light that is not wholly entered. Leaves the engine's state as
-/// it was.
+/// Writes the first feasible words from an index on, at most `most`, of a light that is not wholly entered. Leaves the
+/// engine's state as it was.
 fn write_choices<E: Feasible, W: Sink>(
     sink: &mut W,
     engine: &mut E,
     light: usize,
+    first: Option<usize>,
     most: u64,
 ) -> Result<(), WriteFailed>
     requires light { light < light_count (position_of (E.state engine.old)) }
     requires not_entered { is_entered_light (position_of (E.state engine.old)) light ≡ false }
-    ensures sends { Sends W.transcript W.failures sink.old sink.new result (choice_lines (E.state engine.old) light most) }
+    ensures sends { Sends W.transcript W.failures sink.old sink.new result (choice_lines (E.state engine.old) light first most) }
     ensures unchanged { E.state engine.new ≡ E.state engine.old }
 {
-    let mut from = 0;
+    let mut from = first.unwrap_or(0);
     let mut left = most;
     while left > 0 {
         let Some(index) = next_word_index(engine, light, from) else {
@@ -116,32 +120,71 @@ fn write_entered<E: Feasible, W: Sink>(
 ) -> Result<(), WriteFailed>
     requires light { light < light_count (position_of (E.state engine.now)) }
     requires entered { is_entered_light (position_of (E.state engine.now)) light ≡ true }
-    ensures { Sends W.transcript W.failures sink.old sink.new result (choice_lines (E.state engine.now) light most) }
+    ensures { Sends W.transcript W.failures sink.old sink.new result (choice_lines (E.state engine.now) light None most) }
 {
     if most == 0 || word_count(engine, light) == 0 {
         return Ok(());
     }
     let word = Pattern::named(engine.grid(), engine.lights(), name_at(engine, light));
-    let mut digits = Buffer::new();
-    let fewest = number_or_done(&mut digits, fewest_words(engine));
-    text::write_line(sink, &[word.bytes(), fewest])
+    write_entered_choice(sink, word.bytes(), fewest_words(engine))
 }
 
-/// Writes the first feasible words of a light, at most `most`, with what each leaves. Leaves the engine's state as it was.
+/// Writes the first feasible words of a light from an index on, at most `most`, with what each leaves. Leaves the engine's
+/// state as it was.
 fn write_weighed<E: Feasible, W: Sink>(
     sink: &mut W,
     engine: &mut E,
     light: usize,
+    first: Option<usize>,
     most: u64,
 ) -> Result<(), WriteFailed>
     requires light { light < light_count (position_of (E.state engine.old)) }
-    ensures sends { Sends W.transcript W.failures sink.old sink.new result (choice_lines (E.state engine.old) light most) }
+    ensures sends { Sends W.transcript W.failures sink.old sink.new result (choice_lines (E.state engine.old) light first most) }
     ensures unchanged { E.state engine.new ≡ E.state engine.old }
 {
     if is_entered(engine, light) {
         write_entered(sink, engine, light, most)
     } else {
-        write_choices(sink, engine, light, most)
+        write_choices(sink, engine, light, first, most)
+    }
+}
+
+/// Returns the index of the known word that a command names, active or struck. Returns `BadLetter` for a byte that is not
+/// a letter, then `PlaceLength` if the light has another length, and then `Unknown` if the word is not known.
+fn spelled_index<E: Feasible>(
+    engine: &E,
+    light: usize,
+    word: &[u8],
+) -> Result<Option<usize>, Refusal>
+    requires light { light < light_count (position_of (E.state engine.now)) }
+    ensures { result ≡ first_index (E.state engine.now) light (Some word.now) }
+{
+    if let Some(position) = bad_letter(word) {
+        return Err(Refusal::Word(WordFault::BadLetter(position + 1)));
+    }
+    if word.len() != light_at(engine, light).size as usize {
+        return Err(Refusal::PlaceLength);
+    }
+    let mut letters = [Letter::first(); LONGEST];
+    spell(&mut letters, word);
+    match engine.bank().find(&letters[..word.len()]) {
+        Some(index) => Ok(Some(index)),
+        None => Err(Refusal::Word(WordFault::Unknown)),
+    }
+}
+
+/// Returns the index of the word that a command names, or `None` if it names none.
+fn first_index<E: Feasible>(
+    engine: &E,
+    light: usize,
+    first: &Option<Text<'_>>,
+) -> Result<Option<usize>, Refusal>
+    requires light { light < light_count (position_of (E.state engine.now)) }
+    ensures { result ≡ first_index (E.state engine.now) light first.now }
+{
+    match first {
+        Some(word) => spelled_index(engine, light, word.bytes()),
+        None => Ok(None),
     }
 }
 
@@ -159,21 +202,26 @@ impl<E: Feasible> Session<E> {
         }
     }
 
-    /// Answers `choices`: the first feasible words of a light, each with the fewest words that it leaves to a light.
+    /// Answers `choices`: the first feasible words of a light from a word on, each with the fewest words that it leaves to
+    /// a light.
     pub(crate) fn answer_choices<W: Sink>(
         &mut self,
         named: LightArg,
         most: u64,
+        first: &Option<Text<'_>>,
         sink: &mut W,
     ) -> Result<Step, WriteFailed>
-        ensures { AnswersTo W.transcript W.failures self.old (commands.Choices named most) result self.new sink.old sink.new }
+        ensures { AnswersTo W.transcript W.failures self.old (commands.Choices named most first.now) result self.new sink.old sink.new }
     {
-        match self.light_index(named) {
-            Some(light) => {
-                write_weighed(sink, &mut self.engine, light, most)?;
+        let Some(light) = self.light_index(named) else {
+            return end_answer(sink, Err(Refusal::NoLight));
+        };
+        match first_index(&self.engine, light, first) {
+            Ok(from) => {
+                write_weighed(sink, &mut self.engine, light, from, most)?;
                 end_answer(sink, Ok(()))
             }
-            None => end_answer(sink, Err(Refusal::NoLight)),
+            Err(refusal) => end_answer(sink, Err(refusal)),
         }
     }
 }

@@ -3,10 +3,10 @@ ghost use Rattle.std.specs.Prelude.{◌≡◌, ◌+◌, ◌<◌, ◌≤◌, [], 
 ghost use Rattle.xw_session.specs.Erase.{crossing as crossing_direction, is_held as is_held_cell, is_erased as is_erased_cell, erased_if, erased_cells as erased_cells_of, emptied};
 ghost use Rattle.xw_session.specs.Answer.{AnswersTo};
 
-use crate::refusal::Refusal;
 use crate::session::tallying::light_through;
 use crate::session::{Session, end_answer};
 use std::marker::Model;
+use xw_answers::refusal::Refusal;
 use xw_commands::command::LightArg;
 use xw_feas::edit::Edit;
 use xw_feas::feasible::Feasible;

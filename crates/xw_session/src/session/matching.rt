@@ -9,7 +9,7 @@ ghost use Rattle.xw_session.specs.Unmatched.{is_unmatched as is_unmatched_light,
 ghost use Rattle.xw_session.specs.Answer.{AnswersTo};
 
 use crate::session::{Session, end_answer};
-use crate::text::{self, Pattern};
+use xw_answers::text::{self, Pattern};
 use xw_feas::feasible::Feasible;
 use xw_fill::scan::{is_entered, name_at};
 use xw_lines::device::{Sink, WriteFailed};

@@ -1,14 +1,14 @@
 //! The commands `text` and `more`, which put a text with escapes into a field.
 ghost use Rattle.std.specs.Prelude.{◌≡◌, ℕ, ◌++◌, List, [], true, false, Some, IfOk, IfErr, IsOk, OnOk, OnErr, IsOkUnless};
-ghost use Rattle.xw_session.specs.Escape.{text_spelled};
+ghost use Rattle.xw_answers.specs.Escape.{text_spelled};
 ghost use Rattle.xw_session.specs.Put.{target_of, has_target, text_at as text_at_target, with_text_at, with_piece};
 ghost use Rattle.xw_session.specs.Answer.{Edits};
 
-use crate::escape;
-use crate::refusal::Refusal;
 use crate::session::Session;
 use crate::session::changing::has_nul;
 use std::alloc::{AllocError, Global};
+use xw_answers::escape;
+use xw_answers::refusal::Refusal;
 use xw_commands::command::{Field, TextField, TextMode};
 use xw_feas::feasible::Feasible;
 use xw_grid::{Cell, Direction, GridFault};
@@ -20,16 +20,18 @@ pub enum Target {
     Clue(Cell, Direction),
 }
 
-/// Returns the text of a spelling appended to another text. If both are empty, nothing is allocated.
-fn joined(alloc: Global, front: &[u8], spelling: &[u8]) -> Result<Vec<u8>, GridFault>
-    ensures ok { IfOk result (λ text. (piece : List ℕ) → text_spelled spelling.now ≡ Some piece → text.items ≡ front.now ++ piece) }
+/// Returns the text of a spelling. If it is empty, nothing is allocated.
+fn spelled(alloc: Global, spelling: &[u8]) -> Result<Vec<u8>, GridFault>
+    ensures ok { IfOk result (λ text. (piece : List ℕ) → text_spelled spelling.now ≡ Some piece → text.items ≡ piece) }
     ensures memory { IsOkUnless result GridFault.Memory }
-    ensures freed { front.now ≡ [] → spelling.now ≡ [] → IsOk result }
+    ensures freed { spelling.now ≡ [] → IsOk result }
 {
-    if front.is_empty() && spelling.is_empty() {
-        return Ok(Vec::new(alloc));
+    let mut text = Vec::new(alloc);
+    if spelling.is_empty() {
+        return Ok(text);
     }
-    Ok(escape::behind(alloc, front, spelling)?)
+    escape::append(&mut text, spelling)?;
+    Ok(text)
 }
 
 impl<E: Feasible> Session<E> {
@@ -117,7 +119,7 @@ impl<E: Feasible> Session<E> {
         ensures memory { IsOkUnless result GridFault.Memory }
         ensures freed { spelling.now ≡ [] → IsOk result }
     {
-        let text = joined(self.alloc, &[], spelling)?;
+        let text = spelled(self.alloc, spelling)?;
         self.keep(target, text)
     }
 
@@ -130,7 +132,38 @@ impl<E: Feasible> Session<E> {
         if spelling.is_empty() {
             return Ok(());
         }
-        let text = joined(self.alloc, self.text_at(target), spelling)?;
-        self.keep(target, text)
+        match target {
+            Target::Text(field) => self.append_text(field, spelling)?,
+            Target::Clue(cell, direction) => self.append_clue(cell, direction, spelling)?,
+        }
+        Ok(())
+    }
+
+    /// Appends the text of a spelling to a text of the puzzle.
+    fn append_text(&mut self, field: TextField, spelling: &[u8]) -> Result<(), AllocError>
+        ensures ok { OnOk result ((piece : List ℕ) → text_spelled spelling.now ≡ Some piece → self.new ≡ with_text_at self.old (Target.Text field) (text_at_target self.old (Target.Text field) ++ piece)) }
+        ensures err { OnErr result (self.new ≡ self.old) }
+    {
+        match field {
+            TextField::Title => escape::append(&mut self.texts.title, spelling),
+            TextField::Author => escape::append(&mut self.texts.author, spelling),
+            TextField::Copyright => escape::append(&mut self.texts.copyright, spelling),
+            TextField::Notes => escape::append(&mut self.texts.notes, spelling),
+        }
+    }
+
+    /// Appends the text of a spelling to a clue.
+    fn append_clue(
+        &mut self,
+        cell: Cell,
+        direction: Direction,
+        spelling: &[u8],
+    ) -> Result<(), GridFault>
+        ensures ok { OnOk result ((piece : List ℕ) → text_spelled spelling.now ≡ Some piece → self.new ≡ with_text_at self.old (Target.Clue cell direction) (text_at_target self.old (Target.Clue cell direction) ++ piece)) }
+        ensures err { OnErr result (self.new ≡ self.old) }
+        ensures memory { IsOkUnless result GridFault.Memory }
+    {
+        let text = escape::behind(self.alloc, self.clues.get(cell, direction), spelling)?;
+        self.clues.set(cell, direction, &text)
     }
 }

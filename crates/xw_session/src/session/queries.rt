@@ -1,5 +1,5 @@
 //! Answers queries of the session, the engine and the search.
-ghost use Rattle.std.specs.Prelude.{◌≡◌, ℕ, Err, ◌∷◌, [], length, IfOk, IfErr, IfSome, IfNone, Some, None, codes, decimal, ◌++◌};
+ghost use Rattle.std.specs.Prelude.{◌≡◌, ℕ, flat_map, Err, ◌∷◌, [], length, IfOk, IfErr, IfSome, IfNone, Some, None, codes, decimal, ◌++◌};
 ghost use Rattle.xw_letters.specs.LetterSet.{letters_in};
 ghost use Rattle.xw_grid.specs.Grid.{index_of};
 ghost use Rattle.xw_grid.specs.Light.{lights_of, index_named};
@@ -7,24 +7,29 @@ ghost use Rattle.xw_fill.specs.Position.{position_of};
 ghost use Rattle.xw_fill.specs.FeasibleWords.{feasible_words};
 ghost use Rattle.xw_fill.specs.FeasibleLetters.{feasible_letters};
 ghost use Rattle.xw_lines.specs.Sends.{Sends};
-ghost use Rattle.xw_session.specs.Text.{word_line, line_of, counted_lines, suggestion_line, letters_line, word_at as known_word_at};
+ghost use Rattle.xw_commands.specs.Names.{direction_name};
+ghost use Rattle.xw_answers.specs.Text.{word_line, line_of, counted_lines, letters_line};
+ghost use Rattle.xw_session.specs.Found.{duplicate_line, suggestion_line, word_at as known_word_at};
 ghost use Rattle.xw_session.specs.Reply.{first_words, name_of_light, filling_name as name_of_filling, cell_of, lettered, shown};
 ghost use Rattle.xw_session.specs.Answer.{AnswersTo, fill_reply, text_of, step_of};
 ghost use Rattle.xw_session.specs.State.{State};
 
-use crate::lookup::{light_name, light_named};
-use crate::refusal::Refusal;
-use crate::session::{Session, end_answer};
-use crate::{lists, show, text};
+use crate::lookup::light_name;
+use crate::session::{Session, end_answer, forget_if};
+use xw_answers::answer_line::{Token, write_line};
+use xw_answers::lookup::light_named;
+use xw_answers::refusal::Refusal;
+use xw_answers::{lists, show, text};
 use xw_commands::command::{CellArg, LightArg};
+use xw_commands::names::Named;
 use xw_feas::edit::Refusal as EditRefusal;
 use xw_feas::feasible::Feasible;
 use xw_feas::searchable::Searchable;
 use xw_feas::word_iter::{WordIter, words};
-use xw_fill::listing::{duplicates, unlisted};
+use xw_fill::listing::{Duplicate, duplicates, unlisted};
 use xw_fill::search::{Filling, fill};
 use xw_fill::suggesting::{Suggestion, suggest};
-use xw_grid::{Direction, LightName};
+use xw_grid::{Direction, Grid, LightName, Lights};
 use xw_letters::{Letter, LetterSet};
 use xw_lines::device::{Sink, WriteFailed};
 use xw_lines::outcome::Step;
@@ -61,6 +66,40 @@ fn word_at<E: Feasible>(engine: &E, name: LightName, index: usize) -> &[Letter]
     }
 }
 
+/// Writes a key word and a light's name.
+fn write_named<W: Sink>(sink: &mut W, said: &str, light: LightName) -> Result<(), WriteFailed>
+    ensures { Sends W.transcript W.failures sink.old sink.new result (line_of (said.now ∷ decimal light.number ∷ direction_name light.direction ∷ [])) }
+{
+    write_line(
+        sink,
+        &[
+            Token::Name(said),
+            Token::Number(u64::from(light.number)),
+            Token::Name(light.direction.name()),
+        ],
+    )
+}
+
+/// Writes a key word, a light's name and a word.
+fn write_named_word<'a, W: Sink>(
+    sink: &mut W,
+    said: &'a str,
+    light: LightName,
+    word: &'a [Letter],
+) -> Result<(), WriteFailed>
+    ensures { Sends W.transcript W.failures sink.old sink.new result (line_of (said.now ∷ decimal light.number ∷ direction_name light.direction ∷ word.now ∷ [])) }
+{
+    write_line(
+        sink,
+        &[
+            Token::Name(said),
+            Token::Number(u64::from(light.number)),
+            Token::Name(light.direction.name()),
+            Token::Letters(word),
+        ],
+    )
+}
+
 /// Writes a suggestion.
 fn write_suggestion<E: Feasible, W: Sink>(
     sink: &mut W,
@@ -70,12 +109,12 @@ fn write_suggestion<E: Feasible, W: Sink>(
     ensures { Sends W.transcript W.failures sink.old sink.new result (suggestion_line (E.state engine.now) suggestion) }
 {
     match suggestion {
-        Suggestion::Dead(light) => text::write_named(sink, b"dead", light),
-        Suggestion::Done => text::write_line(sink, &[b"done"]),
+        Suggestion::Dead(light) => write_named(sink, "dead", light),
+        Suggestion::Done => write_line(sink, &[Token::Name("done")]),
         Suggestion::Try { light, word } => {
-            text::write_named_word(sink, b"try", light, word_at(engine, light, word))
+            write_named_word(sink, "try", light, word_at(engine, light, word))
         }
-        Suggestion::NoWord(light) => text::write_named(sink, b"noword", light),
+        Suggestion::NoWord(light) => write_named(sink, "noword", light),
     }
 }
 
@@ -92,7 +131,7 @@ fn filling_name(filling: Filling) -> &'static str
 fn write_filling<W: Sink>(sink: &mut W, filling: Filling) -> Result<(), WriteFailed>
     ensures { Sends W.transcript W.failures sink.old sink.new result (word_line (name_of_filling filling)) }
 {
-    text::write_line(sink, &[filling_name(filling).as_bytes()])
+    write_line(sink, &[Token::Name(filling_name(filling))])
 }
 
 /// Answers a search for a fill.
@@ -110,6 +149,22 @@ pub(crate) fn end_filling<W: Sink>(
         }
         Err(refusal) => end_answer(sink, Err(Refusal::from(refusal))),
     }
+}
+
+/// Writes each light that spells the same as an earlier light on a line, with that earlier light.
+fn write_duplicates<W: Sink>(
+    sink: &mut W,
+    grid: &Grid,
+    lights: &Lights,
+    found: &[Duplicate],
+) -> Result<(), WriteFailed>
+    requires { lights.now ≡ lights_of grid.now }
+    ensures { Sends W.transcript W.failures sink.old sink.new result (flat_map (duplicate_line grid.now) found.now) }
+{
+    for duplicate in found {
+        text::write_repeat(sink, grid, lights, duplicate.light, duplicate.first)?;
+    }
+    Ok(())
 }
 
 impl<E: Feasible> Session<E> {
@@ -234,7 +289,7 @@ impl<E: Feasible> Session<E> {
     {
         match duplicates(self.alloc, &self.engine) {
             Ok(found) => {
-                lists::write_duplicates(sink, self.engine.grid(), self.engine.lights(), &found)?;
+                write_duplicates(sink, self.engine.grid(), self.engine.lights(), &found)?;
                 end_answer(sink, Ok(()))
             }
             Err(refusal) => end_answer(sink, Err(Refusal::from(refusal))),
@@ -276,6 +331,7 @@ impl<E: Searchable> Session<E> {
         ensures { AnswersTo W.transcript W.failures self.old (commands.Fill limit) result self.new sink.old sink.new }
     {
         let filled = fill(self.alloc, &mut self.engine, limit);
+        forget_if(&mut self.hint, matches!(filled, Ok(Filling::Filled)));
         end_filling(sink, filled)
     }
 }

@@ -2,34 +2,23 @@
 ghost use Rattle.std.specs.Prelude.{◌≡◌, IfOk, IfErr};
 ghost use Rattle.xw_reason.specs.Reason.{entry_in, IsReasonOf, IsRefused};
 ghost use Rattle.xw_lines.specs.Sends.{Sends};
-ghost use Rattle.xw_session.specs.Text.{entry_line};
 ghost use Rattle.xw_session.specs.Reply.{name_of_light};
-ghost use Rattle.xw_session.specs.Why.{entry_lines};
+ghost use Rattle.xw_session.specs.Why.{entry_lines, refusal_without_reason as refusal_where_none};
 ghost use Rattle.xw_session.specs.State.{State};
 ghost use Rattle.xw_session.specs.Answer.{AnswersTo, why_reply, text_of, step_of};
 
 use crate::lookup::light_name;
-use crate::refusal::Refusal;
 use crate::session::{Session, end_answer};
-use crate::text;
 use std::alloc::Global;
+use xw_answers::refusal::Refusal;
+use xw_answers::text;
 use xw_commands::command::LightArg;
 use xw_feas::feasible::Feasible;
-use xw_grid::{Cell, Grid};
+use xw_grid::{Grid, GridFault};
 use xw_letters::Letter;
 use xw_lines::device::{Sink, WriteFailed};
 use xw_lines::outcome::Step;
 use xw_reason::{NoReason, reason};
-
-/// Writes the line of a cell if it has an entry.
-fn write_entry<W: Sink>(sink: &mut W, cell: Cell, entry: Option<Letter>) -> Result<(), WriteFailed>
-    ensures { Sends W.transcript W.failures sink.old sink.new result (entry_line cell entry) }
-{
-    match entry {
-        Some(letter) => text::write_entered(sink, cell, letter),
-        None => Ok(()),
-    }
-}
 
 /// Returns the entry at an index, or none past the end.
 fn entry_at(entries: &[Option<Letter>], index: usize) -> Option<Letter>
@@ -51,9 +40,20 @@ fn write_entries<W: Sink>(
     ensures { Sends W.transcript W.failures sink.old sink.new result (entry_lines grid.now entries.now) }
 {
     for index in 0..grid.size() {
-        write_entry(sink, grid.cell_at(index), entry_at(entries, index))?;
+        text::write_entry(sink, grid.cell_at(index), entry_at(entries, index))?;
     }
     Ok(())
+}
+
+/// Returns the refusal where there is no reason.
+fn refusal_without_reason(refusal: NoReason) -> Refusal
+    ensures { result ≡ refusal_where_none refusal }
+{
+    match refusal {
+        NoReason::NoLight => Refusal::NoLight,
+        NoReason::Alive => Refusal::Alive,
+        NoReason::Memory => Refusal::Grid(GridFault::Memory),
+    }
 }
 
 /// Answers a search for a reason.
@@ -70,7 +70,7 @@ fn end_reason<W: Sink>(
             write_entries(sink, grid, &entries)?;
             end_answer(sink, Ok(()))
         }
-        Err(refusal) => end_answer(sink, Err(Refusal::from(refusal))),
+        Err(refusal) => end_answer(sink, Err(refusal_without_reason(refusal))),
     }
 }
 

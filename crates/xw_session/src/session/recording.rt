@@ -1,13 +1,45 @@
 //! Writes the record of a session.
 ghost use Rattle.xw_lines.specs.Sends.{Sends};
-ghost use Rattle.xw_session.specs.Record.{command_lines, section_commands, record_lines};
+ghost use Rattle.xw_answers.specs.Record.{command_lines};
+ghost use Rattle.xw_session.specs.Record.{section_commands, record_lines};
 
-use crate::record::{self, SECTIONS, Section};
 use crate::session::Session;
 use crate::session::putting::Target;
-use xw_commands::command::Field;
+use xw_answers::record::{self, Part};
+use xw_commands::command::{Field, TextField};
 use xw_feas::feasible::Feasible;
+use xw_grid::{Direction, Side};
 use xw_lines::device::{Sink, WriteFailed};
+
+/// A group of commands in a record.
+#[derive(Clone, Copy)]
+pub enum Section {
+    Words,
+    Size,
+    Cells(Part),
+    Symmetry,
+    Text(TextField),
+    Watch,
+}
+
+/// The sections in the order in which they are written.
+pub const SECTIONS: &[Section; 15] = &[
+    Section::Words,
+    Section::Size,
+    Section::Cells(Part::Circles),
+    Section::Cells(Part::Bars(Side::Right)),
+    Section::Cells(Part::Bars(Side::Below)),
+    Section::Cells(Part::Blocks),
+    Section::Symmetry,
+    Section::Cells(Part::Letters),
+    Section::Text(TextField::Title),
+    Section::Text(TextField::Author),
+    Section::Text(TextField::Copyright),
+    Section::Text(TextField::Notes),
+    Section::Cells(Part::Clues(Direction::Across)),
+    Section::Cells(Part::Clues(Direction::Down)),
+    Section::Watch,
+];
 
 impl<E: Feasible> Session<E> {
     /// Writes the commands of a section.

@@ -3,15 +3,15 @@ ghost use Rattle.std.specs.Prelude.{◌≡◌, Some, Err, IfOk, IfErr, flat_map,
 ghost use Rattle.xw_letters.specs.LetterSet.{letters_in};
 ghost use Rattle.xw_grid.specs.Light.{lights_of, index_through};
 ghost use Rattle.xw_lines.specs.Sends.{Sends};
-ghost use Rattle.xw_session.specs.Text.{line_of};
+ghost use Rattle.xw_answers.specs.Text.{line_of};
+ghost use Rattle.xw_answers.specs.Token.{token_bytes};
 ghost use Rattle.xw_session.specs.Tally.{distance as distance_of, words_with as count_of_words_with, tally_at as tally_in, number_or_dash as number_or_a_dash, tally_line};
 ghost use Rattle.xw_session.specs.Reply.{cell_of, tallied as tallied_so, shown};
 ghost use Rattle.xw_session.specs.Answer.{AnswersTo};
 
-use crate::refusal::Refusal;
 use crate::session::{Session, end_answer};
-use crate::text;
-use itoa::Buffer;
+use xw_answers::answer_line::{Token, write_line};
+use xw_answers::refusal::Refusal;
 use xw_commands::command::CellArg;
 use xw_feas::searchable::Searchable;
 use xw_grid::{Cell, Direction, Lights};
@@ -75,30 +75,33 @@ fn tally_at<E: Searchable>(
     }
 }
 
-/// Returns the digits of a number, or a dash if there is none.
-fn number_or_dash(digits: &mut Buffer, number: Option<usize>) -> &[u8]
-    ensures { result.now ≡ number_or_a_dash number }
+/// Returns a number, or a dash if there is none, as a word of a line.
+fn number_or_dash(number: Option<usize>) -> Token<'static>
+    ensures { token_bytes result ≡ number_or_a_dash number }
 {
     match number {
-        Some(number) => digits.format(number as u64).as_bytes(),
-        None => b"-",
+        Some(number) => Token::Number(number as u64),
+        None => Token::Name("-"),
     }
 }
 
 /// Writes a letter and two counts on a line.
 fn write_counts<W: Sink>(
     sink: &mut W,
-    letter: Letter,
+    letter: &[Letter],
     across: Option<usize>,
     down: Option<usize>,
 ) -> Result<(), WriteFailed>
-    ensures { Sends W.transcript W.failures sink.old sink.new result (line_of ((letter ∷ []) ∷ number_or_a_dash across ∷ number_or_a_dash down ∷ [])) }
+    ensures { Sends W.transcript W.failures sink.old sink.new result (line_of (letter.now ∷ number_or_a_dash across ∷ number_or_a_dash down ∷ [])) }
 {
-    let mut first = Buffer::new();
-    let mut second = Buffer::new();
-    let across = number_or_dash(&mut first, across);
-    let down = number_or_dash(&mut second, down);
-    text::write_line(sink, &[&[letter.byte()], across, down])
+    write_line(
+        sink,
+        &[
+            Token::Letters(letter),
+            number_or_dash(across),
+            number_or_dash(down),
+        ],
+    )
 }
 
 /// Writes a letter with the counts of the lights through a cell on a line.
@@ -112,7 +115,7 @@ fn write_tally<E: Searchable, W: Sink>(
 {
     let across = tally_at(engine, Direction::Across, cell, letter);
     let down = tally_at(engine, Direction::Down, cell, letter);
-    write_counts(sink, letter, across, down)
+    write_counts(sink, &[letter], across, down)
 }
 
 /// Writes the line of each of these letters.

@@ -3,12 +3,12 @@ ghost use Rattle.std.specs.Prelude.{◌<◌, length};
 ghost use Rattle.xw_grid.specs.Light.{lights_of};
 ghost use Rattle.xw_lines.specs.Sends.{Sends};
 ghost use Rattle.xw_session.specs.Told.{letters_told, cell_lines, count_line, count_lines, text_lines};
-ghost use Rattle.xw_session.specs.Stats.{stat_lines};
+ghost use Rattle.xw_answers.specs.Stats.{stat_lines};
 ghost use Rattle.xw_session.specs.Reply.{told_lines};
 ghost use Rattle.xw_session.specs.Answer.{AnswersTo};
 
 use crate::session::{Session, end_answer};
-use crate::{fields, stats, text};
+use xw_answers::{fields, stats, text};
 use xw_commands::command::Report;
 use xw_feas::feasible::Feasible;
 use xw_grid::Cell;

@@ -1,4 +1,4 @@
-use Rattle.xw_session.proofs.Escapes.{reads_back}
+use Rattle.xw_answers.proofs.Escapes.{reads_back}
 use Rattle.xw_session_laws.proofs.SpelledLines.{no_lf_spelled, spelled_trimmed}
 use Rattle.xw_session_laws.proofs.what_is_spelled_reads_back.Goals as goal
 

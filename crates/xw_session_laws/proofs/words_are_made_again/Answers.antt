@@ -1,5 +1,5 @@
 use Rattle.std.proofs.Common.{◌∙◌, refl, ap}
-use Rattle.xw_session.specs.Record.{word_commands}
+use Rattle.xw_answers.specs.Record.{word_commands}
 use Rattle.xw_session_laws.specs.Replay.{replayed}
 use Rattle.xw_session_laws.proofs.WordsAgain.{words_again}
 use Rattle.xw_session_laws.proofs.words_are_made_again.Goals as goal

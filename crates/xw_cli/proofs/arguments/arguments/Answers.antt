@@ -1,7 +1,9 @@
 use Rattle.std.proofs.Common.{subst, refl, map, inr}
-use Rattle.clap.specs.Words.{App, HasMatchesOf, app_of, kind_of}
+use Rattle.std.specs.Prelude.{Option, IfSome}
+use Rattle.clap.specs.Words.{App, HasMatchesOf, app_of, kind_of, subcommand_rows_of}
 use Rattle.xw_cli.specs.Calls.{IsCall}
 use Rattle.xw_cli.specs.Usage.{IsNoCall}
+use Rattle.xw_cli.specs.declared.arguments.Call.{Call}
 use Rattle.xw_cli.proofs.Usages.{passed, failed, told_of}
 use Rattle.xw_cli.proofs.arguments.arguments.Goals as goal
 
@@ -19,10 +21,11 @@ returns-clause-usage g c =
     let is = c.in_ok-command.ensures.shape in
     let none = passed (app_of c.in_ok-command.command) words is c.in-Ok.ensures.kinds in
     let found = subst (λ (a : App). HasMatchesOf a words c.in-Ok.matches) is c.in-Ok.ensures.matches refl in
-    inr (none, subst IsNoCall found.1 (c.in-None.ensures.none refl))
+    inr (none, subst IsNoCall found.1 (c.in_ok-call.ensures.none c.in-None.is))
 
 pub returns-in-Some-clause-call : goal.returns-in-Some-clause-call
 returns-in-Some-clause-call g c =
     let words = map g.S.AsStr.text c.args.words.now in
     let found = subst (λ (a : App). HasMatchesOf a words c.in-Ok.matches) c.in_ok-command.ensures.shape c.in-Ok.ensures.matches refl in
-    subst (IsCall c.in-Some.call) found.1 c.in-Some.ensures.call
+    let call = subst (λ (o : Option Call). IfSome o (λ call. IsCall call (subcommand_rows_of c.in-Ok.matches))) c.in-Some.is c.in_ok-call.ensures.call in
+    subst (IsCall c.in-Some.call) found.1 call

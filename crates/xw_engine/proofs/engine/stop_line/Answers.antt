@@ -1,6 +1,6 @@
 use Rattle.std.proofs.Common.{◌≡◌, ◌∙◌, ◌++◌, ap, append_assoc, refl, ℕ, List}
 use Rattle.std.specs.Prelude.{codes, decimal}
-use Rattle.xw_session.specs.Text.{name_of, word_line}
+use Rattle.xw_answers.specs.Text.{name_of, word_line}
 use Rattle.xw_session.specs.Resuming.{refused_line}
 use Rattle.xw_engine.specs.Engine.{record_name}
 use Rattle.xw_engine.proofs.engine.stop_line.Goals as goal

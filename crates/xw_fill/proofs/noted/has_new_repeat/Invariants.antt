@@ -1,6 +1,6 @@
 use Rattle.std.proofs.Common.{◌≡◌, ℕ, ◌<◌, false}
 use Rattle.xw_fill.specs.Position.{position_of}
-use Rattle.xw_fill.specs.Noted.{noted, is_spelled_again}
+use Rattle.xw_fill.specs.Inner.Noted.{noted, is_spelled_again}
 use Rattle.xw_fill.proofs.noted.has_new_repeat.Given as goal
 
 abbrev pub invariant-loop-light : goal.invariant-loop-light

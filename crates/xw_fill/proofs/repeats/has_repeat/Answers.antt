@@ -3,7 +3,7 @@ use Rattle.std.proofs.lemmas.Bool.{or_from}
 use Rattle.std.proofs.lemmas.List.{get_or-replicate}
 use Rattle.xw_fill.specs.Position.{position_of}
 use Rattle.xw_fill.specs.Search.{is_repeat, light_count, is_entered}
-use Rattle.xw_fill.specs.Linked.{size_of, last_of_size, AreLinked}
+use Rattle.xw_fill.specs.Inner.Linked.{size_of, last_of_size, AreLinked}
 use Rattle.xw_fill.proofs.BelowLemmas.{any_below-from}
 use Rattle.xw_fill.proofs.RepeatLemmas.{not_repeat}
 use Rattle.xw_fill.proofs.LinkLemmas.{AreLast, linked-pass, linked-put, last-pass, last-put}

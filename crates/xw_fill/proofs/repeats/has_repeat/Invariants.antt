@@ -2,7 +2,7 @@ use Rattle.std.proofs.Common.{◌≡◌, false, length}
 use Rattle.xw_fill.specs.Position.{position_of}
 use Rattle.xw_fill.specs.Below.{any_below}
 use Rattle.xw_fill.specs.Search.{is_repeat, light_count}
-use Rattle.xw_fill.specs.Linked.{AreLinked}
+use Rattle.xw_fill.specs.Inner.Linked.{AreLinked}
 use Rattle.xw_fill.proofs.LinkLemmas.{AreLast}
 use Rattle.xw_fill.proofs.repeats.has_repeat.Given as goal
 

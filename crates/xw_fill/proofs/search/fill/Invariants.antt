@@ -1,28 +1,29 @@
-use Rattle.std.proofs.Common.{◌≡◌, length, ◌+◌, ◌-◌, ◌*◌, ◌≤◌, ℕ, vec_len}
+use Rattle.std.proofs.Common.{◌≡◌, length, ◌+◌, ◌-◌, ◌*◌, ◌≤◌, ℕ}
 use Rattle.std.specs.Vec.{vec_capacity}
 use Rattle.xw_fill.specs.Position.{position_of, DiffersInEntries}
 use Rattle.xw_fill.specs.declared.search.Next.{Next}
 use Rattle.xw_fill.specs.declared.search.Next.TheVariants.{Done, Spent, Words}
 use Rattle.xw_fill.specs.Search.{light_count}
-use Rattle.xw_fill.specs.Marks.{held_of, AreTwins}
+use Rattle.xw_fill.specs.Inner.Stack.{start_of, StandsAt}
+use Rattle.xw_fill.specs.Inner.Tries.{IsMade}
 use Rattle.xw_fill.proofs.Trail.{AreNotedAlong}
 use Rattle.xw_fill.proofs.Searching.{IsSearching}
-use Rattle.xw_fill.proofs.MarkedTries.{AreHeld}
 use Rattle.xw_fill.proofs.search.fill.Given as goal
 
 abbrev pub invariant-search : goal.invariant-search
 invariant-search g l =
     let start = g.E.Feasible.state l.initial.engine in
     let now = g.E.Feasible.state l.engine in
+    let tries = l.stack.placements.items in
     record {
-      searching : IsSearching (position_of start) l.tries.items l.used (position_of now) l.next;
+      searching : IsSearching (position_of start) tries l.used (position_of now) l.next;
       entries : DiffersInEntries start now;
-      marked : AreHeld start l.tries.items (held_of g.E.Searchable.saved l.marks);
-      twins : AreTwins g.E.Searchable.saved l.marks now;
-      room : light_count (position_of start) ≤ vec_capacity l.tries;
+      root : start_of g.E.Searchable.saved l.stack ≡ start;
+      stands : StandsAt g.E.Searchable.saved IsMade l.stack now;
+      room : light_count (position_of start) ≤ vec_capacity l.stack.placements;
       few : l.used ≤ l.limit;
       long : length l.since.items ≡ light_count (position_of start);
-      noted : AreNotedAlong (position_of start) l.tries.items l.since.items 0;
+      noted : AreNotedAlong (position_of start) tries l.since.items 0;
     }
 
 -- one extra step for a position whose words are being tried
@@ -32,4 +33,4 @@ steps Spent = 0
 steps (Words light from) = 1
 
 abbrev pub decreases-search : goal.decreases-search
-decreases-search g l = 3 * (l.limit - l.used) + 2 * vec_len l.tries + steps l.next
+decreases-search g l = 3 * (l.limit - l.used) + 2 * length l.stack.placements.items + steps l.next

@@ -5,9 +5,9 @@ use Rattle.xw_grid.specs.declared.cell.Cell.{Cell}
 use Rattle.xw_grid.specs.Grid.{cells, cell_at, entry}
 use Rattle.xw_grid.proofs.GridLemmas.{length-cells}
 use Rattle.xw_lines.proofs.SendsLemmas.{each_sent, each_stops, each_all}
-use Rattle.xw_session.specs.Record.{command_lines, letter_commands}
-use Rattle.xw_session.proofs.LightTexts.{cell_in_order}
-use Rattle.xw_session.proofs.Recording.{lines_of_each, sent_as, stops_as}
+use Rattle.xw_answers.specs.Record.{command_lines, letter_commands}
+use Rattle.xw_answers.proofs.LightTexts.{cell_in_order}
+use Rattle.xw_answers.proofs.Recording.{lines_of_each, sent_as, stops_as}
 use Rattle.xw_journal.specs.Journal.{entered_at, is_same_entry}
 use Rattle.xw_journal.proofs.Entered.{entry_before}
 use Rattle.xw_journal.proofs.journal.write_entered.Goals as goal

@@ -1,7 +1,7 @@
 use Rattle.std.proofs.Common.{◌≡◌, ◌++◌, take}
 use Rattle.std.specs.Prelude.{flat_map}
 use Rattle.xw_grid.specs.Grid.{Grid, cells}
-use Rattle.xw_session.specs.Record.{command_lines}
+use Rattle.xw_answers.specs.Record.{command_lines}
 use Rattle.xw_journal.specs.Journal.{entered_at, HasEntriesBefore}
 use Rattle.xw_journal.proofs.journal.write_entered.Given as goal
 

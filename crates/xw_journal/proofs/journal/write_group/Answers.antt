@@ -3,8 +3,8 @@ use Rattle.std.specs.Prelude.{codes, Result, Err}
 use Rattle.std.proofs.lemmas.Result.{err_from_is_err_and}
 use Rattle.xw_lines.proofs.SendsLemmas.{sends-then, stops-within}
 use Rattle.xw_lines.specs.Sends.{Sends}
-use Rattle.xw_session.specs.Record.{command_lines}
-use Rattle.xw_session.proofs.Recording.{stops_as}
+use Rattle.xw_answers.specs.Record.{command_lines}
+use Rattle.xw_answers.proofs.Recording.{stops_as}
 use Rattle.xw_journal.specs.Journal.{entered_commands}
 use Rattle.xw_journal.proofs.Entered.{group_is}
 use Rattle.xw_journal.proofs.journal.write_group.Goals as goal

@@ -11,8 +11,8 @@ rest bytes from = take_all (length bytes - from) (drop from bytes) (omega (arith
 
 pub returns-in-Some-clause-ends : goal.returns-in-Some-clause-ends
 returns-in-Some-clause-ends c =
-    first_lf-ends c.args.bytes.now c.args.from c.in-Some.more (ap (position is_line_feed) (sym (rest c.args.bytes.now c.args.from)) ∙ sym c.first_lf.ensures ∙ c.in-Some.is)
+    first_lf-ends c.args.bytes.now c.args.from c.in-Some.more (ap (position is_line_feed) (sym (rest c.args.bytes.now c.args.from)) ∙ sym c.line_end.ensures.index ∙ c.in-Some.is)
 
 pub returns-in-None-clause-none : goal.returns-in-None-clause-none
 returns-in-None-clause-none c =
-    no_lf (drop c.args.from c.args.bytes.now) (ap (position is_line_feed) (sym (rest c.args.bytes.now c.args.from)) ∙ sym c.first_lf.ensures ∙ c.in-None.is)
+    no_lf (drop c.args.from c.args.bytes.now) (ap (position is_line_feed) (sym (rest c.args.bytes.now c.args.from)) ∙ sym c.line_end.ensures.index ∙ c.in-None.is)

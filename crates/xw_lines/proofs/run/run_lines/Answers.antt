@@ -10,17 +10,16 @@ returns-in-Ok-finish g c =
     let kept = c.loop-turn.invariant.1 in
     let room : 0 < length c.read.new.buffer = omega arith in
     let transcript = transcript-nothing (g.R.Source.transcript c.args.source.now) _ _ text _ _ kept.transcript c.in-Ok-eq0.field-0-test c.in-Ok-eq0.ensures.transcript in
-    let said = c.in-Ok-finish.ensures.ok c.args.handler.now (g.W.Sink.transcript c.args.sink.now) text kept.goes-on in
-    record {
-      done = (text, transcript, c.in-Ok-eq0.ensures.end c.in-Ok-eq0.field-0-test room, said.0, said.1, said.2);
-      read_failed = tt;
-      write_failed = tt;
-      stopped = tt;
-      endless = tt;
-      memory = tt;
-      unfailed = c.in-Ok-finish.ensures.quiet ∙ kept.quiet;
-      reads = c.in-Ok-eq0.ensures.failures ∙ kept.unfailed;
-    }
+    let said = c.in-Ok-finish.ensures.ok c.args.handler.now (g.W.Sink.transcript c.args.sink.now) text kept.goes-on in (
+      text,
+      transcript,
+      c.in-Ok-eq0.ensures.end c.in-Ok-eq0.field-0-test room,
+      said.0,
+      said.1,
+      said.2,
+      c.in-Ok-eq0.ensures.failures ∙ kept.unfailed,
+      c.in-Ok-finish.ensures.quiet ∙ kept.quiet,
+    )
 
 pub returns-in-Err-finish : goal.returns-in-Err-finish
 returns-in-Err-finish g c =

@@ -11,7 +11,7 @@ pub loop-position-init : goal.loop-position-init
 loop-position-init g c = record {
   same = c.read_active.ensures.entries;
   risen = c.read_active.ensures.risen;
-  spent = omega (arith, c.read_active.ensures.cost);
+  spent = omega (arith, c.read_active.ensures.ticks);
   long = c.read_active.ensures.len;
   room = c.read_active.ensures.room;
   bits = λ i. c.read_active.ensures.bits i ∙ ap (λ n. is_active (g.R.Rows.entries c.args.rows.now n) i) c.len.ensures ∙ base_first c.args.board.now c.args.cells.now (entry_at (g.R.Rows.entries c.args.rows.now (length c.args.cells.now)) i);

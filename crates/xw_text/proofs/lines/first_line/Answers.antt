@@ -7,11 +7,11 @@ use Rattle.xw_text.proofs.lines.first_line.Goals as goal
 pub returns-in-Some-clause-lines : goal.returns-in-Some-clause-lines
 returns-in-Some-clause-lines c =
     let bytes = c.args.bytes.now in
-    first_of_lines bytes c.in-Some.end (sym c.in-Some.ensures)
+    first_of_lines bytes c.in-Some.end (sym c.in-Some.ensures.index)
     ∙ ap (λ rest. take c.in-Some.end bytes ∷ lines_of rest) (sym (take_rest bytes (c.in-Some.end + 1)))
 
 pub returns-in-None-clause-lines : goal.returns-in-None-clause-lines
 returns-in-None-clause-lines c =
     let bytes = c.args.bytes.now in
-    only_line bytes c.requires (sym c.in-None.ensures)
+    only_line bytes c.requires (sym c.in-None.ensures.index)
     ∙ ap (λ rest. bytes ∷ lines_of rest) (sym (take_rest bytes (length bytes) ∙ drop_all (length bytes) bytes (omega arith)))

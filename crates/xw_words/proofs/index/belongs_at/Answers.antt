@@ -1,8 +1,7 @@
-use Rattle.std.proofs.Common.{◌≡◌, ◌<◌, ◌≤◌, ◌+◌, ◌-◌, ℕ, List, [], length, true, false, get_or, sym, ap, ◌∙◌, subst, arith}
-use Rattle.std.specs.List.{concat}
+use Rattle.std.proofs.Common.{◌≡◌, ◌<◌, ◌-◌, ℕ, List, [], length, get_or, sym, ap, ◌∙◌, subst, arith}
 use Rattle.std.proofs.lemmas.Bool.{not-true}
 use Rattle.std.proofs.lemmas.List.{get_or_read}
-use Rattle.xw_words.specs.Index.{is_before, word_in, block_at, start, IsPart}
+use Rattle.xw_words.specs.Index.{is_before, word_in, block_at, IsPart}
 use Rattle.xw_words.proofs.IndexBlocks.{part_of, belongs_between}
 use Rattle.xw_words.proofs.index.belongs_at.Goals as goal
 

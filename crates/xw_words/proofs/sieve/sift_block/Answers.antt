@@ -1,11 +1,7 @@
-use Rattle.std.proofs.Common.{◌≡◌, ◌+◌, ◌*◌, ◌&&◌, not, false, get_or, refl, sym, ap, ◌∙◌}
+use Rattle.std.proofs.Common.{◌≡◌, ◌+◌, ◌*◌, ◌&&◌, not, false, get_or, sym, ap, ◌∙◌}
 use Rattle.xw_words.specs.Columns.{has_one_of, stays}
-use Rattle.xw_words.proofs.Sieving.{in_block, none_stays}
+use Rattle.xw_words.proofs.Sieving.{in_block}
 use Rattle.xw_words.proofs.sieve.sift_block.Goals as goal
-
-pub returns-then-is_clear-clause-inside : goal.returns-then-is_clear-clause-inside
-returns-then-is_clear-clause-inside c i low high entries position are =
-    none_stays _ (get_or c.args.row.now.bits i false) (stays c.args.keep (has_one_of entries position c.args.letters i)) refl (c.is_clear.ensures c.if-is_clear.true i low high)
 
 pub returns-then-keep-clause-inside : goal.returns-then-keep-clause-inside
 returns-then-keep-clause-inside c i low high entries position are =

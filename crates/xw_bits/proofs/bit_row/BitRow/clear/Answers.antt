@@ -1,6 +1,9 @@
-use Rattle.std.proofs.Common.{false, get_or, length, ap, ◌∙◌, arith}
+use Rattle.std.proofs.Common.{false, get_or, length, sym, subst, ap, ◌∙◌, arith}
 use Rattle.std.proofs.lemmas.List.{with_items_is}
+use Rattle.std.specs.Prelude.{replicate}
 use Rattle.xw_bits.specs.Bits.{bits_of, words_have}
+use Rattle.xw_bits.specs.Summary.{IsSummary}
+use Rattle.xw_bits.proofs.Summaries.{written, zeros_summary}
 use Rattle.xw_bits.proofs.BitLemmas.{length-bits_of}
 use Rattle.xw_bits.proofs.BitRowLemmas.{view_len}
 use Rattle.xw_bits.proofs.RowBlocks.{row_bit, zeros_have}
@@ -13,6 +16,13 @@ invariant_of-self c = record {
   nothing_past = λ i le.
       ap (λ ws. words_have ws i) (with_items_is c.self.inside.words c.fill.new.self (omega (arith, c.fill.ensures.len, c.as_mut_slice.ensures.len)) ∙ c.fill.ensures.after (λ y clone. clone))
       ∙ zeros_have (length c.as_mut_slice.result.now) i;
+  summary_len = c.self.invariant.summary_len;
+  summary = written c.self.inside.words c.self.inside.summary c.fill.new.self c.fill-2.new.self (omega (arith, c.fill.ensures.len, c.as_mut_slice.ensures.len)) (omega (arith, c.fill-2.ensures.len, c.as_mut_slice-2.ensures.len))
+      (subst (λ ws. IsSummary ws c.fill-2.new.self) (sym (c.fill.ensures.after (λ y clone. clone))) (subst (λ ss. IsSummary (replicate (length c.as_mut_slice.result.now) 0) ss) (sym (c.fill-2.ensures.after (λ y clone. clone)))
+      (zeros_summary (length c.as_mut_slice.result.now) (length c.as_mut_slice-2.result.now))));
+  within = c.self.invariant.within;
+  words_room = c.self.invariant.words_room;
+  summary_room = c.self.invariant.summary_room;
   counted = tt;
 }
 

@@ -1,4 +1,4 @@
--- `shown` makes the taken box again.
+-- `shown` rebuilds the box from its address.
 use Rattle.std.proofs.Common.{◌≡◌, List, [], ◌∷◌, ◌++◌, refl, sym, ap, ◌∙◌, subst, Option, None, Some, IsSome, true≢false}
 use mir.Syntax.{impl, tnil, dnil}
 use mir.Raw.{raw as bare}

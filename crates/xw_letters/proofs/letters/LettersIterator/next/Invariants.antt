@@ -2,7 +2,7 @@ use Rattle.std.proofs.Common.{◌≡◌, ◌-◌}
 use Rattle.xw_letters.specs.LetterSet.{letters_from}
 use Rattle.xw_letters.proofs.letters.LettersIterator.next.Given as goal
 
--- the letters still to come are the same as at the start
+-- the letters that the iterator has yet to yield are those at the start of the call
 abbrev pub invariant-loop-self : goal.invariant-loop-self
 invariant-loop-self l = letters_from l.self-inside.set l.self-inside.index ≡ l.fn.self
 

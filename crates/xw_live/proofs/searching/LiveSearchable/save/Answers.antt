@@ -1,7 +1,11 @@
 use Rattle.std.proofs.Common.{sym, ap, subst, ◌∙◌}
 use Rattle.std.specs.Prelude.{is_some}
 use Rattle.xw_grid.specs.Grid.{Grid}
+use Rattle.xw_words.specs.Dictionary.{Dictionary}
+use Rattle.xw_feas.specs.Board.{board_of}
 use Rattle.xw_feas.specs.State.{State}
+use Rattle.xw_net.specs.Brought.{IsBase}
+use Rattle.xw_net.proofs.Nets.CopiedNets.{settled_base}
 use Rattle.xw_live.specs.Engine.{IsKept}
 use Rattle.xw_live.specs.Live.{state_of}
 use Rattle.xw_live.proofs.Saving.{kept_copy, kept_same, can_copy}
@@ -12,6 +16,13 @@ copy_from-requires-clause-can c =
     let live = c.args.self.now in
     let saved : State = record { grid = c.args.snapshot.now.grid; words = c.args.snapshot.now.bank.value.words } in
     can_copy saved (state_of live) c.requires.twin live.net c.args.snapshot.now.net live.kept c.args.snapshot.now.kept live.lights live.light_list
+
+pub copy_from-requires-clause-before : goal.copy_from-requires-clause-before
+copy_from-requires-clause-before c =
+    let live = c.args.self.now in
+    let kept = c.args.snapshot.now in
+    subst (λ (words : Dictionary). IsBase (board_of c.args.snapshot.now.grid) words c.args.snapshot.now.net.base.items) (sym c.requires.twin.words)
+    (settled_base (record { grid = kept.grid; words = kept.bank.value.words }) kept.net kept.kept.settled)
 
 pub invariant_of-snapshot : goal.invariant_of-snapshot
 invariant_of-snapshot c =

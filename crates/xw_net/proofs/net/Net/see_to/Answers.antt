@@ -30,7 +30,7 @@ returns-clause-kept g c dictionary measure setting under =
 
 pub returns-clause-holding : goal.returns-clause-holding
 unfolding word_stands letter_stands held_in restart_in pending_in queued_in
-returns-clause-holding g c dictionary setting holding =
+returns-clause-holding g c _ dictionary setting holding =
     let struck = c.strike_light.new.self in
     let mid : Net = record struck { queue = c.release.new.self } in
     let setting' = subst (λ e. IsSetting c.args.board.now e dictionary) (sym c.strike_light.ensures.entries) setting in
@@ -39,7 +39,7 @@ returns-clause-holding g c dictionary setting holding =
 
 pub returns-clause-pending : goal.returns-clause-pending
 unfolding pending_in
-returns-clause-pending g c slot other pends =
+returns-clause-pending g c _ slot other pends =
     elim (c.keep_light.ensures.check.pending slot other pends) [
       | inl before ↦ elim (cases_Bool (pending_in c.args.self.now slot other)) [
         | inl was ↦ inl was
@@ -50,7 +50,7 @@ returns-clause-pending g c slot other pends =
 
 pub returns-clause-waits : goal.returns-clause-waits
 unfolding queued_in
-returns-clause-waits g c other waits =
+returns-clause-waits g c _ other waits =
     let light = c.args.light in
     let struck = c.strike_light.new.self in
     let within' : light < length struck.queue.marks = omega (arith, c.requires.light, c.strike_light.ensures.step.shaped.queue) in
@@ -60,3 +60,8 @@ returns-clause-waits g c other waits =
     let apart : other ≢ light = λ e. both_ways (eqb other light) (not-true (eqb other light) parts.1) (eq-eqb other light e) in
     ap (λ (list : ListOfLights). is_waiting list.lights other) c.release.ensures ∙ ap (λ list. is_waiting list.lights other) c.strike_light.ensures.struck.queue
     ∙ waits apart (sym (ap (λ list. get_or list.marks other false) c.strike_light.ensures.struck.queue) ∙ parts.0))
+
+pub returns-then-is_dead-clause-kept : goal.returns-then-is_dead-clause-kept
+returns-then-is_dead-clause-kept g c dictionary measure setting under =
+    let queued = c.requires.queued in
+    c.strike_light.ensures.kept dictionary measure setting queued (under.paid.queued c.args.light c.requires.light queued) under

@@ -1,23 +1,15 @@
-use Rattle.std.proofs.Common.{◌≡◌, ℕ, List, sym, ap, subst, arith}
-use Rattle.xw_words.specs.Dictionary.{Entry}
-use Rattle.xw_feas.specs.Board.{Board, board_of, light_at}
-use Rattle.xw_feas.specs.State.{State}
-use Rattle.xw_feas.specs.WellFormed.{IsWellFormed}
-use Rattle.xw_net.specs.Change.{AreReadsOf}
-use Rattle.xw_net.specs.Marks.{IsSetting, IsReady}
+use Rattle.std.proofs.Common.{sym, ap, subst, arith}
+use Rattle.xw_feas.specs.Board.{light_at}
+use Rattle.xw_net.specs.Marks.{IsReady}
 use Rattle.xw_net.specs.Due.{IsClosed, HasQueued, set_cost}
 use Rattle.xw_net.specs.Nets.{marks_of, letter_stands}
 use Rattle.xw_net.specs.Steps.{IsStrippable}
 use Rattle.xw_net.specs.Filled.{IsUnstripped, IsFilled}
-use Rattle.xw_net.proofs.Nets.SlotsApart.{slots_apart}
+use Rattle.xw_net.proofs.Nets.SlotsApart.{setting_of}
 use Rattle.xw_net.proofs.Costs.ClosedForStripping.{region_is_closed}
 use Rattle.xw_net.proofs.Costs.CostBounds.{stripping-is}
 use Rattle.xw_net.proofs.Nets.SettledNets.{filled_settled}
 use Rattle.xw_net.proofs.net.Net.strip.Goals as goal
-
-setting_of : (state : State) (board : Board) (entries : ℕ → List Entry) → board ≡ board_of state.grid → AreReadsOf entries state.words → IsWellFormed state → IsSetting board entries state.words
-setting_of state board entries same read formed =
-    subst (λ b. IsSetting b entries state.words) (sym same) (record { laid_out = formed.board; apart = slots_apart state.grid; words = formed.dictionary; read = read })
 
 pub strip_queued-requires-clause-net : goal.strip_queued-requires-clause-net
 strip_queued-requires-clause-net g c = subst (λ b. IsStrippable b (g.R.Rows.entries c.args.rows.now) c.args.self.now) (sym c.new-board.ensures) (record { shaped = c.requires.shaped; bits = c.requires.bits })

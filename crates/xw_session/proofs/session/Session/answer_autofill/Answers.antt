@@ -1,9 +1,9 @@
 use Rattle.std.proofs.Common.{List, Err, refl, inl, subst}
 use Rattle.xw_grid.specs.Puzzle.{texts_view}
-use Rattle.xw_autofill.specs.NamedFill.{AreLights}
+use Rattle.xw_fill.specs.NamedFill.{AreLights}
 use Rattle.xw_commands.specs.declared.command.LightArg.{LightArg}
 use Rattle.xw_commands.specs.declared.command.Command.TheVariants as commands
-use Rattle.xw_session.specs.declared.refusal.Refusal.TheVariants as refusals
+use Rattle.xw_answers.specs.declared.refusal.Refusal.TheVariants as refusals
 use Rattle.xw_session.specs.State.{State}
 use Rattle.xw_session.specs.Autofill.{names_of}
 use Rattle.xw_session.specs.Answer.{AnswersTo}

@@ -1,7 +1,7 @@
 use Rattle.std.proofs.Common.{refl}
 use Rattle.std.proofs.lemmas.Result.{err_from_is_err_and}
 use Rattle.xw_commands.specs.declared.command.Command.TheVariants as commands
-use Rattle.xw_session.specs.Text.{circle_lines}
+use Rattle.xw_answers.specs.Text.{circle_lines}
 use Rattle.xw_session.proofs.Answering.{query_answers, query_stops}
 use Rattle.xw_session.proofs.session.Session.answer_circles.Goals as goal
 

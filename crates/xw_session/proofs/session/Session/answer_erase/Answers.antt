@@ -3,12 +3,12 @@ use Rattle.xw_grid.specs.Grid.{IsGrid}
 use Rattle.xw_grid.specs.Light.{lights_of}
 use Rattle.xw_feas.specs.State.{after, list_written}
 use Rattle.xw_commands.specs.declared.command.Command.TheVariants as commands
-use Rattle.xw_session.specs.declared.refusal.Refusal.TheVariants as refusals
+use Rattle.xw_answers.specs.declared.refusal.Refusal.TheVariants as refusals
 use Rattle.xw_session.specs.State.{State}
 use Rattle.xw_session.specs.Erase.{erased_cells, emptied}
 use Rattle.xw_session.specs.Reply.{moved, erased}
 use Rattle.xw_session.proofs.Answering.{refusal_answers}
-use Rattle.xw_session.proofs.LightTexts.{found_short}
+use Rattle.xw_answers.proofs.LightTexts.{found_short}
 use Rattle.xw_session.proofs.session.Session.answer_erase.Goals as goal
 
 pub erased_cells-erased-requires-clause-short : goal.erased_cells-erased-requires-clause-short

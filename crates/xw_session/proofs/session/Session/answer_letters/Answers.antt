@@ -1,7 +1,7 @@
 use Rattle.std.proofs.lemmas.Result.{err_from_is_err_and}
 use Rattle.xw_letters.specs.LetterSet.{letters_in}
 use Rattle.xw_commands.specs.declared.command.Command.TheVariants as commands
-use Rattle.xw_session.specs.Text.{letters_line}
+use Rattle.xw_answers.specs.Text.{letters_line}
 use Rattle.xw_session.proofs.Answering.{query_answers, query_stops, refusal_answers}
 use Rattle.xw_session.proofs.session.Session.answer_letters.Goals as goal
 

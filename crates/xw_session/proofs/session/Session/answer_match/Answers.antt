@@ -3,8 +3,8 @@ use Rattle.std.specs.Prelude.{flat_map}
 use Rattle.std.proofs.lemmas.Result.{err_from_is_err_and}
 use Rattle.xw_words.specs.Dictionary.{matching_answer}
 use Rattle.xw_commands.specs.declared.command.Command.TheVariants as commands
-use Rattle.xw_session.specs.declared.refusal.Refusal.TheVariants as refusals
-use Rattle.xw_session.specs.Text.{word_line}
+use Rattle.xw_answers.specs.declared.refusal.Refusal.TheVariants as refusals
+use Rattle.xw_answers.specs.Text.{word_line}
 use Rattle.xw_session.specs.State.{State}
 use Rattle.xw_session.specs.Reply.{matched}
 use Rattle.xw_session.proofs.Answering.{query_answers, query_stops, refusal_answers}

@@ -4,7 +4,7 @@ use Rattle.xw_grid.specs.Puzzle.{texts_view}
 use Rattle.xw_feas.specs.State.{State as Position}
 use Rattle.xw_fill.specs.Suggesting.{suggestion}
 use Rattle.xw_session.specs.State.{State}
-use Rattle.xw_session.specs.Text.{suggestion_line}
+use Rattle.xw_session.specs.Found.{suggestion_line}
 use Rattle.xw_session.specs.Reply.{shown}
 use Rattle.xw_lines.specs.Device.{Begins, HasFailed}
 use Rattle.xw_session.proofs.Answering.{reply_answers, reply_stops}

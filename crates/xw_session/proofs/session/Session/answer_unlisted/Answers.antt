@@ -5,9 +5,9 @@ use Rattle.xw_grid.specs.Grid.{Grid}
 use Rattle.xw_fill.specs.Listing.{unlisted_of}
 use Rattle.xw_commands.specs.declared.command.Command.TheVariants as commands
 use Rattle.xw_lines.specs.Device.{Begins}
-use Rattle.xw_session.specs.Refusal.{refusal_of}
+use Rattle.xw_answers.specs.Refusal.{refusal_of}
 use Rattle.xw_session.specs.State.{State}
-use Rattle.xw_session.specs.Text.{spelled_line}
+use Rattle.xw_answers.specs.Text.{spelled_line}
 use Rattle.xw_session.proofs.Answering.{query_answers, query_stops, refused_answers}
 use Rattle.xw_session.proofs.session.Session.answer_unlisted.Goals as goal
 

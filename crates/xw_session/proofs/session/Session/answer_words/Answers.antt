@@ -6,8 +6,8 @@ use Rattle.std.specs.Prelude.{length}
 use Rattle.xw_fill.specs.Position.{position_of}
 use Rattle.xw_fill.specs.FeasibleWords.{feasible_words}
 use Rattle.xw_commands.specs.declared.command.Command.TheVariants as commands
-use Rattle.xw_session.specs.declared.refusal.Refusal.TheVariants as refusals
-use Rattle.xw_session.specs.Text.{counted_lines}
+use Rattle.xw_answers.specs.declared.refusal.Refusal.TheVariants as refusals
+use Rattle.xw_answers.specs.Text.{counted_lines}
 use Rattle.xw_session.specs.Reply.{worded, first_words, name_of_light}
 use Rattle.xw_session.proofs.Answering.{query_answers, query_stops, refusal_answers}
 use Rattle.xw_session.proofs.session.Session.answer_words.Goals as goal

@@ -2,7 +2,7 @@ use Rattle.std.proofs.Common.{◌≡◌, ap, ◌∙◌, subst}
 use Rattle.xw_grid.specs.Grid.{IsGrid}
 use Rattle.xw_session.specs.State.{State}
 use Rattle.xw_session.specs.Reply.{name_of_light}
-use Rattle.xw_session.proofs.LightTexts.{no_such_number}
+use Rattle.xw_answers.proofs.LightTexts.{no_such_number}
 use Rattle.xw_session.proofs.session.Session.counted_words.Goals as goal
 
 pub returns-in-None-clause-none : goal.returns-in-None-clause-none

@@ -1,7 +1,7 @@
 use Rattle.std.proofs.Common.{Err, inl, refl, subst, sym}
 use Rattle.std.specs.Prelude.{Option}
 use Rattle.xw_feas.specs.State.{after, action_of}
-use Rattle.xw_session.specs.declared.refusal.Refusal.{Refusal}
+use Rattle.xw_answers.specs.declared.refusal.Refusal.{Refusal}
 use Rattle.xw_session.specs.Reply.{moved}
 use Rattle.xw_session.specs.Answer.{Asks, AnswersBy}
 use Rattle.xw_session.proofs.Answering.{refused_answers}

@@ -3,7 +3,7 @@ use Rattle.xw_letters.specs.LetterSet.{letters_in}
 use Rattle.xw_grid.specs.declared.cell.Cell.{Cell}
 use Rattle.xw_grid.specs.Puzzle.{texts_view}
 use Rattle.xw_session.specs.State.{State}
-use Rattle.xw_session.specs.Text.{letters_line}
+use Rattle.xw_answers.specs.Text.{letters_line}
 use Rattle.xw_session.specs.Reply.{lettered, shown, cell_of}
 use Rattle.xw_session.proofs.Engine.{lettered_is}
 use Rattle.xw_session.proofs.session.Session.letters.Goals as goal

@@ -1,7 +1,7 @@
 use Rattle.std.proofs.Common.{◌≡◌, ◌∙◌, ℕ, List, false, ap}
 use Rattle.xw_grid.specs.Puzzle.{texts_view}
 use Rattle.xw_session.specs.State.{State}
-use Rattle.xw_session.specs.Record.{known_counts}
+use Rattle.xw_answers.specs.Record.{known_counts}
 use Rattle.xw_session.proofs.session.Session.open.Goals as goal
 
 pub returns : goal.returns

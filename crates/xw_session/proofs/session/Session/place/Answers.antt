@@ -4,7 +4,7 @@ use Rattle.xw_grid.specs.Light.{lights_of, index_named}
 use Rattle.xw_feas.specs.State.{placed_in, with_grid}
 use Rattle.xw_session.specs.State.{State}
 use Rattle.xw_session.specs.Reply.{name_of_light, moved}
-use Rattle.xw_session.proofs.LightTexts.{no_such_number}
+use Rattle.xw_answers.proofs.LightTexts.{no_such_number}
 use Rattle.xw_session.proofs.session.Session.place.Goals as goal
 
 pub returns-in-None : goal.returns-in-None

@@ -1,7 +1,7 @@
 use Rattle.std.proofs.Common.{◌≡◌, true, false, inl, inr, refl, ap, sym, ◌∙◌}
 use Rattle.std.specs.Prelude.{Err}
 use Rattle.std.proofs.lemmas.Result.{err_from_is_err_and}
-use Rattle.xw_session.specs.declared.refusal.Refusal.TheVariants.{Grid}
+use Rattle.xw_answers.specs.declared.refusal.Refusal.TheVariants.{Grid}
 use Rattle.xw_session.specs.declared.session.putting.Target.{Target}
 use Rattle.xw_session.specs.Put.{with_piece}
 use Rattle.xw_session.specs.Reply.{edited, grid_memory}

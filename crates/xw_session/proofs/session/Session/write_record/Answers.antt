@@ -1,9 +1,10 @@
 use Rattle.std.proofs.Common.{◌<◌, ◌≤◌, ◌∙◌, ℕ, List, length, arith}
 use Rattle.std.proofs.lemmas.Result.{err_from_is_err_and}
-use Rattle.xw_session.specs.declared.record.Section.{Section}
-use Rattle.xw_session.specs.declared.record.Section.TheVariants.{Words}
-use Rattle.xw_session.specs.Record.{command_lines, section_commands, record_sections}
-use Rattle.xw_session.proofs.Recording.{lines_of_each, sent_as, stops_as}
+use Rattle.xw_session.specs.declared.session.recording.Section.{Section}
+use Rattle.xw_session.specs.declared.session.recording.Section.TheVariants.{Words}
+use Rattle.xw_answers.specs.Record.{command_lines}
+use Rattle.xw_session.specs.Record.{section_commands, record_sections}
+use Rattle.xw_answers.proofs.Recording.{lines_of_each, sent_as, stops_as}
 use Rattle.xw_lines.proofs.SendsLemmas.{each_sent, each_stops, each_all}
 use Rattle.xw_session.proofs.session.Session.write_record.Goals as goal
 

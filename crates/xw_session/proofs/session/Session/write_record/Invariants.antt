@@ -1,6 +1,7 @@
 use Rattle.std.proofs.Common.{◌≡◌, ◌++◌, take}
 use Rattle.std.specs.Prelude.{flat_map}
-use Rattle.xw_session.specs.Record.{command_lines, section_commands, record_sections}
+use Rattle.xw_answers.specs.Record.{command_lines}
+use Rattle.xw_session.specs.Record.{section_commands, record_sections}
 use Rattle.xw_session.proofs.session.Session.write_record.Given as goal
 
 abbrev pub invariant-loop-section : goal.invariant-loop-section

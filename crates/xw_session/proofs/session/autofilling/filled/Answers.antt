@@ -1,7 +1,7 @@
 use Rattle.std.proofs.Common.{List, ◌∙◌, subst}
 use Rattle.std.specs.Prelude.{IfOk}
 use Rattle.xw_grid.specs.declared.cell.LightName.{LightName}
-use Rattle.xw_autofill.specs.NamedFill.{IsAutofilled, is_named}
+use Rattle.xw_fill.specs.NamedFill.{IsAutofilled, is_named}
 use Rattle.xw_session.proofs.session.autofilling.filled.Goals as goal
 
 pub returns-clause-ok : goal.returns-clause-ok

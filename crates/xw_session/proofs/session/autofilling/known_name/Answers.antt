@@ -2,7 +2,7 @@ use Rattle.std.proofs.Common.{ap, subst}
 use Rattle.std.specs.Prelude.{is_some}
 use Rattle.xw_grid.specs.Grid.{IsGrid}
 use Rattle.xw_session.specs.Reply.{name_of_light}
-use Rattle.xw_session.proofs.LightTexts.{no_such_number}
+use Rattle.xw_answers.proofs.LightTexts.{no_such_number}
 use Rattle.xw_session.proofs.Autofilling.{when_none}
 use Rattle.xw_session.proofs.session.autofilling.known_name.Goals as goal
 

@@ -4,7 +4,7 @@ use Rattle.xw_fill.specs.Position.{position_of}
 use Rattle.xw_fill.specs.Search.{light_count}
 use Rattle.xw_fill.specs.Words.{spellings_at}
 use Rattle.xw_lines.specs.Sends.{Sends}
-use Rattle.xw_session.specs.Text.{line_of}
+use Rattle.xw_answers.specs.Text.{line_of}
 use Rattle.xw_session.specs.Choices.{number_or_done, choice_line}
 use Rattle.xw_session.proofs.session.choosing.write_choice_at.Goals as goal
 

@@ -10,7 +10,7 @@ use Rattle.xw_fill.proofs.WordsLemmas.{feasible_known_words}
 use Rattle.xw_lines.specs.Device.{Begins, HasFailed}
 use Rattle.xw_lines.proofs.SendsLemmas.{next_stops}
 use Rattle.xw_session.specs.Choices.{choice_line, choice_lines}
-use Rattle.xw_session.proofs.Choosing.{next_left, none_left, take_next, take_none, one_more, no_more}
+use Rattle.xw_session.proofs.Choosing.{words_from_index, next_left, none_left, take_next, take_none, one_more, no_more}
 use Rattle.xw_session.proofs.session.choosing.write_choices.Goals as goal
 
 pub loop-left-init : goal.loop-left-init
@@ -22,7 +22,7 @@ loop-left-init g c =
       record {
         same = refl;
         transcript = sym (append-nil (g.W.Sink.transcript c.args.sink.now));
-        left = ap (λ words. flat_map (choice_line start c.args.light) (take c.args.most words)) known;
+        left = ap (λ words. flat_map (choice_line start c.args.light) (take c.args.most words)) (words_from_index start c.args.light c.args.first known c.requires.not_entered ∙ ap (words_left (position_of start) c.args.light) (sym c.unwrap_or-from.ensures));
         quiet = refl;
       },
     )
@@ -44,7 +44,7 @@ loop-left-preserved g c =
       record {
         same = c.write_choice_at.ensures.unchanged ∙ so_far.same;
         transcript = line ∙ ap (λ text. text ++ choice_line start light word) so_far.transcript ∙ append_assoc (g.W.Sink.transcript c.args.sink.now) sent (choice_line start light word);
-        left = one_more (choice_line start light) (choice_lines start light c.args.most) sent _ _ word so_far.left left;
+        left = one_more (choice_line start light) (choice_lines start light c.args.first c.args.most) sent _ _ word so_far.left left;
         quiet = wrote.1 ∙ so_far.quiet;
       },
     )
@@ -55,7 +55,7 @@ returns-in_default-clause-sends g c =
     let light = c.args.light in
     let so_far = c.loop-left.invariant.1 in
     let none = subst (λ (s : State). HasNoMore (position_of s) light c.loop-left.from) so_far.same c.in_default.ensures in
-    let all = no_more (choice_line start light) (choice_lines start light c.args.most) c.loop-left.invariant.0 _ so_far.left (take_none c.loop-left.left (words_left (position_of start) light c.loop-left.from) (none_left (position_of start) light c.loop-left.from none)) in
+    let all = no_more (choice_line start light) (choice_lines start light c.args.first c.args.most) c.loop-left.invariant.0 _ so_far.left (take_none c.loop-left.left (words_left (position_of start) light c.loop-left.from) (none_left (position_of start) light c.loop-left.from none)) in
     (so_far.transcript ∙ ap (λ text. g.W.Sink.transcript c.args.sink.now ++ text) (sym all), so_far.quiet)
 
 pub returns-in_err-write_choice_at-clause-sends : goal.returns-in_err-write_choice_at-clause-sends
@@ -70,4 +70,4 @@ returns-in_err-write_choice_at-clause-sends g c =
     let left : take c.loop-left.left (words_left (position_of start) light c.loop-left.from) ≡ word ∷ take (c.loop-left.left - 1) (words_left (position_of start) light (index + 1)) =
     ap (take c.loop-left.left) (next_left (position_of start) light c.loop-left.from index next) ∙ take_next c.loop-left.left word (words_left (position_of start) light (index + 1)) c.loop-left-test.true in
     let stops = subst (λ (s : State). Begins (g.W.Sink.transcript c.loop-left.sink) (g.W.Sink.transcript c.write_choice_at.new.sink) (choice_line s light (get_or (spellings_at (position_of s) light) index [])) × HasFailed (g.W.Sink.failures c.loop-left.sink) (g.W.Sink.failures c.write_choice_at.new.sink)) so_far.same c.in_err-write_choice_at.ensures.sends in
-    rw e.1 (next_stops g.W.Sink.transcript g.W.Sink.failures (choice_line start light) c.args.sink.now c.loop-left.sink c.write_choice_at.new.sink c.loop-left.invariant.0 (choice_lines start light c.args.most) _ _ word so_far.transcript so_far.quiet so_far.left left stops)
+    rw e.1 (next_stops g.W.Sink.transcript g.W.Sink.failures (choice_line start light) c.args.sink.now c.loop-left.sink c.write_choice_at.new.sink c.loop-left.invariant.0 (choice_lines start light c.args.first c.args.most) _ _ word so_far.transcript so_far.quiet so_far.left left stops)

@@ -12,7 +12,7 @@ invariant-loop-left g l =
     (sent : List ℕ) × record {
       same : g.E.Feasible.state l.engine ≡ start;
       transcript : g.W.Sink.transcript l.sink ≡ g.W.Sink.transcript l.initial.sink ++ sent;
-      left : choice_lines start l.light l.most ≡ sent ++ flat_map (choice_line start l.light) (take l.left (words_left (position_of start) l.light l.from));
+      left : choice_lines start l.light l.fn.first l.most ≡ sent ++ flat_map (choice_line start l.light) (take l.left (words_left (position_of start) l.light l.from));
       quiet : g.W.Sink.failures l.sink ≡ g.W.Sink.failures l.initial.sink;
     }
 

@@ -3,7 +3,7 @@ use Rattle.std.proofs.lemmas.Result.{err_from_is_err_and}
 use Rattle.xw_grid.specs.Light.{lights_of}
 use Rattle.xw_feas.proofs.BoardLemmas.{length-lights}
 use Rattle.xw_session.specs.Unmatched.{unmatched_line}
-use Rattle.xw_session.proofs.Sending.{one_more_sent, stops_at, all_sent}
+use Rattle.xw_answers.proofs.Sending.{one_more_sent, stops_at, all_sent}
 use Rattle.xw_session.proofs.session.matching.write_unmatched.Goals as goal
 
 pub write_if_unmatched-requires : goal.write_if_unmatched-requires

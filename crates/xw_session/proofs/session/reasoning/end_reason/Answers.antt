@@ -17,7 +17,7 @@ pub returns-in_ok-write_entries-in-Ok-clause-step : goal.returns-in_ok-write_ent
 returns-in_ok-write_entries-in-Ok-clause-step g c = rw c.in-Ok.is c.end_answer.ensures.step
 
 pub returns-in-Err-clause-sends : goal.returns-in-Err-clause-sends
-returns-in-Err-clause-sends g c = rw (c.in-Err.is, ← c.from.ensures) c.end_answer-in-Err.ensures.sends
+returns-in-Err-clause-sends g c = rw (c.in-Err.is, ← c.refusal_without_reason.ensures) c.end_answer-in-Err.ensures.sends
 
 pub returns-in-Err-clause-step : goal.returns-in-Err-clause-step
 returns-in-Err-clause-step g c = rw c.in-Err.is c.end_answer-in-Err.ensures.step

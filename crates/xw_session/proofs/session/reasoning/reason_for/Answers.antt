@@ -1,7 +1,7 @@
 use Rattle.std.proofs.Common.{subst}
 use Rattle.xw_grid.specs.Grid.{IsGrid}
 use Rattle.xw_session.specs.Reply.{name_of_light}
-use Rattle.xw_session.proofs.LightTexts.{no_such_number}
+use Rattle.xw_answers.proofs.LightTexts.{no_such_number}
 use Rattle.xw_session.proofs.session.reasoning.reason_for.Goals as goal
 
 pub returns-in-None-clause-refused : goal.returns-in-None-clause-refused

@@ -3,9 +3,9 @@ use Rattle.std.proofs.lemmas.Result.{err_from_is_err_and}
 use Rattle.xw_grid.specs.declared.cell.Cell.{Cell}
 use Rattle.xw_grid.specs.Grid.{cell_at}
 use Rattle.xw_lines.specs.Device.{Begins, HasFailed}
-use Rattle.xw_session.specs.Text.{entry_line}
+use Rattle.xw_answers.specs.Text.{entry_line}
 use Rattle.xw_session.specs.Why.{entry_told}
-use Rattle.xw_session.proofs.Sending.{one_more_sent, stops_at, all_sent}
+use Rattle.xw_answers.proofs.Sending.{one_more_sent, stops_at, all_sent}
 use Rattle.xw_session.proofs.session.reasoning.write_entries.Goals as goal
 
 pub loop-index-init : goal.loop-index-init

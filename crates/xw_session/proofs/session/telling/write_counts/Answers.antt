@@ -2,7 +2,7 @@ use Rattle.std.proofs.Common.{◌<◌, ◌≤◌, ◌∙◌, ap, length, arith}
 use Rattle.std.proofs.lemmas.Result.{err_from_is_err_and}
 use Rattle.xw_grid.specs.Light.{lights_of}
 use Rattle.xw_session.specs.Told.{count_line}
-use Rattle.xw_session.proofs.Sending.{one_more_sent, stops_at, all_sent}
+use Rattle.xw_answers.proofs.Sending.{one_more_sent, stops_at, all_sent}
 use Rattle.xw_session.proofs.session.telling.write_counts.Goals as goal
 
 pub returns-in_err-write_count_at : goal.returns-in_err-write_count_at

@@ -1,7 +1,7 @@
-use Rattle.std.proofs.Common.{◌≡◌, ◌<◌, length, sym, ap, refl, ◌∙◌, true, false}
+use Rattle.std.proofs.Common.{◌≡◌, ◌<◌, length, sym, ap, refl, ◌∙◌, true, false, arith}
 use Rattle.std.specs.Prelude.{None, slice_index_or, [], ◌∷◌, ◌++◌}
-use Rattle.xw_words.specs.Dictionary.{row, index_in, most_words}
-use Rattle.xw_words.proofs.DictionaryLemmas.{row_kept, IsKept-set, AreWords-push, entries_in-set, row-entries_in, room_within}
+use Rattle.xw_words.specs.Dictionary.{row, index_in, most_words, best_grade, grade_given}
+use Rattle.xw_words.proofs.DictionaryLemmas.{row_kept, IsKept-set, AreWords-push, given_small, entries_in-set, row-entries_in, room_within}
 use Rattle.xw_words.proofs.RoomLemmas.{KeepsOtherRoom-set}
 use Rattle.xw_words.proofs.bank.Bank.add_reserved.Goals as goal
 
@@ -24,7 +24,7 @@ invariant_of-self c =
     let unknown : index_in old.entries word ≡ None = ap (λ es. index_in es word) (sym was) ∙ c.requires.unknown in
     let few : length old.entries < most_words = c.add_reserved.ensures.few in
     IsKept-set rows len c.add_reserved.new.self c.self.invariant c.add_reserved.ensures.long (c.add_reserved.ensures.word_len ∙ at.len_is)
-    (rw c.add_reserved.ensures.entries (AreWords-push len old.entries word at.words refl c.are_letters.ensures unknown few))
+    (rw c.add_reserved.ensures.entries (AreWords-push len old.entries word _ (given_small c.args.grade best_grade (omega arith)) at.words refl c.are_letters.ensures unknown few))
 
 pub returns-clause-index : goal.returns-clause-index
 returns-clause-index c =
@@ -43,7 +43,7 @@ returns-clause-words c =
     let len = length c.args.word.now in
     let small = room_within rows len c.self.invariant (ap (λ bank. slice_index_or bank.room len false) c.self.view_is ∙ c.requires.room) in
     let at = row_kept rows len old c.self.invariant small c.index_mut-row.ensures.value in
-    rw (← c.self.view_is) (entries_in-set rows len old c.add_reserved.new.self (λ entries. entries ++ record { word = c.args.word.now; active = true } ∷ []) at.within c.index_mut-row.ensures.value c.add_reserved.ensures.entries)
+    rw (← c.self.view_is) (entries_in-set rows len old c.add_reserved.new.self (λ entries. entries ++ record { word = c.args.word.now; active = true; grade = grade_given c.args.grade best_grade } ∷ []) at.within c.index_mut-row.ensures.value c.add_reserved.ensures.entries)
 
 pub returns-clause-room : goal.returns-clause-room
 returns-clause-room c =

@@ -1,0 +1,56 @@
+use Rattle.std.proofs.Common.{◌≡◌, ◌<◌, ◌≤◌, ◌+◌, ◌-◌, ◌++◌, ◌∙◌, ap, sym, subst, ℕ, List, length, get_or, take, drop, flat_map, arith}
+use Rattle.std.proofs.lemmas.Result.{err_from_is_err_and}
+use Rattle.std.proofs.lemmas.List.{get_or-drop, length-drop}
+use Rattle.xw_words.specs.Dictionary.{Entry, row, no_entry}
+use Rattle.xw_answers.specs.Spelling.{command_line}
+use Rattle.xw_answers.specs.Record.{add_command}
+use Rattle.xw_answers.proofs.Recording.{line_of_each, sent_as, stops_as}
+use Rattle.xw_lines.proofs.SendsLemmas.{each_sent, each_stops, each_all}
+use Rattle.xw_answers.proofs.record.write_added.Goals as goal
+
+pub loop-index-preserved : goal.loop-index-preserved
+loop-index-preserved g c =
+    let begun = c.args.begun in
+    let index = c.loop-index.index in
+    let entries = row c.args.bank.now.words c.args.count in
+    let later = drop begun entries in
+    let text : Entry → List ℕ = λ entry. command_line (add_command entry) in
+    let below : index < length entries = omega (arith, c.loop-index-test.true, c.known-index-end.ensures.words) in
+    let within : index - begun < length later = omega (arith, below, c.loop-index.invariant.from, length-drop begun entries) in
+    let at : begun + (index - begun) ≡ index = omega (arith, c.loop-index.invariant.from) in
+    let is : get_or entries index no_entry ≡ get_or later (index - begun) no_entry = sym (get_or-drop begun entries (index - begun) no_entry ∙ ap (λ i. get_or entries i no_entry) at) in
+    let wrote = c.in_ok-write_word_command.ensures in
+    let same = c.word.ensures.word ∙ ap (λ (entry : Entry). entry.word) is in
+    let next : index - begun + 1 ≡ index + 1 - begun = omega (arith, c.loop-index.invariant.from) in
+    record {
+      from = omega (arith, c.loop-index.invariant.from);
+      transcript = subst (λ (n : ℕ). g.W.Sink.transcript c.write_word_command.new.sink ≡ g.W.Sink.transcript c.args.sink.now ++ flat_map text (take n later)) next
+          (each_sent g.W.Sink.transcript g.W.Sink.failures text later c.args.sink.now c.loop-index.sink c.write_word_command.new.sink (index - begun) no_entry within c.loop-index.invariant.transcript (rw (← same) wrote.0));
+      quiet = wrote.1 ∙ c.loop-index.invariant.quiet;
+    }
+
+pub returns-in_err-write_word_command : goal.returns-in_err-write_word_command
+returns-in_err-write_word_command g c =
+    let e = err_from_is_err_and c.from_residual.result c.from_residual.ensures.1 in
+    let begun = c.args.begun in
+    let index = c.loop-index.index in
+    let entries = row c.args.bank.now.words c.args.count in
+    let later = drop begun entries in
+    let text : Entry → List ℕ = λ entry. command_line (add_command entry) in
+    let below : index < length entries = omega (arith, c.loop-index-test.true, c.known-index-end.ensures.words) in
+    let within : index - begun < length later = omega (arith, below, c.loop-index.invariant.from, length-drop begun entries) in
+    let at : begun + (index - begun) ≡ index = omega (arith, c.loop-index.invariant.from) in
+    let is : get_or entries index no_entry ≡ get_or later (index - begun) no_entry = sym (get_or-drop begun entries (index - begun) no_entry ∙ ap (λ i. get_or entries i no_entry) at) in
+    let same = c.word.ensures.word ∙ ap (λ (entry : Entry). entry.word) is in
+    rw e.1 (stops_as g.W.Sink.transcript g.W.Sink.failures _ _ _ _ (line_of_each add_command later)
+    (each_stops g.W.Sink.transcript g.W.Sink.failures text later c.args.sink.now c.loop-index.sink c.write_word_command.new.sink (index - begun) no_entry within (c.loop-index.invariant.transcript, c.loop-index.invariant.quiet) (rw (← same) c.in_err-write_word_command.ensures)))
+
+pub returns : goal.returns
+returns g c =
+    let begun = c.args.begun in
+    let entries = row c.args.bank.now.words c.args.count in
+    let later = drop begun entries in
+    let text : Entry → List ℕ = λ entry. command_line (add_command entry) in
+    let past : length later ≤ c.loop-index.index - begun = omega (arith, c.loop-index-test.false, c.known-index-end.ensures.words, length-drop begun entries, c.loop-index.invariant.from) in
+    sent_as g.W.Sink.transcript g.W.Sink.failures _ _ _ _ (line_of_each add_command later)
+    (each_all g.W.Sink.transcript g.W.Sink.failures text later _ _ (c.loop-index.index - begun) past (c.loop-index.invariant.transcript, c.loop-index.invariant.quiet))

@@ -1,0 +1,9 @@
+pub mod Escape
+pub mod Refusal
+pub mod Text
+pub mod Token
+pub mod Show
+pub mod Fields
+pub mod Stats
+pub mod Spelling
+pub mod Record

@@ -1,0 +1,13 @@
+//! The lines of answers: values in, lines out. Nothing here knows the state of a session.
+#![tactic(auto)]
+
+pub mod answer_line;
+pub mod escape;
+pub mod fields;
+pub mod lists;
+pub mod lookup;
+pub mod record;
+pub mod refusal;
+pub mod show;
+pub mod stats;
+pub mod text;

@@ -1,0 +1,154 @@
+//! Writes the grid for the command `show`.
+ghost use Rattle.std.specs.Prelude.{◌≡◌, ◌+◌, ◌<◌, ◌≤◌, if◌then◌else◌, []};
+ghost use Rattle.std.specs.List.{list_any};
+ghost use Rattle.xw_lines.specs.Sends.{Sends};
+ghost use Rattle.xw_grid.specs.declared.cell.Side.TheVariants.{Below};
+ghost use Rattle.xw_grid.specs.Grid.{is_barred as is_barred_edge};
+ghost use Rattle.xw_answers.specs.Show.{cell_glyph as glyph_of, after_cell as byte_after, cell_pair as pair_of_cell, bar_pair as pair_of_bar, cell_in as nth_cell, columns as columns_of, row_line, bar_line, has_bar_below as is_barred_below_row, row_lines, show_lines};
+
+use crate::answer_line::AnswerLine;
+use xw_grid::{Cell, Grid, Side};
+use xw_lines::device::{self, Sink, WriteFailed};
+
+fn cell_glyph(grid: &Grid, cell: Cell) -> u8
+    ensures { result ≡ glyph_of grid.now cell }
+{
+    if grid.is_block(cell) {
+        return b'#';
+    }
+    match grid.entry(cell) {
+        Some(letter) => letter.byte(),
+        None => b'-',
+    }
+}
+
+fn after_cell(grid: &Grid, cell: Cell) -> u8
+    ensures { result ≡ byte_after grid.now cell }
+{
+    if cell.col == grid.width() {
+        b'\n'
+    } else if grid.is_barred(cell, Side::Right) {
+        b'|'
+    } else {
+        b' '
+    }
+}
+
+fn cell_pair(grid: &Grid, cell: Cell) -> [u8; 2]
+    ensures { result ≡ pair_of_cell grid.now cell }
+{
+    [cell_glyph(grid, cell), after_cell(grid, cell)]
+}
+
+fn bar_pair(grid: &Grid, cell: Cell) -> [u8; 2]
+    ensures { result ≡ pair_of_bar grid.now cell }
+{
+    let bar = if grid.is_barred(cell, Side::Below) {
+        b'='
+    } else {
+        b'.'
+    };
+    let after = if cell.col == grid.width() {
+        b'\n'
+    } else {
+        b'.'
+    };
+    [bar, after]
+}
+
+/// Returns the cell of a row after `before` other cells.
+fn cell_in(row: u32, before: u32) -> Cell
+    requires { before < 255 }
+    ensures { result ≡ nth_cell row before }
+{
+    Cell {
+        row,
+        col: before + 1,
+    }
+}
+
+/// Returns whether a bar lies below a cell of the row.
+fn has_bar_below(grid: &Grid, row: u32) -> bool
+    ensures { result ≡ is_barred_below_row grid.now row }
+{
+    for before in 0..grid.width() {
+        if grid.is_barred(cell_in(row, before), Side::Below) {
+            return true;
+        }
+    }
+    false
+}
+
+/// Builds the line of a row's cells.
+fn put_cells(line: &mut AnswerLine, grid: &Grid, row: u32)
+    ensures { line.new ≡ row_line grid.now row }
+{
+    grid.well_formed();
+    line.clear();
+    for before in 0..grid.width() {
+        let _ = line.push(&cell_pair(grid, cell_in(row, before)));
+    }
+}
+
+/// Builds the line of the bars below a row.
+fn put_bars(line: &mut AnswerLine, grid: &Grid, row: u32)
+    ensures { line.new ≡ bar_line grid.now row }
+{
+    grid.well_formed();
+    line.clear();
+    for before in 0..grid.width() {
+        let _ = line.push(&bar_pair(grid, cell_in(row, before)));
+    }
+}
+
+fn write_row<W: Sink>(
+    sink: &mut W,
+    line: &mut AnswerLine,
+    grid: &Grid,
+    row: u32,
+) -> Result<(), WriteFailed>
+    ensures { Sends W.transcript W.failures sink.old sink.new result (row_line grid.now row) }
+{
+    put_cells(line, grid, row);
+    device::write_all(sink, line.bytes())
+}
+
+fn write_bars<W: Sink>(
+    sink: &mut W,
+    line: &mut AnswerLine,
+    grid: &Grid,
+    row: u32,
+) -> Result<(), WriteFailed>
+    ensures { Sends W.transcript W.failures sink.old sink.new result (bar_line grid.now row) }
+{
+    put_bars(line, grid, row);
+    device::write_all(sink, line.bytes())
+}
+
+/// Writes the line of a row, and a line of bars if the row has a bar below it.
+fn write_row_lines<W: Sink>(
+    sink: &mut W,
+    line: &mut AnswerLine,
+    grid: &Grid,
+    row: u32,
+) -> Result<(), WriteFailed>
+    ensures { Sends W.transcript W.failures sink.old sink.new result (row_lines grid.now row) }
+{
+    write_row(sink, line, grid, row)?;
+    if has_bar_below(grid, row) {
+        write_bars(sink, line, grid, row)
+    } else {
+        Ok(())
+    }
+}
+
+/// Writes the grid row by row.
+pub fn write_grid<W: Sink>(sink: &mut W, grid: &Grid) -> Result<(), WriteFailed>
+    ensures { Sends W.transcript W.failures sink.old sink.new result (show_lines grid.now) }
+{
+    let mut line = AnswerLine::new();
+    for above in 0..grid.height() {
+        write_row_lines(sink, &mut line, grid, above + 1)?;
+    }
+    Ok(())
+}

@@ -1,2 +1,0 @@
-pub mod NamedFill
-pub mod Progress

@@ -1,6 +1,0 @@
-use Rattle.std.proofs.Common.{bit_and, get_or}
-use Rattle.xw_bits.proofs.Apart.{none_of_four}
-use Rattle.xw_bits.proofs.kernels.joined_common.Goals as goal
-
-pub returns : goal.returns
-returns c none k low high = none_of_four (λ i. bit_and (get_or c.args.words.now i 0) (get_or c.args.other.now i 0)) c.args.at none k low high

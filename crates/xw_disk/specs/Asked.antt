@@ -1,0 +1,16 @@
+-- The event that a call of a disk is.
+use Rattle.std.specs.Prelude.{Ok, Err}
+use Rattle.xw_disk.specs.Disk.{Event, read, replace, copy, open_, begin, take_lines, end, started}
+use Rattle.xw_disk.specs.declared.asked.Asked.{Asked}
+use Rattle.xw_disk.specs.declared.asked.Asked.TheVariants as asked
+
+abbrev pub seen : Asked → Event
+seen (asked.Read name bytes) = read name.now (Ok bytes.now)
+seen (asked.Unread name fault) = read name.now (Err fault)
+seen (asked.Replace name bytes answer) = replace name.now bytes.now answer
+seen (asked.Copy name like bytes answer) = copy name.now like.now bytes.now answer
+seen (asked.Open name bytes) = open_ name.now (Ok bytes.now)
+seen (asked.Unopened name fault) = open_ name.now (Err fault)
+seen (asked.Begin name start answer) = begin name.now (started start) answer
+seen (asked.TakeLines name lines) = take_lines name.now lines.now.transcript
+seen (asked.End name bytes answer) = end name.now bytes.now answer

@@ -1,0 +1,209 @@
+//! The file of a journal, open for appending, and the writer for its lines.
+ghost use Rattle.std.specs.Prelude.{◌≡◌, [], ◌≤◌, length, IfOk};
+
+use crate::identity::{Identity, identity_of};
+use std::alloc::{AllocError, Global};
+use std::fs::OpenFile;
+use std::io::{self, BufWriter, ErrorKind, Write};
+use std::rt::Files;
+use xw_lines::history::History;
+use xw_lines::{DeviceFault, Sink, ToWrite};
+
+/// The size of the buffer in bytes. The lines of almost any command fit, and so are one write.
+const GATHERED: usize = 65536;
+
+/// The name of an open file.
+pub trait Place {
+    /// Returns whether the name still leads to the file.
+    fn is_there(&self) -> io::Result<bool>;
+}
+
+/// The name of an open journal.
+#[derive(Drop)]
+pub struct JournalName<R: Files + Drop> {
+    pub rt: R,
+    pub file: String,
+    pub identity: Identity,
+}
+
+impl<R: Files + Drop> Place for JournalName<R> {
+    fn is_there(&self) -> io::Result<bool> {
+        Ok(identity_of(&self.rt, &self.file)? == Some(self.identity))
+    }
+}
+
+/// A file that is open for appending. What was written since the last flush is taken back if a write or a flush fails. If the file is
+/// synced, a flush brings what was written to the device.
+#[derive(Drop)]
+pub struct Appended<F: Drop, P: Drop> {
+    file: F,
+    place: P,
+    is_synced: bool,
+    /// The length of the file at the last flush.
+    length: u64,
+    /// The number of bytes written since then.
+    written: u64,
+    is_lost: bool,
+    /// The error of the last write or flush that failed.
+    error: Option<io::Error>,
+}
+
+impl<F: Write + OpenFile + Drop, P: Place + Drop> Appended<F, P> {
+    /// Appends to an open file of this length.
+    pub fn new(file: F, place: P, length: u64, is_synced: bool) -> Appended<F, P> {
+        Appended {
+            file,
+            place,
+            is_synced,
+            length,
+            written: 0,
+            is_lost: false,
+            error: None,
+        }
+    }
+
+    /// Returns whether a write failed since the name of the file no longer led to it.
+    pub fn is_lost(&self) -> bool {
+        self.is_lost
+    }
+
+    /// Returns the error of the last write or flush that failed.
+    pub fn error(&self) -> Option<io::Error> {
+        self.error
+    }
+
+    /// Returns the name of the file.
+    pub fn place(&self) -> &P {
+        &self.place
+    }
+
+    /// Writes to the file if its name still leads to it.
+    fn append(&mut self, bytes: &[u8]) -> io::Result<usize>
+        ensures bound { IfOk result (λ count. count ≤ length bytes.now) }
+    {
+        if !self.place.is_there()? {
+            self.is_lost = true;
+            return Err(io::Error::from(ErrorKind::NotFound));
+        }
+        match self.file.write(bytes)? {
+            0 if !bytes.is_empty() => Err(io::Error::from(ErrorKind::WriteZero)),
+            count => Ok(count),
+        }
+    }
+
+    /// Brings what was written to the system, and to the device if that is asked for.
+    fn bring(&mut self) -> io::Result<()> {
+        self.file.flush()?;
+        if self.is_synced {
+            self.file.sync_data()?;
+        }
+        Ok(())
+    }
+
+    /// Takes back what was written since the last flush, and keeps the error of the call that failed.
+    fn fail(&mut self, error: io::Error) {
+        self.take_back();
+        self.error = Some(error);
+    }
+
+    /// Cuts the file to its length at the last flush. If this fails too, the next start drops what is left of the line.
+    fn take_back(&mut self) {
+        if self.written > 0 {
+            let _ = self.file.set_len(self.length);
+            self.written = 0;
+        }
+    }
+}
+
+impl<F: Write + OpenFile + Drop, P: Place + Drop> Write for Appended<F, P> {
+    fn write(&mut self, bytes: &[u8]) -> io::Result<usize> {
+        match self.append(bytes) {
+            Ok(count) => {
+                self.written = self.written.saturating_add(count as u64);
+                Ok(count)
+            }
+            Err(error) => {
+                if error.kind() != ErrorKind::Interrupted {
+                    self.fail(error);
+                }
+                Err(error)
+            }
+        }
+    }
+
+    fn flush(&mut self) -> io::Result<()> {
+        match self.bring() {
+            Ok(()) => {
+                self.length = self.length.saturating_add(self.written);
+                self.written = 0;
+                Ok(())
+            }
+            Err(error) => {
+                self.fail(error);
+                Err(error)
+            }
+        }
+    }
+}
+
+/// The writer of a journal.
+#[derive(Drop)]
+pub struct JournalWriter<F: Write + OpenFile + Drop, P: Place + Drop> {
+    sink: ToWrite<BufWriter<Appended<F, P>>>,
+    lines: History,
+}
+
+impl<F: Write + OpenFile + Drop, P: Place + Drop> JournalWriter<F, P> {
+    /// Appends to a file, one flush at a time.
+    pub fn new(alloc: Global, appended: Appended<F, P>) -> Result<JournalWriter<F, P>, AllocError>
+        ensures transcript { IfOk result (λ journal. journal.lines.transcript ≡ []) }
+        ensures failures { IfOk result (λ journal. journal.sink.failures ≡ 0) }
+    {
+        match BufWriter::with_capacity(alloc, GATHERED, appended) {
+            Ok(writer) => Ok(JournalWriter {
+                sink: ToWrite::new(writer),
+                lines: History::new(),
+            }),
+            Err(_) => Err(AllocError),
+        }
+    }
+
+    /// Returns the record of what was written, for proofs only.
+    pub fn lines(&self) -> &History
+        ensures { result.now ≡ self.now.lines }
+    {
+        &self.lines
+    }
+
+    /// Returns the file. This discards the unwritten bytes, since their write failed.
+    pub fn into_appended(self) -> Appended<F, P> {
+        let (appended, _unwritten) = self.sink.into_writer().into_parts();
+        appended
+    }
+}
+
+impl<F: Write + OpenFile + Drop, P: Place + Drop> Sink for JournalWriter<F, P> {
+    ghost transcript = { λ journal. journal.lines.transcript };
+
+    ghost failures = { λ journal. journal.sink.failures };
+
+    fn write(&mut self, bytes: &[u8]) -> Result<usize, DeviceFault> {
+        match self.sink.write(bytes) {
+            Ok(count) => {
+                self.lines.note(&bytes[..count]);
+                Ok(count)
+            }
+            Err(fault) => Err(fault),
+        }
+    }
+
+    fn flush(&mut self) -> Result<(), DeviceFault> {
+        match self.sink.flush() {
+            Ok(()) => {
+                self.lines.note_flush();
+                Ok(())
+            }
+            Err(fault) => Err(fault),
+        }
+    }
+}

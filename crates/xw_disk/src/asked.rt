@@ -1,0 +1,17 @@
+//! What is asked of a disk, with the answer.
+use crate::disk::{DiskFault, Start};
+use xw_lines::history::History;
+
+/// A call of a disk, for its log.
+#[derive(Clone, Copy)]
+pub enum Asked<'a> {
+    Read(&'a str, &'a [u8]),
+    Unread(&'a str, DiskFault),
+    Replace(&'a str, &'a [u8], Result<(), DiskFault>),
+    Copy(&'a str, &'a str, &'a [u8], Result<(), DiskFault>),
+    Open(&'a str, &'a [u8]),
+    Unopened(&'a str, DiskFault),
+    Begin(&'a str, Start<'a>, Result<(), DiskFault>),
+    TakeLines(&'a str, &'a History),
+    End(&'a str, &'a [u8], Result<(), DiskFault>),
+}

@@ -1,0 +1,103 @@
+//! The trait of a disk. Its ghost log records what was asked of it and what it answered.
+ghost use Rattle.std.specs.Prelude.{◌≡◌, List, [], ◌∷◌, ◌++◌, Result, Ok, Err, MatchResult, IfOk};
+ghost use Rattle.xw_disk.specs.Disk.{Event, read, replace, copy, open_, begin, take_lines, end, started};
+
+use std::alloc::AllocError;
+use std::io;
+use xw_lines::Sink;
+
+/// Why a disk did not do what it was asked.
+#[derive(Clone, Copy, Debug, PartialEq, Eq)]
+pub enum DiskFault {
+    /// An allocation failed.
+    Memory,
+    /// The file cannot be read.
+    Unreadable,
+    /// The file cannot be written.
+    Unwritable,
+    /// Another program has the file as its journal.
+    InUse,
+    /// The name no longer leads to the journal that was opened by it.
+    Replaced,
+}
+
+/// How an open file becomes a journal.
+#[derive(Clone, Copy, Debug)]
+pub enum Start<'a> {
+    /// The file is emptied, and gets these bytes.
+    Anew(&'a [u8]),
+    /// The file is cut to these bytes, with which it begins.
+    Cut(&'a [u8]),
+    /// A new file with the first bytes before the others takes the place of the file.
+    Put(&'a [u8], &'a [u8]),
+}
+
+/// The files of a call. The ghost `log` is the list of what was asked and what was answered. It says nothing of what a device keeps.
+pub trait Disk {
+    /// An open file that no other program can use as its journal.
+    type Opened: Drop;
+
+    /// A journal that takes lines.
+    type Journal: Sink + Drop;
+
+    // all that was asked so far, with the answers
+    ghost log: { Self → List Event };
+
+    /// Returns the bytes of a file. The name `-` stands for standard input.
+    fn read(&mut self, name: &str) -> Result<Vec<u8>, DiskFault>
+        ensures { MatchResult result
+            (λ bytes. log self.new ≡ log self.old ++ read name.now (Ok bytes.items) ∷ [])
+            (λ fault. log self.new ≡ log self.old ++ read name.now (Err fault) ∷ []) };
+
+    /// Replaces a file by these bytes, unless another program has it as its journal.
+    fn replace(&mut self, name: &str, bytes: &[u8]) -> Result<(), DiskFault>
+        ensures { log self.new ≡ log self.old ++ replace name.now bytes.now result ∷ [] };
+
+    /// Replaces a file, as `replace`, and gives it the mode of another one.
+    fn copy(&mut self, name: &str, like: &str, bytes: &[u8]) -> Result<(), DiskFault>
+        ensures { log self.new ≡ log self.old ++ copy name.now like.now bytes.now result ∷ [] };
+
+    /// Opens a journal, or makes it, keeps other programs from using it, and returns its bytes.
+    fn open_journal(&mut self, name: &str) -> Result<(Self::Opened, Vec<u8>), DiskFault>
+        ensures { MatchResult result
+            (λ opened. log self.new ≡ log self.old ++ open_ name.now (Ok opened.1.items) ∷ [])
+            (λ fault. log self.new ≡ log self.old ++ open_ name.now (Err fault) ∷ []) };
+
+    /// Makes an open file a journal that lines can be appended to. If `is_synced` is set, each flush brings the lines to the device.
+    fn begin_journal(
+        &mut self,
+        name: &str,
+        opened: Self::Opened,
+        start: Start<'_>,
+        is_synced: bool,
+    ) -> Result<Self::Journal, DiskFault>
+        ensures log { MatchResult result
+            (λ _. log self.new ≡ log self.old ++ begin name.now (started start.entry) (Ok tt) ∷ [])
+            (λ fault. log self.new ≡ log self.old ++ begin name.now (started start.entry) (Err fault) ∷ []) }
+        ensures transcript { IfOk result (λ journal. Self.Journal.transcript journal ≡ []) }
+        ensures failures { IfOk result (λ journal. Self.Journal.failures journal ≡ 0) };
+
+    /// Ends the writing to a journal, which no other program can use as long as the disk lives. Lines that it has not written are
+    /// lost: their write failed.
+    fn close_journal(&mut self, name: &str, journal: Self::Journal)
+        ensures { log self.new ≡ log self.old ++ take_lines name.now (Self.Journal.transcript journal) ∷ [] };
+
+    /// Returns whether a write to the journal failed since its name no longer led to it.
+    fn is_lost(&self) -> bool;
+
+    /// Fails if the name of the journal no longer leads to it.
+    fn find_journal(&self) -> Result<(), DiskFault>;
+
+    /// Replaces a journal by these bytes.
+    fn end_journal(&mut self, name: &str, bytes: &[u8]) -> Result<(), DiskFault>
+        ensures { log self.new ≡ log self.old ++ end name.now bytes.now result ∷ [] };
+
+    /// Returns whether two names lead to one file.
+    fn is_one_file(&self, one: &str, other: &str) -> Result<bool, AllocError>;
+
+    /// Returns whether no other program has a file as its journal.
+    fn is_free(&self, name: &str) -> bool;
+
+    /// Returns the error of the call that failed last. After a write to the journal failed, returns the error of that write.
+    fn error(&self) -> Option<io::Error>;
+}

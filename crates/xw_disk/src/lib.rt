@@ -1,0 +1,15 @@
+//! The disk of the program: the files that it reads and replaces, and its journal.
+#![tactic(auto)]
+
+pub mod appended;
+pub mod asked;
+pub mod disk;
+pub mod identity;
+pub mod locks;
+pub mod log;
+mod opening;
+pub mod replacing;
+pub mod system;
+
+pub use disk::{Disk, DiskFault, Start};
+pub use system::SystemDisk;

@@ -1,0 +1,206 @@
+//! The disk of the system.
+ghost use Rattle.std.specs.Prelude.{◌≡◌, []};
+
+use crate::appended::{Appended, JournalName, JournalWriter, Place};
+use crate::asked::Asked;
+use crate::disk::{Disk, DiskFault, Start};
+use crate::identity::is_one_file;
+use crate::locks::{Held, Locks, System, hold};
+use crate::log::DiskLog;
+use crate::opening::{self, Failed, in_use, unreadable, unwritable};
+use crate::replacing::{replace, replace_like};
+use std::alloc::AllocError;
+use std::fs;
+use std::io::{self, ErrorKind};
+
+/// The name that stands for standard input.
+const INPUT: &str = "-";
+
+/// The files of the system as a `Disk`.
+#[derive(Drop)]
+pub struct SystemDisk<'a, R: System + Drop> {
+    rt: &'a R,
+    /// The journal that takes no more lines, which is still locked.
+    closed: Option<Appended<R::File, JournalName<R>>>,
+    /// The error of the call that failed last.
+    error: Option<io::Error>,
+    log: DiskLog,
+}
+
+impl<'a, R: System + AllocGlobal + Clone + Drop> SystemDisk<'a, R> {
+    pub fn new(rt: &'a R) -> SystemDisk<'a, R>
+        ensures { result.log.events ≡ [] }
+    {
+        SystemDisk {
+            rt,
+            closed: None,
+            error: None,
+            log: DiskLog::new(),
+        }
+    }
+
+    /// Keeps the error of a call that failed, and returns its fault.
+    fn failed(&mut self, failed: Failed) -> DiskFault
+        ensures { self.new.log ≡ self.old.log }
+    {
+        self.error = failed.error;
+        failed.fault
+    }
+
+    /// Keeps the error of a call if it failed, and returns its answer.
+    fn answer(&mut self, done: Result<(), Failed>) -> Result<(), DiskFault>
+        ensures { self.new.log ≡ self.old.log }
+    {
+        match done {
+            Ok(()) => Ok(()),
+            Err(failed) => Err(self.failed(failed)),
+        }
+    }
+}
+
+/// Returns the bytes of a file, or the rest of standard input.
+fn bytes_of<R: System + AllocGlobal>(rt: &R, name: &str) -> io::Result<Vec<u8>> {
+    if name == INPUT {
+        rt.read_input()
+    } else {
+        fs::read(rt, name)
+    }
+}
+
+/// Replaces a file by these bytes, unless another program has it as its journal.
+fn replace_free<R: Locks + AllocGlobal>(
+    rt: &R,
+    name: &str,
+    like: Option<&str>,
+    bytes: &[u8],
+) -> Result<(), Failed> {
+    match hold(rt, name) {
+        Held::Free(_file) => {
+            let replaced = match like {
+                Some(like) => replace_like(rt, name, like, bytes),
+                None => replace(rt, name, bytes),
+            };
+            replaced.map_err(unwritable)
+        }
+        Held::InUse => Err(in_use()),
+    }
+}
+
+impl<'a, R: System + AllocGlobal + Clone + Drop> Disk for SystemDisk<'a, R> {
+    type Opened = R::File;
+
+    type Journal = JournalWriter<R::File, JournalName<R>>;
+
+    ghost log = { λ disk. disk.log.events };
+
+    fn read(&mut self, name: &str) -> Result<Vec<u8>, DiskFault> {
+        match bytes_of(self.rt, name) {
+            Ok(bytes) => {
+                self.log.note(&Asked::Read(name, bytes.as_slice()));
+                Ok(bytes)
+            }
+            Err(error) => {
+                let fault = self.failed(unreadable(error));
+                self.log.note(&Asked::Unread(name, fault));
+                Err(fault)
+            }
+        }
+    }
+
+    fn replace(&mut self, name: &str, bytes: &[u8]) -> Result<(), DiskFault> {
+        let answer = self.answer(replace_free(self.rt, name, None, bytes));
+        self.log.note(&Asked::Replace(name, bytes, answer));
+        answer
+    }
+
+    fn copy(&mut self, name: &str, like: &str, bytes: &[u8]) -> Result<(), DiskFault> {
+        let answer = self.answer(replace_free(self.rt, name, Some(like), bytes));
+        self.log.note(&Asked::Copy(name, like, bytes, answer));
+        answer
+    }
+
+    fn open_journal(&mut self, name: &str) -> Result<(R::File, Vec<u8>), DiskFault> {
+        match opening::open_journal(self.rt, name) {
+            Ok((opened, bytes)) => {
+                self.log.note(&Asked::Open(name, bytes.as_slice()));
+                Ok((opened, bytes))
+            }
+            Err(failed) => {
+                let fault = self.failed(failed);
+                self.log.note(&Asked::Unopened(name, fault));
+                Err(fault)
+            }
+        }
+    }
+
+    fn begin_journal(
+        &mut self,
+        name: &str,
+        opened: R::File,
+        start: Start<'_>,
+        is_synced: bool,
+    ) -> Result<JournalWriter<R::File, JournalName<R>>, DiskFault> {
+        match opening::begin_journal(self.rt, name, opened, start, is_synced) {
+            Ok(journal) => {
+                self.log.note(&Asked::Begin(name, start, Ok(())));
+                Ok(journal)
+            }
+            Err(failed) => {
+                let fault = self.failed(failed);
+                self.log.note(&Asked::Begin(name, start, Err(fault)));
+                Err(fault)
+            }
+        }
+    }
+
+    fn close_journal(&mut self, name: &str, journal: JournalWriter<R::File, JournalName<R>>) {
+        self.log.note(&Asked::TakeLines(name, journal.lines()));
+        self.closed = Some(journal.into_appended());
+    }
+
+    fn is_lost(&self) -> bool {
+        match &self.closed {
+            Some(journal) => journal.is_lost(),
+            None => false,
+        }
+    }
+
+    fn find_journal(&self) -> Result<(), DiskFault> {
+        let Some(journal) = &self.closed else {
+            return Ok(());
+        };
+        match journal.place().is_there() {
+            Ok(true) => Ok(()),
+            Ok(false) => Err(DiskFault::Replaced),
+            Err(error) => Err(unwritable(error).fault),
+        }
+    }
+
+    fn end_journal(&mut self, name: &str, bytes: &[u8]) -> Result<(), DiskFault> {
+        let answer = self.answer(replace(self.rt, name, bytes).map_err(unwritable));
+        self.log.note(&Asked::End(name, bytes, answer));
+        answer
+    }
+
+    fn is_one_file(&self, one: &str, other: &str) -> Result<bool, AllocError> {
+        match is_one_file(self.rt, one, other) {
+            Ok(is_one) => Ok(is_one),
+            Err(error) if error.kind() == ErrorKind::OutOfMemory => Err(AllocError),
+            Err(_) => Ok(one == other),
+        }
+    }
+
+    fn is_free(&self, name: &str) -> bool {
+        match hold(self.rt, name) {
+            Held::Free(_file) => true,
+            Held::InUse => false,
+        }
+    }
+
+    fn error(&self) -> Option<io::Error> {
+        match &self.closed {
+            Some(journal) if journal.error().is_some() => journal.error(),
+            _ => self.error,
+        }
+    }
+}

@@ -1,0 +1,24 @@
+use Rattle.std.proofs.Common.{Some, refl, sym, ap, ◌∙◌, subst, ◌<◌, ◌*◌}
+use Rattle.xw_grid.specs.Grid.{Grid, cell_at}
+use Rattle.xw_feas.specs.State.{letter_set}
+use Rattle.xw_fill.proofs.Entering.{open_within, entered}
+use Rattle.xw_fill.proofs.named_lights.frame.set_letter.Goals as goal
+
+pub cell_at-cell-requires : goal.cell_at-cell-requires
+cell_at-cell-requires g c =
+    let state = g.E.Feasible.state c.args.engine.now in
+    subst (λ (grid : Grid). c.args.cell < grid.width * grid.height) (sym c.grid.ensures) (open_within state.grid c.args.cell (g.met.E.Feasible.well_formed c.args.engine.now).grid c.requires)
+
+pub returns-clause-entries : goal.returns-clause-entries
+returns-clause-entries g c =
+    let before = g.E.Feasible.state c.args.engine.now in
+    let spot = c.cell_at-cell.ensures.cell ∙ ap (λ (grid : Grid). cell_at grid c.args.cell) c.grid.ensures in
+    (entered before (g.E.Feasible.state c.edit.follows.lender-at-none) (g.E.Feasible.answers c.args.engine.now) (g.E.Feasible.answers c.edit.follows.lender-at-none) c.args.cell c.cell_at-cell.result (Some c.args.letter) (letter_set c.cell_at-cell.result c.args.letter) c.edit.result
+    (g.met.E.Feasible.well_formed c.args.engine.now).grid c.requires spot refl refl c.edit.follows.holds-at-none).0
+
+pub returns-clause-rest : goal.returns-clause-rest
+returns-clause-rest g c =
+    let before = g.E.Feasible.state c.args.engine.now in
+    let spot = c.cell_at-cell.ensures.cell ∙ ap (λ (grid : Grid). cell_at grid c.args.cell) c.grid.ensures in
+    (entered before (g.E.Feasible.state c.edit.follows.lender-at-none) (g.E.Feasible.answers c.args.engine.now) (g.E.Feasible.answers c.edit.follows.lender-at-none) c.args.cell c.cell_at-cell.result (Some c.args.letter) (letter_set c.cell_at-cell.result c.args.letter) c.edit.result
+    (g.met.E.Feasible.well_formed c.args.engine.now).grid c.requires spot refl refl c.edit.follows.holds-at-none).1

@@ -1,0 +1,230 @@
+use Rattle.std.proofs.Common.{◌∷◌, ◌++◌, [], length, refl, sym, ap, ◌∙◌, subst, arith}
+use Rattle.std.proofs.lemmas.List.{length-append}
+use Rattle.xw_letters.proofs.LetterSetLemmas.{has-none}
+use Rattle.xw_feas.specs.Board.{board_of}
+use Rattle.xw_fill.specs.Position.{Position, position_of}
+use Rattle.xw_fill.specs.Search.{light_count}
+use Rattle.xw_fill.specs.NamedFill.{flags, entry_in}
+use Rattle.xw_fill.specs.Inner.Progress.{entries_of, end_of, HasNone, IsOpen, IsTried}
+use Rattle.xw_fill.specs.declared.named_lights.frame.Frame.{Frame}
+use Rattle.xw_fill.proofs.Shaped.{shaped}
+use Rattle.xw_fill.proofs.StateLemmas.{DiffersInEntries-itself, DiffersInEntries-then}
+use Rattle.xw_fill.proofs.NamedFills.{open_is_fill}
+use Rattle.xw_fill.proofs.LetterSearch.{IsUnderway, position_at, may_try, underway_none, underway_tried, underway_on, underway_at, underway_back, target_open, open_there, targets_open, chosen_target, none_left}
+use Rattle.xw_fill.proofs.named_lights.run.search.Goals as goal
+
+pub next_cell-requires : goal.next_cell-requires
+next_cell-requires g c =
+    let start = g.E.Feasible.state c.args.engine.now in
+    targets_open (flags c.args.plan.now.named.items) start start c.args.plan.now.targets.items c.deref.result.now (DiffersInEntries-itself start) (shaped (board_of start.grid) (g.met.E.Feasible.well_formed c.args.engine.now).board) c.requires.plan.targets.sound c.deref.ensures.value
+
+pub returns-in_default-clause-entries : goal.returns-in_default-clause-entries
+returns-in_default-clause-entries g c = DiffersInEntries-itself (g.E.Feasible.state c.args.engine.now)
+
+pub returns-in_default-clause-filled : goal.returns-in_default-clause-filled
+returns-in_default-clause-filled g c is_filled =
+    let start = g.E.Feasible.state c.args.engine.now in
+    let named = flags c.args.plan.now.named.items in
+    open_is_fill named (position_of start) (entries_of start) c.requires.open
+    (none_left named (position_of start) c.args.plan.now.targets.items c.deref.result.now (entries_of start) c.requires.plan.targets.all c.deref.ensures.value c.in_default.ensures.none)
+
+pub loop-letter-init : goal.loop-letter-init
+loop-letter-init g c =
+    let start = g.E.Feasible.state c.args.engine.now in
+    let named = flags c.args.plan.now.named.items in
+    let is = shaped (board_of start.grid) (g.met.E.Feasible.well_formed c.args.engine.now).board in
+    let chosen = c.in-Some.ensures.some in
+    let target = chosen_target named (position_of start) c.args.plan.now.targets.items c.deref.result.now c.in-Some.first c.requires.plan.targets.sound c.deref.ensures.value chosen.0 in
+    record {
+      stands = c.requires.stands;
+      root = refl;
+      underway = subst (λ items. IsUnderway named start items c.in-Some.first c.new-tried.result start) (sym c.requires.empty) (underway_at named start is [] c.in-Some.first c.new-tried.result start tt c.requires.open (DiffersInEntries-itself start, refl) target chosen.1 c.new-tried.ensures has-none);
+      left = omega arith;
+    }
+
+pub next_letter-requires : goal.next_letter-requires
+next_letter-requires g c =
+    let start = g.E.Feasible.state c.args.engine.now in
+    let underway = c.loop-letter.invariant.underway in
+    let is = shaped (board_of start.grid) (g.met.E.Feasible.well_formed c.args.engine.now).board in
+    open_there start (g.E.Feasible.state c.loop-letter.engine) c.loop-letter.cell underway.at.0 (target_open (flags c.args.plan.now.named.items) (position_of start) c.loop-letter.cell is underway.here.target)
+
+pub back-requires : goal.back-requires
+back-requires g c = record { stands = c.loop-letter.invariant.stands }
+
+pub returns-in_default-back-clause-start : goal.returns-in_default-back-clause-start
+returns-in_default-back-clause-start g c = c.back.ensures.start ∙ c.loop-letter.invariant.root
+
+pub returns-in_default-back-clause-entries : goal.returns-in_default-back-clause-entries
+returns-in_default-back-clause-entries g c =
+    DiffersInEntries-then (g.E.Feasible.state c.args.engine.now) (g.E.Feasible.state c.loop-letter.engine) (g.E.Feasible.state c.back.new.engine) c.loop-letter.invariant.underway.at.0 c.back.ensures.entries
+
+pub returns-in_default-back-clause-left : goal.returns-in_default-back-clause-left
+returns-in_default-back-clause-left g c = c.loop-letter.invariant.left
+
+pub returns-in_default-back-clause-no_fill : goal.returns-in_default-back-clause-no_fill
+returns-in_default-back-clause-no_fill g c is_none =
+    let start = g.E.Feasible.state c.args.engine.now in
+    let named = flags c.args.plan.now.named.items in
+    let is = shaped (board_of start.grid) (g.met.E.Feasible.well_formed c.args.engine.now).board in
+    let none = underway_none named start is c.loop-letter.stack.placements.items c.loop-letter.cell c.loop-letter.tried (g.E.Feasible.state c.loop-letter.engine) c.loop-letter.invariant.underway c.in_default-next_letter.ensures.none in
+    subst (λ items. HasNone named (position_of start) (end_of (entries_of start) items)) c.in_default-back.ensures.none none
+
+pub loop-letter-smaller-in_default-next_letter : goal.loop-letter-smaller-in_default-next_letter
+loop-letter-smaller-in_default-next_letter g c =
+    omega (arith, ap length c.in-Some-back.ensures.placements, length-append c.back.new.self.placements.items (c.in-Some-back.below ∷ []))
+
+pub loop-letter-preserved-in_default-next_letter : goal.loop-letter-preserved-in_default-next_letter
+loop-letter-preserved-in_default-next_letter g c =
+    let start = g.E.Feasible.state c.args.engine.now in
+    let named = flags c.args.plan.now.named.items in
+    let is = shaped (board_of start.grid) (g.met.E.Feasible.well_formed c.args.engine.now).board in
+    let inv = c.loop-letter.invariant in
+    record {
+      stands = c.back.ensures.stands;
+      root = c.back.ensures.start ∙ inv.root;
+      underway = underway_back named start is c.loop-letter.stack.placements.items c.back.new.self.placements.items c.in-Some-back.below c.loop-letter.cell c.loop-letter.tried c.with_letter-tried.result
+          (g.E.Feasible.state c.loop-letter.engine) (g.E.Feasible.state c.back.new.engine) inv.underway c.in-Some-back.ensures.placements c.in_default-next_letter.ensures.none c.with_letter-tried.ensures c.in-Some-back.ensures.back c.back.ensures.entries;
+      left = inv.left;
+    }
+
+pub returns-then-effort-eq0-clause-ready : goal.returns-then-effort-eq0-clause-ready
+returns-then-effort-eq0-clause-ready g c = c.loop-letter.invariant.stands.ready
+
+pub returns-then-effort-eq0-clause-start : goal.returns-then-effort-eq0-clause-start
+returns-then-effort-eq0-clause-start g c = c.loop-letter.invariant.root
+
+pub returns-then-effort-eq0-clause-entries : goal.returns-then-effort-eq0-clause-entries
+returns-then-effort-eq0-clause-entries g c = c.loop-letter.invariant.underway.at.0
+
+pub try_letter-requires-clause-can : goal.try_letter-requires-clause-can
+try_letter-requires-clause-can g c =
+    let start = g.E.Feasible.state c.args.engine.now in
+    let underway = c.loop-letter.invariant.underway in
+    let is = shaped (board_of start.grid) (g.met.E.Feasible.well_formed c.args.engine.now).board in
+    record {
+      opens = open_there start (g.E.Feasible.state c.loop-letter.engine) c.loop-letter.cell underway.at.0 (target_open (flags c.args.plan.now.named.items) (position_of start) c.loop-letter.cell is underway.here.target);
+      empty = ap (λ e. entry_in e c.loop-letter.cell) underway.at.1 ∙ underway.here.empty;
+    }
+
+pub try_letter-requires-clause-long : goal.try_letter-requires-clause-long
+try_letter-requires-clause-long g c =
+    c.requires.plan.watched.long ∙ sym (ap (λ (p : Position). light_count p) (position_at (g.E.Feasible.state c.args.engine.now) (g.E.Feasible.state c.loop-letter.engine) c.loop-letter.invariant.underway.at.0))
+
+pub try_letter-requires-clause-stands : goal.try_letter-requires-clause-stands
+try_letter-requires-clause-stands g c = c.loop-letter.invariant.stands
+
+pub returns-in_default-try_letter-clause-start : goal.returns-in_default-try_letter-clause-start
+returns-in_default-try_letter-clause-start g c = c.try_letter.ensures.start ∙ c.loop-letter.invariant.root
+
+pub returns-in_default-try_letter-clause-entries : goal.returns-in_default-try_letter-clause-entries
+returns-in_default-try_letter-clause-entries g c =
+    DiffersInEntries-then (g.E.Feasible.state c.args.engine.now) (g.E.Feasible.state c.loop-letter.engine) (g.E.Feasible.state c.try_letter.new.engine) c.loop-letter.invariant.underway.at.0 c.try_letter.ensures.entries
+
+pub returns-in_default-try_letter-clause-left : goal.returns-in_default-try_letter-clause-left
+returns-in_default-try_letter-clause-left g c = omega (arith, c.loop-letter.invariant.left)
+
+pub returns-then-fails-cut-clause-start : goal.returns-then-fails-cut-clause-start
+returns-then-fails-cut-clause-start g c = c.try_letter.ensures.start ∙ c.loop-letter.invariant.root
+
+pub returns-then-fails-cut-clause-entries : goal.returns-then-fails-cut-clause-entries
+returns-then-fails-cut-clause-entries g c =
+    DiffersInEntries-then (g.E.Feasible.state c.args.engine.now) (g.E.Feasible.state c.loop-letter.engine) (g.E.Feasible.state c.try_letter.new.engine) c.loop-letter.invariant.underway.at.0 c.try_letter.ensures.entries
+
+pub returns-then-fails-cut-clause-left : goal.returns-then-fails-cut-clause-left
+returns-then-fails-cut-clause-left g c = omega (arith, c.loop-letter.invariant.left)
+
+pub returns-then-fails-cut-clause-cut : goal.returns-then-fails-cut-clause-cut
+returns-then-fails-cut-clause-cut g c is_cut = omega (arith, c.loop-letter.invariant.left, c.if-effort-eq0.false)
+
+pub loop-letter-smaller-then-not-stands : goal.loop-letter-smaller-then-not-stands
+loop-letter-smaller-then-not-stands g c =
+    let stack = c.loop-letter.stack.placements.items in
+    let frame : Frame = record { cell = c.loop-letter.cell; letter = c.in-Some-next_letter.letter; tried = c.loop-letter.tried } in
+    let led = subst (λ b. IsTried (flags c.args.plan.now.watched.items) frame b (g.E.Feasible.state c.loop-letter.engine) stack (g.E.Feasible.state c.try_letter.new.engine) c.try_letter.new.stack.placements.items) c.if-not-stands.true c.in-Ok.ensures.tried in
+    omega (arith, c.if-effort-eq0.false, ap length led.0)
+
+pub loop-letter-preserved-then-not-stands : goal.loop-letter-preserved-then-not-stands
+loop-letter-preserved-then-not-stands g c =
+    let start = g.E.Feasible.state c.args.engine.now in
+    let now = g.E.Feasible.state c.loop-letter.engine in
+    let after = g.E.Feasible.state c.try_letter.new.engine in
+    let named = flags c.args.plan.now.named.items in
+    let is = shaped (board_of start.grid) (g.met.E.Feasible.well_formed c.args.engine.now).board in
+    let underway = c.loop-letter.invariant.underway in
+    let stack = c.loop-letter.stack.placements.items in
+    let frame : Frame = record { cell = c.loop-letter.cell; letter = c.in-Some-next_letter.letter; tried = c.loop-letter.tried } in
+    let may = may_try named start stack c.loop-letter.cell c.loop-letter.tried c.in-Some-next_letter.letter now underway c.in-Some-next_letter.ensures.some in
+    let led = subst (λ b. IsTried (flags c.args.plan.now.watched.items) frame b now stack after c.try_letter.new.stack.placements.items) c.if-not-stands.true c.in-Ok.ensures.tried in
+    record {
+      stands = c.try_letter.ensures.stands;
+      root = c.try_letter.ensures.start ∙ c.loop-letter.invariant.root;
+      underway = subst (λ items. IsUnderway named start items c.loop-letter.cell c.with_letter-tried-then-not-stands.result after) (sym led.0)
+          (underway_tried named start is stack frame c.with_letter-tried-then-not-stands.result now led.2.0 after c.args.plan.now.watched.items underway may c.requires.plan.watched.are led.2.1 led.2.2 led.1 c.with_letter-tried-then-not-stands.ensures);
+      left = omega (arith, c.loop-letter.invariant.left);
+    }
+
+pub next_cell-requires-in-loop-letter : goal.next_cell-requires-in-loop-letter
+next_cell-requires-in-loop-letter g c =
+    let start = g.E.Feasible.state c.args.engine.now in
+    let now = g.E.Feasible.state c.try_letter.new.engine in
+    let is = shaped (board_of start.grid) (g.met.E.Feasible.well_formed c.args.engine.now).board in
+    let differs = DiffersInEntries-then start (g.E.Feasible.state c.loop-letter.engine) now c.loop-letter.invariant.underway.at.0 c.try_letter.ensures.entries in
+    targets_open (flags c.args.plan.now.named.items) start now c.args.plan.now.targets.items c.deref-in-loop-letter.result.now differs is c.requires.plan.targets.sound c.deref-in-loop-letter.ensures.value
+
+pub returns-in_default-next_cell-clause-start : goal.returns-in_default-next_cell-clause-start
+returns-in_default-next_cell-clause-start g c = c.try_letter.ensures.start ∙ c.loop-letter.invariant.root
+
+pub returns-in_default-next_cell-clause-entries : goal.returns-in_default-next_cell-clause-entries
+returns-in_default-next_cell-clause-entries g c =
+    DiffersInEntries-then (g.E.Feasible.state c.args.engine.now) (g.E.Feasible.state c.loop-letter.engine) (g.E.Feasible.state c.try_letter.new.engine) c.loop-letter.invariant.underway.at.0 c.try_letter.ensures.entries
+
+pub returns-in_default-next_cell-clause-left : goal.returns-in_default-next_cell-clause-left
+returns-in_default-next_cell-clause-left g c = omega (arith, c.loop-letter.invariant.left)
+
+pub returns-in_default-next_cell-clause-filled : goal.returns-in_default-next_cell-clause-filled
+returns-in_default-next_cell-clause-filled g c is_filled =
+    let start = g.E.Feasible.state c.args.engine.now in
+    let now = g.E.Feasible.state c.loop-letter.engine in
+    let after = g.E.Feasible.state c.try_letter.new.engine in
+    let named = flags c.args.plan.now.named.items in
+    let is = shaped (board_of start.grid) (g.met.E.Feasible.well_formed c.args.engine.now).board in
+    let underway = c.loop-letter.invariant.underway in
+    let stack = c.loop-letter.stack.placements.items in
+    let frame : Frame = record { cell = c.loop-letter.cell; letter = c.in-Some-next_letter.letter; tried = c.loop-letter.tried } in
+    let may = may_try named start stack c.loop-letter.cell c.loop-letter.tried c.in-Some-next_letter.letter now underway c.in-Some-next_letter.ensures.some in
+    let led = subst (λ b. IsTried (flags c.args.plan.now.watched.items) frame b now stack after c.try_letter.new.stack.placements.items) c.if-not-stands.false c.in-Ok.ensures.tried in
+    let on = underway_on named start is stack frame now after c.args.plan.now.watched.items underway may c.requires.plan.watched.are led.1 led.2 led.3 in
+    open_is_fill named (position_of start) (entries_of after) (subst (IsOpen named (position_of start)) (sym on.2.1) on.0)
+    (none_left named (position_of start) c.args.plan.now.targets.items c.deref-in-loop-letter.result.now (entries_of after) c.requires.plan.targets.all c.deref-in-loop-letter.ensures.value c.in_default-next_cell.ensures.none)
+
+pub loop-letter-smaller : goal.loop-letter-smaller
+loop-letter-smaller g c =
+    let stack = c.loop-letter.stack.placements.items in
+    let frame : Frame = record { cell = c.loop-letter.cell; letter = c.in-Some-next_letter.letter; tried = c.loop-letter.tried } in
+    let led = subst (λ b. IsTried (flags c.args.plan.now.watched.items) frame b (g.E.Feasible.state c.loop-letter.engine) stack (g.E.Feasible.state c.try_letter.new.engine) c.try_letter.new.stack.placements.items) c.if-not-stands.false c.in-Ok.ensures.tried in
+    omega (arith, c.if-effort-eq0.false, ap length led.0, length-append stack (frame ∷ []))
+
+pub loop-letter-preserved : goal.loop-letter-preserved
+loop-letter-preserved g c =
+    let start = g.E.Feasible.state c.args.engine.now in
+    let now = g.E.Feasible.state c.loop-letter.engine in
+    let after = g.E.Feasible.state c.try_letter.new.engine in
+    let named = flags c.args.plan.now.named.items in
+    let is = shaped (board_of start.grid) (g.met.E.Feasible.well_formed c.args.engine.now).board in
+    let underway = c.loop-letter.invariant.underway in
+    let stack = c.loop-letter.stack.placements.items in
+    let frame : Frame = record { cell = c.loop-letter.cell; letter = c.in-Some-next_letter.letter; tried = c.loop-letter.tried } in
+    let may = may_try named start stack c.loop-letter.cell c.loop-letter.tried c.in-Some-next_letter.letter now underway c.in-Some-next_letter.ensures.some in
+    let led = subst (λ b. IsTried (flags c.args.plan.now.watched.items) frame b now stack after c.try_letter.new.stack.placements.items) c.if-not-stands.false c.in-Ok.ensures.tried in
+    let on = underway_on named start is stack frame now after c.args.plan.now.watched.items underway may c.requires.plan.watched.are led.1 led.2 led.3 in
+    let cell = c.in-Some-next_cell.next in
+    let chosen = c.in-Some-next_cell.ensures.some in
+    let target = chosen_target named (position_of start) c.args.plan.now.targets.items c.deref-in-loop-letter.result.now cell c.requires.plan.targets.sound c.deref-in-loop-letter.ensures.value chosen.0 in
+    record {
+      stands = c.try_letter.ensures.stands;
+      root = c.try_letter.ensures.start ∙ c.loop-letter.invariant.root;
+      underway = subst (λ items. IsUnderway named start items cell c.new-tried-in-loop-letter.result after) (sym led.0)
+          (underway_at named start is (stack ++ frame ∷ []) cell c.new-tried-in-loop-letter.result after on.1 on.0 on.2 target chosen.1 c.new-tried-in-loop-letter.ensures has-none);
+      left = omega (arith, c.loop-letter.invariant.left);
+    }

@@ -1,0 +1,20 @@
+use Rattle.std.proofs.Common.{◌≡◌, ◌≤◌, ◌+◌, ◌*◌, length}
+use Rattle.xw_fill.specs.NamedFill.{flags}
+use Rattle.xw_fill.specs.Inner.Progress.{IsLetterEntered}
+use Rattle.xw_fill.specs.Inner.Stack.{start_of, StandsAt}
+use Rattle.xw_fill.proofs.LetterSearch.{IsUnderway}
+use Rattle.xw_fill.proofs.named_lights.run.search.Given as goal
+
+abbrev pub invariant-loop-letter : goal.invariant-loop-letter
+invariant-loop-letter g l =
+    let start = g.E.Feasible.state l.initial.engine in
+    let now = g.E.Feasible.state l.engine in
+    record {
+      stands : StandsAt g.E.Searchable.saved IsLetterEntered l.stack now;
+      root : start_of g.E.Searchable.saved l.stack ≡ start_of g.E.Searchable.saved l.initial.stack;
+      underway : IsUnderway (flags l.plan.named.items) start l.stack.placements.items l.cell l.tried now;
+      left : l.effort.left ≤ l.initial.effort.left;
+    }
+
+abbrev pub decreases-loop-letter : goal.decreases-loop-letter
+decreases-loop-letter g l = 2 * l.effort.left + length l.stack.placements.items

@@ -1,0 +1,56 @@
+use Rattle.std.proofs.Common.{refl, sym, ◌∙◌, subst}
+use Rattle.xw_feas.specs.State.{State}
+use Rattle.xw_fill.specs.Position.{position_of, DiffersInEntries}
+use Rattle.xw_fill.specs.NamedFill.{flags, IsFillOf}
+use Rattle.xw_fill.specs.Inner.Progress.{entries_of, HasNone, IsOpen, IsPlan}
+use Rattle.xw_fill.specs.declared.named_lights.run.Ending.{Ending}
+use Rattle.xw_fill.specs.declared.named_lights.run.Ending.TheVariants as endings
+use Rattle.xw_fill.proofs.named_lights.run_again.Goals as goal
+
+-- an ending that is not Filled
+abbrev is_filled : Ending → Type 0
+is_filled endings.Filled = Unit {0}
+is_filled other = ⊥
+
+pub loop-effort-init : goal.loop-effort-init
+loop-effort-init g c = record { same = refl; ready = c.requires.ready }
+
+pub run-requires-clause-plan : goal.run-requires-clause-plan
+run-requires-clause-plan g c = subst (λ (s : State). IsPlan (position_of s) c.args.plan.now) (sym c.loop-effort.invariant.same) c.requires.plan
+
+pub run-requires-clause-open : goal.run-requires-clause-open
+run-requires-clause-open g c = subst (λ (s : State). IsOpen (flags c.args.plan.now.named.items) (position_of s) (entries_of s)) (sym c.loop-effort.invariant.same) c.requires.open
+
+pub run-requires-clause-ready : goal.run-requires-clause-ready
+run-requires-clause-ready g c = c.loop-effort.invariant.ready
+
+pub returns-in-Filled-clause-ok : goal.returns-in-Filled-clause-ok
+returns-in-Filled-clause-ok g c =
+    let now = g.E.Feasible.state c.run.new.engine in
+    let same = c.loop-effort.invariant.same in (
+      entries_of now,
+      subst (λ (s : State). IsFillOf (flags c.args.plan.now.named.items) (position_of s) (entries_of now)) same (c.in-Filled.ensures.filled refl),
+      subst (λ (s : State). DiffersInEntries s now) same (c.in-Filled.ensures.entries refl),
+    )
+
+pub returns-in-NoFill-clause-ok : goal.returns-in-NoFill-clause-ok
+returns-in-NoFill-clause-ok g c =
+    let none = subst (λ (s : State). HasNone (flags c.args.plan.now.named.items) (position_of s) (entries_of s)) c.loop-effort.invariant.same (c.in-NoFill.ensures.no_fill refl) in (
+      λ entries fill. none entries fill fill.kept,
+      c.in-NoFill.ensures.same (λ e. subst is_filled (sym e) tt) ∙ c.loop-effort.invariant.same,
+    )
+
+pub returns-in-Limit-clause-ok : goal.returns-in-Limit-clause-ok
+returns-in-Limit-clause-ok g c = c.in-Limit.ensures.same (λ e. subst is_filled (sym e) tt) ∙ c.loop-effort.invariant.same
+
+pub returns-in-Memory-clause-unchanged : goal.returns-in-Memory-clause-unchanged
+returns-in-Memory-clause-unchanged g c = c.in-Memory.ensures.same (λ e. subst is_filled (sym e) tt) ∙ c.loop-effort.invariant.same
+
+pub loop-effort-smaller : goal.loop-effort-smaller
+loop-effort-smaller g c = c.in-Cut.ensures.cut refl
+
+pub loop-effort-preserved : goal.loop-effort-preserved
+loop-effort-preserved g c = record {
+  same = c.in-Cut.ensures.same (λ e. subst is_filled (sym e) tt) ∙ c.loop-effort.invariant.same;
+  ready = c.in-Cut.ensures.ready;
+}

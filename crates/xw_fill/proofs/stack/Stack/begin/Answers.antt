@@ -1,0 +1,13 @@
+use Rattle.std.proofs.Common.{false, refl, sym, subst}
+use Rattle.xw_feas.specs.Snapshot.{IsTwin}
+use Rattle.xw_fill.proofs.MarksLemmas.{IsTwin-itself}
+use Rattle.xw_fill.proofs.StackLemmas.{stands_empty}
+use Rattle.xw_fill.proofs.stack.Stack.begin.Goals as goal
+
+pub returns-clause-stands : goal.returns-clause-stands
+returns-clause-stands g c =
+    let now = g.E.Feasible.state c.args.engine.now in
+    stands_empty g.E.Searchable.saved g.M.Placement.is_placed (record { root = c.save.new.snapshot; marks = c.clear.new.self; placements = c.clear-2.new.self; is_prepared = false }) now c.clear-2.ensures.items c.clear.ensures.held refl (record {
+      root = subst (λ s. IsTwin s now) (sym c.save.ensures.saved) (IsTwin-itself now);
+      marks = c.clear.ensures.twins now c.requires.ready.marks;
+    })

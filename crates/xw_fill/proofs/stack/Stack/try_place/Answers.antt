@@ -1,0 +1,49 @@
+use Rattle.std.proofs.Common.{◌≡◌, ◌∷◌, ◌++◌, [], true, cond, not, sym, ap, ◌∙◌, subst}
+use Rattle.std.specs.Prelude.{is_ok}
+use Rattle.std.proofs.lemmas.Bool.{false≢true}
+use Rattle.xw_fill.specs.Marks.{held_of}
+use Rattle.xw_fill.specs.Position.{DiffersInEntries}
+use Rattle.xw_fill.specs.Inner.Stack.{LeadThrough}
+use Rattle.xw_fill.proofs.MarksLemmas.{IsTwin-entries, IsTwin-then, AreTwins-then}
+use Rattle.xw_fill.proofs.StackLemmas.{lead_more, held_kept}
+use Rattle.xw_fill.proofs.StateLemmas.{DiffersInEntries-itself}
+use Rattle.xw_fill.proofs.stack.Stack.try_place.Goals as goal
+
+pub returns-then-is_err-clause-entries : goal.returns-then-is_err-clause-entries
+returns-then-is_err-clause-entries g c = DiffersInEntries-itself (g.E.Feasible.state c.args.engine.now)
+
+pub try_place-requires-clause-marked : goal.try_place-requires-clause-marked
+try_place-requires-clause-marked g c = c.prepared.ensures (g.E.Feasible.state c.args.engine.now) (c.prepare.ensures.prepared c.if-not-prepare.false)
+
+pub returns-in-Some-clause-entries : goal.returns-in-Some-clause-entries
+returns-in-Some-clause-entries g c =
+    let before = g.E.Feasible.state c.args.engine.now in
+    subst (DiffersInEntries before) (sym c.in-Some.ensures.same) (DiffersInEntries-itself before)
+
+pub returns-clause-entries : goal.returns-clause-entries
+returns-clause-entries g c = g.met.M.Placement.entries c.args.placement (g.E.Feasible.state c.args.engine.now) (g.E.Feasible.state c.try_place.new.engine) c.in_default.ensures.placed
+
+pub returns-clause-stands : goal.returns-clause-stands
+returns-clause-stands g c =
+    let saved = g.E.Searchable.saved in
+    let is_placed = g.M.Placement.is_placed in
+    let before = g.E.Feasible.state c.args.engine.now in
+    let after = g.E.Feasible.state c.try_place.new.engine in
+    let ready = c.prepare.new.self in
+    let stands = c.prepare.ensures.stands in
+    let free = c.prepare.ensures.prepared c.if-not-prepare.false in
+    let placed = c.in_default.ensures.placed in
+    let ok : is_ok c.push.result ≡ true = c.is_err.ensures.negation ∙ ap not c.if-is_err.false in
+    let pushed : c.push.new.self.items ≡ ready.placements.items ++ c.args.placement ∷ [] = c.push.ensures.items ∙ ap (λ b. cond b (ready.placements.items ++ c.args.placement ∷ []) ready.placements.items) ok in
+    let twin = IsTwin-entries before after (g.met.M.Placement.entries c.args.placement before after placed) in
+    record {
+      states = stands.states ++ before ∷ [];
+      through = subst (λ items. LeadThrough is_placed items (stands.states ++ before ∷ []) after) (sym pushed) (lead_more is_placed ready.placements.items c.args.placement stands.states before after stands.through placed);
+      older = stands.older;
+      held = held_kept stands.states stands.older (held_of saved ready.marks) (held_of saved c.keep.new.self) before stands.held (c.keep.ensures.held before free);
+      ready = record {
+        root = IsTwin-then (saved ready.root) before after stands.ready.root twin;
+        marks = AreTwins-then saved c.keep.new.self before after twin (c.keep.ensures.twins before stands.ready.marks);
+      };
+      prepared = λ is. absurd (false≢true is);
+    }

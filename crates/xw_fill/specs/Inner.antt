@@ -1,0 +1,6 @@
+-- What proofs and inner functions need, and no public contract cites.
+pub mod Noted
+pub mod Linked
+pub mod Tries
+pub mod Stack
+pub mod Progress

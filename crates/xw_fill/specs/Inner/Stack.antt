@@ -1,0 +1,45 @@
+-- The stack of a search: its placements in order, and the states that they lead through.
+use Rattle.std.specs.Prelude.{◌≡◌, ℕ, Bool, true, List, [], ◌∷◌, ◌++◌, Option, Some, None}
+use Rattle.xw_feas.specs.State.{State}
+use Rattle.xw_feas.specs.Snapshot.{IsTwin}
+use Rattle.xw_fill.specs.Marks.{held_of, AreTwins, HoldsFree}
+use Rattle.xw_fill.specs.Position.{position_of}
+use Rattle.xw_fill.specs.Inner.Progress.{IsDead}
+use Rattle.xw_fill.specs.declared.stack.Stack.{Stack}
+
+-- the state where the search began
+abbrev pub start_of : {E S M : Type 0} → (S → State) → Stack E M S → State
+start_of saved stack = saved stack.root
+
+-- the first state of a list, or the given one if the list is empty
+abbrev pub first_or : List State → State → State
+first_or [] now = now
+first_or (state ∷ states) now = state
+
+-- each placement leads from the state at its index to the next one, and the last placement leads to `now`
+abbrev pub LeadThrough : {M : Type 0} → (M → State → State → Type 0) → List M → List State → State → Type 0
+LeadThrough is_placed [] [] now = Unit {0}
+LeadThrough is_placed [] (state ∷ states) now = ⊥
+LeadThrough is_placed (placement ∷ placements) [] now = ⊥
+LeadThrough is_placed (placement ∷ placements) (state ∷ states) now = is_placed placement state (first_or states now) × LeadThrough is_placed placements states now
+
+-- the snapshots can save the state and be exchanged with it
+pub record IsReady {E S M : Type 0} (saved : S → State) (stack : Stack E M S) (now : State) : Type 0 where
+  pub root : IsTwin (saved stack.root) now
+  pub marks : AreTwins saved stack.marks now
+
+-- the placements lead to the state, and the marks hold the states before the last of them; after `prepare` the first free
+-- snapshot holds the state
+pub record StandsAt {E S M : Type 0} (saved : S → State) (is_placed : M → State → State → Type 0) (stack : Stack E M S) (now : State) : Type 0 where
+  pub states : List State
+  pub through : LeadThrough is_placed stack.placements.items states now
+  pub older : List State
+  pub held : states ≡ older ++ held_of saved stack.marks
+  pub ready : IsReady saved stack now
+  pub prepared : stack.is_prepared ≡ true → HoldsFree saved stack.marks now
+
+-- what trying a placement led to: it was placed; or a watched light is dead where it leads, and nothing changed
+abbrev pub HasTried : {M : Type 0} → (M → State → State → Type 0) → (ℕ → Bool) → M → State → List M → State → List M → Option ℕ → Type 0
+HasTried is_placed watched placement before placements after placements_after None = (placements_after ≡ placements ++ placement ∷ []) × is_placed placement before after
+HasTried is_placed watched placement before placements after placements_after (Some light) =
+    (placements_after ≡ placements) × (after ≡ before) × ((there : State) × is_placed placement before there × IsDead watched (position_of there) light)

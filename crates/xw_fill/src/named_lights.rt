@@ -1,0 +1,308 @@
+//! Fills the named lights: by letters, and first where it failed before.
+mod checks;
+mod choice;
+mod frame;
+mod plan;
+mod run;
+
+ghost use Rattle.std.specs.Prelude.{◌≡◌, ◌≤◌, ℕ, length, replicate, true, false, IfOk, IfErr, OnOk, OnErr, ◌<◌};
+ghost use Rattle.xw_fill.specs.Position.{position_of};
+ghost use Rattle.xw_fill.specs.Search.{light_count};
+ghost use Rattle.xw_fill.specs.Inner.Stack.{IsReady};
+ghost use Rattle.xw_fill.specs.NamedFill.{flags, is_named, AreFlags, IsAutofilled, IsNoLight, IsRefusal, AreFlagged};
+ghost use Rattle.xw_fill.specs.Inner.Progress.{entries_of, IsPlan, IsOpen};
+
+use crate::named_lights::checks::first_dead;
+use crate::named_lights::frame::Frame;
+use crate::named_lights::plan::Plan;
+use crate::named_lights::run::{Effort, Ending, run};
+use crate::repeats::has_repeat;
+use crate::scan::light_count;
+use crate::search::{Filling, fill};
+use crate::stack::Stack;
+use std::alloc::Global;
+use xw_feas::edit::Refusal;
+use xw_feas::feasible::Feasible;
+use xw_feas::searchable::Searchable;
+use xw_grid::cell::LightName;
+use xw_grid::fault::GridFault;
+
+/// The most marks that a search has room for. Beyond these it goes back by emptying cells.
+const MARKS: usize = 24;
+
+/// How many placements the search of `fill` gets first with seed 0, so that the good words of a sorted list come first.
+const FIRST: u64 = 500;
+
+/// What a search leaves to the next one with the same seed and lights, which then goes on. It is a hint: it decides in
+/// which order the next search tries cells and letters, and nothing else.
+#[derive(Drop)]
+pub struct Hint {
+    names: Vec<LightName>,
+    effort: Effort,
+}
+
+impl Hint {
+    /// The hint for a search that has not begun. It is refused only if an allocation fails.
+    fn new<E: Feasible>(
+        alloc: Global,
+        engine: &E,
+        names: &[LightName],
+        seed: u64,
+    ) -> Result<Hint, Refusal>
+        ensures { IfErr result (λ refusal. refusal ≡ Refusal.Grid GridFault.Memory) }
+    {
+        let lights = light_count(engine);
+        let graded = engine.bank().is_graded();
+        match (
+            Vec::from_slice(alloc, names),
+            Effort::new(alloc, lights, seed, graded),
+        ) {
+            (Ok(names), Ok(effort)) => Ok(Hint { names, effort }),
+            _ => Err(Refusal::Grid(GridFault::Memory)),
+        }
+    }
+
+    /// Whether it is from a search with these lights and this seed.
+    fn is_of(&self, names: &[LightName], seed: u64) -> bool {
+        self.effort.seed == seed && self.names.as_slice() == names
+    }
+}
+
+/// Runs the search again and again, each time with a later cut, until it ends.
+fn run_again<E: Searchable>(
+    engine: &mut E,
+    stack: &mut Stack<E, Frame>,
+    plan: &Plan,
+    effort: &mut Effort,
+) -> Result<Filling, Refusal>
+    requires plan { IsPlan (position_of (E.state engine.old)) plan.now }
+    requires open { IsOpen (flags plan.now.named.items) (position_of (E.state engine.old)) (entries_of (E.state engine.old)) }
+    requires ready { IsReady E.saved stack.old (E.state engine.old) }
+    ensures ok { IfOk result (IsAutofilled (flags plan.now.named.items) (E.state engine.old) (E.state engine.new)) }
+    ensures memory { IfErr result (λ refusal. refusal ≡ Refusal.Grid GridFault.Memory) }
+    ensures unchanged { OnErr result (E.state engine.new ≡ E.state engine.old) }
+{
+    loop {
+        let cut = effort.cut;
+        match run(engine, stack, plan, effort, cut) {
+            Ending::Filled => return Ok(Filling::Filled),
+            Ending::NoFill => return Ok(Filling::NoFill),
+            Ending::Limit => return Ok(Filling::Limit),
+            Ending::Memory => return Err(Refusal::Grid(GridFault::Memory)),
+            Ending::Cut => {
+                effort.cut = cut.saturating_mul(2);
+                effort.weighted = effort.graded && !effort.weighted;
+            }
+        }
+    }
+}
+
+/// Fills the lights of a plan, with at most `limit` placements of letters. The state changes only for `Filled`.
+fn fill_planned<E: Searchable>(
+    alloc: Global,
+    engine: &mut E,
+    plan: &Plan,
+    limit: u64,
+    effort: &mut Effort,
+) -> Result<Filling, Refusal>
+    requires plan { IsPlan (position_of (E.state engine.old)) plan.now }
+    ensures ok { IfOk result (IsAutofilled (flags plan.now.named.items) (E.state engine.old) (E.state engine.new)) }
+    ensures memory { IfErr result (λ refusal. refusal ≡ Refusal.Grid GridFault.Memory) }
+    ensures unchanged { OnErr result (E.state engine.new ≡ E.state engine.old) }
+{
+    if first_dead(engine, &plan.watched).is_some() {
+        return Ok(Filling::NoFill);
+    }
+    let repeats = has_repeat(alloc, engine).map_err(|_| Refusal::Grid(GridFault::Memory))?;
+    if repeats {
+        return Ok(Filling::NoFill);
+    }
+    let cells = plan.targets.len();
+    let mut stack = Stack::new(alloc, engine, cells, MARKS.min(cells))?;
+    effort.left = limit;
+    run_again(engine, &mut stack, plan, effort)
+}
+
+/// Fills the lights with a flag.
+fn fill_flagged<E: Searchable>(
+    alloc: Global,
+    engine: &mut E,
+    named: Vec<bool>,
+    limit: u64,
+    effort: &mut Effort,
+) -> Result<Filling, Refusal>
+    ensures ok { IfOk result (IsAutofilled (flags named.items) (E.state engine.old) (E.state engine.new)) }
+    ensures memory { IfErr result (λ refusal. refusal ≡ Refusal.Grid GridFault.Memory) }
+    ensures unchanged { OnErr result (E.state engine.new ≡ E.state engine.old) }
+{
+    let plan = Plan::of(alloc, engine, named)?;
+    fill_planned(alloc, engine, &plan, limit, effort)
+}
+
+/// Sets the flag of each named light. Returns `NoLight` if a name is that of no light.
+fn flag_lights<E: Feasible>(
+    engine: &E,
+    names: &[LightName],
+    named: &mut [bool],
+) -> Result<(), Refusal>
+    requires { length named.old ≡ light_count (position_of (E.state engine.now)) }
+    ensures ok { OnOk result (AreFlagged (E.state engine.now) names.now named.old named.new) }
+    ensures refused { IfErr result (IsNoLight (E.state engine.now) names.now) }
+{
+    for index in 0..names.len() {
+        match engine.lights().index(names[index]) {
+            Some(light) => named[light] = true,
+            None => return Err(Refusal::NoLight),
+        }
+    }
+    Ok(())
+}
+
+/// A flag for each light: whether its name is in a list. Returns `NoLight` if a name is that of no light, and `Memory` if
+/// an allocation fails.
+fn flags_of<E: Feasible>(
+    alloc: Global,
+    engine: &E,
+    names: &[LightName],
+) -> Result<Vec<bool>, Refusal>
+    requires { 0 < length names.now }
+    ensures ok { IfOk result (λ named. AreFlags (E.state engine.now) names.now named.items) }
+    ensures refused { IfErr result (IsRefusal (E.state engine.now) names.now) }
+{
+    let mut named = vec![in alloc; false; light_count(engine)].map_err(|_| Refusal::Grid(
+        GridFault::Memory,
+    ))?;
+    flag_lights(engine, names, &mut named)?;
+    Ok(named)
+}
+
+/// A set flag for each light.
+fn all_lights<E: Feasible>(alloc: Global, engine: &E) -> Result<Vec<bool>, Refusal>
+    ensures ok { IfOk result (λ named. named.items ≡ replicate (light_count (position_of (E.state engine.now))) true) }
+    ensures memory { IfErr result (λ refusal. refusal ≡ Refusal.Grid GridFault.Memory) }
+{
+    vec![in alloc; true; light_count(engine)].map_err(|_| Refusal::Grid(GridFault::Memory))
+}
+
+/// How many placements the search of `fill` gets first: none with another seed than 0, which asks for another fill, and
+/// none if words have different grades, which the search by letters goes by.
+fn first_share(limit: u64, effort: &Effort) -> u64
+    ensures { result ≤ limit }
+{
+    if effort.seed == 0 && !effort.graded {
+        limit.min(FIRST)
+    } else {
+        0
+    }
+}
+
+/// Fills all lights by letters.
+fn all_by_letters<E: Searchable>(
+    alloc: Global,
+    engine: &mut E,
+    limit: u64,
+    effort: &mut Effort,
+) -> Result<Filling, Refusal>
+    ensures ok { IfOk result (IsAutofilled (λ light. true) (E.state engine.old) (E.state engine.new)) }
+    ensures memory { IfErr result (λ refusal. refusal ≡ Refusal.Grid GridFault.Memory) }
+    ensures unchanged { OnErr result (E.state engine.new ≡ E.state engine.old) }
+{
+    let named = all_lights(alloc, engine)?;
+    fill_flagged(alloc, engine, named, limit, effort)
+}
+
+/// Fills all lights: first by the search of `fill`, then by letters.
+fn fill_all<E: Searchable>(
+    alloc: Global,
+    engine: &mut E,
+    limit: u64,
+    effort: &mut Effort,
+) -> Result<Filling, Refusal>
+    ensures ok { IfOk result (IsAutofilled (λ light. true) (E.state engine.old) (E.state engine.new)) }
+    ensures memory { IfErr result (λ refusal. refusal ≡ Refusal.Grid GridFault.Memory) }
+    ensures unchanged { OnErr result (E.state engine.new ≡ E.state engine.old) }
+{
+    let first = first_share(limit, effort);
+    match fill(alloc, engine, first)? {
+        Filling::Filled => return Ok(Filling::Filled),
+        Filling::NoFill => return Ok(Filling::NoFill),
+        Filling::Limit => {}
+    }
+    if first == limit {
+        return Ok(Filling::Limit);
+    }
+    all_by_letters(alloc, engine, limit - first, effort)
+}
+
+/// Fills the named lights, or all lights if the list of names is empty. A search that goes on has only letters left to try.
+fn fill_named<E: Searchable>(
+    alloc: Global,
+    engine: &mut E,
+    names: &[LightName],
+    limit: u64,
+    effort: &mut Effort,
+    goes_on: bool,
+) -> Result<Filling, Refusal>
+    ensures ok { IfOk result (IsAutofilled (is_named (E.state engine.old) names.now) (E.state engine.old) (E.state engine.new)) }
+    ensures refused { IfErr result (IsRefusal (E.state engine.old) names.now) }
+    ensures unchanged { OnErr result (E.state engine.new ≡ E.state engine.old) }
+{
+    if names.is_empty() {
+        return if goes_on {
+            all_by_letters(alloc, engine, limit, effort)
+        } else {
+            fill_all(alloc, engine, limit, effort)
+        };
+    }
+    let named = flags_of(alloc, engine, names)?;
+    fill_flagged(alloc, engine, named, limit, effort)
+}
+
+/// The effort of a hint if it is from a search with these lights and this seed.
+fn effort_of<'a>(
+    hint: &'a mut Option<Hint>,
+    names: &[LightName],
+    seed: u64,
+) -> Option<&'a mut Effort> {
+    match hint {
+        Some(hint) if hint.is_of(names, seed) => Some(&mut hint.effort),
+        _ => None,
+    }
+}
+
+/// Fills the named lights, or all lights if the list of names is empty, with at most `limit` placements of words or
+/// letters. The seed turns the order of ties, so another seed leads to another fill. The state changes only for `Filled`.
+///
+/// A search that ends with `Limit` leaves a hint. The next search with the same names and seed goes on with it, so that
+/// a search in slices comes as far as a single one. Pass `None`, or the hint of a search from the same state: the answer
+/// depends on the state, the names, the limit, the seed and the hint alone. An error leaves the hint as it was.
+///
+/// Returns `NoLight` if a name is that of no light, and `Memory` if an allocation fails.
+pub fn autofill<E: Searchable>(
+    alloc: Global,
+    engine: &mut E,
+    names: &[LightName],
+    limit: u64,
+    seed: u64,
+    hint: &mut Option<Hint>,
+) -> Result<Filling, Refusal>
+    ensures ok { IfOk result (IsAutofilled (is_named (E.state engine.old) names.now) (E.state engine.old) (E.state engine.new)) }
+    ensures refused { IfErr result (IsRefusal (E.state engine.old) names.now) }
+    ensures unchanged { OnErr result (E.state engine.new ≡ E.state engine.old) }
+{
+    if let Some(effort) = effort_of(hint, names, seed) {
+        let filling = fill_named(alloc, engine, names, limit, effort, true)?;
+        if filling != Filling::Limit {
+            *hint = None;
+        }
+        return Ok(filling);
+    }
+    let mut begun = Hint::new(alloc, engine, names, seed)?;
+    let filling = fill_named(alloc, engine, names, limit, &mut begun.effort, false)?;
+    *hint = if filling == Filling::Limit {
+        Some(begun)
+    } else {
+        None
+    };
+    Ok(filling)
+}

@@ -1,0 +1,175 @@
+//! Which cell a search fills next, and with which letter. No proof depends on the order: only on which cells and letters
+//! are left.
+ghost use Rattle.std.specs.Prelude.{◌≡◌, ◌≤◌, ◌<◌, ℕ, All, Contains, length, true, false, is_some, slice_index, IfSome, IfNone, None};
+ghost use Rattle.xw_letters.specs.LetterSet.{has};
+ghost use Rattle.xw_feas.specs.Board.{board_of, is_open};
+ghost use Rattle.xw_fill.specs.FeasibleLetters.{is_feasible_letter};
+ghost use Rattle.xw_fill.specs.Position.{position_of};
+ghost use Rattle.xw_fill.specs.Search.{light_count};
+ghost use Rattle.xw_fill.specs.NamedFill.{entry_in};
+ghost use Rattle.xw_fill.specs.Inner.Progress.{entries_of, IsNextLetter, HasNoLetter};
+
+use crate::scan::{board, light_count};
+use xw_feas::feasible::Feasible;
+use xw_feas::searchable::Searchable;
+use xw_letters::letter::Letter;
+use xw_letters::letter_set::LetterSet;
+
+/// The feasible letters of an open cell.
+pub fn letters_at<E: Feasible>(engine: &E, cell: usize) -> LetterSet
+    requires { is_open (board_of (E.state engine.now).grid) cell ≡ true }
+    ensures { (letter : ℕ) → has result letter ≡ is_feasible_letter (position_of (E.state engine.now)) cell letter }
+{
+    match engine.letters(engine.grid().cell_at(cell)) {
+        Ok(letters) => letters,
+        Err(_) => unreachable!(),
+    }
+}
+
+/// A number for a cell that a seed turns: cells that are otherwise alike are taken by it, the smallest first. With seed 0
+/// it is the same for all.
+fn turn_of(cell: usize, seed: u64) -> u64 {
+    if seed == 0 {
+        return 0;
+    }
+    (cell as u64)
+        .wrapping_add(1)
+        .wrapping_mul(0x9e37_79b9_7f4a_7c15)
+        .wrapping_mul(seed.wrapping_mul(2).wrapping_add(1))
+        >> 40
+}
+
+/// The weight of the light with this index, if there is one.
+fn weight_of(weights: &[u64], light: Option<usize>) -> u64 {
+    match light {
+        Some(light) if light < weights.len() => weights[light],
+        _ => 0,
+    }
+}
+
+/// How a cell compares with others: the one with the fewest letters for the weight of its lights is taken first.
+#[derive(Clone, Copy)]
+struct Rank {
+    letters: u64,
+    weight: u64,
+    turn: u64,
+}
+
+impl Rank {
+    /// Whether a cell of this rank is taken before one of the other.
+    fn is_before(&self, other: &Rank) -> bool {
+        let own = self.letters.saturating_mul(other.weight);
+        let others = other.letters.saturating_mul(self.weight);
+        own < others || (own == others && self.turn < other.turn)
+    }
+}
+
+/// The rank of an open cell.
+fn rank_of<E: Feasible>(engine: &E, cell: usize, weights: &[u64], seed: u64) -> Rank
+    requires { is_open (board_of (E.state engine.now).grid) cell ≡ true }
+{
+    let (across, down) = board(engine).lights_at(cell);
+    Rank {
+        letters: letters_at(engine, cell).len() as u64,
+        weight: weight_of(weights, across).saturating_add(weight_of(weights, down)),
+        turn: turn_of(cell, seed),
+    }
+}
+
+/// The cell to fill next among some open cells: of those that are empty, the one with the first rank.
+pub fn next_cell<E: Feasible>(
+    engine: &E,
+    targets: &[usize],
+    weights: &[u64],
+    seed: u64,
+) -> Option<usize>
+    requires { All (λ cell. is_open (board_of (E.state engine.now).grid) cell ≡ true) targets.now }
+    ensures some { IfSome result (λ cell. Contains targets.now cell × (entry_in (entries_of (E.state engine.now)) cell ≡ None)) }
+    ensures none { IfNone result (All (λ cell. is_some (entry_in (entries_of (E.state engine.now)) cell) ≡ true) targets.now) }
+{
+    let mut best = None;
+    let mut first = Rank {
+        letters: 0,
+        weight: 0,
+        turn: 0,
+    };
+    for index in 0..targets.len() {
+        let cell = targets[index];
+        if board(engine).entry(cell).is_none() {
+            let rank = rank_of(engine, cell, weights, seed);
+            if best.is_none() || rank.is_before(&first) {
+                best = Some(cell);
+                first = rank;
+            }
+        }
+    }
+    best
+}
+
+/// How many feasible words of a light have a letter at a cell, or their weight; 0 if the light does not pass through it.
+fn tally_at<E: Searchable>(
+    engine: &E,
+    light: Option<usize>,
+    cell: usize,
+    letter: Letter,
+    weighted: bool,
+) -> u64
+    requires { IfSome light (λ light. light < light_count (position_of (E.state engine.now))) }
+{
+    let Some(light) = light else {
+        return 0;
+    };
+    let cells = board(engine).light(light);
+    for position in 0..cells.len() {
+        if cells.at(position) == cell {
+            if weighted {
+                return engine.promise(light, position, letter);
+            }
+            return engine.tally(light, position, letter) as u64;
+        }
+    }
+    0
+}
+
+/// How promising a letter is at a cell: the product of how many words it leaves to each light, plus one. If `weighted`,
+/// words of better grades count for more.
+fn promise_of<E: Searchable>(engine: &E, cell: usize, letter: Letter, weighted: bool) -> u64
+    requires { is_open (board_of (E.state engine.now).grid) cell ≡ true }
+{
+    let (across, down) = board(engine).lights_at(cell);
+    let across = tally_at(engine, across, cell, letter, weighted).saturating_add(1);
+    let down = tally_at(engine, down, cell, letter, weighted).saturating_add(1);
+    across.saturating_mul(down)
+}
+
+/// The most promising feasible letter of an open cell that was not tried.
+pub fn next_letter<E: Searchable>(
+    engine: &E,
+    cell: usize,
+    tried: LetterSet,
+    weighted: bool,
+) -> Option<Letter>
+    requires { is_open (board_of (E.state engine.now).grid) cell ≡ true }
+    ensures some { IfSome result (IsNextLetter (position_of (E.state engine.now)) cell tried) }
+    ensures none { IfNone result (HasNoLetter (position_of (E.state engine.now)) cell tried) }
+{
+    let letters = letters_at(engine, cell);
+    let is_choice = letters.len() > 1;
+    let mut best = None;
+    let mut most = 0;
+    for number in 0..26 {
+        let letter = Letter::at(number);
+        if letters.has(letter) && !tried.has(letter) {
+            let promise = if is_choice {
+                promise_of(engine, cell, letter, weighted)
+            } else {
+                0
+            };
+            if best.is_none() || promise > most {
+                best = Some(letter);
+                most = promise;
+            }
+        }
+    }
+    best
+}

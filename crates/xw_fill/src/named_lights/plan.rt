@@ -1,0 +1,110 @@
+//! The cells that a search fills, and the lights that it watches.
+ghost use Rattle.std.specs.Prelude.{◌≡◌, ◌<◌, ℕ, length, Bool, true, false, IfOk, IfErr, Option, Some, None};
+ghost use Rattle.xw_feas.specs.Board.{board_of, light_at};
+ghost use Rattle.xw_fill.specs.Position.{position_of};
+ghost use Rattle.xw_fill.specs.Search.{light_count};
+ghost use Rattle.xw_fill.specs.NamedFill.{flags, is_in_named};
+ghost use Rattle.xw_fill.specs.Inner.Progress.{is_target, has_target, AreTargets, AreWatched, is_flagged, IsPlan};
+
+use crate::scan::{board, light_count};
+use std::alloc::Global;
+use xw_feas::edit::Refusal;
+use xw_feas::feasible::Feasible;
+use xw_grid::fault::GridFault;
+
+/// What a search fills: flags for the named lights and for the lights to watch, and the indices of the cells to fill.
+#[derive(Drop)]
+pub struct Plan {
+    pub named: Vec<bool>,
+    pub watched: Vec<bool>,
+    pub targets: Vec<usize>,
+}
+
+/// Whether there is a light, and it is named.
+fn is_flagged(named: &[bool], light: Option<usize>) -> bool
+    ensures { result ≡ is_flagged (flags named.now) light }
+{
+    match light {
+        Some(light) => light < named.len() && named[light],
+        None => false,
+    }
+}
+
+/// Whether a cell is in a named light.
+fn is_in_named<E: Feasible>(engine: &E, named: &[bool], cell: usize) -> bool
+    requires { cell < length (board_of (E.state engine.now).grid).open_cells }
+    ensures { result ≡ is_in_named (flags named.now) (position_of (E.state engine.now)) cell }
+{
+    let (across, down) = board(engine).lights_at(cell);
+    is_flagged(named, across) || is_flagged(named, down)
+}
+
+/// Whether a cell is to be filled.
+fn is_target<E: Feasible>(engine: &E, named: &[bool], cell: usize) -> bool
+    requires { cell < length (board_of (E.state engine.now).grid).open_cells }
+    ensures { result ≡ is_target (flags named.now) (position_of (E.state engine.now)) cell }
+{
+    board(engine).entry(cell).is_none() && is_in_named(engine, named, cell)
+}
+
+/// Whether a light passes through a cell that is to be filled.
+fn has_target<E: Feasible>(engine: &E, named: &[bool], light: usize) -> bool
+    requires { light < light_count (position_of (E.state engine.now)) }
+    ensures { result ≡ has_target (flags named.now) (position_of (E.state engine.now)) light }
+{
+    let cells = board(engine).light(light);
+    for pos in 0..cells.len() {
+        if is_target(engine, named, cells.at(pos)) {
+            return true;
+        }
+    }
+    false
+}
+
+/// The cells to be filled, in reading order.
+fn targets_of<E: Feasible>(alloc: Global, engine: &E, named: &[bool]) -> Result<Vec<usize>, Refusal>
+    ensures ok { IfOk result (λ targets. AreTargets (flags named.now) (position_of (E.state engine.now)) targets.items) }
+    ensures memory { IfErr result (λ refusal. refusal ≡ Refusal.Grid GridFault.Memory) }
+{
+    let mut targets = Vec::new(alloc);
+    for cell in 0..board(engine).cell_count() {
+        if is_target(engine, named, cell) {
+            targets
+                .push(cell)
+                .map_err(|_| Refusal::Grid(GridFault::Memory))?;
+        }
+    }
+    Ok(targets)
+}
+
+/// A flag for each light: whether it is watched.
+fn watched_of<E: Feasible>(alloc: Global, engine: &E, named: &[bool]) -> Result<Vec<bool>, Refusal>
+    ensures ok { IfOk result (λ watched. AreWatched (flags named.now) (position_of (E.state engine.now)) watched.items) }
+    ensures memory { IfErr result (λ refusal. refusal ≡ Refusal.Grid GridFault.Memory) }
+{
+    let mut watched = Vec::new(alloc);
+    for light in 0..light_count(engine) {
+        let flag = is_flagged(named, Some(light)) || has_target(engine, named, light);
+        watched
+            .push(flag)
+            .map_err(|_| Refusal::Grid(GridFault::Memory))?;
+    }
+    Ok(watched)
+}
+
+impl Plan {
+    /// The plan to fill the named lights of an engine. It is refused only if an allocation fails.
+    pub fn of<E: Feasible>(alloc: Global, engine: &E, named: Vec<bool>) -> Result<Plan, Refusal>
+        ensures named { IfOk result (λ plan. plan.named ≡ named) }
+        ensures ok { IfOk result (λ plan. IsPlan (position_of (E.state engine.now)) plan) }
+        ensures memory { IfErr result (λ refusal. refusal ≡ Refusal.Grid GridFault.Memory) }
+    {
+        let targets = targets_of(alloc, engine, &named)?;
+        let watched = watched_of(alloc, engine, &named)?;
+        Ok(Plan {
+            named,
+            watched,
+            targets,
+        })
+    }
+}

@@ -1,0 +1,232 @@
+//! One run of the search: depth first by letters, until a fill, a cut or the end.
+ghost use Rattle.std.specs.Prelude.{◌≡◌, ◌<◌, ◌≤◌, ℕ, length, true, false, ◌||◌, ◌==◌, [], IfOk};
+ghost use Rattle.xw_letters.specs.LetterSet.{has};
+ghost use Rattle.xw_feas.specs.Board.{board_of};
+ghost use Rattle.xw_fill.specs.Position.{position_of, DiffersInEntries};
+ghost use Rattle.xw_fill.specs.Search.{light_count};
+ghost use Rattle.xw_fill.specs.Inner.Stack.{start_of, IsReady, StandsAt};
+ghost use Rattle.xw_fill.specs.NamedFill.{flags, IsFillOf};
+ghost use Rattle.xw_fill.specs.Inner.Progress.{entries_of, HasNone, IsPlan, IsOpen, CanBeEntered, IsLetterEntered, IsTried, IsRefuted, AreAlive, IsApartAt};
+
+use crate::named_lights::checks::{first_dead, has_repeat_at};
+use crate::named_lights::choice::{next_cell, next_letter};
+use crate::named_lights::frame::Frame;
+use crate::named_lights::plan::Plan;
+use crate::stack::Stack;
+use std::alloc::{AllocError, Global};
+use xw_feas::searchable::Searchable;
+use xw_letters::letter::Letter;
+use xw_letters::letter_set::LetterSet;
+
+/// How a run ended.
+/// - `Filled`: the grid holds a fill.
+/// - `NoFill`: no fill exists.
+/// - `Limit`: no placement was left.
+/// - `Cut`: it failed too often.
+/// - `Memory`: an allocation failed.
+#[derive(Clone, Copy, Debug, PartialEq, Eq)]
+pub enum Ending {
+    Filled,
+    NoFill,
+    Limit,
+    Cut,
+    Memory,
+}
+
+/// After how many failures the first run is cut. Each later run gets twice as many.
+const CUT: u64 = 100;
+
+/// What a search keeps from run to run.
+/// - `weights`: a weight for each light, which grows when the light fails.
+/// - `cut`: after how many failures the next run is cut.
+/// - `graded`: whether words have different grades.
+/// - `weighted`: whether words of better grades count for more in the next run. If words have grades, every other run has
+///   plain counts: the hardest grids fill only so.
+/// - `left`: how many placements are left.
+#[derive(Drop)]
+pub struct Effort {
+    weights: Vec<u64>,
+    pub seed: u64,
+    pub cut: u64,
+    pub graded: bool,
+    pub weighted: bool,
+    pub left: u64,
+}
+
+impl Effort {
+    ghost use Rattle.std.specs.Prelude.{IfOk};
+
+    /// The effort of a search that has not begun: each light has the weight 1, and no placement is left.
+    pub fn new(alloc: Global, lights: usize, seed: u64, graded: bool) -> Result<Effort, AllocError>
+        ensures { IfOk result (λ effort. effort.left ≡ 0) }
+    {
+        Ok(Effort {
+            weights: vec![in alloc; 1; lights]?,
+            seed,
+            cut: CUT,
+            graded,
+            weighted: graded,
+            left: 0,
+        })
+    }
+}
+
+/// Counts a failure of a light.
+fn blame(weights: &mut Vec<u64>, light: usize)
+    ensures { length weights.new.items ≡ length weights.old.items }
+{
+    if light < weights.len() {
+        weights[light] = weights[light].saturating_add(1);
+    }
+}
+
+/// Whether something speaks against a fill after a letter was entered in a cell: a watched light has no feasible word, and
+/// is blamed, or a word stands twice.
+fn is_refuted<E: Searchable>(
+    engine: &E,
+    watched: &[bool],
+    weights: &mut Vec<u64>,
+    cell: usize,
+) -> bool
+    requires long { length watched.now ≡ light_count (position_of (E.state engine.now)) }
+    requires cell { cell < length (board_of (E.state engine.now).grid).open_cells }
+    ensures refuted { result ≡ true → IsRefuted (flags watched.now) (position_of (E.state engine.now)) }
+    ensures alive { result ≡ false → AreAlive (flags watched.now) (position_of (E.state engine.now)) }
+    ensures apart { result ≡ false → IsApartAt (position_of (E.state engine.now)) cell }
+{
+    if let Some(light) = first_dead(engine, watched) {
+        blame(weights, engine.emptied().unwrap_or(light));
+        return true;
+    }
+    has_repeat_at(engine, cell)
+}
+
+/// Tries the letter of a frame. Returns whether it stands; if not, the search is back where it was.
+fn try_letter<E: Searchable>(
+    engine: &mut E,
+    stack: &mut Stack<E, Frame>,
+    plan: &Plan,
+    weights: &mut Vec<u64>,
+    frame: Frame,
+) -> Result<bool, AllocError>
+    requires can { CanBeEntered frame (E.state engine.old) }
+    requires long { length plan.now.watched.items ≡ light_count (position_of (E.state engine.old)) }
+    requires stands { StandsAt E.saved IsLetterEntered stack.old (E.state engine.old) }
+    ensures stands { StandsAt E.saved IsLetterEntered stack.new (E.state engine.new) }
+    ensures start { start_of E.saved stack.new ≡ start_of E.saved stack.old }
+    ensures entries { DiffersInEntries (E.state engine.old) (E.state engine.new) }
+    ensures tried { IfOk result (λ stands. IsTried (flags plan.now.watched.items) frame stands (E.state engine.old) stack.old.placements.items (E.state engine.new) stack.new.placements.items) }
+{
+    let cell = frame.cell;
+    let dead = stack.try_place(engine, frame, &plan.watched)?;
+    if let Some(light) = dead {
+        blame(weights, engine.emptied().unwrap_or(light));
+        return Ok(false);
+    }
+    if is_refuted(engine, &plan.watched, weights, cell) {
+        let _ = stack.back(engine);
+        return Ok(false);
+    }
+    Ok(true)
+}
+
+/// The letters, and one more.
+fn with_letter(letters: LetterSet, letter: Letter) -> LetterSet
+    ensures { (other : ℕ) → has result other ≡ (has letters other || (other == letter)) }
+{
+    let mut more = letters;
+    more.insert(letter);
+    more
+}
+
+/// Searches from a position against which nothing speaks, until it holds a fill, or no fill is left, or no placement is
+/// left, or as many letters as `cut` says failed. The cells with letters are in `stack`.
+fn search<E: Searchable>(
+    engine: &mut E,
+    stack: &mut Stack<E, Frame>,
+    plan: &Plan,
+    effort: &mut Effort,
+    cut: u64,
+) -> Ending
+    requires plan { IsPlan (position_of (E.state engine.old)) plan.now }
+    requires open { IsOpen (flags plan.now.named.items) (position_of (E.state engine.old)) (entries_of (E.state engine.old)) }
+    requires stands { StandsAt E.saved IsLetterEntered stack.old (E.state engine.old) }
+    requires empty { stack.old.placements.items ≡ [] }
+    ensures ready { IsReady E.saved stack.new (E.state engine.new) }
+    ensures start { start_of E.saved stack.new ≡ start_of E.saved stack.old }
+    ensures entries { DiffersInEntries (E.state engine.old) (E.state engine.new) }
+    ensures left { effort.new.left ≤ effort.old.left }
+    ensures cut { result ≡ Ending.Cut → effort.new.left < effort.old.left }
+    ensures filled { result ≡ Ending.Filled → IsFillOf (flags plan.now.named.items) (position_of (E.state engine.old)) (entries_of (E.state engine.new)) }
+    ensures no_fill { result ≡ Ending.NoFill → HasNone (flags plan.now.named.items) (position_of (E.state engine.old)) (entries_of (E.state engine.old)) }
+{
+    let Some(first) = next_cell(engine, &plan.targets, &effort.weights, effort.seed) else {
+        return Ending::Filled;
+    };
+    let mut cell = first;
+    let mut tried = LetterSet::new();
+    let mut fails: u64 = 0;
+    loop {
+        let Some(letter) = next_letter(engine, cell, tried, effort.weighted) else {
+            let Some(below) = stack.back(engine) else {
+                return Ending::NoFill;
+            };
+            cell = below.cell;
+            tried = with_letter(below.tried, below.letter);
+            fails = fails.saturating_add(1);
+            continue;
+        };
+        if effort.left == 0 {
+            return Ending::Limit;
+        }
+        effort.left -= 1;
+        let frame = Frame {
+            cell,
+            letter,
+            tried,
+        };
+        let Ok(stands) = try_letter(engine, stack, plan, &mut effort.weights, frame) else {
+            return Ending::Memory;
+        };
+        if !stands {
+            tried = with_letter(tried, letter);
+            fails = fails.saturating_add(1);
+            if fails >= cut {
+                return Ending::Cut;
+            }
+            continue;
+        }
+        let Some(next) = next_cell(engine, &plan.targets, &effort.weights, effort.seed) else {
+            return Ending::Filled;
+        };
+        cell = next;
+        tried = LetterSet::new();
+    }
+}
+
+/// One run: a search that leaves the state as it was unless it finds a fill.
+pub fn run<E: Searchable>(
+    engine: &mut E,
+    stack: &mut Stack<E, Frame>,
+    plan: &Plan,
+    effort: &mut Effort,
+    cut: u64,
+) -> Ending
+    requires plan { IsPlan (position_of (E.state engine.old)) plan.now }
+    requires open { IsOpen (flags plan.now.named.items) (position_of (E.state engine.old)) (entries_of (E.state engine.old)) }
+    requires ready { IsReady E.saved stack.old (E.state engine.old) }
+    ensures ready { IsReady E.saved stack.new (E.state engine.new) }
+    ensures left { effort.new.left ≤ effort.old.left }
+    ensures cut { result ≡ Ending.Cut → effort.new.left < effort.old.left }
+    ensures filled { result ≡ Ending.Filled → IsFillOf (flags plan.now.named.items) (position_of (E.state engine.old)) (entries_of (E.state engine.new)) }
+    ensures entries { result ≡ Ending.Filled → DiffersInEntries (E.state engine.old) (E.state engine.new) }
+    ensures no_fill { result ≡ Ending.NoFill → HasNone (flags plan.now.named.items) (position_of (E.state engine.old)) (entries_of (E.state engine.old)) }
+    ensures same { (result ≡ Ending.Filled → ⊥) → E.state engine.new ≡ E.state engine.old }
+{
+    stack.begin(engine);
+    let ending = search(engine, stack, plan, effort, cut);
+    if ending != Ending::Filled {
+        stack.reset(engine);
+    }
+    ending
+}

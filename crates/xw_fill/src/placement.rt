@@ -1,0 +1,51 @@
+//! What a search places in one step.
+ghost use Rattle.std.specs.Prelude.{◌≡◌, IfSome, IfNone};
+ghost use Rattle.xw_feas.specs.State.{State};
+ghost use Rattle.xw_fill.specs.Inner.Progress.{IsDead};
+ghost use Rattle.xw_fill.specs.NamedFill.{flags};
+ghost use Rattle.xw_fill.specs.Position.{position_of, DiffersInEntries};
+
+use xw_feas::feasible::Feasible;
+use xw_feas::searchable::Searchable;
+
+/// A word in a light, or a letter in a cell: a search places it, and takes it back, by one edit each.
+pub trait Placement: Copy {
+    /// It can be placed in a state.
+    ghost may_place: { Self → State → Type 0 };
+
+    /// It leads from one state to another.
+    ghost is_placed: { Self → State → State → Type 0 };
+
+    /// Places it.
+    fn place<E: Feasible>(&self, engine: &mut E)
+        requires { may_place self.now (E.state engine.old) }
+        ensures { is_placed self.now (E.state engine.old) (E.state engine.new) };
+
+    /// Places it, unless a watched light has no feasible word then: the engine may stop at such a light, and returns it.
+    /// Then nothing changes. `mark` holds the state.
+    fn try_place<E: Searchable>(
+        &self,
+        engine: &mut E,
+        watched: &[bool],
+        mark: &E::Snapshot,
+    ) -> Option<usize>
+        requires may { may_place self.now (E.state engine.old) }
+        requires marked { E.saved mark.now ≡ E.state engine.old }
+        ensures placed { IfNone result (is_placed self.now (E.state engine.old) (E.state engine.new)) }
+        ensures same { IfSome result (λ light. E.state engine.new ≡ E.state engine.old) }
+        ensures dead { IfSome result (λ light. (there : State) × is_placed self.now (E.state engine.old) there × IsDead (flags watched.now) (position_of there) light) }
+    {
+        let _ = watched;
+        let _ = mark;
+        self.place(engine);
+        None
+    }
+
+    /// Takes it back: returns to the state that it was placed in.
+    fn take_back<E: Feasible>(&self, engine: &mut E)
+        requires { (before : State) × is_placed self.now before (E.state engine.old) }
+        ensures { (before : State) → is_placed self.now before (E.state engine.old) → E.state engine.new ≡ before };
+
+    /// It changes only entries.
+    ghost entries: { (placement : Self) (before after : State) → is_placed placement before after → DiffersInEntries before after };
+}

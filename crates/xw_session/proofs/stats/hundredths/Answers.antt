@@ -1,5 +1,0 @@
-use Rattle.std.proofs.Common.{rules}
-use Rattle.xw_session.proofs.stats.hundredths.Goals as goal
-
-pub returns : goal.returns
-returns c = search rules

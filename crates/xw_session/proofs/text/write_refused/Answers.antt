@@ -1,5 +1,0 @@
-use Rattle.std.proofs.Common.{rules}
-use Rattle.xw_session.proofs.text.write_refused.Goals as goal
-
-pub returns : goal.returns
-returns g c = search rules

@@ -1,0 +1,149 @@
+//! The grade that a line of a word list gives its word.
+ghost use Rattle.std.specs.Prelude.{◌≡◌, true, position, reverse};
+ghost use Rattle.std.specs.List.{list_all};
+ghost use Rattle.std.specs.Str.Parse.{digits_value};
+ghost use Rattle.xw_words.specs.Dictionary.{capped};
+ghost use Rattle.xw_words.specs.WordList.{is_semicolon as is_semicolon_byte, is_blank as is_blank_byte, is_ink as is_ink_byte, is_digit as is_digit_byte, is_number as is_number_text, is_negative as is_negative_text, after_semicolon as text_after_semicolon, before_semicolon as text_before_semicolon, trimmed_start as text_trimmed_at_start, trimmed_end as text_trimmed_at_end, score_field as score_field_of, score_in as score_in_field, score_of};
+
+use crate::row::BEST_GRADE;
+
+/// The maximum number of digits of a score.
+const MOST_DIGITS: usize = 9;
+
+/// The score of a line that gives none.
+const USUAL_SCORE: u32 = 50;
+
+fn first_semicolon(text: &[u8]) -> Option<usize>
+    ensures { result ≡ position is_semicolon_byte text.now }
+{
+    text.iter().position(|byte| *byte == b';')
+}
+
+/// What follows the first semicolon; nothing if there is none.
+fn after_semicolon(line: &[u8]) -> &[u8]
+    ensures { result.now ≡ text_after_semicolon line.now }
+{
+    match first_semicolon(line) {
+        Some(at) => &line[at + 1..],
+        None => &[],
+    }
+}
+
+/// What comes before the first semicolon; all if there is none.
+fn before_semicolon(text: &[u8]) -> &[u8]
+    ensures { result.now ≡ text_before_semicolon text.now }
+{
+    match first_semicolon(text) {
+        Some(at) => &text[..at],
+        None => text,
+    }
+}
+
+/// Whether a byte is a space, a tab or a carriage return.
+fn is_blank(byte: u8) -> bool
+    ensures { result ≡ is_blank_byte byte }
+{
+    byte == b' ' || byte == b'\t' || byte == b'\r'
+}
+
+fn is_ink(byte: u8) -> bool
+    ensures { result ≡ is_ink_byte byte }
+{
+    !is_blank(byte)
+}
+
+fn first_ink(text: &[u8]) -> Option<usize>
+    ensures { result ≡ position is_ink_byte text.now }
+{
+    text.iter().position(|byte| is_ink(*byte))
+}
+
+/// The distance of the last byte that is not blank from the end.
+fn last_ink(text: &[u8]) -> Option<usize>
+    ensures { result ≡ position is_ink_byte (reverse text.now) }
+{
+    text.iter().rev().position(|byte| is_ink(*byte))
+}
+
+fn trimmed_start(text: &[u8]) -> &[u8]
+    ensures { result.now ≡ text_trimmed_at_start text.now }
+{
+    match first_ink(text) {
+        Some(start) => &text[start..],
+        None => &[],
+    }
+}
+
+fn trimmed_end(text: &[u8]) -> &[u8]
+    ensures { result.now ≡ text_trimmed_at_end text.now }
+{
+    match last_ink(text) {
+        Some(after) => &text[..text.len() - after],
+        None => &[],
+    }
+}
+
+/// The second field of a line, without blanks at its ends.
+fn score_field(line: &[u8]) -> &[u8]
+    ensures { result.now ≡ score_field_of line.now }
+{
+    trimmed_end(trimmed_start(before_semicolon(after_semicolon(line))))
+}
+
+fn is_digit(byte: u8) -> bool
+    ensures { result ≡ is_digit_byte byte }
+{
+    byte.is_ascii_digit()
+}
+
+fn all_digits(text: &[u8]) -> bool
+    ensures { result ≡ list_all is_digit_byte text.now }
+{
+    text.iter().all(|byte| is_digit(*byte))
+}
+
+/// Whether a text is 1 to 9 decimal digits.
+fn is_number(text: &[u8]) -> bool
+    ensures { result ≡ is_number_text text.now }
+{
+    (1..=MOST_DIGITS).contains(&text.len()) && all_digits(text)
+}
+
+/// Whether a text is a minus sign and a number.
+fn is_negative(text: &[u8]) -> bool
+    ensures { result ≡ is_negative_text text.now }
+{
+    text.starts_with(b"-") && is_number(&text[1..])
+}
+
+/// The value of decimal digits.
+fn value(digits: &[u8]) -> u32
+    requires { is_number_text digits.now ≡ true }
+    ensures { result ≡ digits_value 10 digits.now }
+{
+    let mut value = 0;
+    for digit in digits {
+        value = 10 * value + u32::from(*digit - b'0');
+    }
+    value
+}
+
+/// The score that a field gives: its number, 0 for a negative one, 50 for anything else.
+fn score_in(field: &[u8]) -> u32
+    ensures { result ≡ score_in_field field.now }
+{
+    if is_number(field) {
+        value(field)
+    } else if is_negative(field) {
+        0
+    } else {
+        USUAL_SCORE
+    }
+}
+
+/// The grade that a line of a word list gives its word.
+pub fn grade_of(line: &[u8]) -> u8
+    ensures { result ≡ capped (score_of line.now) }
+{
+    score_in(score_field(line)).min(u32::from(BEST_GRADE)) as u8
+}

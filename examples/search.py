@@ -1,0 +1,74 @@
+#!/usr/bin/env python3
+"""An example of a search that can be stopped: fills a grid in slices, by `xw edit` behind a pair of pipes.
+
+usage: examples/search.py WORDS RECORD [--slice K] [--xw PROGRAM]
+
+RECORD is a file of commands, such as examples/themeless15.xw or what `--save` wrote. A line on standard input stops the search, and so does
+its end. The last line is `filled`, `nofill` or `stopped`; after `filled` the grid stands above it.
+"""
+import argparse
+import itertools
+import pathlib
+import select
+import subprocess
+import sys
+
+TOP = pathlib.Path(__file__).resolve().parent.parent
+# With another seed the search takes another way, and may fill the grid otherwise.
+SEED = 0
+
+
+class Session(subprocess.Popen):
+    """`xw edit` on a word list and the commands of a file."""
+
+    def __init__(self, program, words, record):
+        call = [program, "edit", "--dict", words, "--resume", record]
+        streams = {"stdin": subprocess.PIPE, "stdout": subprocess.PIPE}
+        super().__init__(call, encoding="cp1252", errors="surrogateescape", **streams)
+
+    def ask(self, command):
+        """The lines that answer a command."""
+        print(command, file=self.stdin, flush=True)
+        lines = []
+        for line in self.stdout:
+            line = line.rstrip("\n")
+            if line == "ok":
+                return lines
+            if line.startswith("no "):
+                raise RuntimeError(f"{command}: {line}")
+            lines.append(line)
+        raise EOFError
+
+
+def is_stopped():
+    """Whether there is a line on standard input, or its end."""
+    return bool(select.select([sys.stdin], [], [], 0)[0])
+
+
+def search(session, placements, is_stopped):
+    """Fills the grid in slices of so many placements. Returns `filled`, `nofill` or `stopped`."""
+    for number in itertools.count(1):
+        (answer,) = session.ask(f"autofill {placements} {SEED}")  # goes on where the slice before it ended
+        if answer != "limit":
+            return answer
+        print(f"slice {number}: no fill yet", file=sys.stderr)
+        if is_stopped():
+            return "stopped"
+
+
+def main():
+    parser = argparse.ArgumentParser(description=__doc__, formatter_class=argparse.RawDescriptionHelpFormatter)
+    parser.add_argument("words", help="a word list")
+    parser.add_argument("record", help="the commands that make the grid")
+    parser.add_argument("--slice", metavar="K", type=int, default=2000, help="placements of a slice (default: %(default)s)")
+    parser.add_argument("--xw", metavar="PROGRAM", default=TOP / "xw", help="the program (default: %(default)s)")
+    options = parser.parse_args()
+    with Session(options.xw, options.words, options.record) as session:
+        answer = search(session, options.slice, is_stopped)
+        if answer == "filled":
+            print(*session.ask("show"), sep="\n")
+    print(answer)
+
+
+if __name__ == "__main__":
+    main()

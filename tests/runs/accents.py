@@ -1,0 +1,75 @@
+"""Texts with accents: each way into a file and out of it keeps their bytes."""
+import subprocess
+import sys
+
+from documents import TOP
+from steps import FIRST, SECONDS, compare, run, write
+
+# A title in Windows-1252, and bytes that this has no character for.
+TITLE = "title Caf\u00e9 \u2019".encode("cp1252")
+AUTHOR = b"author \x81\x8D\x8F\x90\x9D"
+CLUE = b"clue 1 across na\xEFve"
+TEXTS = TITLE + b"\n" + AUTHOR + b"\n" + CLUE + b"\n"
+
+# A puzzle with these texts.
+LINES = b"size 2 1\nplace 1 across at\n" + TEXTS
+MADE = [run("edit --to made.puz", LINES, output=b"ok\n" * 5)]
+
+
+def has(name, *texts):
+    """The file has these bytes."""
+
+    def step(room, program):
+        found = (room / name).read_bytes()
+        for text in texts:
+            assert text in found, f"{name} does not have {text!r}"
+
+    return step
+
+
+def same(name, other):
+    return lambda room, program: compare(name, (room / name).read_bytes(), (room / other).read_bytes())
+
+
+def told(words):
+    """A session that starts in this way has the texts."""
+    return run(f"edit {words}", b"texts\n", output=TEXTS + b"ok\n")
+
+
+def board_keeps(room, program):
+    """The example front end reads a log and writes it again, and sends the texts."""
+    log = room / "board.xw"
+    log.write_bytes(LINES)
+    (room / "keys").write_bytes(b"^S")
+    asked = [sys.executable, TOP / "examples/board.py", "--keys", "keys", "--log", log, "--xw", program]
+    subprocess.run(asked, cwd=room, stdout=subprocess.DEVNULL, timeout=SECONDS, check=True)
+    compare("log", log.read_bytes(), LINES)
+
+
+RECORD = b"text title Caf\xE9 \x92\ntext author \x81\x8D\x8F\x90\x9D\ntext copyright \ntext notes \ntext clue 1 1 across na\xEFve\n"
+CASES = {
+    "a session answers with the bytes that it was sent": [run("edit", LINES + b"texts\n", output=b"ok\n" * 5 + TEXTS + b"ok\n")],
+    ".puz": [*MADE, has("made.puz", b"Caf\xE9 \x92\0\x81\x8D\x8F\x90\x9D\0\0na\xEFve\0"), told("--from made.puz")],
+    "text file": [
+        run("edit --to made.txt", LINES, output=b"ok\n" * 5),
+        has("made.txt", b"\n\tCaf\xE9 \x92\n", b"\n\t\x81\x8D\x8F\x90\x9D\n", b"\n\tna\xEFve\n"),
+        told("--from made.txt"),
+    ],
+    "convert, there and back": [
+        *MADE,
+        run("convert made.puz made.txt"),
+        run("convert made.txt again.puz"),
+        same("again.puz", "made.puz"),
+    ],
+    "save and resume": [run("edit --save made.xw", LINES, output=b"ok\n" * 5), has("made.xw", RECORD), told("--resume made.xw")],
+    "journal": [run("edit --journal made.xw", LINES, output=b"ok\n" * 5), has("made.xw", RECORD), told("--journal made.xw")],
+    "journal that was cut": [
+        write("cut.xw", FIRST + LINES + b"cut"),
+        run("edit --journal cut.xw", b"texts\n", TEXTS + b"ok\n", b"xw: cut.xw: a cut line was dropped\n"),
+    ],
+    "UTF-8 is kept too, and is not Windows-1252": [
+        run("edit --to made.puz", b"size 2 1\nplace 1 across at\ntitle Caf\xC3\xA9\nclue 1 across c\n", output=b"ok\n" * 4),
+        has("made.puz", b"Caf\xC3\xA9\0"),
+    ],
+    "examples/board.py": [board_keeps],
+}

@@ -1,0 +1,200 @@
+// Tests of the module for the web beside its answers: texts, what `open` and `load` take, `close`, the lists of statuses, and the example of
+// docs/embedding.md.
+//
+//   node --expose-gc tests/web/module.mjs
+//
+// The last line is 'N passed, M failed'.
+import { deepStrictEqual as same, ok, rejects, throws } from 'node:assert/strict';
+import { execFileSync } from 'node:child_process';
+import { mkdtempSync, readFileSync, rmSync, writeFileSync } from 'node:fs';
+import { tmpdir } from 'node:os';
+import { join } from 'node:path';
+import { fileURLToPath } from 'node:url';
+import { runInNewContext } from 'node:vm';
+import { Fault, STATUSES, Xw, load, toBytes, toText } from '../../web/dist/xw.js';
+import { exampleOf } from './example.mjs';
+
+const MODULE = new URL('../../web/dist/xw.wasm', import.meta.url);
+const module = await load();
+
+const range = (first, last) => Array.from({ length: last + 1 - first }, (_, at) => first + at);
+const latin = (text) => Buffer.from(text, 'latin1');
+
+// The characters that solving programs show for the bytes 80 to 9F; a control character stands for a byte that has none.
+const HIGH =
+  '\u20ac\x81\u201a\u0192\u201e\u2026\u2020\u2021\u02c6\u2030\u0160\u2039\u0152\x8d\u017d\x8f' +
+  '\x90\u2018\u2019\u201c\u201d\u2022\u2013\u2014\u02dc\u2122\u0161\u203a\u0153\x9d\u017e\u0178';
+
+// All bytes that a text can hold without an escape.
+const BYTES = Uint8Array.from([120, ...range(1, 255).filter((byte) => ![10, 13, 92].includes(byte)), 120]);
+
+// A session whose puzzle can be written.
+function filled() {
+  const xw = Xw.open(module, { list: 'at\n' });
+  for (const line of ['size 2 1', 'set 1 1 a', 'set 1 2 t', 'clue 1 across c']) ok(xw.line(line).ok);
+  return xw;
+}
+
+const isStrange = (character, code) => (fault) => {
+  same([fault.status, fault.answer], ['Character', character]);
+  return fault instanceof Fault && fault.message.includes(code);
+};
+
+const isClosed = (fault) => fault instanceof Fault && fault.status === 'Closed';
+
+// How many of 20 sessions that are kept still have a memory, once each was given to `call`.
+async function memoriesLeft(call) {
+  const memories = [];
+  const { Instance } = WebAssembly;
+  WebAssembly.Instance = function (...given) {
+    const instance = new Instance(...given);
+    memories.push(new WeakRef(instance.exports.memory));
+    return instance;
+  };
+  // a collector may take what is left on the stack for a reference, so the last of all sessions does not count
+  const sessions = Array.from({ length: 21 }, () => Xw.open(module));
+  WebAssembly.Instance = Instance;
+  sessions.forEach(call);
+  const counted = memories.slice(0, 20);
+  let left = counted.length;
+  for (let turns = 0; left && turns < 10; turns++) {
+    // a reference that was just made, or asked for, is kept to the end of the turn
+    await new Promise(setImmediate);
+    globalThis.gc();
+    left = counted.filter((memory) => memory.deref()).length;
+  }
+  same(sessions.length, 21);
+  return left;
+}
+
+// What examples/search.mjs prints on a grid of 5 by 5 and these words, in slices of so many placements. It has no input, so it stops after the
+// first slice.
+function searched(words, placements) {
+  const room = mkdtempSync(join(tmpdir(), 'xw-search-'));
+  try {
+    writeFileSync(join(room, 'words.txt'), words);
+    writeFileSync(join(room, 'grid.xw'), 'size 5 5\n');
+    const asked = [fileURLToPath(new URL('../../examples/search.mjs', import.meta.url)), 'words.txt', 'grid.xw', placements];
+    return execFileSync(process.execPath, asked, { cwd: room, input: '', encoding: 'latin1' }).trimEnd().split('\n');
+  } finally {
+    rmSync(room, { recursive: true });
+  }
+}
+
+const SQUARE = ['shade', 'laded', 'along', 'gorse', 'sneer', 'slags', 'halon', 'adore', 'dense', 'edger'];
+
+const CASES = {
+  'each byte is one character': () => {
+    same(toText(Uint8Array.from(range(0, 255))), String.fromCharCode(...range(0, 127)) + HIGH + String.fromCharCode(...range(160, 255)));
+    same([...toBytes(toText(Uint8Array.from(range(0, 255))))], range(0, 255));
+    const long = new Uint8Array(100001).fill(0x92);
+    same(toText(long), '\u2019'.repeat(100001));
+  },
+  'the bytes of a line are those of the file': () => {
+    const xw = filled();
+    ok(xw.line(`title ${toText(BYTES)}`).ok);
+    ok(Buffer.from(xw.puz()).includes(Buffer.from([...BYTES, 0])));
+    ok(Buffer.from(xw.record()).includes(Buffer.from([...latin('text title '), ...BYTES, 10])));
+    same(xw.line('texts').lines, [`title ${toText(BYTES)}`, 'clue 1 across c']);
+    same([...xw.answer(latin('texts')).answer.subarray(0, 6 + BYTES.length)], [...latin('title '), ...BYTES]);
+  },
+  'an accent is one byte of a text file': () => {
+    const xw = filled();
+    ok(xw.line('title Caf\u00e9 \u2019').ok);
+    ok(Buffer.from(xw.text()).includes(latin('\n\tCaf\xe9 \x92\n')));
+    same(Xw.open(module, { puzzle: toText(xw.text()) }).line('texts').lines, ['title Caf\u00e9 \u2019', 'clue 1 across c']);
+  },
+  'the strings of open are those of its bytes': () => {
+    const xw = filled();
+    ok(xw.line(`title ${toText(BYTES)}`).ok);
+    const [puzzle, record] = [xw.puz(), xw.record()];
+    for (const beginning of [{ puzzle }, { puzzle: toText(puzzle) }, { record }, { record: toText(record) }]) {
+      same(Xw.open(module, beginning).puz(), puzzle);
+    }
+    // a line with an accent is skipped
+    same(Xw.open(module, { list: 'caf\u00e9\ncat\n' }).line('match ...').lines, ['CAT']);
+  },
+  'a character outside is named, and nothing is sent': () => {
+    const xw = filled();
+    throws(() => xw.line('title a\u0416'), isStrange('\u0416', 'U+0416'));
+    throws(() => xw.line('title \u{1f600}'), isStrange('\u{1f600}', 'U+1F600'));
+    same(xw.line('texts').lines, ['clue 1 across c']);
+    for (const name of ['list', 'puzzle', 'record']) throws(() => Xw.open(module, { [name]: 'a\u0416' }), isStrange('\u0416', 'U+0416'));
+  },
+  'bytes pass in another encoding': () => {
+    const xw = filled();
+    same(xw.answer(Buffer.from('title \u0416')).status, 'Accepted');
+    same(xw.answer(new ArrayBuffer(0)), { status: 'Silent', answer: new Uint8Array() });
+    same(Buffer.from(xw.answer(latin('texts')).answer), Buffer.from('title \u0416\nclue 1 across c\nok\n'));
+  },
+  'open takes bytes and strings': () => {
+    const bytes = Uint8Array.from(latin('cat\n'));
+    const other = runInNewContext('new Uint8Array([99, 97, 116])');
+    for (const list of ['cat', bytes, bytes.buffer, latin('cat'), other, other.buffer]) same(Xw.open(module, { list }).line('match ...').lines, ['CAT']);
+    same(Xw.open(module, { list: undefined }).line('match ...').lines, []);
+    same(Xw.open(module).line('match ...').lines, []);
+  },
+  'open takes nothing else': () => {
+    const others = [null, 7, true, ['cat'], { length: 3 }, new DataView(new ArrayBuffer(3)), new Int8Array(3), new SharedArrayBuffer(3), new Uint16Array(3)];
+    for (const name of ['list', 'puzzle', 'record']) for (const other of others) throws(() => Xw.open(module, { [name]: other }), TypeError);
+    const xw = Xw.open(module);
+    for (const other of [undefined, 7, latin('show')]) throws(() => xw.line(other), TypeError);
+    for (const other of [undefined, 7, 'show']) throws(() => xw.answer(other), TypeError);
+    ok(xw.line('show').ok);
+  },
+  'a closed session answers nothing': () => {
+    const xw = filled();
+    xw.close();
+    xw.close();
+    for (const call of [() => xw.line('show'), () => xw.answer(latin('show')), () => xw.puz(), () => xw.text(), () => xw.record()]) throws(call, isClosed);
+  },
+  'closed sessions hold no memory': async () => {
+    const whileOpen = await memoriesLeft(() => {});
+    const onceClosed = await memoriesLeft((xw) => xw.close());
+    same([whileOpen, onceClosed], [20, 0]);
+  },
+  'load takes a place or bytes': async () => {
+    const bytes = readFileSync(MODULE);
+    for (const source of [MODULE, MODULE.href, MODULE.pathname, bytes, Uint8Array.from(bytes).buffer]) ok((await load(source)) instanceof WebAssembly.Module);
+    await rejects(load('nowhere.wasm'));
+  },
+  'the statuses are those of the header': () => {
+    const header = readFileSync(new URL('../../include/xw.h', import.meta.url), 'utf8');
+    const names = Array.from(header.matchAll(/^ {4}XW_([A-Z_]+) = (\d+),?$/gm), ([, name, number]) => [Number(number), name.replaceAll('_', '')]);
+    same(names, STATUSES.map((name, number) => [number, name.toUpperCase()]));
+    const types = readFileSync(new URL('../../web/dist/xw.d.ts', import.meta.url), 'utf8');
+    same(Array.from(/type Status =([^;]*);/.exec(types)[1].matchAll(/'(\w+)'/g), ([, name]) => name), STATUSES);
+  },
+  'the search of examples/': () => {
+    same(searched(SQUARE.join('\n'), '0'), ['stopped']);
+    same(searched(SQUARE.slice(1).join('\n'), '2000'), ['nofill']);
+    const grid = searched(SQUARE.join('\n'), '2000');
+    same(grid.pop(), 'filled');
+    ok(grid.length === 5 && grid.every((row) => SQUARE.includes(row.replaceAll(' ', '').toLowerCase())));
+  },
+  'the example of docs/embedding.md': async () => {
+    const { code, printed } = exampleOf('docs/embedding.md', "import { load, Xw } from './xw.js';");
+    const seen = [];
+    const log = console.log;
+    console.log = (value) => seen.push(value);
+    try {
+      const beside = code.replace("'./xw.js'", `'${new URL('../../web/dist/xw.js', import.meta.url)}'`);
+      await import(`data:text/javascript;base64,${Buffer.from(beside).toString('base64')}`);
+    } finally {
+      console.log = log;
+    }
+    same(seen, printed);
+  },
+};
+
+let failed = 0;
+for (const [name, run] of Object.entries(CASES)) {
+  try {
+    await run();
+  } catch (error) {
+    failed++;
+    console.log(`FAILED ${name}: ${error.stack}`);
+  }
+}
+console.log(`${Object.keys(CASES).length - failed} passed, ${failed} failed`);
+process.exitCode = failed ? 1 : 0;

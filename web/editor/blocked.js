@@ -1,0 +1,188 @@
+// Grids with blocks by the usual rules, around entries that have their places: American grids, in which every cell is checked, and British
+// lattices, which have blocks in every other cell of every other row.
+import { shuffled } from './random.js';
+
+/** @typedef {'american' | 'british'} Style */
+
+// the most cells of a light that is no theme entry, the most blocks, as a part of the cells, and the most words, by the size of the grid
+const LONGEST_LIGHT = { american: 9, british: 10 };
+const MOST_BLOCKS = { american: 0.2, british: 0.42 };
+const MOST_WORDS_OF = { 15: 78, 21: 140 };
+// the most cells of a light, side by side, that no other light crosses
+const MOST_UNCHECKED = 2;
+const MOST_PARTINGS = 60;
+// lights of so many cells are parted if there is room for more words
+const LEAST_PARTED = 7;
+
+export class Draft {
+  /**
+   * @param {number} size
+   * @param {Style} style
+   * @param {import('./symmetry.js').Turns} turns
+   * @param {number[]} lattice the parity of the rows and of the columns in which a lattice has its blocks
+   */
+  constructor(size, style, turns, lattice = [1, 1]) {
+    this.size = size;
+    this.style = style;
+    this.turns = turns;
+    /** @type {Set<number>} */
+    this.blocks = new Set();
+    // cells of the places of entries, which stay open, and letters
+    /** @type {Set<number>} */
+    this.held = new Set();
+    /** @type {Map<number, string>} */
+    this.letters = new Map();
+    // the places of entries, as the names of their runs
+    /** @type {Set<string>} */
+    this.places = new Set();
+    const [top, left] = lattice;
+    if (style === 'british') for (let row = top; row < size; row += 2) for (let column = left; column < size; column += 2) this.blocks.add(row * size + column);
+  }
+
+  /** @returns {Draft} */
+  copy() {
+    const other = new Draft(this.size, this.style, this.turns);
+    other.blocks = new Set(this.blocks);
+    other.held = this.held;
+    other.letters = this.letters;
+    other.places = this.places;
+    return other;
+  }
+
+  // Keeps runs of cells open, with blocks at their ends; returns whether they could.
+  hold(runs) {
+    const { size } = this;
+    const ends = [];
+    for (const run of runs) {
+      const isDown = run[1] !== run[0] + 1;
+      const [step, at] = isDown ? [size, Math.floor(run[0] / size)] : [1, run[0] % size];
+      this.places.add(run.join());
+      for (const cell of run) {
+        this.held.add(cell);
+        this.blocks.delete(cell);
+      }
+      if (at > 0) ends.push(run[0] - step);
+      if (at + run.length < size) ends.push(run.at(-1) + step);
+    }
+    return ends.every((cell) => this.block(cell));
+  }
+
+  // Puts blocks into a cell and its images; returns whether no entry is in the way.
+  block(cell) {
+    const orbit = this.turns.orbit(cell);
+    if (orbit.some((one) => this.held.has(one))) return false;
+    for (const one of orbit) this.blocks.add(one);
+    return true;
+  }
+
+  // The runs of cells without blocks, as lists of cells, across and down.
+  /** @returns {number[][]} */
+  get runs() {
+    const runs = [];
+    const { size } = this;
+    for (const [line, step] of [[size, 1], [1, size]]) {
+      for (let at = 0; at < size; at++) {
+        let run = [];
+        for (let along = 0; along <= size; along++) {
+          const cell = at * line + along * step;
+          if (along < size && !this.blocks.has(cell)) run.push(cell);
+          else if (run.length) [run] = [[], runs.push(run)];
+        }
+      }
+    }
+    return runs;
+  }
+
+  #isShort(run) {
+    return run.length === 2 || (run.length === 1 && this.style === 'american');
+  }
+
+  // Blocks what is too short for a light; returns whether all runs are long enough then.
+  mend() {
+    for (let round = 0; round < this.size; round++) {
+      const short = this.runs.filter((run) => this.#isShort(run));
+      if (!short.length) return this.#isConnected;
+      if (!short.every((run) => run.every((cell) => this.block(cell)))) return false;
+    }
+    return false;
+  }
+
+  get #isConnected() {
+    const { size, blocks } = this;
+    const open = Array.from({ length: size ** 2 }, (_, cell) => cell).filter((cell) => !blocks.has(cell));
+    const seen = new Set(open.slice(0, 1));
+    for (const cell of seen) for (const next of this.#beside(cell)) if (!blocks.has(next)) seen.add(next);
+    return open.length > 0 && seen.size === open.length;
+  }
+
+  #beside(cell) {
+    const { size } = this;
+    const column = cell % size;
+    const sides = [[column > 0, cell - 1], [column < size - 1, cell + 1], [cell >= size, cell - size], [cell < size * (size - 1), cell + size]];
+    return sides.flatMap(([isThere, one]) => (isThere ? [Number(one)] : []));
+  }
+
+  get lights() {
+    return this.runs.filter((run) => run.length > 1);
+  }
+
+  // Parts the longest lights with blocks until none is too long; returns the draft, or null.
+  /** @returns {Draft | null} */
+  parted(random) {
+    const longest = LONGEST_LIGHT[this.style];
+    /** @type {Draft} */
+    let draft = this;
+    for (let round = 0; round < MOST_PARTINGS; round++) {
+      const long = draft.#longerThan(longest);
+      if (!long.length) return draft.#isChecked ? draft.#filledUp(random) : null;
+      const parted = draft.#part(long[0], random);
+      if (!parted) return null;
+      draft = parted;
+    }
+    return null;
+  }
+
+  // The lights of more cells that are no places of entries, the longest first.
+  #longerThan(length) {
+    return this.lights.filter((run) => run.length > length && !this.places.has(run.join())).sort((a, b) => b.length - a.length);
+  }
+
+  // Parts lights of an American grid as long as it has few words: the more there are, the easier it is to fill.
+  /** @returns {Draft} */
+  #filledUp(random) {
+    if (this.style !== 'american') return this;
+    /** @type {Draft} */
+    let draft = this;
+    for (let round = 0; round < MOST_PARTINGS; round++) {
+      const parted = draft.#longerThan(LEAST_PARTED - 1).map((run) => draft.#part(run, random)).find(Boolean);
+      if (!parted) return draft;
+      draft = parted;
+    }
+    return draft;
+  }
+
+  #part(run, random) {
+    for (const cell of shuffled(run.slice(3, -3), random)) {
+      const other = this.copy();
+      if (other.block(cell) && other.mend() && other.isUsual) return other;
+    }
+    return null;
+  }
+
+  get isUsual() {
+    const most = this.style === 'american' ? MOST_WORDS_OF[this.size] ?? Infinity : Infinity;
+    return this.blocks.size <= MOST_BLOCKS[this.style] * this.size ** 2 && this.lights.length <= most;
+  }
+
+  // Whether half of the cells of each light are checked, but for one, and no three unchecked ones stand side by side.
+  get #isChecked() {
+    if (this.style === 'american') return true;
+    const crossed = new Map();
+    for (const run of this.lights) for (const cell of run) crossed.set(cell, (crossed.get(cell) ?? 0) + 1);
+    return this.lights.every((run) => {
+      const isChecked = run.map((cell) => crossed.get(cell) === 2);
+      const runs = isChecked.map((one) => (one ? 'c' : 'u')).join('').split('c');
+      return 2 * isChecked.filter(Boolean).length >= run.length - 1 && runs.every((unchecked) => unchecked.length <= MOST_UNCHECKED);
+    });
+  }
+}

@@ -1,0 +1,106 @@
+// The fills that were found, side by side as small grids, to look at and choose from.
+import { whenIdle } from './idle.js';
+import { sketchOf } from './library.js';
+import { say } from './messages.js';
+
+const MOST_KEPT = 5;
+
+export class Fills {
+  #editor;
+  #elements;
+  // for each fill its letters, by coordinates; the newest first
+  /** @type {Map<string, string>[]} */
+  #kept = [];
+  #shape = '';
+  // rises with each change, so that late answers are dropped
+  #turn = 0;
+
+  // `elements` are the box and the list in it; `mayEdit` tells whether a fill can be put into the grid now.
+  constructor(editor, elements, mayEdit) {
+    this.#editor = editor;
+    this.#elements = elements;
+    this.mayEdit = mayEdit;
+    for (const name of ['step', 'whole']) editor.addEventListener(name, () => this.#soon());
+  }
+
+  // Keeps the fill that is in the grid.
+  add() {
+    const letters = this.#letters();
+    this.#drop();
+    this.#kept = [letters, ...this.#kept.filter((fill) => !isSame(fill, letters))].slice(0, MOST_KEPT);
+    this.#soon();
+  }
+
+  #letters() {
+    return new Map(this.#editor.board.cells.filter((cell) => cell.letter).map((cell) => [cell.coordinates, cell.letter]));
+  }
+
+  // Drops fills of another grid, and those that do not have the letters in ink.
+  #drop() {
+    const { board, pencil } = this.#editor;
+    const shape = board.cells.map((cell) => (cell.block ? '#' : `${cell.right ? '|' : ''}${cell.below ? '=' : '-'}`)).join('');
+    const ink = board.cells.filter((cell) => cell.letter && !pencil.has(cell.coordinates));
+    const isOfGrid = (fill) => shape === this.#shape && ink.every((cell) => fill.get(cell.coordinates) === cell.letter);
+    this.#kept = this.#kept.filter(isOfGrid);
+    this.#shape = shape;
+  }
+
+  #soon() {
+    if (!this.#kept.length && this.#elements.box.hidden) return;
+    const turn = ++this.#turn;
+    whenIdle(() => turn === this.#turn && this.#show(turn).catch(() => {}));
+  }
+
+  async #show(turn) {
+    this.#drop();
+    const { box, list } = this.#elements;
+    // one fill, which is in the grid, is no choice
+    const isChoice = this.#kept.length > 1;
+    const figures = isChoice ? await Promise.all(this.#kept.map((fill) => this.#figures(fill))) : [];
+    if (turn !== this.#turn) return;
+    box.hidden = !isChoice;
+    list.replaceChildren(...(isChoice ? this.#kept.map((fill, at) => this.#card(fill, figures[at])) : []));
+  }
+
+  // What is said of a fill: that it is in the grid, or how many of its words are others; and if the list has scores, the worst and the mean.
+  async #figures(fill) {
+    const { board, list, engine } = this.#editor;
+    const spelled = (light, letters) => light.cells.map((cell) => letters.get(board.cells[cell].coordinates) ?? '.').join('');
+    const now = this.#letters();
+    const others = board.lights.filter((light) => spelled(light, fill) !== spelled(light, now)).length;
+    const told = others ? `${others} other ${others === 1 ? 'word' : 'words'}` : 'in the grid';
+    if (!list.scored) return told;
+    const grades = (await engine.call('grades', { words: board.lights.map((light) => spelled(light, fill)) })).filter((grade) => grade !== null);
+    const mean = Math.round(grades.reduce((sum, grade) => sum + grade, 0) / grades.length);
+    return grades.length ? `${told}; worst ${Math.min(...grades)}, mean ${mean}` : told;
+  }
+
+  #card(fill, figures) {
+    const { board } = this.#editor;
+    const card = Object.assign(document.createElement('button'), { type: 'button', className: 'pattern fill' });
+    const changed = new Set([...fill].filter(([coordinates, letter]) => this.#editor.cellAt(coordinates)?.letter !== letter).map(([coordinates]) => coordinates));
+    const blocks = new Set(board.cells.filter((cell) => cell.block).map((cell) => cell.coordinates));
+    const bars = new Set(board.cells.flatMap((cell) => [...(cell.right ? [`${cell.coordinates} right`] : []), ...(cell.below ? [`${cell.coordinates} below`] : [])]));
+    card.append(sketchOf({ width: board.width, height: board.height, blocks, bars, letters: fill }, changed), Object.assign(document.createElement('small'), { textContent: figures }));
+    card.setAttribute('aria-pressed', String(!changed.size));
+    card.setAttribute('aria-label', `Fill: ${figures}`);
+    card.addEventListener('click', () => this.#choose(fill));
+    return card;
+  }
+
+  // Puts a fill into the grid, in pencil but for what is in ink.
+  async #choose(fill) {
+    const editor = this.#editor;
+    if (!this.mayEdit()) return;
+    const { cells } = editor.board;
+    const cleared = cells.filter((cell) => cell.letter && !fill.has(cell.coordinates));
+    const entered = cells.filter((cell) => fill.has(cell.coordinates) && fill.get(cell.coordinates) !== cell.letter);
+    if (!cleared.length && !entered.length) return;
+    const pencil = new Set([...editor.pencil, ...entered.map((cell) => cell.coordinates)]);
+    const lines = [...cleared.map((cell) => `clear ${cell.coordinates}`), ...entered.map((cell) => `set ${cell.coordinates} ${fill.get(cell.coordinates)}`)];
+    editor.edited = null;
+    if (!(await editor.edit(lines, { pencil }))) say('this fill is in the grid; undo takes it back', 'good');
+  }
+}
+
+const isSame = (one, other) => one.size === other.size && [...one].every(([cell, letter]) => other.get(cell) === letter);

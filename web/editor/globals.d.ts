@@ -1,0 +1,7 @@
+// What the page has beside its modules: a function of index.html, and what this version of tsc does not know of browsers.
+
+declare function cannotRun(why: string): void;
+
+declare class DecompressionStream extends TransformStream {
+  constructor(format: 'gzip');
+}

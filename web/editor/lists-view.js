@@ -1,0 +1,55 @@
+// The word lists in the tab of the puzzle, and the dialog of the personal list.
+import { readPersonal } from './word-list.js';
+
+export class ListsView {
+  #elements;
+
+  // `actions`: `change` takes the lists over that a function makes of them, `export` saves the personal list.
+  constructor(elements, actions) {
+    this.#elements = elements;
+    this.actions = actions;
+    elements.list.addEventListener('change', ({ target }) => actions.change((lists) => lists.switching(target.dataset.name, target.checked)));
+    elements.list.addEventListener('click', ({ target }) => target.dataset.remove && actions.change((lists) => lists.removing(target.dataset.remove)));
+    elements.edit.addEventListener('click', () => this.#edit());
+    elements.export.addEventListener('click', () => actions.export(this.lists.personal));
+    elements.dialog.addEventListener('close', () => {
+      if (elements.dialog.returnValue === 'save' && elements.text.value !== this.lists.personal) actions.change((lists) => lists.withPersonal(elements.text.value));
+    });
+    elements.text.addEventListener('input', () => this.#count(elements.text.value));
+  }
+
+  show(lists) {
+    this.lists = lists;
+    this.#elements.list.replaceChildren(...lists.parts.filter(({ bytes }) => bytes.length).map((part) => row(part)));
+    const { words, hidden } = readPersonal(lists.personal);
+    this.#elements.summary.textContent = words.size + hidden.size ? `${words.size} added, ${hidden.size} hidden` : 'none yet';
+    this.#elements.export.disabled = !lists.personal.trim();
+  }
+
+  #edit() {
+    this.#elements.text.value = this.lists.personal;
+    this.#count(this.lists.personal);
+    this.#elements.dialog.showModal();
+  }
+
+  #count(text) {
+    const { words, hidden, faults } = readPersonal(text);
+    const strange = faults.length ? `; no word: ${faults.slice(0, 3).join(', ')}${faults.length > 3 ? ' …' : ''}` : '';
+    this.#elements.count.textContent = `${words.size} added, ${hidden.size} hidden${strange}`;
+  }
+}
+
+function row({ name, isOn, isBuiltIn }) {
+  const item = document.createElement('li');
+  const label = document.createElement('label');
+  const box = Object.assign(document.createElement('input'), { type: 'checkbox', checked: isOn });
+  box.dataset.name = name;
+  label.append(box, ` ${name}`);
+  item.append(label);
+  if (!isBuiltIn && !isOn) {
+    const remove = Object.assign(document.createElement('button'), { type: 'button', textContent: 'Remove' });
+    remove.dataset.remove = name;
+    item.append(remove);
+  }
+  return item;
+}

@@ -1,0 +1,74 @@
+// The word lists: several, each on or off, and the personal list, which stays over puzzles.
+import { keepLists, keptLists } from './keep.js';
+
+export class Lists {
+  // { name, bytes, isOn, isBuiltIn }; the personal list as text; the least score of a word
+  parts = [];
+  personal = '';
+  least = 0;
+
+  constructor({ parts, personal = '', least = 0 }) {
+    Object.assign(this, { parts, personal, least });
+  }
+
+  // What the browser keeps, or the built-in list alone.
+  static async kept(builtIn) {
+    const kept = await keptLists().catch(() => null);
+    if (!kept) return Lists.builtIn(builtIn);
+    const parts = kept.parts.map((part) => (part.isBuiltIn ? { ...part, ...builtIn } : part));
+    return new Lists({ ...kept, parts: parts.some(({ isBuiltIn }) => isBuiltIn) ? parts : [{ ...builtIn, isBuiltIn: true, isOn: false }, ...parts] });
+  }
+
+  static builtIn(builtIn, personal = '') {
+    return new Lists({ parts: [{ ...builtIn, isBuiltIn: true, isOn: true }], personal });
+  }
+
+  // Keeps them. The built-in list is in the page already.
+  keep() {
+    const parts = this.parts.map(({ name, bytes, isOn, isBuiltIn }) => (isBuiltIn ? { name, isOn, isBuiltIn } : { name, bytes, isOn }));
+    return keepLists({ parts, personal: this.personal, least: this.least });
+  }
+
+  #with(changed) {
+    return new Lists({ parts: this.parts, personal: this.personal, least: this.least, ...changed });
+  }
+
+  // With one more list, which is used in place of the others. These stay, off.
+  adding(name, bytes) {
+    const others = this.parts.filter((part) => part.name !== name || !isSameBytes(part.bytes, bytes)).map((part) => ({ ...part, isOn: false }));
+    const isTaken = (wanted) => others.some((part) => part.name === wanted);
+    let free = name;
+    for (let count = 2; isTaken(free); count++) free = `${name} (${count})`;
+    return this.#with({ parts: [...others, { name: free, bytes, isOn: true }], least: 0 });
+  }
+
+  switching(name, isOn) {
+    return this.#with({ parts: this.parts.map((part) => (part.name === name ? { ...part, isOn } : part)) });
+  }
+
+  // With the built-in list alone in use.
+  onlyBuiltIn() {
+    return this.#with({ parts: this.parts.map((part) => ({ ...part, isOn: Boolean(part.isBuiltIn) })), least: 0 });
+  }
+
+  removing(name) {
+    return this.#with({ parts: this.parts.filter((part) => part.name !== name) });
+  }
+
+  atLeast(least) {
+    return this.#with({ least });
+  }
+
+  withPersonal(personal) {
+    return this.#with({ personal });
+  }
+
+  // What the engine opens.
+  get chosen() {
+    const on = this.parts.filter(({ isOn, bytes }) => isOn && bytes.length);
+    const name = on.length === 1 ? on[0].name : on.length ? `${on.length} lists` : '';
+    return { name: name || (this.personal.trim() ? 'my words' : ''), sources: on.map(({ bytes }) => bytes), personal: this.personal, least: this.least };
+  }
+}
+
+const isSameBytes = (one, other) => one.length === other.length && one.every((byte, at) => byte === other[at]);

@@ -1,0 +1,100 @@
+// The usual rules of grids, as warnings: the number of words, lights of two letters, parts that do not connect, unchecked runs, and words that
+// are close to each other.
+
+import { mostUnchecked } from './barred.js';
+
+// The most words of an American grid, by its size.
+const MOST_WORDS = { 15: 78, 21: 140 };
+// The most cells in a row of a light that no other light crosses, in a grid with blocks.
+const MOST_UNCHECKED = 2;
+// How many letters in a row two words may share.
+const MOST_SHARED = 4;
+// Endings without which words have one root.
+const ENDING = /(S|ES|ED|ER|ERS|ING|INGS|LY)$/;
+
+// The parts of the grid that lights connect, each as a set of cells.
+export function partsOf(board) {
+  const parts = [];
+  const seen = new Set();
+  board.cells.forEach((cell, index) => {
+    if (cell.block || seen.has(index)) return;
+    const part = new Set([index]);
+    for (const one of part) for (const light of board.through(one)) for (const next of light.cells) part.add(next);
+    for (const one of part) seen.add(one);
+    parts.push(part);
+  });
+  return parts;
+}
+
+const isChecked = (board, index) => board.through(index).length === 2;
+
+// The longest run of unchecked cells in a light.
+function uncheckedRun(board, light) {
+  let [run, longest] = [0, 0];
+  for (const index of light.cells) {
+    run = isChecked(board, index) ? 0 : run + 1;
+    longest = Math.max(longest, run);
+  }
+  return longest;
+}
+
+// Whether all cells are checked, as in American grids.
+const isAmerican = (board) => board.cells.every((cell, index) => cell.block || isChecked(board, index));
+
+const titled = ({ number, direction }) => `${number} ${direction === 'across' ? 'Across' : 'Down'}`;
+
+function gridWarnings(board) {
+  const warnings = [];
+  const most = board.width === board.height && isAmerican(board) ? MOST_WORDS[board.width] : undefined;
+  if (most && board.lights.length > most) warnings.push({ text: `${board.lights.length} words: an American ${board.width} × ${board.height} has ${most} at most` });
+  const short = board.lights.filter((light) => light.cells.length === 2);
+  if (short.length) warnings.push({ text: short.length === 1 ? `${titled(short[0])} has two letters` : `${short.length} lights have two letters`, light: short[0].name });
+  const parts = partsOf(board);
+  if (parts.length > 1) {
+    const [cell] = parts.reduce((least, part) => (part.size < least.size ? part : least));
+    warnings.push({ text: `the grid is in ${parts.length} parts that do not connect`, cell });
+  }
+  const isBarred = board.cells.some((cell) => cell.right || cell.below);
+  if (isBarred) return [...warnings, ...barredWarnings(board)];
+  const unchecked = isAmerican(board) ? [] : board.lights.filter((light) => uncheckedRun(board, light) > MOST_UNCHECKED);
+  if (unchecked.length) warnings.push({ text: `${titled(unchecked[0])} has ${uncheckedRun(board, unchecked[0])} unchecked cells in a row`, light: unchecked[0].name });
+  return warnings;
+}
+
+// In a barred grid the unchecked letters of a light are counted.
+function barredWarnings(board) {
+  const uncheckedIn = (light) => light.cells.filter((index) => !isChecked(board, index)).length;
+  const loose = board.lights.filter((light) => uncheckedIn(light) > mostUnchecked(light.cells.length));
+  if (!loose.length) return [];
+  const [{ cells: { length } }] = loose;
+  const others = loose.length > 1 ? `, and ${loose.length - 1} more ${loose.length === 2 ? 'light has' : 'lights have'} too many` : '';
+  return [{ text: `${titled(loose[0])} has ${uncheckedIn(loose[0])} unchecked letters of ${length}; ${mostUnchecked(length)} at most is usual${others}`, light: loose[0].name }];
+}
+
+const rootOf = (word) => {
+  const root = word.replace(ENDING, '');
+  return root.length >= 3 ? root.replace(/(.)\1$/, '$1').replace(/E$/, '') : word;
+};
+
+// Words that share a root, or more letters in a row than they may. Each part of a word leads to the first light that has it.
+function wordWarnings(board) {
+  const [roots, parts, warnings] = [new Map(), new Map(), []];
+  for (const light of board.lights.filter((one) => board.isEntered(one))) {
+    const word = board.spell(light);
+    const root = rootOf(word);
+    const pieces = Array.from({ length: Math.max(0, word.length - MOST_SHARED) }, (_, at) => word.slice(at, at + MOST_SHARED + 1));
+    const related = roots.get(root);
+    const shared = pieces.find((piece) => parts.has(piece));
+    if (related && related.word !== word) warnings.push({ text: `${related.word} and ${word} have one root: ${titled(related.light)} and ${titled(light)}`, light: light.name });
+    else if (shared && parts.get(shared).word !== word) {
+      const { word: other, light: first } = parts.get(shared);
+      warnings.push({ text: `${other} and ${word} share ${shared}: ${titled(first)} and ${titled(light)}`, light: light.name });
+    }
+    if (!related) roots.set(root, { word, light });
+    for (const piece of pieces) if (!parts.has(piece)) parts.set(piece, { word, light });
+  }
+  return warnings;
+}
+
+// What the usual rules say against a grid: { text, light or cell to go to }.
+export const warningsOf = (board) => [...gridWarnings(board), ...wordWarnings(board)];

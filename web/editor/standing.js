@@ -1,0 +1,41 @@
+// What is said of the word that stands in the light under the cursor: that it is not in the list or stands twice, with what can be done.
+import { titleOf } from './words.js';
+
+export class StandingView {
+  #editor;
+  #root;
+  #faults;
+
+  // `actions` are `add` of a word, `erase` of the light, and `go` to another light.
+  constructor(editor, root, faults, actions) {
+    this.#editor = editor;
+    this.#root = root;
+    this.#faults = faults;
+    this.actions = actions;
+    for (const name of ['whole', 'letters', 'move']) editor.addEventListener(name, () => this.#show());
+    faults.addEventListener('told', () => this.#show());
+  }
+
+  // The fault of the light, as a text and buttons; or null.
+  #fault({ name }) {
+    const { board } = this.#editor;
+    const word = this.#faults.unlisted.get(name);
+    if (word && word === board.spell(board.byName.get(name))) {
+      return [`${word} is not in your lists`, ['Add it', () => this.actions.add(word)], ['Erase it', () => this.actions.erase()]];
+    }
+    const other = board.byName.get(this.#faults.repeated.get(name));
+    return other ? [`${board.spell(other)} stands in ${titleOf(other)} too`, ['Go there', () => this.actions.go(other)], ['Erase it', () => this.actions.erase()]] : null;
+  }
+
+  #show() {
+    const { light, board } = this.#editor;
+    const fault = light && board.isEntered(light) ? this.#fault(light) : null;
+    const text = fault?.[0] ?? '';
+    if (this.#root.dataset.text === text) return;
+    this.#root.dataset.text = text;
+    this.#root.hidden = !fault;
+    const [, ...buttons] = fault ?? [''];
+    const made = buttons.map(([label, action]) => Object.assign(document.createElement('button'), { type: 'button', textContent: label, onclick: action }));
+    this.#root.replaceChildren(Object.assign(document.createElement('span'), { textContent: text }), ...made);
+  }
+}

@@ -1,0 +1,136 @@
+// The dialog of new grids, with theme entries or without: each grid is judged by the engine before it is chosen.
+import { sketchOf } from './library.js';
+import { bodyOf, parseRecord } from './record.js';
+import { checkWanted, recordOfGrid } from './themes.js';
+
+const MOST_ENTRIES = 8;
+// the most grids that are shown, how many of these should fill, and the most of those that have no fill
+const MOST_FOUND = 8;
+const ENOUGH = 3;
+const MOST_SPARES = 4;
+// the most workers that make grids, and the placements of the searches that tell whether a grid fills
+const MOST_JUDGES = 3;
+const PLACEMENTS = 2000;
+// how often a worker is asked for grids, and from how many seeds each time; barred grids take longer
+const EFFORTS = { american: { rounds: 20, tries: 6 }, british: { rounds: 12, tries: 6 }, barred: { rounds: 8, tries: 2 } };
+// the seeds of one worker lie so far from those of the next
+const SEEDS = 100003;
+
+export class ThemesView {
+  #editor;
+  #helpers;
+  #elements;
+  #seed = 0;
+  // rises with each search, so that those before it end
+  #turn = 0;
+
+  // `begin` begins a puzzle with a record.
+  constructor(editor, helpers, elements, begin) {
+    this.#editor = editor;
+    this.#helpers = helpers;
+    this.#elements = elements;
+    this.begin = begin;
+    elements.show.addEventListener('click', () => this.#search().catch((fault) => this.#say(fault.message)));
+    elements.dialog.addEventListener('close', () => {
+      this.#turn++;
+      helpers.rest();
+    });
+  }
+
+  show() {
+    this.#elements.dialog.showModal();
+    this.#elements.entries.focus();
+  }
+
+  #say(text, isBusy = false) {
+    this.#elements.told.textContent = text;
+    this.#elements.grids.setAttribute('aria-busy', String(isBusy));
+  }
+
+  // Shows grids as they are found. They are judged meanwhile, and at the end those that fill come first.
+  async #search() {
+    const turn = ++this.#turn;
+    const { grids, entries: typed, style, size, sym } = this.#elements;
+    const entries = typed.value.split('\n').map((line) => line.normalize('NFD').replace(/[^A-Za-z]/g, '').toUpperCase()).filter(Boolean);
+    grids.replaceChildren();
+    if (entries.length > MOST_ENTRIES) return this.#say(`Enter ${MOST_ENTRIES} entries at most, one a line.`);
+    const short = entries.find((word) => word.length < 3);
+    if (short) return this.#say(`${short} is too short.`);
+    const wanted = { entries, size: Number(size.value), style: style.value, sym: sym.value };
+    checkWanted(wanted);
+    this.#say('looking for grids …', true);
+    const search = { turn, wanted, found: new Map(), spares: [] };
+    const seed = ++this.#seed;
+    const judges = this.#judges();
+    await Promise.all(judges.map((judge, at) => this.#look(search, judge, SEEDS * (judges.length * seed + at))));
+    const isSpare = !search.found.size;
+    if (isSpare) for (const grid of search.spares.slice(0, MOST_SPARES)) await this.#judge(search, grid, judges[0], true);
+    return this.#end(search);
+  }
+
+  // Whether a search goes on: until there are grids, some of which fill.
+  #isDue({ turn, found }) {
+    const filling = [...found.values()].filter(({ rank }) => rank === Infinity);
+    return turn === this.#turn && (found.size < MOST_FOUND || filling.length < ENOUGH);
+  }
+
+  // Looks for grids in one worker, and has it judge them.
+  async #look(search, judge, seed) {
+    const { rounds, tries } = EFFORTS[search.wanted.style];
+    for (let round = 0; round < rounds && this.#isDue(search); round++) {
+      const { fit, spare } = await (await judge).call('grids', { wanted: search.wanted, seed: seed + round * tries, tries });
+      if (spare) search.spares.push(spare);
+      for (const grid of fit) if (this.#isDue(search)) await this.#judge(search, grid, judge, false);
+    }
+  }
+
+  // Shows a grid with what an engine says of it, unless it has no fill.
+  async #judge(search, grid, judge, isSpare) {
+    const record = recordOfGrid(grid);
+    if (search.found.has(record)) return;
+    const { unmatched, fewest, fill } = await (await judge).call('judge', { lines: bodyOf(record), most: PLACEMENTS });
+    if (search.turn !== this.#turn) return;
+    if (fill === 'nofill' && !isSpare) {
+      search.spares.unshift(grid);
+      return;
+    }
+    const card = this.#card(grid, record, verdictOf(unmatched, fewest, fill));
+    search.found.set(record, { card, rank: fill === 'filled' ? Infinity : fewest - unmatched.length });
+    this.#elements.grids.append(card);
+  }
+
+  #card(grid, record, verdict) {
+    const card = Object.assign(document.createElement('button'), { type: 'button', className: 'pattern' });
+    const facts = grid.bars.size ? `${grid.lights.length} words` : `${grid.lights.length} words, ${grid.blocks.size} blocks`;
+    card.append(sketchOf(parseRecord(record)), facts, Object.assign(document.createElement('small'), verdict));
+    card.addEventListener('click', () => {
+      this.#elements.dialog.close();
+      this.begin(record);
+    });
+    return card;
+  }
+
+  // Shows the grids that fill first, and then those whose tightest light has the most words.
+  #end({ turn, found }) {
+    if (turn !== this.#turn) return undefined;
+    const best = [...found.values()].sort((a, b) => (a.rank === b.rank ? 0 : b.rank - a.rank)).slice(0, MOST_FOUND);
+    if (!best.length) return this.#say('No such grid was found: try another size or symmetry, or other entries.');
+    this.#elements.grids.replaceChildren(...best.map(({ card }) => card));
+    return this.#say(`${best.length} ${best.length === 1 ? 'grid' : 'grids'}. “Show grids” shows others.`);
+  }
+
+  // Engines with the words of the session.
+  #judges() {
+    const count = Math.min(MOST_JUDGES, this.#helpers.most + 1);
+    return this.#helpers.begin([...this.#editor.record.split('\n').filter((line) => /^(add|strike) /.test(line)), 'size 1 1', ''].join('\n'), count);
+  }
+}
+
+// What is said of a grid: whether it fills, or what keeps it from that.
+function verdictOf(unmatched, fewest, fill) {
+  const { length } = unmatched;
+  if (length) return { textContent: `${length} ${length === 1 ? 'light has' : 'lights have'} no word: ${unmatched[0]}`, className: 'bad' };
+  if (fill === 'nofill') return { textContent: 'no fill', className: 'bad' };
+  if (fill === 'filled') return { textContent: 'it fills', className: 'here' };
+  return { textContent: `${fewest.toLocaleString('en')} ${fewest === 1 ? 'word' : 'words'} for the tightest light` };
+}

@@ -1,0 +1,168 @@
+// Tests the grids that the page makes: that the engine reads each as it was meant, that they keep the usual rules, and that their symmetries are
+// those of the engine.
+//
+//   node web/test/grids.mjs
+//
+// The last line is 'N passed, M failed'.
+import { execFileSync } from 'node:child_process';
+import { mkdtempSync, readFileSync, rmSync, writeFileSync } from 'node:fs';
+import { tmpdir } from 'node:os';
+import { join } from 'node:path';
+import { Xw, load } from '../dist/xw.js';
+
+// the modules of the page as one, which Node takes for a module by its name
+const room = mkdtempSync(join(tmpdir(), 'xw-grids-'));
+const editor = new URL('../editor/', import.meta.url).pathname;
+const entry = ['themes', 'symmetry', 'patterns', 'barred'].map((name) => `export * from '${editor}${name}.js';\n`).join('');
+writeFileSync(join(room, 'entry.js'), entry);
+execFileSync('esbuild', [join(room, 'entry.js'), '--bundle', '--format=esm', '--log-level=warning', `--outfile=${join(room, 'grids.mjs')}`]);
+const { PATTERNS, Turns, checkWanted, gridFrom, mostUnchecked, recordOf, recordOfGrid, rowsOf } = await import(join(room, 'grids.mjs'));
+rmSync(room, { recursive: true });
+
+const SYMMETRIES = ['half', 'quarter', 'leftright', 'updown', 'none'];
+const module = await load(readFileSync(new URL('../dist/xw.wasm', import.meta.url)));
+
+function expect(isSo, what) {
+  if (!isSo) throw new Error(what);
+}
+
+// A grid as the engine has it: { lights, cells, blocks, bars }, where a light is a list of cells and cells are `R C`.
+function gridIn(record) {
+  const xw = Xw.open(module, { record });
+  expect(xw.reports === '', `the record is refused: ${xw.reports}`);
+  const lights = xw.line('lights').lines.map((line) => {
+    const [, direction, row, column, letters] = line.split(' ');
+    return Array.from(letters, (_, at) => (direction === 'across' ? `${row} ${Number(column) + at}` : `${Number(row) + at} ${column}`));
+  });
+  const lines = (name) => record.split('\n').filter((line) => line.startsWith(`${name} `)).map((line) => line.slice(name.length + 1));
+  const [, width, height] = /size (\d+) (\d+)/.exec(record).map(Number);
+  const open = new Set();
+  for (let row = 1; row <= height; row++) for (let column = 1; column <= width; column++) open.add(`${row} ${column}`);
+  for (const block of lines('block')) open.delete(block);
+  return { width, height, lights, open, blocks: lines('block'), bars: lines('bar'), letters: xw.line('stats').lines.find((line) => line.startsWith('entered')) };
+}
+
+// What the usual rules of a style say against a grid; or ''.
+function faultOf({ width, lights, open }, style, themes) {
+  const through = new Map([...open].map((cell) => [cell, lights.filter((light) => light.includes(cell)).length]));
+  const isTheme = (light) => themes.some((length) => light.length === length);
+  const short = lights.find((light) => light.length < 3);
+  if (short) return `a light of ${short.length}`;
+  if (lights.some((light) => style !== 'barred' && light.length > 10 && !isTheme(light))) return 'a long light';
+  if (style === 'american' && [...through.values()].some((count) => count !== 2)) return 'an unchecked cell';
+  if (style === 'american' && width === 15 && lights.length > 78) return `${lights.length} words`;
+  if ([...through.values()].some((count) => count === 0) && style !== 'british') return 'a cell in no light';
+  for (const light of lights) {
+    const unchecked = light.map((cell) => (through.get(cell) === 1 ? 'u' : 'c')).join('');
+    const count = unchecked.replaceAll('c', '').length;
+    if (style === 'british' && (unchecked.includes('uuu') || 2 * count > light.length + 1)) return `unchecked: ${unchecked}`;
+    if (style === 'barred' && (unchecked.includes('uu') || count > mostUnchecked(light.length))) return `unchecked: ${unchecked}`;
+  }
+  const seen = new Set([lights[0][0]]);
+  for (const cell of seen) for (const light of lights) if (light.includes(cell)) for (const next of light) seen.add(next);
+  return [...through].every(([cell, count]) => count === 0 || seen.has(cell)) ? '' : 'parts that do not connect';
+}
+
+// Whether blocks and bars are their images in the engine: toggling one of each under the symmetry makes them all.
+function isSymmetric({ width, height, blocks, bars }, sym) {
+  const [xw, due] = [Xw.open(module, { record: `size ${width} ${height}\nsym ${sym}\n` }), { block: new Set(blocks), bar: new Set(bars) }];
+  const recorded = () => new TextDecoder().decode(xw.record()).split('\n');
+  for (const kind of ['block', 'bar']) {
+    for (const one of due[kind]) {
+      xw.line(`${kind} ${one}`);
+      for (const line of recorded()) if (line.startsWith(`${kind} `)) due[kind].delete(line.slice(kind.length + 1));
+    }
+  }
+  const made = recorded().filter((line) => /^(block|bar) /.test(line));
+  return made.length === blocks.length + bars.length;
+}
+
+// Why there can be no such grid; or ''.
+function faultIn(wanted) {
+  try {
+    checkWanted(wanted);
+    return '';
+  } catch (fault) {
+    return fault.message;
+  }
+}
+
+const CASES = {
+  'symmetries are those of the engine'() {
+    for (const sym of SYMMETRIES) {
+      for (const size of [5, 6]) {
+        const turns = new Turns(sym, size);
+        for (let cell = 0; cell < size ** 2; cell++) {
+          const xw = Xw.open(module, { record: `size ${size} ${size}\nsym ${sym}\nblock ${Math.floor(cell / size) + 1} ${(cell % size) + 1}\n` });
+          const blocks = xw.line('show').lines.join('').replaceAll(' ', '');
+          const orbit = [...blocks].flatMap((entry, at) => (entry === '#' ? [at] : []));
+          expect(orbit.join() === [...turns.orbit(cell)].sort((a, b) => a - b).join(), `${sym}, cell ${cell} of ${size}: ${orbit}, and not ${turns.orbit(cell)}`);
+        }
+      }
+    }
+  },
+
+  'patterns to start from'() {
+    for (const pattern of PATTERNS) {
+      const grid = gridIn(recordOf(rowsOf(pattern), pattern.sym));
+      const style = pattern.name.split(' ')[0].toLowerCase();
+      const fault = faultOf(grid, ['british', 'barred'].includes(style) ? style : 'american', grid.lights.map((light) => light.length));
+      expect(!fault, `${pattern.name}: ${fault}`);
+      expect(isSymmetric(grid, pattern.sym), `${pattern.name} is not its image`);
+      if (style === 'barred') expect(Math.min(...grid.lights.map((light) => light.length)) >= 4, `${pattern.name} has a light of three letters`);
+    }
+  },
+
+  'grids of all styles and symmetries'() {
+    const sets = [[], ['PIANO', 'DRUMMACHINE', 'BASSGUITARS'], ['CHOCOLATECAKE', 'STRAWBERRYPIE', 'LEMONTART', 'APPLECAKE'], ['SILVERTONGUED', 'GOLDENHANDSHAKE', 'BRONZEMEDALIST']];
+    const told = [];
+    for (const style of ['american', 'british', 'barred']) {
+      for (const sym of SYMMETRIES) {
+        for (const entries of sets) {
+          let count = 0;
+          const check = (made) => {
+            count++;
+            const record = recordOfGrid(made);
+            const grid = gridIn(record);
+            const name = `${style}, ${sym}, ${entries.join(' ')}`;
+            const fault = faultOf(grid, style, entries.map((word) => word.length));
+            expect(!fault, `${name}: ${fault}\n${record}`);
+            expect(isSymmetric(grid, sym), `${name}: it is not its image\n${record}`);
+            const words = grid.lights.map((light) => light.map((cell) => new RegExp(`^set ${cell} (.)`, 'm').exec(record)?.[1] ?? '.').join(''));
+            expect(entries.every((entry) => words.includes(entry)), `${name}: an entry is lost\n${record}`);
+          };
+          const wanted = { entries, size: 15, style, sym };
+          if (faultIn(wanted)) continue;
+          for (let seed = 1; seed <= 40 && count < 2; seed++) {
+            const made = gridFrom(wanted, seed);
+            if (made) check(made);
+          }
+          if (!count) told.push(`${style} ${sym} ${entries.length}`);
+        }
+      }
+    }
+    return told.length ? `none for ${told.join('; ')}` : '';
+  },
+
+  'entries that cannot stand'() {
+    const faults = [[['MINT', 'TEA'], 'half', /MINT and TEA have no partner/], [['TEAS'], 'half', /TEAS cannot stand in the middle/], [['ANTIDISESTABLISHMENT'], 'none', /too long/]];
+    for (const [entries, sym, pattern] of faults) {
+      const told = faultIn({ entries, size: 15, style: 'american', sym });
+      expect(pattern.test(told), `${entries}: ${told}`);
+    }
+  },
+};
+
+let [passed, failed] = [0, 0];
+for (const [name, test] of Object.entries(CASES)) {
+  try {
+    const told = await test();
+    console.log(`ok   ${name}${told ? `: ${told}` : ''}`);
+    passed++;
+  } catch (error) {
+    console.log(`FAIL ${name}: ${error.message}`);
+    failed++;
+  }
+}
+console.log(`${passed} passed, ${failed} failed`);
+process.exitCode = failed ? 1 : 0;
