@@ -144,7 +144,7 @@ def answers_of(output):
 
 # How many words a line has at least where docs/commands.md names `Memory` for its command.
 MAY_BE_REFUSED = {
-    **dict.fromkeys(b"add size block bar dups unlisted why fill autofill circle".split(), 1),
+    **dict.fromkeys(b"add size block bar dups unlisted why fill autofill best circle".split(), 1),
     **dict.fromkeys(b"title author copyright notes".split(), 2),
     **dict.fromkeys(b"text more".split(), 3),
     b"clue": 4,

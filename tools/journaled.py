@@ -45,6 +45,7 @@ def random_line(chance):
         (4, lambda: texts(chance)),
         (8, lambda: f"fill {chance.choice([1, 20, 2000])}"),
         (8, lambda: f"autofill {chance.choice([5, 500])} {chance.randint(0, 9)}"),
+        (4, lambda: f"best {chance.choice([5, 500])} {chance.randint(0, 9)}"),
         (5, lambda: chance.choice(["show", "lights", "counts", "record", "suggest", f"words {light}", "texts", "dups"])),
         (3, lambda: chance.choice(["", "# a note", "frob", "set", "add 4", "title  spaced  ", " set 1 1 a \r", "\tclear 1  1", "title # xw end"])),
     ]

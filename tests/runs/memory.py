@@ -31,6 +31,14 @@ add A
 strike DOG
 match .....
 match 4
+add FINE 30
+!least 40
+!add FINE 20
+!least 101
+!grades
+!grades 1 across 1 down
+!grades 99 down
+!least 0
 block 1 1
 block 9 9
 bar 2 2 right
@@ -94,6 +102,9 @@ fill 0
 autofill 100
 autofill 0 1 2 down 1 across
 autofill 100 0 99 down
+best 100
+best 0 1 2 down 1 across
+best 100 0 99 down
 strike SEVEN
 record
 erase 1 across
@@ -116,7 +127,7 @@ fill 1"""
 
 # The square of AS, AT, SO, TO and IN, with each answer of `suggest` and of `fill`.
 SQUARE = ["size 2 2", "add AS", "add AT", "add SO", "add TO", "add IN"]
-FILLS = [*SQUARE, "watch on", "fill 3", "suggest", "fill 4", "suggest", "clear 1 1", "set 1 1 X", "suggest", "why 3 across", "fill 9", "clear 1 1", "strike SO", "fill 100", "dups", "autofill 100", "clear 1 2", "clear 2 1", "add SO", "autofill 100 3 1 across", "tally 2 1"]
+FILLS = [*SQUARE, "watch on", "fill 3", "suggest", "fill 4", "suggest", "clear 1 1", "set 1 1 X", "suggest", "why 3 across", "fill 9", "clear 1 1", "strike SO", "fill 100", "dups", "autofill 100", "clear 1 2", "clear 2 1", "add SO", "autofill 100 3 1 across", "clear 1 1", "clear 1 2", "clear 2 1", "best 0 7", "best 100 3 1 across", "best 100", "tally 2 1"]
 
 # One word more than a chunk of 64 holds, on lights of that length.
 CHUNK = ["size 3 2", *(f"add A{chr(65 + number // 26)}{chr(65 + number % 26)}" for number in range(65))]
@@ -308,7 +319,7 @@ def has_each_of_the_manual(room, program):
     headings = re.findall(r"^### ([a-z].*)$", manual, re.M)
     commands = {part.split()[0] for heading in headings for part in heading.split(", ")}
     options = set(re.findall(r"--[a-z]+", manual.split("\n\n")[1])) | {"--help"}
-    typed = {line.split()[0].decode() for _, typed in SESSIONS.values() for line in typed if line.split()}
+    typed = {line.split()[0].decode().removeprefix("!") for _, typed in SESSIONS.values() for line in typed if line.split()}
     called = {word for words, *_ in [*CALLS.values(), *JOURNALED.values()] for word in words.split()}
     missing = (commands - typed) | (options - called)
     assert len(commands) > 30 and len(options) > 6 and not missing, f"no case has {missing}"

@@ -1,6 +1,6 @@
 """Sessions that are saved and resumed."""
 from samples import PLAIN
-from steps import FAILED, FIRST, FORMAT, REFUSED, USAGE, absent, compare, differs, holds, run, write
+from steps import FAILED, FIRST, FORMAT, REFUSED, USAGE, absent, call, compare, differs, holds, run, write
 
 
 def resumed(lines, typed, **wanted):
@@ -56,6 +56,29 @@ def word_list_resumed(words, typed=b""):
     return run(f"edit {words}", typed, errors=b"xw: words.txt: line 1: Command\n", status=FORMAT)
 
 
+# Many lines that edit only the grid, which are executed at once. The line between them and the last one are refused.
+EDITS = (
+    b"size 6 6\nsym half\nblock 1 1\nblock 2 2\nbar 1 2 right\nbar 3 3 below\nset 1 3 A\nset 1 4 b\nset 2 4 C\nclear 1 4\nblock 2 2\n"
+    b"bar 1 2 right\nsym quarter\nblock 3 1\nbar 2 3 right\nset 4 4 D\nsym none\nblock 6 2\nclear 4 4\n"
+    b"block 1 3\n"
+    b"sym updown\nblock 2 1\nbar 1 1 below\nset 1 3 e\n"
+    + b"".join(b"set 2 %d F\nclear 2 %d\n" % (column, column) for column in range(2, 7))
+    + b"set 2 5 G\nsym none\nblock 6 6\nbar 4 4 right\ntitle Mine\nclue 1 across Told\ncircle 1 2\nset 9 9 A\n"
+)
+
+
+def replayed_as_typed(lines, errors):
+    """Checks that a session that is resumed from lines is the same as one in which they were typed. Each line has one answer."""
+
+    def step(room, program):
+        typed = call(room, program, "edit", lines + b"show\nrecord\n").stdout
+        (room / "mine.xw").write_bytes(lines)
+        output = typed.split(b"\n", lines.count(b"\n"))[-1]
+        run("edit --resume mine.xw", b"show\nrecord\n", output, errors, REFUSED)(room, program)
+
+    return [step]
+
+
 # Lines of the file get no answers. Refused lines are reported with their numbers.
 CASES = {
     # The last line has no LF.
@@ -66,6 +89,9 @@ CASES = {
         errors=b"xw: mine.xw: line 5: Known\nxw: mine.xw: line 6: BadLetter\n"
         b"xw: mine.xw: line 7: OutOfGrid\nxw: mine.xw: line 8: NulByte\n",
         status=REFUSED,
+    ),
+    "lines_resumed, many edits of the grid": replayed_as_typed(
+        EDITS, b"xw: mine.xw: line 20: Occupied\nxw: mine.xw: line 42: OutOfGrid\n"
     ),
     "lines_resumed, none refused": resumed(b"size 2 1\n\nwatch on\n", b"show\n", output=b"- -\nok\n"),
     # The first line of a saved session is a note.

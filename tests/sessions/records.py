@@ -2,7 +2,7 @@
 from steps import call, compare, write
 
 # The queries that a session and its copy must answer alike.
-QUESTIONS = b"show\nlights\ncells\ncounts\ntexts\ncircles\nstats\nmatch ..\nmatch ...\nunlisted\nunmatched\nrecord\n"
+QUESTIONS = b"show\nlights\ncells\ncounts\ntexts\ncircles\nstats\nmatch ..\nmatch ...\nunlisted\ngrades\nunmatched\nrecord\n"
 
 # The state of the copy before the record is replayed. None of it may remain.
 ELSEWHERE = (
@@ -42,6 +42,12 @@ CASES = {
     "sessions_made_again: words that came later, words that were struck, and one that came back": is_made_again(
         b"size 5 5\nadd it\nstrike at\nadd tee\nstrike it\nadd on\nstrike tea\nadd tea\nadd it\nstrike so\n"
     ),
+    "sessions_made_again: words with grades, words that came back with others, and words that are left out": is_made_again(
+        b"size 2 2\nadd it 20\nadd on 100\nadd in 100\nstrike in\nadd in 30\nstrike at\nadd at 90\nstrike as\nadd as 10\nstrike as\n"
+        b"least 60\nadd tea\nstrike so\nadd ot 5\nplace 1 across at\nplace 1 down as\nplace 3 across so\n"
+    ),
+    "sessions_made_again: all words left out": is_made_again(b"size 3 1\nadd on 99\nleast 100\n"),
+    "sessions_made_again: a least grade that ended": is_made_again(b"size 2 1\nleast 51\nadd at\nleast 0\nset 1 1 a\nset 1 2 t\n"),
     "sessions_made_again: circles and clues that are hidden, and bars beside blocks": is_made_again(
         b"size 5 4\ncircle 1 1\ncircle 2 5\nsym half\nblock 1 1\nbar 1 1 right\nbar 2 2 below\nset 2 2 z\n"
         b"text clue 1 1 down Under a block\ntext clue 4 4 across  a \\\\ b\\s\nclue 1 across Seen\ncircle 3 3\n"
@@ -50,6 +56,7 @@ CASES = {
         b"size 3 3\nblock 1 2\nset 3 3 q\nset 1 1 a\nsym quarter\nwatch on\nbar 2 1 right\n"
     ),
     "sessions_made_again: a light that was filled": is_made_again(b"size 2 2\nset 1 2 s\nautofill 1000 0 1 across\n"),
+    "sessions_made_again: a best fill of a light": is_made_again(b"size 2 2\nleast 40\nset 1 2 s\nbest 1000 0 1 across\n"),
     "sessions_made_again: a light that was explained": is_made_again(b"size 2 2\nset 1 2 x\nwhy 1 across\n"),
     "sessions_made_again: a light that was emptied, but for a letter of a complete word": is_made_again(
         b"size 2 2\nplace 1 across at\nplace 1 down as\nerase 1 across\n"

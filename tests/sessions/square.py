@@ -665,6 +665,208 @@ no Arguments
 no Arguments
 > erases 1 across
 no Command
+@ grades_of_words: Of known words, active, struck or left out.
+> grades
+ok
+> place 1 across AT
+ok
+> grades
+1 across 100
+ok
+> grades 2 down 1 across 1 across 1 down
+2 down -
+1 across 100
+1 across 100
+1 down -
+ok
+> place 1 down AS
+ok
+> set 2 2 X
+ok
+> grades
+1 across 100
+1 down 100
+2 down -
+3 across -
+ok
+> add SX 20
+ok
+> strike AS
+ok
+> least 50
+ok
+> grades
+1 across 100
+1 down 100
+2 down -
+3 across 20
+ok
+> unlisted
+1 down AS
+2 down TX
+3 across SX
+ok
+> add as 7
+ok
+> add SX
+ok
+> grades 1 down 3 across
+1 down 50
+3 across 50
+ok
+> block 1 1
+no Occupied
+> size 3 1
+ok
+> grades
+ok
+@ grades_refused
+> place 1 across AT
+ok
+> grades 1 across 4 down
+no NoLight
+> grades 4 down 1 across
+no NoLight
+> grades 0 across
+no NoLight
+> grades 999999999999999999 across
+no NoLight
+> grades 1
+no Arguments
+> grades across
+no Arguments
+> grades 1 across 2
+no Arguments
+> grades 1 across 2 Down
+no Arguments
+> grade
+no Command
+@ words_left_out_for_their_grades
+> strike AT
+ok
+> add AT 40
+ok
+> add AT 41
+no Known
+> least 40
+ok
+> match ..
+AS
+AT
+SO
+TO
+IN
+ok
+> least 41
+ok
+> match ..
+AS
+SO
+TO
+IN
+ok
+> words 1 across
+1
+AS
+ok
+> add at
+ok
+> add at
+no Known
+> least 42
+ok
+> match A.
+AS
+ok
+> strike AT
+ok
+> strike AT
+no Unknown
+> least 0
+ok
+> match A.
+AS
+ok
+> add AT
+ok
+> match A.
+AS
+AT
+ok
+> least 100
+ok
+> match A.
+AS
+ok
+> add IT 0
+ok
+> add it
+no Known
+> match I.
+IN
+IT
+ok
+@ least_grade_under_the_watch
+> watch on
+ok
+> least 100
+ok
+> least 0
+ok
+> strike AT
+cell 1 2 S
+cell 2 1 S
+ok
+> add AT 40
+cell 1 2 ST
+cell 2 1 ST
+ok
+> least 40
+ok
+> least 41
+cell 1 2 S
+cell 2 1 S
+ok
+> least 41
+ok
+> size 2 2
+ok
+> letters 1 2
+S
+ok
+> least 0
+cell 1 2 ST
+cell 2 1 ST
+ok
+@ grades_as_arguments
+> least
+no Arguments
+> least 101
+no Arguments
+> least 256
+no Arguments
+> least -1
+no Arguments
+> least 5 5
+no Arguments
+> least 7a
+no Arguments
+> least 000000000000000100
+ok
+> least 0000000000000000100
+no Arguments
+> add CAT 101
+no Arguments
+> add CAT x
+no Arguments
+> add CAT 5 5
+no Arguments
+> add 5
+no BadLetter
+> add CAT 0
+ok
+> Least 5
+no Command
 @ lights_unmatched: Lights that no active word matches, by their entries alone. A wholly entered light is not among them.
 > unmatched
 ok

@@ -1,17 +1,17 @@
 -- Writing commands, section by section.
 use Rattle.std.proofs.Common.{◌≡◌, ℕ, ◌+◌, ◌*◌, ◌-◌, ◌<◌, ◌≤◌, List, [], ◌∷◌, ◌++◌, length, map, take, drop, flat_map, codes, min, refl, sym, ◌∙◌, ap, append-nil, append_assoc, zero-add, subst, arith}
-use Rattle.std.specs.Prelude.{Result, decimal, slice_set}
+use Rattle.std.specs.Prelude.{Result, Some, true, decimal, slice_set, if◌then◌else◌}
 use Rattle.std.specs.List.{range_with_len}
 use Rattle.std.proofs.lemmas.List.FromFn.{map-range_with_len_more}
 use Rattle.std.proofs.lemmas.List.{take_min, take_more_set, take_all, length-drop}
 use Rattle.std.proofs.Math.Nat.{min_comm}
 use Rattle.std.proofs.lemmas.List.Folds.{flat_map-map}
 use Rattle.std.proofs.lemmas.Grind.{flat_map-append}
-use Rattle.xw_words.specs.Dictionary.{Dictionary, row}
+use Rattle.xw_words.specs.Dictionary.{Dictionary, Entry, row}
 use Rattle.xw_lines.specs.Device.{Begins, HasFailed}
 use Rattle.xw_lines.specs.Sends.{Sends}
 use Rattle.xw_commands.specs.declared.command.Command.{Command}
-use Rattle.xw_commands.specs.declared.command.Command.TheVariants.{Put}
+use Rattle.xw_commands.specs.declared.command.Command.TheVariants.{Add, Strike, Put}
 use Rattle.xw_commands.specs.declared.command.Field.{Field}
 use Rattle.xw_commands.specs.declared.command.Field.TheVariants as fields
 use Rattle.xw_commands.specs.declared.command.TextMode.{TextMode}
@@ -21,7 +21,7 @@ use Rattle.xw_commands.specs.Name.{word_of}
 use Rattle.xw_answers.specs.Escape.{escaped_text}
 use Rattle.xw_answers.specs.Text.{line_of}
 use Rattle.xw_answers.specs.Spelling.{command_line, in_field}
-use Rattle.xw_answers.specs.Record.{command_lines, piece_at, known_counts}
+use Rattle.xw_answers.specs.Record.{command_lines, regrade_commands, piece_at, known_counts}
 
 -- lists of lists, flattened in either order
 pub each_of_each : {X Y Z : Type 0} (f : Y → List Z) (g : X → List Y) (xs : List X) → flat_map (λ x. flat_map f (g x)) xs ≡ flat_map f (flat_map g xs)
@@ -39,6 +39,15 @@ one_line command = sym (append-nil (command_line command))
 
 pub lines_of_both : (front rest : List Command) → command_lines front ++ command_lines rest ≡ command_lines (front ++ rest)
 lines_of_both front rest = sym (flat_map-append command_line front rest)
+
+-- a word that is struck and comes back with its grade
+pub regrade_lines : (entry : Entry) (word : List ℕ) (grade : ℕ) → word ≡ entry.word → grade ≡ entry.grade → entry.regraded ≡ true
+    → command_line (Strike word) ++ command_line (Add word (Some grade)) ≡ command_lines (regrade_commands entry)
+regrade_lines entry word grade same_word same_grade is =
+    ap (λ w. command_line (Strike w) ++ command_line (Add w (Some grade))) same_word
+    ∙ ap (λ n. command_line (Strike entry.word) ++ command_line (Add entry.word (Some n))) same_grade
+    ∙ ap (λ rest. command_line (Strike entry.word) ++ rest) (sym (append-nil (command_line (Add entry.word (Some entry.grade)))))
+    ∙ ap (λ b. command_lines (if b then Strike entry.word ∷ Add entry.word (Some entry.grade) ∷ [] else [])) (sym is)
 
 -- the line of a piece of a text: its first word, and the rest
 pub put_line_parts : (putting : TextMode) (field : Field) (text : List ℕ) → command_line (Put putting field (escaped_text text)) ≡ (word_of (names.Put putting) ++ codes " ") ++ line_of (in_field field (escaped_text text ∷ []))

@@ -1,14 +1,14 @@
 -- The commands of a record, which rebuild the words, the texts and the contents of cells of a session.
-use Rattle.std.specs.Prelude.{ℕ, ◌+◌, ◌-◌, ◌*◌, ◌/◌, List, [], ◌∷◌, ◌++◌, map, take, drop, length, flat_map, Option, Some, None, slice_index_or, if◌then◌else◌}
+use Rattle.std.specs.Prelude.{ℕ, ◌+◌, ◌-◌, ◌*◌, ◌/◌, ◌==◌, List, [], ◌∷◌, ◌++◌, map, take, drop, length, flat_map, Option, Some, None, slice_index_or, if◌then◌else◌}
 use Rattle.std.specs.List.{range_with_len}
-use Rattle.xw_words.specs.Dictionary.{Dictionary, Entry, row}
+use Rattle.xw_words.specs.Dictionary.{Dictionary, Entry, row, best_grade}
 use Rattle.xw_grid.specs.declared.cell.Cell.{Cell}
 use Rattle.xw_grid.specs.declared.cell.Direction.{Direction}
 use Rattle.xw_grid.specs.declared.cell.Side.{Side}
 use Rattle.xw_grid.specs.Grid.{Grid, cells, is_block, is_barred, entry}
 use Rattle.xw_grid.specs.Clue.{ClueMap, clue_at, is_circled}
 use Rattle.xw_commands.specs.declared.command.Command.{Command}
-use Rattle.xw_commands.specs.declared.command.Command.TheVariants.{Add, Strike, Set, Block, Bar, Circle, Put}
+use Rattle.xw_commands.specs.declared.command.Command.TheVariants.{Add, Strike, Least, Set, Block, Bar, Circle, Put}
 use Rattle.xw_commands.specs.declared.command.Field.{Field}
 use Rattle.xw_commands.specs.declared.command.Field.TheVariants as fields
 use Rattle.xw_commands.specs.declared.command.TextMode.TheVariants.{Instead, Behind}
@@ -24,21 +24,35 @@ use Rattle.xw_answers.specs.Spelling.{command_line}
 abbrev pub known_counts : Dictionary → List ℕ
 known_counts words = map (λ count. length (row words count)) (range_with_len 0 256)
 
+-- the grade as an addition of a new word names it: not at all if it is the greatest one, which a new word has anyway
+abbrev pub named_grade : ℕ → Option ℕ
+named_grade grade = if grade == best_grade then None else Some grade
+
 abbrev pub add_command : Entry → Command
-add_command entry = Add entry.word
+add_command entry = Add entry.word (named_grade entry.grade)
+
+-- strike the word and add it again with its grade, if it came back with a grade that was chosen then
+abbrev pub regrade_commands : Entry → List Command
+regrade_commands entry = if entry.regraded then Strike entry.word ∷ Add entry.word (Some entry.grade) ∷ [] else []
 
 abbrev pub strike_commands : Entry → List Command
-strike_commands entry = if entry.active then [] else Strike entry.word ∷ []
+strike_commands entry = if entry.struck then Strike entry.word ∷ [] else []
 
--- for one length: add the words after the first `begun`, then strike those that are struck
+-- for one length: add the words after the first `begun`, then give words their grades again, then strike those that are
+-- struck
 abbrev pub row_commands : List Entry → ℕ → List Command
-row_commands entries begun = map add_command (drop begun entries) ++ flat_map strike_commands entries
+row_commands entries begun = map add_command (drop begun entries) ++ (flat_map regrade_commands entries ++ flat_map strike_commands entries)
 
 abbrev pub length_commands : List ℕ → Dictionary → ℕ → List Command
 length_commands begun words count = row_commands (row words count) (slice_index_or begun count 0)
 
+-- a session starts with the least grade 0
+abbrev pub least_commands : ℕ → List Command
+least_commands least = if least == 0 then [] else Least least ∷ []
+
+-- for each length the words, and then the least grade
 abbrev pub word_commands : List ℕ → Dictionary → List Command
-word_commands begun words = flat_map (length_commands begun words) (range_with_len 0 256)
+word_commands begun words = flat_map (length_commands begun words) (range_with_len 0 256) ++ least_commands words.least
 
 -- ---- texts
 

@@ -12,7 +12,7 @@ use Rattle.xw_answers.specs.declared.stats.Tally.{Tally}
 use Rattle.xw_answers.specs.declared.stats.Tally.TheVariants as tallies
 use Rattle.xw_answers.specs.declared.stats.Stat.{Stat}
 use Rattle.xw_answers.specs.declared.stats.Stat.TheVariants as stats
-use Rattle.xw_answers.specs.Text.{line_of, two_decimals}
+use Rattle.xw_answers.specs.Text.{line_of, number_line, two_decimals}
 
 -- ---- cells
 
@@ -52,9 +52,6 @@ abbrev pub mean_hundredths : ℕ → ℕ → ℕ
 mean_hundredths count sum = if count == 0 then 0 else (200 * sum + count) / (2 * count)
 
 -- ---- lines
-
-abbrev pub number_line : List ℕ → ℕ → List ℕ
-number_line name number = line_of (name ∷ decimal number ∷ [])
 
 -- the count of a thing; no line for 0
 abbrev pub some_line : List ℕ → List ℕ → ℕ → List ℕ

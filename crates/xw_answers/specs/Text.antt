@@ -30,6 +30,10 @@ accepted = line_of (codes "ok" ∷ [])
 abbrev pub word_line : List ℕ → List ℕ
 word_line word = line_of (word ∷ [])
 
+-- a name with a number
+abbrev pub number_line : List ℕ → ℕ → List ℕ
+number_line name number = line_of (name ∷ decimal number ∷ [])
+
 -- hundredths as a number with two decimals
 abbrev pub two_decimals : ℕ → List ℕ
 two_decimals hundredths = decimal (hundredths / 100) ++ (46 ∷ (48 + hundredths / 10 % 10) ∷ (48 + hundredths % 10) ∷ [])
@@ -128,6 +132,15 @@ spelled_line grid name = line_of (decimal name.number ∷ direction_name name.di
 -- a light's name with a number
 abbrev pub numbered_line : LightName → ℕ → List ℕ
 numbered_line name count = line_of (decimal name.number ∷ direction_name name.direction ∷ decimal count ∷ [])
+
+-- a number, or a dash if there is none
+abbrev pub number_or_dash : Option ℕ → List ℕ
+number_or_dash None = codes "-"
+number_or_dash (Some number) = decimal number
+
+-- a light's name with the grade of its word, or a dash
+abbrev pub grade_line : LightName → Option ℕ → List ℕ
+grade_line name grade = line_of (decimal name.number ∷ direction_name name.direction ∷ number_or_dash grade ∷ [])
 
 -- all lights of a grid
 abbrev pub light_lines : Grid → List ℕ

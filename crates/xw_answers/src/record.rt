@@ -12,10 +12,12 @@ ghost use Rattle.xw_answers.specs.Escape.{escaped_text};
 ghost use Rattle.xw_commands.specs.Names.{direction_name, clue_name};
 ghost use Rattle.xw_answers.specs.Spelling.{at_spot, command_line};
 ghost use Rattle.xw_answers.specs.Text.{line_of};
-ghost use Rattle.xw_answers.specs.Record.{command_lines, known_counts, add_command, strike_commands, row_commands, length_commands, word_commands, piece_at, further_pieces, more_command, text_commands, spot_of, circle_commands, bar_commands, block_commands, letter_commands, clue_commands, cell_commands, part_commands};
+ghost use Rattle.xw_answers.specs.Record.{command_lines, known_counts, named_grade as named_grade_of, add_command, regrade_commands, strike_commands, row_commands, length_commands, least_commands, word_commands, piece_at, further_pieces, more_command, text_commands, spot_of, circle_commands, bar_commands, block_commands, letter_commands, clue_commands, cell_commands, part_commands};
 
 use crate::answer_line::{Token, write_line};
-use xw_commands::command::{CellArg, Field, Name, TextField, TextMode, WithCell, WithWord};
+use xw_commands::command::{
+    BEST_GRADE, CellArg, Field, Name, TextField, TextMode, WithCell, WithWord,
+};
 use xw_commands::names::{CLUE, Named};
 use xw_grid::{Cell, Circles, Clues, Direction, Grid, Side, Symmetry};
 use xw_letters::Letter;
@@ -62,6 +64,31 @@ fn write_word_command<W: Sink>(
     write_line(sink, &[Token::Name(name.name()), Token::Letters(word)])
 }
 
+/// Writes an `add` command, with a grade if there is one.
+fn write_add<W: Sink>(sink: &mut W, word: &[Letter], grade: Option<u8>) -> Result<(), WriteFailed>
+    ensures { Sends W.transcript W.failures sink.old sink.new result (command_line (commands.Add word.now grade)) }
+{
+    let name = Token::Name(WithWord::Add.name());
+    match grade {
+        Some(grade) => write_line(
+            sink,
+            &[name, Token::Letters(word), Token::Number(u64::from(grade))],
+        ),
+        None => write_line(sink, &[name, Token::Letters(word)]),
+    }
+}
+
+/// Returns the grade as an `add` command of a new word names it.
+fn named_grade(grade: u8) -> Option<u8>
+    ensures { result ≡ named_grade_of grade }
+{
+    if grade == BEST_GRADE {
+        None
+    } else {
+        Some(grade)
+    }
+}
+
 /// Writes an `add` command for each word of a length after the first `begun` words.
 fn write_added<W: Sink>(
     sink: &mut W,
@@ -72,7 +99,36 @@ fn write_added<W: Sink>(
     ensures { Sends W.transcript W.failures sink.old sink.new result (command_lines (map add_command (drop begun (words_of bank.now.words count)))) }
 {
     for index in begun..bank.known(count) {
-        write_word_command(sink, WithWord::Add, bank.word(count, index))?;
+        let grade = named_grade(bank.grade(count, index));
+        write_add(sink, bank.word(count, index), grade)?;
+    }
+    Ok(())
+}
+
+/// Writes the commands that give the word at an index its grade again, if it came back with a grade that was chosen then.
+fn write_regraded_at<W: Sink>(
+    sink: &mut W,
+    bank: &Bank,
+    count: usize,
+    index: usize,
+) -> Result<(), WriteFailed>
+    requires { index < length (words_of bank.now.words count) }
+    ensures { Sends W.transcript W.failures sink.old sink.new result (command_lines (regrade_commands (entry_at (words_of bank.now.words count) index))) }
+{
+    if !bank.is_regraded(count, index) {
+        return Ok(());
+    }
+    let word = bank.word(count, index);
+    write_word_command(sink, WithWord::Strike, word)?;
+    write_add(sink, word, Some(bank.grade(count, index)))
+}
+
+/// Writes these commands for each word of a length.
+fn write_regraded<W: Sink>(sink: &mut W, bank: &Bank, count: usize) -> Result<(), WriteFailed>
+    ensures { Sends W.transcript W.failures sink.old sink.new result (command_lines (flat_map regrade_commands (words_of bank.now.words count))) }
+{
+    for index in 0..bank.known(count) {
+        write_regraded_at(sink, bank, count, index)?;
     }
     Ok(())
 }
@@ -87,7 +143,7 @@ fn write_struck_at<W: Sink>(
     requires { index < length (words_of bank.now.words count) }
     ensures { Sends W.transcript W.failures sink.old sink.new result (command_lines (strike_commands (entry_at (words_of bank.now.words count) index))) }
 {
-    if bank.is_active(count, index) {
+    if !bank.is_struck(count, index) {
         return Ok(());
     }
     write_word_command(sink, WithWord::Strike, bank.word(count, index))
@@ -103,6 +159,14 @@ fn write_struck<W: Sink>(sink: &mut W, bank: &Bank, count: usize) -> Result<(), 
     Ok(())
 }
 
+/// Writes what was done to the words of a length: words with other grades, and struck words.
+fn write_marks<W: Sink>(sink: &mut W, bank: &Bank, count: usize) -> Result<(), WriteFailed>
+    ensures { Sends W.transcript W.failures sink.old sink.new result (command_lines (flat_map regrade_commands (words_of bank.now.words count) ++ flat_map strike_commands (words_of bank.now.words count))) }
+{
+    write_regraded(sink, bank, count)?;
+    write_struck(sink, bank, count)
+}
+
 fn write_row<W: Sink>(
     sink: &mut W,
     bank: &Bank,
@@ -112,10 +176,41 @@ fn write_row<W: Sink>(
     ensures { Sends W.transcript W.failures sink.old sink.new result (command_lines (row_commands (words_of bank.now.words count) begun)) }
 {
     write_added(sink, bank, count, begun)?;
-    write_struck(sink, bank, count)
+    write_marks(sink, bank, count)
 }
 
-/// Writes the words added since the start of the session, and then the struck words, for each length.
+/// Writes the commands of the words of each length.
+fn write_rows<W: Sink>(
+    sink: &mut W,
+    bank: &Bank,
+    begun: &[usize; LENGTHS],
+) -> Result<(), WriteFailed>
+    ensures { Sends W.transcript W.failures sink.old sink.new result (command_lines (flat_map (length_commands begun.now bank.now.words) (range_with_len 0 256))) }
+{
+    for count in 0..LENGTHS {
+        write_row(sink, bank, count, begun[count])?;
+    }
+    Ok(())
+}
+
+/// Writes a `least` command, unless the grade is 0.
+fn write_least<W: Sink>(sink: &mut W, least: u8) -> Result<(), WriteFailed>
+    ensures { Sends W.transcript W.failures sink.old sink.new result (command_lines (least_commands least)) }
+{
+    if least == 0 {
+        return Ok(());
+    }
+    write_line(
+        sink,
+        &[
+            Token::Name(Name::Least.name()),
+            Token::Number(u64::from(least)),
+        ],
+    )
+}
+
+/// Writes the words added since the start of the session, the words with other grades, and the struck words, for each
+/// length, and then the least grade.
 pub fn write_words<W: Sink>(
     sink: &mut W,
     bank: &Bank,
@@ -123,10 +218,8 @@ pub fn write_words<W: Sink>(
 ) -> Result<(), WriteFailed>
     ensures { Sends W.transcript W.failures sink.old sink.new result (command_lines (word_commands begun.now bank.now.words)) }
 {
-    for count in 0..LENGTHS {
-        write_row(sink, bank, count, begun[count])?;
-    }
-    Ok(())
+    write_rows(sink, bank, begun)?;
+    write_least(sink, bank.least())
 }
 
 // ---- texts

@@ -3,9 +3,10 @@ ghost use Rattle.std.specs.Prelude.{◌≡◌, ◌+◌, ◌*◌, ◌<◌, ◌≤
 ghost use Rattle.xw_grid.specs.Light.{lights_of, no_light};
 ghost use Rattle.xw_lines.specs.Sends.{Sends};
 ghost use Rattle.xw_answers.specs.Text.{line_of, two_decimals};
-ghost use Rattle.xw_answers.specs.Stats.{is_unchecked as is_unchecked_cell, is_counted as is_counted_cell, count_of, count_of_size, total_size, mean_hundredths, bar_count, number_line, size_line, letter_line, size_lines, letter_lines, stat_line, stat_lines};
+ghost use Rattle.xw_answers.specs.Stats.{is_unchecked as is_unchecked_cell, is_counted as is_counted_cell, count_of, count_of_size, total_size, mean_hundredths, bar_count, size_line, letter_line, size_lines, letter_lines, stat_line, stat_lines};
 
 use crate::answer_line::{Token, write_line};
+use crate::text::write_named_number;
 use xw_grid::{Cell, Grid, Lights, Side};
 use xw_lines::device::{Sink, WriteFailed};
 
@@ -156,12 +157,6 @@ fn hundredths(count: u64, total: u64) -> u64
     (200 * total + count) / (2 * count)
 }
 
-fn write_number<W: Sink>(sink: &mut W, name: &str, number: u64) -> Result<(), WriteFailed>
-    ensures { Sends W.transcript W.failures sink.old sink.new result (number_line name.now number) }
-{
-    write_line(sink, &[Token::Name(name), Token::Number(number)])
-}
-
 /// Writes how many lights have a length. Writes nothing if none has it.
 fn write_size<W: Sink>(
     sink: &mut W,
@@ -246,13 +241,17 @@ fn write_stat<W: Sink>(
     ensures { Sends W.transcript W.failures sink.old sink.new result (stat_line grid.now stat) }
 {
     match stat {
-        Stat::Cells => write_number(sink, "cells", grid.size() as u64),
-        Stat::Blocks => write_number(sink, "blocks", count(grid, lights, Tally::Block)),
-        Stat::Bars => write_number(sink, "bars", count_bars(grid, lights)),
-        Stat::Entered => write_number(sink, "entered", count(grid, lights, Tally::Entered)),
-        Stat::Lights => write_number(sink, "lights", lights.len() as u64),
+        Stat::Cells => write_named_number(sink, "cells", grid.size() as u64),
+        Stat::Blocks => write_named_number(sink, "blocks", count(grid, lights, Tally::Block)),
+        Stat::Bars => write_named_number(sink, "bars", count_bars(grid, lights)),
+        Stat::Entered => write_named_number(sink, "entered", count(grid, lights, Tally::Entered)),
+        Stat::Lights => write_named_number(sink, "lights", lights.len() as u64),
         Stat::Sizes => write_sizes(sink, grid, lights),
-        Stat::Unchecked => write_number(sink, "unchecked", count(grid, lights, Tally::Unchecked)),
+        Stat::Unchecked => write_named_number(
+            sink,
+            "unchecked",
+            count(grid, lights, Tally::Unchecked),
+        ),
         Stat::Mean => write_mean(sink, mean(lights)),
         Stat::Letters => write_letters(sink, grid, lights),
     }

@@ -5,7 +5,7 @@ ghost use Rattle.xw_grid.specs.Grid.{entry as entry_of};
 ghost use Rattle.xw_grid.specs.Light.{lights_of};
 ghost use Rattle.xw_lines.specs.Sends.{Sends};
 ghost use Rattle.xw_commands.specs.Names.{direction_name};
-ghost use Rattle.xw_answers.specs.Text.{line_of, accepted, refused, letter_or_dot as byte_of_entry, pattern as pattern_in, pattern_of, light_of, light_line, cell_line, letters_line, change_line, entry_line, repeat_line, numbered_line, spelled_line};
+ghost use Rattle.xw_answers.specs.Text.{line_of, number_line, accepted, refused, letter_or_dot as byte_of_entry, pattern as pattern_in, pattern_of, light_of, light_line, cell_line, letters_line, change_line, entry_line, repeat_line, numbered_line, grade_line, spelled_line};
 
 use crate::answer_line::{Token, write_line};
 use crate::lookup::light_named;
@@ -113,6 +113,13 @@ pub fn write_number<W: Sink>(sink: &mut W, number: u64) -> Result<(), WriteFaile
     write_line(sink, &[Token::Number(number)])
 }
 
+/// Writes a name, a number and an LF.
+pub fn write_named_number<W: Sink>(sink: &mut W, name: &str, number: u64) -> Result<(), WriteFailed>
+    ensures { Sends W.transcript W.failures sink.old sink.new result (number_line name.now number) }
+{
+    write_line(sink, &[Token::Name(name), Token::Number(number)])
+}
+
 /// Writes a light's name, a number and an LF.
 pub fn write_numbered<W: Sink>(
     sink: &mut W,
@@ -127,6 +134,28 @@ pub fn write_numbered<W: Sink>(
             Token::Number(u64::from(light.number)),
             Token::Name(light.direction.name()),
             Token::Number(number),
+        ],
+    )
+}
+
+/// Writes a light's name, a grade or a dash, and an LF.
+pub fn write_grade<W: Sink>(
+    sink: &mut W,
+    light: LightName,
+    grade: Option<u8>,
+) -> Result<(), WriteFailed>
+    ensures { Sends W.transcript W.failures sink.old sink.new result (grade_line light grade) }
+{
+    let grade = match grade {
+        Some(grade) => Token::Number(u64::from(grade)),
+        None => Token::Name("-"),
+    };
+    write_line(
+        sink,
+        &[
+            Token::Number(u64::from(light.number)),
+            Token::Name(light.direction.name()),
+            grade,
         ],
     )
 }

@@ -1,7 +1,7 @@
 -- What a call does, and which failures may end it.
-use Rattle.std.specs.Prelude.{◌≡◌, ◌⊎◌, ◌++◌, ◌<◌, ℕ, Bool, List, [], ◌∷◌, Option, Some, None, Result, Ok, Err, IfErr, IsErr, MatchResult, map, codes, decimal, length, replicate}
+use Rattle.std.specs.Prelude.{◌≡◌, ◌⊎◌, ◌++◌, ◌<◌, ℕ, Bool, List, [], ◌∷◌, Option, Some, None, Result, Ok, Err, IfErr, IsErr, MatchResult, map, codes, decimal, length}
 use Rattle.std.specs.Borrow.{Bor}
-use Rattle.xw_words.specs.Dictionary.{Dictionary}
+use Rattle.xw_words.specs.Dictionary.{Dictionary, no_words}
 use Rattle.xw_grid.specs.Grid.{Grid}
 use Rattle.xw_grid.specs.Light.{lights_of}
 use Rattle.xw_grid.specs.Puzzle.{PuzzleShown}
@@ -70,7 +70,7 @@ IsUnconverted from_name to_name explain failure old new = IsUnread from_name exp
 
 -- the dictionary that a session begins with: an empty one, or the one that the bytes of the named file list
 abbrev pub HasWords : Option (Bor (List ℕ)) → Dictionary → List Event → List Event → Type 0
-HasWords None words old new = (words ≡ replicate 256 []) × (new ≡ old)
+HasWords None words old new = (words ≡ no_words) × (new ≡ old)
 HasWords (Some file) words old new = IsLoaded file.now words old new
 
 -- The file with this name was read, and its bytes mean this puzzle.

@@ -1,7 +1,7 @@
 -- The command of a line.
 use Rattle.std.specs.Prelude.{ℕ, ◌==◌, nat_lt, List, [], ◌∷◌, length, slice_index, Option, Some, None, Result, Ok, Err, if◌then◌else◌}
 use Rattle.xw_commands.specs.declared.command.Command.{Command}
-use Rattle.xw_commands.specs.declared.command.Command.TheVariants.{Size, Symmetry, Add, Strike, Match, Set, Clear, Place, Erase, Block, Bar, Clue, Write, Circle, Circles, Show, Lights, Words, Choices, Letters, Tally, Duplicates, Unlisted, Unmatched, Suggest, Why, Fill, Autofill, Watch, Tell, Put}
+use Rattle.xw_commands.specs.declared.command.Command.TheVariants.{Size, Symmetry, Add, Strike, Least, Match, Set, Clear, Place, Erase, Block, Bar, Clue, Write, Circle, Circles, Show, Lights, Words, Choices, Letters, Tally, Duplicates, Unlisted, Grades, Unmatched, Suggest, Why, Fill, Autofill, Best, Watch, Tell, Put}
 use Rattle.xw_commands.specs.declared.command.Name.TheVariants as names
 use Rattle.xw_commands.specs.declared.command.WithWord.TheVariants as with_word
 use Rattle.xw_commands.specs.declared.command.WithCell.TheVariants as with_cell
@@ -13,15 +13,16 @@ use Rattle.xw_commands.specs.declared.command.SyntaxFault.{SyntaxFault}
 use Rattle.xw_commands.specs.declared.command.SyntaxFault.TheVariants as faults
 use Rattle.xw_commands.specs.Line.{without_cr, first_word}
 use Rattle.xw_commands.specs.Name.{word_of}
-use Rattle.xw_commands.specs.Reading.{Reading, ◌>>=◌, given, fault, word, word_if_any, number, number_if_any, number_or_zero, byte, text, symmetry, side, switch, spot, named, lights, field, lookup, is_ended}
+use Rattle.xw_commands.specs.Reading.{Reading, ◌>>=◌, given, fault, word, word_if_any, number, number_if_any, number_or_zero, grade, grade_if_any, byte, text, symmetry, side, switch, spot, named, lights, field, lookup, is_ended}
 
 -- the word of every command with the reading of its arguments
 abbrev pub commands : List (List ℕ × Reading Command)
 commands =
     (word_of names.Size, do given (Size (← number) (← number)))
     ∷ (word_of names.Symmetry, do given (Symmetry (← symmetry)))
-    ∷ (word_of (names.Word with_word.Add), do given (Add (← word)))
+    ∷ (word_of (names.Word with_word.Add), do given (Add (← word) (← grade_if_any)))
     ∷ (word_of (names.Word with_word.Strike), do given (Strike (← word)))
+    ∷ (word_of names.Least, do given (Least (← grade)))
     ∷ (word_of (names.Word with_word.Match), do given (Match (← word)))
     ∷ (word_of (names.Cell with_cell.Set), do given (Set (← spot) (← byte)))
     ∷ (word_of (names.Cell with_cell.Clear), do given (Clear (← spot)))
@@ -44,11 +45,13 @@ commands =
     ∷ (word_of (names.Cell with_cell.Tally), do given (Tally (← spot)))
     ∷ (word_of names.Duplicates, given Duplicates)
     ∷ (word_of names.Unlisted, given Unlisted)
+    ∷ (word_of names.Grades, do given (Grades (← lights)))
     ∷ (word_of names.Unmatched, given Unmatched)
     ∷ (word_of names.Suggest, given Suggest)
     ∷ (word_of (names.Light with_light.Why), do given (Why (← named)))
     ∷ (word_of names.Fill, do given (Fill (← number)))
     ∷ (word_of names.Autofill, do given (Autofill (← number) (← number_or_zero) (← lights)))
+    ∷ (word_of names.Best, do given (Best (← number) (← number_or_zero) (← lights)))
     ∷ (word_of names.Watch, do given (Watch (← switch)))
     ∷ (word_of (names.Tell Cells), given (Tell Cells))
     ∷ (word_of (names.Tell Counts), given (Tell Counts))

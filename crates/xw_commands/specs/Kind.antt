@@ -18,12 +18,14 @@ kind_of (commands.Letters spot) = Query
 kind_of (commands.Tally spot) = Query
 kind_of commands.Duplicates = Query
 kind_of commands.Unlisted = Query
+kind_of (commands.Grades lights) = Query
 kind_of commands.Unmatched = Query
 kind_of commands.Suggest = Query
 kind_of (commands.Why named) = Query
 kind_of (commands.Tell _) = Query
 kind_of (commands.Fill limit) = Search
 kind_of (commands.Autofill limit seed lights) = Search
+kind_of (commands.Best limit seed lights) = Search
 kind_of other = Change
 
 -- a line that is no command changes nothing

@@ -1,7 +1,7 @@
 -- The words of the commands.
 use Rattle.std.specs.Prelude.{ℕ, List, codes}
 use Rattle.xw_commands.specs.declared.command.Name.{Name}
-use Rattle.xw_commands.specs.declared.command.Name.TheVariants.{Size, Symmetry, Word, Cell, Light, Text, Circles, Show, Lights, Duplicates, Unlisted, Unmatched, Suggest, Fill, Autofill, Watch, Tell, Put}
+use Rattle.xw_commands.specs.declared.command.Name.TheVariants.{Size, Symmetry, Word, Least, Cell, Light, Text, Circles, Show, Lights, Duplicates, Unlisted, Grades, Unmatched, Suggest, Fill, Autofill, Best, Watch, Tell, Put}
 use Rattle.xw_commands.specs.declared.command.WithWord.TheVariants.{Add, Strike, Match}
 use Rattle.xw_commands.specs.declared.command.WithCell.TheVariants.{Set, Clear, Block, Bar, Circle, Letters, Tally}
 use Rattle.xw_commands.specs.declared.command.WithLight.TheVariants.{Place, Erase, Clue, Words, Choices, Why}
@@ -15,6 +15,7 @@ word_of Size = codes "size"
 word_of Symmetry = codes "sym"
 word_of (Word Add) = codes "add"
 word_of (Word Strike) = codes "strike"
+word_of Least = codes "least"
 word_of (Word Match) = codes "match"
 word_of (Cell Set) = codes "set"
 word_of (Cell Clear) = codes "clear"
@@ -34,11 +35,13 @@ word_of (Cell Letters) = codes "letters"
 word_of (Cell Tally) = codes "tally"
 word_of Duplicates = codes "dups"
 word_of Unlisted = codes "unlisted"
+word_of Grades = codes "grades"
 word_of Unmatched = codes "unmatched"
 word_of Suggest = codes "suggest"
 word_of (Light Why) = codes "why"
 word_of Fill = codes "fill"
 word_of Autofill = codes "autofill"
+word_of Best = codes "best"
 word_of Watch = codes "watch"
 word_of (Tell Cells) = codes "cells"
 word_of (Tell Counts) = codes "counts"

@@ -11,7 +11,7 @@ use Rattle.xw_commands.specs.declared.command.Field.TheVariants as fields
 use Rattle.xw_commands.specs.declared.command.SyntaxFault.{SyntaxFault}
 use Rattle.xw_commands.specs.declared.command.SyntaxFault.TheVariants as faults
 use Rattle.xw_commands.specs.Names.{directions, sides, symmetries, switches, text_fields}
-use Rattle.xw_commands.specs.Line.{first_word, trimmed, trimmed_start, number_in, byte_in}
+use Rattle.xw_commands.specs.Line.{first_word, trimmed, trimmed_start, number_in, grade_in, byte_in}
 
 -- a function from the rest of a line to a value and the new rest, or to a fault
 abbrev pub Reading : Type 0 → Type 0
@@ -83,6 +83,14 @@ number_if_any rest = if is_ended rest then given None rest else (do given (Some 
 -- a number, if another word follows, and else 0
 abbrev pub number_or_zero : Reading ℕ
 number_or_zero = do given (unwrap_or (← number_if_any) 0)
+
+-- a grade, 0 to 100
+abbrev pub grade : Reading ℕ
+grade = do wanted (grade_in (← number))
+
+-- a grade, if another word follows
+abbrev pub grade_if_any : Reading (Option ℕ)
+grade_if_any rest = if is_ended rest then given None rest else (do given (Some (← grade))) rest
 
 -- ---- key words
 

@@ -13,6 +13,9 @@ use std::marker::Model;
 use xw_grid::{Direction, Side, Symmetry};
 use xw_lines::run::LINE_LIMIT;
 
+/// The greatest grade of a word.
+pub const BEST_GRADE: u8 = 100;
+
 /// Why a line is not a valid command.
 #[derive(Clone, Copy, Debug, PartialEq, Eq)]
 pub enum SyntaxFault {
@@ -101,8 +104,9 @@ impl<'a> Text<'a> {
 pub enum Command<'a> {
     Size(u64, u64),
     Symmetry(Symmetry),
-    Add(Text<'a>),
+    Add(Text<'a>, Option<u8>),
     Strike(Text<'a>),
+    Least(u8),
     Match(Text<'a>),
     Set(CellArg, u8),
     Clear(CellArg),
@@ -122,11 +126,13 @@ pub enum Command<'a> {
     Tally(CellArg),
     Duplicates,
     Unlisted,
+    Grades(LightArgs<'a>),
     Unmatched,
     Suggest,
     Why(LightArg),
     Fill(u64),
     Autofill(u64, u64, LightArgs<'a>),
+    Best(u64, u64, LightArgs<'a>),
     Watch(bool),
     Tell(Report),
     Put(TextMode, Field, Text<'a>),
@@ -153,8 +159,8 @@ impl<'a> Command<'a> {
             Command::Words(..) | Command::Choices(..) | Command::Letters(_) => Kind::Query,
             Command::Tally(_) | Command::Duplicates | Command::Unlisted => Kind::Query,
             Command::Unmatched | Command::Suggest | Command::Why(_) => Kind::Query,
-            Command::Tell(_) => Kind::Query,
-            Command::Fill(_) | Command::Autofill(..) => Kind::Search,
+            Command::Grades(_) | Command::Tell(_) => Kind::Query,
+            Command::Fill(_) | Command::Autofill(..) | Command::Best(..) => Kind::Search,
             _ => Kind::Change,
         }
     }
@@ -170,7 +176,7 @@ pub fn kind_of_parsed(parsed: &Result<Option<Command<'_>>, SyntaxFault>) -> Kind
     }
 }
 
-/// The commands whose argument is a word.
+/// The commands whose first argument is a word.
 #[derive(Clone, Copy)]
 pub enum WithWord {
     Add,
@@ -207,6 +213,7 @@ pub enum Name {
     Size,
     Symmetry,
     Word(WithWord),
+    Least,
     Cell(WithCell),
     Light(WithLight),
     Text(TextField),
@@ -215,21 +222,24 @@ pub enum Name {
     Lights,
     Duplicates,
     Unlisted,
+    Grades,
     Unmatched,
     Suggest,
     Fill,
     Autofill,
+    Best,
     Watch,
     Tell(Report),
     Put(TextMode),
 }
 
 /// The names of all commands.
-const NAMES: [Name; 39] = [
+const NAMES: [Name; 42] = [
     Name::Size,
     Name::Symmetry,
     Name::Word(WithWord::Add),
     Name::Word(WithWord::Strike),
+    Name::Least,
     Name::Word(WithWord::Match),
     Name::Cell(WithCell::Set),
     Name::Cell(WithCell::Clear),
@@ -252,11 +262,13 @@ const NAMES: [Name; 39] = [
     Name::Cell(WithCell::Tally),
     Name::Duplicates,
     Name::Unlisted,
+    Name::Grades,
     Name::Unmatched,
     Name::Suggest,
     Name::Light(WithLight::Why),
     Name::Fill,
     Name::Autofill,
+    Name::Best,
     Name::Watch,
     Name::Tell(Report::Cells),
     Name::Tell(Report::Counts),
@@ -267,13 +279,13 @@ const NAMES: [Name; 39] = [
     Name::Put(TextMode::Behind),
 ];
 
-/// Reads the arguments of a command that takes a word.
+/// Reads the arguments of a command that takes a word, and then a grade for some.
 fn with_word<'a>(name: WithWord, words: &mut Words<'a>) -> Result<Command<'a>, SyntaxFault>
     ensures { Reads (λ command. command) result words.new (command_named_so (word_of (Name.Word name)) words.old) }
 {
     let word = words.word()?;
     match name {
-        WithWord::Add => Ok(Command::Add(word)),
+        WithWord::Add => Ok(Command::Add(word, words.grade_if_any()?)),
         WithWord::Strike => Ok(Command::Strike(word)),
         WithWord::Match => Ok(Command::Match(word)),
     }
@@ -318,6 +330,7 @@ fn arguments<'a>(name: Name, words: &mut Words<'a>) -> Result<Command<'a>, Synta
         Name::Size => Ok(Command::Size(words.number()?, words.number()?)),
         Name::Symmetry => Ok(Command::Symmetry(words.symmetry()?)),
         Name::Word(name) => with_word(name, words),
+        Name::Least => Ok(Command::Least(words.grade()?)),
         Name::Cell(name) => with_cell(name, words),
         Name::Light(name) => with_light(name, words),
         Name::Text(field) => Ok(Command::Write(field, words.text())),
@@ -326,10 +339,16 @@ fn arguments<'a>(name: Name, words: &mut Words<'a>) -> Result<Command<'a>, Synta
         Name::Lights => Ok(Command::Lights),
         Name::Duplicates => Ok(Command::Duplicates),
         Name::Unlisted => Ok(Command::Unlisted),
+        Name::Grades => Ok(Command::Grades(LightArgs::read(words))),
         Name::Unmatched => Ok(Command::Unmatched),
         Name::Suggest => Ok(Command::Suggest),
         Name::Fill => Ok(Command::Fill(words.number()?)),
         Name::Autofill => Ok(Command::Autofill(
+            words.number()?,
+            words.number_or_zero()?,
+            LightArgs::read(words),
+        )),
+        Name::Best => Ok(Command::Best(
             words.number()?,
             words.number_or_zero()?,
             LightArgs::read(words),

@@ -5,8 +5,9 @@ ghost use Rattle.std.specs.List.{list_all};
 ghost use Rattle.std.specs.Str.Parse.{digits_value};
 ghost use Rattle.xw_commands.specs.Names.{by_name};
 ghost use Rattle.xw_commands.specs.Reading.{lookup as lookup_in};
-ghost use Rattle.xw_commands.specs.Line.{is_blank as is_blank_byte, is_ink as is_ink_byte, is_digit as is_digit_byte, is_number as is_number_word, number_in as number_in_word, byte_in as byte_in_word, without_cr as line_without_cr, trimmed as trimmed_text, trimmed_start as text_trimmed_at_start, trimmed_end as text_trimmed_at_end, first_word as first_word_of};
+ghost use Rattle.xw_commands.specs.Line.{is_blank as is_blank_byte, is_ink as is_ink_byte, is_digit as is_digit_byte, is_number as is_number_word, number_in as number_in_word, grade_in as grade_in_number, byte_in as byte_in_word, without_cr as line_without_cr, trimmed as trimmed_text, trimmed_start as text_trimmed_at_start, trimmed_end as text_trimmed_at_end, first_word as first_word_of};
 
+use crate::command::BEST_GRADE;
 use crate::names::Named;
 
 /// The maximum number of digits of a number.
@@ -152,6 +153,17 @@ pub fn number_in(word: &[u8]) -> Option<u64>
 {
     if is_number(word) {
         Some(value(word))
+    } else {
+        None
+    }
+}
+
+/// Returns a number as a grade. Returns `None` if it is more than `BEST_GRADE`.
+pub fn grade_in(number: u64) -> Option<u8>
+    ensures { result ≡ grade_in_number number }
+{
+    if number <= u64::from(BEST_GRADE) {
+        Some(number as u8)
     } else {
         None
     }

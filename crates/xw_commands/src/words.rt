@@ -1,6 +1,6 @@
 //! Reads the arguments of a command one after another.
 ghost use Rattle.std.specs.Prelude.{◌≡◌, Ok, IfSome, IfNone};
-ghost use Rattle.xw_commands.specs.Reading.{word as word_of, number as number_of, byte as byte_of, text as text_of, word_if_any as word_if_any_of, number_if_any as number_if_any_of, number_or_zero as number_or_zero_of, is_ended as is_ended_text, direction as direction_of, side as side_of, symmetry as symmetry_of, switch as switch_of, spot as spot_of, named as named_of, text_name as text_name_of, field as field_of, Reads, HasFault};
+ghost use Rattle.xw_commands.specs.Reading.{word as word_of, number as number_of, byte as byte_of, text as text_of, word_if_any as word_if_any_of, number_if_any as number_if_any_of, number_or_zero as number_or_zero_of, grade as grade_of, grade_if_any as grade_if_any_of, is_ended as is_ended_text, direction as direction_of, side as side_of, symmetry as symmetry_of, switch as switch_of, spot as spot_of, named as named_of, text_name as text_name_of, field as field_of, Reads, HasFault};
 
 use crate::command::{CellArg, Field, LightArg, SyntaxFault, Text, TextField};
 use crate::{line, names};
@@ -95,6 +95,23 @@ impl<'a> Words<'a> {
         ensures { Reads (λ number. number) result self.new (number_or_zero_of self.old) }
     {
         Ok(self.number_if_any()?.unwrap_or(0))
+    }
+
+    /// Reads a grade, 0 to `BEST_GRADE`.
+    pub fn grade(&mut self) -> Result<u8, SyntaxFault>
+        ensures { Reads (λ grade. grade) result self.new (grade_of self.old) }
+    {
+        line::grade_in(self.number()?).ok_or(SyntaxFault::Arguments)
+    }
+
+    /// Reads a grade if another word follows.
+    pub fn grade_if_any(&mut self) -> Result<Option<u8>, SyntaxFault>
+        ensures { Reads (λ grade. grade) result self.new (grade_if_any_of self.old) }
+    {
+        if self.is_ended() {
+            return Ok(None);
+        }
+        Ok(Some(self.grade()?))
     }
 
     pub fn byte(&mut self) -> Result<u8, SyntaxFault>

@@ -50,7 +50,11 @@ AreAnswers-prop board dictionary answers x y = λ i. record {
 }
 
 coded_entry : Coded Entry
-coded_entry = code_by (List ℕ × (Bool × ℕ)) (coded× (coded_list coded_ℕ) (coded× coded_bool coded_ℕ)) (λ entry. (entry.word, (entry.active, entry.grade))) (λ parts. record { word = parts.0; active = parts.1.0; grade = parts.1.1 }) (λ _. refl)
+coded_entry = code_by (List ℕ × (Bool × (Bool × (ℕ × Bool))))
+    (coded× (coded_list coded_ℕ) (coded× coded_bool (coded× coded_bool (coded× coded_ℕ coded_bool))))
+    (λ entry. (entry.word, (entry.active, (entry.struck, (entry.grade, entry.regraded)))))
+    (λ parts. record { word = parts.0; active = parts.1.0; struck = parts.1.1.0; grade = parts.1.1.1.0; regraded = parts.1.1.1.1 })
+    (λ _. refl)
 
 letter_prop : (letter : ℕ) → IsProp (IsLetter letter)
 letter_prop letter = ×_prop le_prop le_prop
@@ -85,6 +89,8 @@ IsDictionary-prop dictionary x y = λ i. record {
   lengths = Coded-set coded_ℕ _ _ x.lengths y.lengths i;
   words = Π_prop (λ len. AreWords-prop len (row dictionary len)) x.words y.words i;
   none_shorter = Π_prop (λ len. Π_prop (λ short. Coded-set (coded_list coded_entry) _ _)) x.none_shorter y.none_shorter i;
+  least = le_prop x.least y.least i;
+  left = Π_prop (λ len. Π_prop (λ k. Π_prop (λ d. Π_prop (λ below. Bool-set _ _)))) x.left y.left i;
 }
 
 IsLaidOut-prop : (board : Board) → IsProp (IsLaidOut board)

@@ -1,7 +1,7 @@
 //! The edits of the dictionary.
 ghost use Rattle.std.specs.Prelude.{◌≡◌, ◌≤◌, length, map, position, take, None, true, IfOk, IfErr, OnOk, OnErr, IsOkUnless, Ok, Err};
 ghost use Rattle.xw_words.specs.Bank.{has_room};
-ghost use Rattle.xw_words.specs.Dictionary.{add_answer, strike_answer, IsNew, IsDictionary};
+ghost use Rattle.xw_words.specs.Dictionary.{add_answer, strike_answer, with_least, IsNew, IsDictionary};
 ghost use Rattle.xw_letters.specs.Letter.{folded};
 ghost use Rattle.xw_words.specs.Word.{is_bad_letter};
 ghost use Rattle.xw_feas.specs.Shape.{SameCounts, GrowsAt, IsReturned, IsAddRefused};
@@ -31,15 +31,15 @@ pub fn strike_in(bank: &mut Bank, word: &[u8]) -> Result<usize, WordFault>
     bank.strike(word)
 }
 
-/// Makes a struck word active again. The word must be known and struck.
-pub fn return_in(bank: &mut Bank, word: &[u8]) -> Result<(), WordFault>
+/// Makes a word active again. The word must be known and not active. Its grade is as `Bank::add` says.
+pub fn return_in(bank: &mut Bank, word: &[u8], grade: Option<u8>) -> Result<(), WordFault>
     requires { IsReturned (add_answer bank.old.words word.now) }
-    ensures ok { OnOk result (add_word bank.old.words word.now ≡ Ok bank.new.words) }
-    ensures refused { IfErr result (λ fault. IsAddRefused bank.old.words word.now fault) }
+    ensures ok { OnOk result (add_word bank.old.words word.now grade ≡ Ok bank.new.words) }
+    ensures refused { IfErr result (λ fault. IsAddRefused bank.old.words word.now grade fault) }
     ensures counts { SameCounts bank.old.words bank.new.words }
     ensures same { OnErr result (bank.new.words ≡ bank.old.words) }
 {
-    bank.add(word, None)?;
+    bank.add(word, grade)?;
     Ok(())
 }
 
@@ -54,15 +54,23 @@ pub fn reserve_in(bank: &mut Bank, word: &[u8]) -> Result<(), WordFault>
     bank.reserve(word.len())
 }
 
-/// Adds a word that is not known, in reserved room.
-pub fn add_in(bank: &mut Bank, word: &[u8])
+/// Adds a word that is not known, in reserved room. Its grade is as `Bank::add` says.
+pub fn add_in(bank: &mut Bank, word: &[u8], grade: Option<u8>)
     requires new { IsNew (add_answer bank.old.words word.now) }
     requires room { has_room bank.old (length word.now) ≡ true }
-    ensures words { add_word bank.old.words word.now ≡ Ok bank.new.words }
+    ensures words { add_word bank.old.words word.now grade ≡ Ok bank.new.words }
     ensures counts { GrowsAt bank.old.words bank.new.words (length word.now) }
 {
     let _ = bank.known(word.len());
     let mut letters = [Letter::first(); LONGEST];
     spell(&mut letters, word);
-    let _ = bank.add_reserved(&letters[..word.len()], None);
+    let _ = bank.add_reserved(&letters[..word.len()], grade);
+}
+
+/// Leaves out the words below a grade, as `Bank::set_least` does.
+pub fn limit_in(bank: &mut Bank, grade: u8)
+    ensures words { bank.new.words ≡ with_least grade bank.old.words }
+    ensures counts { SameCounts bank.old.words bank.new.words }
+{
+    bank.set_least(grade);
 }

@@ -28,3 +28,6 @@ pub mod LetterSearch
 pub mod Naming
 pub mod NamedFills
 pub mod TryingLemmas
+pub mod LeastLemmas
+pub mod GradeLemmas
+pub mod ClimbLemmas

@@ -67,7 +67,7 @@ length-squares_with : (squares : List Square) (entries : List (Option ℕ)) → 
 length-squares_with [] entries = refl
 length-squares_with (square ∷ squares) entries = ap suc (length-squares_with squares (drop 1 entries))
 
-filled_twin : (state : State) (entries : List (Option ℕ)) → IsTwin state (filled_in state entries)
+pub filled_twin : (state : State) (entries : List (Option ℕ)) → IsTwin state (filled_in state entries)
 filled_twin state entries = record {
   shape = record {
     lights = same_lights state.grid (is_open (filled_in state entries).grid) (filled_open state entries);

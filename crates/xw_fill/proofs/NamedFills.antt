@@ -33,7 +33,7 @@ some_word [] h = absurd (true≢false h)
 some_word (word ∷ words) h = (word, inl refl)
 
 -- a light that does not lack words has one
-has_word : (position : Position) (light : ℕ) → lacks_words position light ≡ false → (word : List ℕ) × Among word (feasible_words position light)
+pub has_word : (position : Position) (light : ℕ) → lacks_words position light ≡ false → (word : List ℕ) × Among word (feasible_words position light)
 has_word position light h = some_word (feasible_words position light) h
 
 -- the light at an index passes through its cells
@@ -73,7 +73,7 @@ in_named-gives named position cell h =
 -- ---- base words
 
 -- a wholly entered light has only the word that it spells
-entered_only : (board : Board) (dictionary : Dictionary) (light : ℕ) (word : List ℕ) → light < length board.lights → is_wholly_entered board (light_at board light) ≡ true → Among word (base_words_at board dictionary light) → word ≡ spelled board (light_at board light)
+pub entered_only : (board : Board) (dictionary : Dictionary) (light : ℕ) (word : List ℕ) → light < length board.lights → is_wholly_entered board (light_at board light) ≡ true → Among word (base_words_at board dictionary light) → word ≡ spelled board (light_at board light)
 entered_only board dictionary light word below entered among =
     let test : Entry → Bool = λ known. known.active && agrees board (light_at board light) known.word in
     let here : base_words_at board dictionary light ≡ spelled board (light_at board light) ∷ [] = get_or-map (base_words board dictionary) board.lights light [] [] below ∙ ap (λ b. cond b (spelled board (light_at board light) ∷ []) (map (λ (known : Entry). known.word) (filter test (known_words dictionary (length (light_at board light)))))) entered in
@@ -83,7 +83,7 @@ entered_only board dictionary light word below entered among =
       only (inr h) = absurd h
 
 -- only lights of the board have base words
-in_board : (board : Board) (dictionary : Dictionary) (light : ℕ) (word : List ℕ) → Among word (base_words_at board dictionary light) → light < length board.lights
+pub in_board : (board : Board) (dictionary : Dictionary) (light : ℕ) (word : List ℕ) → Among word (base_words_at board dictionary light) → light < length board.lights
 in_board board dictionary light word among = let below = at (map (base_words board dictionary) board.lights) light among in omega (arith, length-map board.lights (base_words board dictionary), below) where
   at : (lists : List (List (List ℕ))) (n : ℕ) → Among word (get_or lists n []) → n < length lists
   at [] n h = absurd h
@@ -212,7 +212,7 @@ fill_letter named start now fill cell entered is keeps target =
     )
 
 -- a watched light is named, or has a new entry in every fill
-watched_changes : (named : ℕ → Bool) (start : Position) (fill : List (Option ℕ)) (light : ℕ) → IsFillOf named start fill → is_watched named start light ≡ true → (named light ≡ true) ⊎ IsChanged start fill light
+pub watched_changes : (named : ℕ → Bool) (start : Position) (fill : List (Option ℕ)) (light : ℕ) → IsFillOf named start fill → is_watched named start light ≡ true → (named light ≡ true) ⊎ IsChanged start fill light
 watched_changes named start fill light is watched = elim (cases_Bool (named light)) [
   | inl is_named ↦ inl is_named
   | inr not_named ↦

@@ -164,7 +164,7 @@ any_below-same f g zero same = refl
 any_below-same f g (suc n) same = ap (λ b. b || f n) (any_below-same f g n (λ k below. same k (omega arith))) ∙ ap (λ b. any_below g n || b) (same n (omega arith))
 
 module _ (f g : ℕ → Bool) (position : Position) (same : (light : ℕ) → light < light_count position → f light ≡ g light) where
-  fill_same : (entries : List (Option ℕ)) → IsFillOf f position entries → IsFillOf g position entries
+  pub fill_same : (entries : List (Option ℕ)) → IsFillOf f position entries → IsFillOf g position entries
   fill_same entries is = record {
     letters = is.letters;
     kept = is.kept;

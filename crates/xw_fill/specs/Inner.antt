@@ -4,3 +4,4 @@ pub mod Linked
 pub mod Tries
 pub mod Stack
 pub mod Progress
+pub mod Climbing

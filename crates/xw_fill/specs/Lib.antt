@@ -12,4 +12,5 @@ pub mod Choices
 pub mod Listing
 pub mod Laws
 pub mod NamedFill
+pub mod Best
 pub mod Inner

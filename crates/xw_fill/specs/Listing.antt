@@ -1,7 +1,7 @@
--- Repeated words, and words that are not active in the dictionary.
-use Rattle.std.specs.Prelude.{ℕ, zero, suc, Bool, ◌&&◌, not, List, [], ◌∷◌, ◌++◌, map, length, Option, Some, None, bytes_eq}
+-- Repeated words, words that are not active in the dictionary, and the grades of words.
+use Rattle.std.specs.Prelude.{ℕ, zero, suc, Bool, ◌&&◌, not, List, [], ◌∷◌, ◌++◌, map, length, Option, Some, None, option_map, bytes_eq, if◌then◌else◌}
 use Rattle.std.specs.List.{list_any}
-use Rattle.xw_words.specs.Dictionary.{Entry, row as known_words}
+use Rattle.xw_words.specs.Dictionary.{Dictionary, Entry, row as known_words, entry_at, index_of_word}
 use Rattle.xw_grid.specs.declared.cell.LightName.{LightName}
 use Rattle.xw_feas.specs.State.{State}
 use Rattle.xw_fill.specs.Position.{Position, position_of, name_at}
@@ -31,3 +31,11 @@ is_unlisted position light = is_entered position light && not (is_listed positio
 -- the wholly entered lights whose words are not active
 abbrev pub unlisted_of : State → List LightName
 unlisted_of state = map (name_at state) (those_below (is_unlisted (position_of state)) (light_count (position_of state)))
+
+-- the grade of a known word, active or not
+abbrev pub grade_of_word : Dictionary → List ℕ → Option ℕ
+grade_of_word words word = option_map (λ index. (entry_at (known_words words (length word)) index).grade) (index_of_word words word)
+
+-- the grade of the word of a light; none if the light is not wholly entered, or its word is not known
+abbrev pub grade_of : Position → ℕ → Option ℕ
+grade_of position light = if is_entered position light then grade_of_word position.words (spelling position light) else None

@@ -8,6 +8,7 @@ ghost use Rattle.xw_fill.specs.FeasibleWords.{feasible_words};
 ghost use Rattle.xw_fill.specs.Fill.{IsFill};
 ghost use Rattle.xw_fill.specs.NamedFill.{IsFillOf, IsInLights};
 ghost use Rattle.xw_fill.specs.Search.{chosen};
+ghost use Rattle.xw_fill.specs.Best.{FillsReachDown, NoneReachesUp};
 ghost use Rattle.xw_fill.specs.Laws.{IsSearched, IsChoice, FillsAreFeasible, FoundIsFill, FillIsFound, AnswerIsOne, EndIsOne};
 
 /// `found`, `due` and `end` of a position follow from those of the positions after one placement.
@@ -48,4 +49,11 @@ pub fn all_law()
     ensures fill { (position : Position) (entries : List (Option ℕ)) → IsFillOf (λ light. true) position entries → IsFill position entries }
     ensures of_all { (position : Position) (entries : List (Option ℕ)) → IsLaidOut position.board → IsInLights position entries
         → IsFill position entries → IsFillOf (λ light. true) position entries }
+{}
+
+/// A fill with the words of a grade and better is one with those of each lower grade. So if there is none, there is none
+/// with those of a greater grade.
+pub fn grade_law()
+    ensures fills { FillsReachDown }
+    ensures none { NoneReachesUp }
 {}

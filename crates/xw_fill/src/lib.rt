@@ -1,7 +1,8 @@
-//! Finds repeated and unlisted words, suggests words, and fills grids or named lights. Works over any engine that
-//! implements `Feasible`; filling needs one that implements `Searchable`.
+//! Finds repeated and unlisted words, suggests words, and fills grids or named lights, also with the best words that it
+//! finds. Works over any engine that implements `Feasible`; filling needs one that implements `Searchable`.
 #![tactic(auto)]
 
+pub mod best;
 pub mod choices;
 pub mod laws;
 pub mod listing;
@@ -16,6 +17,7 @@ mod stack;
 pub mod suggesting;
 mod tries;
 
+pub use best::{Best, BestHint, best_fill};
 pub use choices::{fewest_after, fewest_words};
 pub use listing::{Duplicate, duplicates, unlisted};
 pub use marks::Marks;

@@ -1,11 +1,12 @@
-//! Lists repeated words, and words that are not in the dictionary.
+//! Lists repeated words, and words that are not active, and tells the grades of words.
 ghost use Rattle.std.specs.Prelude.{◌≡◌, ◌<◌, ◌≤◌, length, IfOk, IfErr, take};
+ghost use Rattle.xw_words.specs.Dictionary.{index_of_word};
 ghost use Rattle.xw_feas.specs.Board.{spelled};
 ghost use Rattle.xw_fill.specs.Position.{position_of};
 ghost use Rattle.xw_fill.specs.Search.{light_count, is_entered, spelling};
-ghost use Rattle.xw_fill.specs.Listing.{duplicates_of, is_listed, is_unlisted, unlisted_of};
+ghost use Rattle.xw_fill.specs.Listing.{duplicates_of, is_listed, is_unlisted, unlisted_of, grade_of};
 
-use crate::scan::{board, first_same, is_entered, light_count, name_at};
+use crate::scan::{board, first_same, is_entered, light_at, light_count, name_at};
 use std::alloc::Global;
 use xw_feas::board::{Board, Cells};
 use xw_feas::edit::Refusal;
@@ -54,18 +55,33 @@ fn spell(board: &Board<'_>, cells: &Cells) -> [Letter; LONGEST]
     letters
 }
 
+/// Returns the index of the word that a light spells among the known words of its length.
+pub(crate) fn word_index<E: Feasible>(engine: &E, light: usize) -> Option<usize>
+    requires { light < light_count (position_of (E.state engine.now)) }
+    ensures { result ≡ index_of_word (E.state engine.now).words (spelling (position_of (E.state engine.now)) light) }
+{
+    let board = board(engine);
+    let cells = board.light(light);
+    let letters = spell(&board, &cells);
+    engine.bank().find(&letters[..cells.len()])
+}
+
+/// Returns the number of cells of a light.
+pub(crate) fn size_of<E: Feasible>(engine: &E, light: usize) -> usize
+    requires { light < light_count (position_of (E.state engine.now)) }
+    ensures { result ≡ length (spelling (position_of (E.state engine.now)) light) }
+{
+    light_at(engine, light).size as usize
+}
+
 /// Returns whether the word that a light spells is active in the dictionary.
 fn is_listed<E: Feasible>(engine: &E, light: usize) -> bool
     requires { light < light_count (position_of (E.state engine.now)) }
     ensures { result ≡ is_listed (position_of (E.state engine.now)) (spelling (position_of (E.state engine.now)) light) }
 {
-    let board = board(engine);
-    let cells = board.light(light);
-    let letters = spell(&board, &cells);
-    let bank = engine.bank();
-    match bank.find(&letters[..cells.len()]) {
+    match word_index(engine, light) {
         None => false,
-        Some(index) => bank.is_active(cells.len(), index),
+        Some(index) => engine.bank().is_active(size_of(engine, light), index),
     }
 }
 
@@ -77,8 +93,8 @@ fn is_unlisted<E: Feasible>(engine: &E, light: usize) -> bool
     is_entered(engine, light) && !is_listed(engine, light)
 }
 
-/// Returns the wholly entered lights whose words are not active (unknown or struck), in light order. Returns `Memory`
-/// if an allocation fails.
+/// Returns the wholly entered lights whose words are not active (unknown, struck or below the least grade), in light
+/// order. Returns `Memory` if an allocation fails.
 pub fn unlisted<E: Feasible>(alloc: Global, engine: &E) -> Result<Vec<LightName>, Refusal>
     ensures lists { IfOk result (λ lights. lights.items ≡ unlisted_of (E.state engine.now)) }
     ensures memory { IfErr result (λ refusal. refusal ≡ Refusal.Grid GridFault.Memory) }
@@ -92,4 +108,17 @@ pub fn unlisted<E: Feasible>(alloc: Global, engine: &E) -> Result<Vec<LightName>
         }
     }
     Ok(lights)
+}
+
+/// Returns the grade of the word of a light, active or not. Returns `None` if the light is not wholly entered, or if its
+/// word is not known.
+pub fn grade<E: Feasible>(engine: &E, light: usize) -> Option<u8>
+    requires { light < light_count (position_of (E.state engine.now)) }
+    ensures { result ≡ grade_of (position_of (E.state engine.now)) light }
+{
+    if !is_entered(engine, light) {
+        return None;
+    }
+    let index = word_index(engine, light)?;
+    Some(engine.bank().grade(size_of(engine, light), index))
 }

@@ -1,16 +1,16 @@
 //! Fills the named lights: by letters, and first where it failed before.
-mod checks;
+pub(crate) mod checks;
 mod choice;
 mod frame;
-mod plan;
-mod run;
+pub(crate) mod plan;
+pub(crate) mod run;
 
 ghost use Rattle.std.specs.Prelude.{◌≡◌, ◌≤◌, ℕ, length, replicate, true, false, IfOk, IfErr, OnOk, OnErr, ◌<◌};
 ghost use Rattle.xw_fill.specs.Position.{position_of};
 ghost use Rattle.xw_fill.specs.Search.{light_count};
 ghost use Rattle.xw_fill.specs.Inner.Stack.{IsReady};
 ghost use Rattle.xw_fill.specs.NamedFill.{flags, is_named, AreFlags, IsAutofilled, IsNoLight, IsRefusal, AreFlagged};
-ghost use Rattle.xw_fill.specs.Inner.Progress.{entries_of, IsPlan, IsOpen};
+ghost use Rattle.xw_fill.specs.Inner.Progress.{entries_of, HasEntered, IsPlan, IsOpen};
 
 use crate::named_lights::checks::first_dead;
 use crate::named_lights::frame::Frame;
@@ -79,6 +79,7 @@ fn run_again<E: Searchable>(
     requires open { IsOpen (flags plan.now.named.items) (position_of (E.state engine.old)) (entries_of (E.state engine.old)) }
     requires ready { IsReady E.saved stack.old (E.state engine.old) }
     ensures ok { IfOk result (IsAutofilled (flags plan.now.named.items) (E.state engine.old) (E.state engine.new)) }
+    ensures entered { IfOk result (HasEntered (flags plan.now.named.items) (E.state engine.old) (E.state engine.new)) }
     ensures memory { IfErr result (λ refusal. refusal ≡ Refusal.Grid GridFault.Memory) }
     ensures unchanged { OnErr result (E.state engine.new ≡ E.state engine.old) }
 {
@@ -98,7 +99,7 @@ fn run_again<E: Searchable>(
 }
 
 /// Fills the lights of a plan, with at most `limit` placements of letters. The state changes only for `Filled`.
-fn fill_planned<E: Searchable>(
+pub(crate) fn fill_planned<E: Searchable>(
     alloc: Global,
     engine: &mut E,
     plan: &Plan,
@@ -107,6 +108,7 @@ fn fill_planned<E: Searchable>(
 ) -> Result<Filling, Refusal>
     requires plan { IsPlan (position_of (E.state engine.old)) plan.now }
     ensures ok { IfOk result (IsAutofilled (flags plan.now.named.items) (E.state engine.old) (E.state engine.new)) }
+    ensures entered { IfOk result (HasEntered (flags plan.now.named.items) (E.state engine.old) (E.state engine.new)) }
     ensures memory { IfErr result (λ refusal. refusal ≡ Refusal.Grid GridFault.Memory) }
     ensures unchanged { OnErr result (E.state engine.new ≡ E.state engine.old) }
 {
@@ -160,7 +162,7 @@ fn flag_lights<E: Feasible>(
 
 /// A flag for each light: whether its name is in a list. Returns `NoLight` if a name is that of no light, and `Memory` if
 /// an allocation fails.
-fn flags_of<E: Feasible>(
+pub(crate) fn flags_of<E: Feasible>(
     alloc: Global,
     engine: &E,
     names: &[LightName],
@@ -177,7 +179,7 @@ fn flags_of<E: Feasible>(
 }
 
 /// A set flag for each light.
-fn all_lights<E: Feasible>(alloc: Global, engine: &E) -> Result<Vec<bool>, Refusal>
+pub(crate) fn all_lights<E: Feasible>(alloc: Global, engine: &E) -> Result<Vec<bool>, Refusal>
     ensures ok { IfOk result (λ named. named.items ≡ replicate (light_count (position_of (E.state engine.now))) true) }
     ensures memory { IfErr result (λ refusal. refusal ≡ Refusal.Grid GridFault.Memory) }
 {

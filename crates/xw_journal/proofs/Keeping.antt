@@ -12,6 +12,9 @@ use Rattle.xw_fill.specs.Search.{found, due, end}
 use Rattle.xw_fill.specs.declared.search.Filling.{Filling}
 use Rattle.xw_fill.specs.declared.search.Filling.TheVariants.{Filled, NoFill, Limit}
 use Rattle.xw_fill.specs.NamedFill.{IsAutofilled, is_named}
+use Rattle.xw_fill.specs.declared.best.Best.{Best}
+use Rattle.xw_fill.specs.declared.best.Best.TheVariants as bests
+use Rattle.xw_fill.specs.Best.{IsBest}
 use Rattle.xw_lines.specs.Spoken.{NeverStops, broken_by}
 use Rattle.xw_lines.specs.declared.outcome.AnswerFault.{AnswerFault}
 use Rattle.xw_lines.specs.declared.outcome.AnswerFault.TheVariants.{WriteFailed, Stopped}
@@ -23,9 +26,11 @@ use Rattle.xw_session.specs.Resuming.{MayBeDone}
 use Rattle.xw_session.specs.Reply.{Reply, fill_tried, filling_name, shown}
 use Rattle.xw_answers.specs.Text.{word_line}
 use Rattle.xw_session.specs.Autofill.{names_of, IsAutofillDue, IsAutofillReply}
+use Rattle.xw_session.specs.Best.{IsBestDue, IsBestReply}
 use Rattle.xw_session.specs.Answer.{IsDue, Replies, Answers, AnswersParsed, step_of, state_after}
 use Rattle.xw_commands.specs.declared.command.Kind.TheVariants.{Search}
 use Rattle.xw_commands.specs.Kind.{kind_of, kind_of_line}
+use Rattle.xw_journal.specs.Journal.{events_of_kind, events_of_parsed}
 
 -- the grid has the size that it had before
 pub record HasSizeOf (before after : Grid) : Type 0 where
@@ -62,9 +67,19 @@ autofilled_size : (state : State) (lights : List LightArg) (reply : Reply) → I
 autofilled_size state lights reply a =
     subst (λ (r : Reply). HasSizeOf state.position.grid r.state.position.grid) (sym a.is) (autofill_size (is_named state.position (names_of lights)) state.position a.position a.filling a.done)
 
+best_size : (named : ℕ → Bool) (before after : Position) (best : Best) → IsBest named before after best → HasSizeOf before.grid after.grid
+best_size named before after (bests.Filled least bound) (filled, proved) = subst (λ (p : Position). HasSizeOf before.grid p.grid) (sym filled.holds) (record { width = refl; height = refl })
+best_size named before after bests.NoFill (none, left) = subst (λ (p : Position). HasSizeOf before.grid p.grid) (sym left) (same_size before.grid)
+best_size named before after (bests.Limit bound) (above, proved, left) = subst (λ (p : Position). HasSizeOf before.grid p.grid) (sym left) (same_size before.grid)
+
+best_filled_size : (state : State) (lights : List LightArg) (reply : Reply) → IsBestReply state (names_of lights) reply → HasSizeOf state.position.grid reply.state.position.grid
+best_filled_size state lights reply a =
+    subst (λ (r : Reply). HasSizeOf state.position.grid r.state.position.grid) (sym a.is) (best_size (is_named state.position (names_of lights)) state.position a.position a.best a.done)
+
 search_size : (state : State) (command : Command) (reply : Reply) → kind_of command ≡ Search → (due : Result Reply Refusal) → IsDue state command due → due ≡ Ok reply → HasSizeOf state.position.grid reply.state.position.grid
 search_size state (commands.Fill limit) reply e due owed is = fill_size state limit reply (owed ∙ is)
 search_size state (commands.Autofill limit seed lights) reply e due owed is = autofilled_size state lights reply (subst (λ (d : Result Reply Refusal). IsAutofillDue state (names_of lights) d) is owed)
+search_size state (commands.Best limit seed lights) reply e due owed is = best_filled_size state lights reply (subst (λ (d : Result Reply Refusal). IsBestDue state (names_of lights) d) is owed)
 search_size state other reply e due owed is = cc
 
 accepted_size : (state : State) (command : Command) (reply : Result Reply Refusal) (after : State) → kind_of command ≡ Search → Replies state command reply → Accepted ≡ step_of reply → after ≡ state_after state reply
@@ -82,6 +97,12 @@ parsed_size state after (Err fault) answer e said = cc
 pub searched_size : (state after : State) (line answer : List ℕ) → kind_of_line (command_of line) ≡ Search → Answers state line Accepted answer after
     → HasSizeOf state.position.grid after.position.grid
 searched_size state after line answer e said = parsed_size state after (command_of line) answer e said
+
+-- what is written for a line is what is written for one of its kind
+pub kind_events : (parsed : Result (Option Command) SyntaxFault) (line : List ℕ) (before after : Grid) → events_of_kind (kind_of_line parsed) line before after ≡ events_of_parsed parsed line before after
+kind_events (Ok (Some command)) line before after = refl
+kind_events (Ok None) line before after = refl
+kind_events (Err fault) line before after = refl
 
 -- a line whose answer was not finished was executed
 pub broken_done : (state after : State) (line : List ℕ) (fault : AnswerFault) (old new : List ℕ) → broken_by Answers NeverStops fault state line after old new → MayBeDone state line after

@@ -7,3 +7,4 @@ pub mod CostsByLight
 pub mod LeastRegion
 pub mod BaseRowCosts
 pub mod CostBounds
+pub mod WholeGrid

@@ -13,3 +13,4 @@ pub mod MovedNets
 pub mod SizesAtRest
 pub mod CopiedNets
 pub mod TalliedLetters
+pub mod RefilledNets

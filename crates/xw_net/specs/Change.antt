@@ -1,5 +1,5 @@
 -- What a net is told of an edit.
-use Rattle.std.specs.Prelude.{◌≡◌, ℕ, ◌<◌, Bool, not, List, [], map, length, Option, Some, None, Result, Ok, Err, slice_get, Contains}
+use Rattle.std.specs.Prelude.{◌≡◌, ℕ, ◌<◌, Bool, true, false, not, List, [], map, length, Option, Some, None, Result, Ok, Err, slice_get, Contains}
 use Rattle.xw_words.specs.declared.fault.WordFault.{WordFault}
 use Rattle.xw_words.specs.declared.bank.Added.{Added}
 use Rattle.xw_words.specs.declared.bank.Added.TheVariants.{New, Returned}
@@ -8,7 +8,7 @@ use Rattle.xw_grid.specs.declared.cell.Cell.{Cell}
 use Rattle.xw_grid.specs.Grid.{Grid, entry, index_of}
 use Rattle.xw_grid.specs.declared.lights.Light.{Light}
 use Rattle.xw_grid.specs.Light.{lights_of}
-use Rattle.xw_feas.specs.State.{State, Action, after, word_added, word_struck}
+use Rattle.xw_feas.specs.State.{State, Action, after, word_added, word_struck, least_chosen}
 use Rattle.xw_feas.specs.WellFormed.{IsWellFormed}
 use Rattle.xw_net.specs.declared.change.Change.{Change}
 use Rattle.xw_net.specs.declared.change.Change.TheVariants.{Letters, Shape, Word}
@@ -68,9 +68,14 @@ index_struck len (Err fault) = None
 
 -- the length and index of the word that an edit adds or strikes
 abbrev pub word_changed : Dictionary → Action → Option (ℕ × ℕ)
-word_changed words (word_added word) = index_added (length word) (add_answer words word)
+word_changed words (word_added word grade) = index_added (length word) (add_answer words word)
 word_changed words (word_struck word) = index_struck (length word) (strike_answer words word)
 word_changed words other = None
+
+-- whether an edit chooses the least grade: then a net is computed anew, and is told of no change
+abbrev pub is_limit : Action → Bool
+is_limit (least_chosen grade) = true
+is_limit other = false
 
 -- the indices of the listed cells
 abbrev pub indices_listed : Grid → List (Cell × Option ℕ) → List ℕ

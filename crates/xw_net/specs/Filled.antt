@@ -1,4 +1,4 @@
--- The states of a net: empty, ready for stripping, and settled.
+-- The states of a net: to be computed anew, ready for stripping, and settled.
 use Rattle.std.specs.Prelude.{◌≡◌, ℕ, ◌<◌, ◌≤◌, true, false, List, [], length, All}
 use Rattle.xw_bits.specs.Bits.{RowOfBits}
 use Rattle.xw_letters.specs.Letter.{is_capital}
@@ -37,10 +37,11 @@ pub record IsQuiet (net : Net) : Type 0 where
   pub taken : net.chain.lights ≡ []
   pub marked : (light : ℕ) → is_marked net.chain.marks light ≡ false
 
--- no words are in the net, no supports are held, and nothing is pending
+-- a net whose words and letters can be computed anew: it has no words past the lights, no supports are held, and
+-- nothing is pending
 pub record IsFresh (board : Board) (entries : ℕ → List Entry) (net : Net) : Type 0 where
   pub whole : IsWholeNet board entries net
-  pub words : (light choice : ℕ) → word_stands net light choice ≡ false
+  pub past : (light choice : ℕ) → length board.lights ≤ light → word_stands net light choice ≡ false
   pub held : (light position letter : ℕ) → IsPositionIn board light position → is_capital letter ≡ true → most_words ≤ held_in net (slot_at board light position) letter
   pub pending : (slot letter : ℕ) → pending_in net slot letter ≡ false
   pub quiet : IsQuiet net

@@ -1,7 +1,7 @@
 //! An engine that computes all answers from scratch after each edit.
 ghost use Rattle.std.specs.Prelude.{◌≡◌, ◌+◌, ◌<◌, length, [], None, Some, true, map, IfOk, IfErr, OnOk, OnErr, IsOkUnless, Ok, Err, if◌then◌else◌};
 ghost use Rattle.xw_letters.specs.Letter.{folded};
-ghost use Rattle.xw_words.specs.Dictionary.{add_answer, IsNew, IsDictionary};
+ghost use Rattle.xw_words.specs.Dictionary.{add_answer, with_least, IsNew, IsDictionary};
 ghost use Rattle.xw_grid.specs.Edit.{toggle_block as block_toggled, toggle_bar as bar_toggled};
 ghost use Rattle.xw_grid.specs.EditLaws.{SameShape};
 ghost use Rattle.xw_grid.specs.Light.{lights_of};
@@ -19,7 +19,7 @@ ghost use Rattle.xw_feas.specs.Single.{IsExact-prop, IsWellFormed-prop};
 ghost use Rattle.xw_feas.specs.Standing.{HasRows};
 ghost use Rattle.xw_feas.specs.WellFormed.{IsWellFormed};
 ghost use Rattle.xw_plain.specs.Stands.{AreAnswered, AreAnswered-prop};
-ghost use Rattle.xw_feas.specs.State.{after, grid_after, is_of_letters, action_of, symmetry_chosen, letter_set, cell_cleared, word_placed, word_added, word_struck, block_toggled as toggle_of_block, bar_toggled as toggle_of_bar, IsRefused, place_word, add_word, strike_word};
+ghost use Rattle.xw_feas.specs.State.{after, grid_after, is_of_letters, action_of, symmetry_chosen, letter_set, cell_cleared, word_placed, word_added, word_struck, least_chosen, block_toggled as toggle_of_block, bar_toggled as toggle_of_bar, IsRefused, place_word, add_word, strike_word};
 
 use crate::flags::Flags;
 use crate::rows::{make_grid_rows, make_grown_rows};
@@ -28,7 +28,7 @@ use std::alloc::Global;
 use xw_feas::arrays::make_grid_sets;
 use xw_feas::board::{Board, has_all_entries};
 use xw_feas::changed::Changed;
-use xw_feas::dictionary::{add_in, known_distinct, reserve_in, return_in, strike_in};
+use xw_feas::dictionary::{add_in, known_distinct, limit_in, reserve_in, return_in, strike_in};
 use xw_feas::edit::{Edit, Found, Refusal};
 use xw_feas::feasible::Feasible;
 use xw_feas::grid_edit::{edit_letters, with_bar, with_block};
@@ -248,29 +248,29 @@ impl Plain {
         Ok(())
     }
 
-    fn add(&mut self, word: &[u8]) -> Result<(), WordFault>
-        ensures ok { OnOk result (add_word self.old.bank.words word.now ≡ Ok self.new.bank.words) }
-        ensures refused { IfErr result (λ fault. IsAddRefused self.old.bank.words word.now fault) }
+    fn add(&mut self, word: &[u8], grade: Option<u8>) -> Result<(), WordFault>
+        ensures ok { OnOk result (add_word self.old.bank.words word.now grade ≡ Ok self.new.bank.words) }
+        ensures refused { IfErr result (λ fault. IsAddRefused self.old.bank.words word.now grade fault) }
         ensures grid { self.new.grid ≡ self.old.grid }
         ensures before { OnOk result (self.new.before.items ≡ self.old.letters.items) }
         ensures same { OnErr result (SameAnswers self.old self.new) }
     {
         match self.bank.judge_add(word)? {
-            Added::New(_) => self.add_new(word),
-            Added::Returned(_) => self.add_again(word),
+            Added::New(_) => self.add_new(word, grade),
+            Added::Returned(_) => self.add_again(word, grade),
         }
     }
 
-    /// Makes a struck word active again.
-    fn add_again(&mut self, word: &[u8]) -> Result<(), WordFault>
+    /// Makes a word active again that is known but not active.
+    fn add_again(&mut self, word: &[u8], grade: Option<u8>) -> Result<(), WordFault>
         requires { IsReturned (add_answer self.old.bank.words word.now) }
-        ensures ok { OnOk result (add_word self.old.bank.words word.now ≡ Ok self.new.bank.words) }
-        ensures refused { IfErr result (λ fault. IsAddRefused self.old.bank.words word.now fault) }
+        ensures ok { OnOk result (add_word self.old.bank.words word.now grade ≡ Ok self.new.bank.words) }
+        ensures refused { IfErr result (λ fault. IsAddRefused self.old.bank.words word.now grade fault) }
         ensures grid { self.new.grid ≡ self.old.grid }
         ensures before { OnOk result (self.new.before.items ≡ self.old.letters.items) }
         ensures same { OnErr result (SameAnswers self.old self.new) }
     {
-        return_in(&mut self.bank, word)?;
+        return_in(&mut self.bank, word, grade)?;
         settle_anew(
             &self.grid,
             &self.lights,
@@ -284,10 +284,10 @@ impl Plain {
 
     /// Adds a word that is not known. It allocates the larger rows first, so a failed allocation
     /// changes nothing.
-    fn add_new(&mut self, word: &[u8]) -> Result<(), WordFault>
+    fn add_new(&mut self, word: &[u8], grade: Option<u8>) -> Result<(), WordFault>
         requires { IsNew (add_answer self.old.bank.words word.now) }
-        ensures ok { OnOk result (add_word self.old.bank.words word.now ≡ Ok self.new.bank.words) }
-        ensures refused { IfErr result (λ fault. IsAddRefused self.old.bank.words word.now fault) }
+        ensures ok { OnOk result (add_word self.old.bank.words word.now grade ≡ Ok self.new.bank.words) }
+        ensures refused { IfErr result (λ fault. IsAddRefused self.old.bank.words word.now grade fault) }
         ensures grid { self.new.grid ≡ self.old.grid }
         ensures before { OnOk result (self.new.before.items ≡ self.old.letters.items) }
         ensures same { OnErr result (SameAnswers self.old self.new) }
@@ -299,7 +299,7 @@ impl Plain {
             word.len(),
         )?;
         reserve_in(&mut self.bank, word)?;
-        add_in(&mut self.bank, word);
+        add_in(&mut self.bank, word, grade);
         self.words = words;
         settle_anew(
             &self.grid,
@@ -310,6 +310,23 @@ impl Plain {
             &mut self.before,
         );
         Ok(())
+    }
+
+    /// Leaves out the words below a grade.
+    fn limit(&mut self, grade: u8)
+        ensures words { self.new.bank.words ≡ with_least grade self.old.bank.words }
+        ensures grid { self.new.grid ≡ self.old.grid }
+        ensures before { self.new.before.items ≡ self.old.letters.items }
+    {
+        limit_in(&mut self.bank, grade);
+        settle_anew(
+            &self.grid,
+            &self.lights,
+            &self.bank,
+            &mut self.words,
+            &mut self.letters,
+            &mut self.before,
+        );
     }
 
     /// Applies an edit, and computes the answers.
@@ -323,8 +340,9 @@ impl Plain {
         match *edit {
             Edit::Block(cell) => self.toggle_block(cell)?,
             Edit::Bar(cell, side) => self.toggle_bar(cell, side)?,
-            Edit::Add(word) => self.add(word)?,
+            Edit::Add(word, grade) => self.add(word, grade)?,
             Edit::Strike(word) => self.strike(word)?,
+            Edit::Least(grade) => self.limit(grade),
             _ => self.edit_grid(edit)?,
         }
         Ok(())

@@ -10,7 +10,7 @@ use Rattle.xw_reason.specs.Reason.{entry_in, leaves_none, IsReason}
 abbrev with_three : Option ℕ → Option ℕ → Option ℕ → Position
 with_three first second third = record {
   board = record { lights = (0 ∷ 1 ∷ 2 ∷ []) ∷ []; open_cells = true ∷ true ∷ true ∷ []; entries = first ∷ second ∷ third ∷ [] };
-  words = [] ∷ [] ∷ [] ∷ (record { word = 65 ∷ 67 ∷ 69 ∷ []; active = true; grade = 50 } ∷ []) ∷ [];
+  words = record { rows = [] ∷ [] ∷ [] ∷ (record { word = 65 ∷ 67 ∷ 69 ∷ []; active = true; struck = false; grade = 50; regraded = false } ∷ []) ∷ []; least = 0 };
 }
 
 -- A and B are entered

@@ -21,13 +21,13 @@ use Rattle.xw_session.specs.Answer.{IsReply, fill_reply, state_after}
 -- ---- which lights there are
 
 module _ {X : Type 0} (P : X → Type 0) (x : X) (xs : List X) where
-  head_of : All P (x ∷ xs) → P x
+  pub head_of : All P (x ∷ xs) → P x
   head_of all = all 0 x (omega arith)
 
-  tail_of : All P (x ∷ xs) → All P xs
+  pub tail_of : All P (x ∷ xs) → All P xs
   tail_of all = λ k d below. all (suc k) d (omega (arith, below))
 
-  with_head : P x → All P xs → All P (x ∷ xs)
+  pub with_head : P x → All P xs → All P (x ∷ xs)
   with_head head tail zero d below = head
   with_head head tail (suc k) d below = tail k d (omega (arith, below))
 
@@ -44,7 +44,7 @@ module _ (position : Position) where
   pub all_left : (lights : List LightArg) → AreLeft lights lights
   all_left lights = record { all = λ are. are; some = λ are. are }
 
-  abbrev IsLight : LightName → Type 0
+  abbrev pub IsLight : LightName → Type 0
   IsLight name = is_some (index_named (lights_of position.grid) name) ≡ true
 
   pub one_known : (lights left rest : List LightArg) (named : LightArg) → AreLeft lights left → left ≡ named ∷ rest → is_there named ≡ true → AreLeft lights rest

@@ -1,6 +1,8 @@
 pub mod Answering
 pub mod Engine
 pub mod Autofilling
+pub mod Besting
+pub mod Grading
 pub mod Reasoning
 pub mod Tallying
 pub mod Erasing
@@ -9,4 +11,5 @@ pub mod Choosing
 pub mod Report
 pub mod TextMode
 pub mod Resumed
+pub mod DrawnLines
 pub mod Opened

@@ -17,6 +17,7 @@ use Rattle.xw_answers.specs.declared.refusal.Refusal.TheVariants as refusals
 use Rattle.xw_session.specs.declared.resuming.Stop.{Stop}
 use Rattle.xw_session.specs.declared.resuming.Stop.TheVariants.{NoCommand, Memory}
 use Rattle.xw_session.specs.State.{State}
+use Rattle.xw_session.specs.Redrawn.{IsRedrawn}
 use Rattle.xw_session.specs.Resuming.{AreDone, IsDone, IsReached, Resumes, ResumesLine, Tells, count, is_memory, line_fault, refused_line, told_of}
 
 -- commands are split into lines in the same way as word lists
@@ -62,6 +63,20 @@ done-more (first ∷ lines) file number start mid end transcript line refused re
       rw transcript-is (ap (λ n. (told_of file number why ++ others) ++ told_of file n refusal) numbered ∙ append_assoc (told_of file number why) others (told_of file ((number + 1) + length lines) refusal)),
       rw count-is (omega arith),
     )
+
+-- more commands are done, and none is refused
+done-all : (lines others : List (List ℕ)) (file : List ℕ) (number : ℕ) (start mid end : State) (transcript : List ℕ) (refused : ℕ)
+    → AreDone file number start lines transcript refused mid → AreDone file (number + length lines) mid others [] 0 end
+    → AreDone file number start (lines ++ others) transcript refused end
+done-all [] others file number start mid end transcript refused done all =
+    let numbered : number + 0 ≡ number = omega arith in
+    let here : AreDone file number mid others [] 0 end = subst (λ n. AreDone file n mid others [] 0 end) numbered all in
+    let first : AreDone file number start others [] 0 end = subst (λ state. AreDone file number state others [] 0 end) done.2 here in
+    rw (done.0, done.1) first
+done-all (first ∷ lines) others file number start mid end transcript refused (why, next, out, more, did, rest, transcript-is, count-is) all =
+    let numbered : number + length (first ∷ lines) ≡ (number + 1) + length lines = omega arith in
+    let here : AreDone file ((number + 1) + length lines) mid others [] 0 end = subst (λ n. AreDone file n mid others [] 0 end) numbered all in
+    (why, next, out, more, did, done-all lines others file (number + 1) next mid end out more rest here, transcript-is, count-is)
 
 module _ {S : Type 0} (transcript : S → List ℕ) (failures : S → ℕ) where
   -- one text is told, and then another
@@ -118,6 +133,23 @@ module _ {S : Type 0} (transcript : S → List ℕ) (failures : S → ℕ) where
         done = rw counted (subst (λ n. AreDone file 1 start (goes.before ++ line ∷ []) (goes.out ++ told_of file n refusal) (refused + count refusal) end) numbered longer);
         tells = tells-more old now new goes.out (told_of file (number + 1) refusal) goes.tells said;
       }
+
+  -- the state is still the same
+  pub goes-still : (file : List ℕ) (start mid end : State) (text rest : List ℕ) (number refused : ℕ) (old now : S) → end ≡ mid → Goes file start text rest number refused mid old now
+      → Goes file start text rest number refused end old now
+  goes-still file start mid end text rest number refused old now same goes = subst (λ state. Goes file start text rest number refused state old now) (sym same) goes
+
+  -- lines are done at once, and none is refused
+  pub goes-jump : (file : List ℕ) (start mid end : State) (text rest next : List ℕ) (number refused taken : ℕ) (old now : S) → IsRedrawn rest mid taken next end
+      → Goes file start text rest number refused mid old now → Goes file start text next (number + taken) refused end old now
+  goes-jump file start mid end text rest next number refused taken old now drawn goes = record {
+    before = goes.before ++ drawn.lines;
+    out = goes.out;
+    parts = goes.parts ∙ ap (λ lines. goes.before ++ lines) drawn.parts ∙ sym (append_assoc goes.before drawn.lines (lines_of next));
+    numbered = rw (goes.numbered, drawn.counted) (sym (length-append goes.before drawn.lines));
+    done = done-all goes.before drawn.lines file 1 start mid end goes.out refused goes.done (drawn.done file (1 + length goes.before));
+    tells = goes.tells;
+  }
 
   -- a line is reached
   reached : (file : List ℕ) (start state : State) (text rest next line : List ℕ) (number refused : ℕ) (old now : S) → lines_of rest ≡ line ∷ lines_of next

@@ -9,6 +9,7 @@ use Rattle.xw_feas.specs.State.{action_of, after}
 use Rattle.xw_feas.specs.Changed.{changes_left}
 use Rattle.xw_feas.specs.Changes.{spelled_out}
 use Rattle.xw_fill.specs.declared.search.Filling.{Filling}
+use Rattle.xw_fill.specs.declared.best.Best.{Best}
 use Rattle.xw_lines.specs.declared.outcome.Step.{Step}
 use Rattle.xw_lines.specs.declared.outcome.Step.TheVariants.{Silent, Accepted, Refused}
 use Rattle.xw_commands.specs.declared.command.Command.{Command}
@@ -22,6 +23,7 @@ use Rattle.xw_answers.specs.Refusal.{refusal_of}
 use Rattle.xw_session.specs.Why.{refusal_without_reason, IsWhyDue, entry_lines}
 use Rattle.xw_session.specs.Reply.{Reply, reply_to, want_of, want_of_action, name_of_light, moved, filling_name}
 use Rattle.xw_session.specs.Autofill.{names_of, IsAutofillDue}
+use Rattle.xw_session.specs.Best.{best_lines, IsBestDue}
 use Rattle.xw_lines.specs.Sends.{Sends}
 use Rattle.xw_session.specs.State.{State}
 use Rattle.xw_answers.specs.Text.{accepted, refused, word_line, change_line}
@@ -31,10 +33,11 @@ abbrev pub IsReply : Result Reply Refusal → Option Refusal → Result Reply Re
 IsReply due want (Ok reply) = due ≡ Ok reply
 IsReply due want (Err refusal) = (due ≡ Err refusal) ⊎ (IsOk due × (want ≡ Some refusal))
 
--- A reply that the command may get if no allocation fails. For autofill and why there can be more than one such reply; for
--- any other command there is exactly one.
+-- A reply that the command may get if no allocation fails. For autofill, best and why there can be more than one such
+-- reply; for any other command there is exactly one.
 abbrev pub IsDue : State → Command → Result Reply Refusal → Type 0
 IsDue state (commands.Autofill limit seed lights) due = IsAutofillDue state (names_of lights) due
+IsDue state (commands.Best limit seed lights) due = IsBestDue state (names_of lights) due
 IsDue state (commands.Why named) due = IsWhyDue state (name_of_light named) due
 IsDue state other due = reply_to state other ≡ due
 
@@ -94,6 +97,11 @@ edit_reply is_watched (Err refusal) state = Err (refusal_of refusal)
 abbrev pub fill_reply : Result Filling EditRefusal → State → Result Reply Refusal
 fill_reply (Ok filling) state = Ok (record { lines = word_line (filling_name filling); state = state })
 fill_reply (Err refusal) state = Err (refusal_of refusal)
+
+-- the result of a search for the best fill, as a reply that tells it
+abbrev pub best_reply : Result Best EditRefusal → State → Result Reply Refusal
+best_reply (Ok best) state = Ok (record { lines = best_lines best; state = state })
+best_reply (Err refusal) state = Err (refusal_of refusal)
 
 -- the result of a search for a reason, as a reply with its entries
 abbrev pub why_reply : Grid → Result (Vec (Option ℕ) Global) NoReason → State → Result Reply Refusal

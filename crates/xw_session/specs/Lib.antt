@@ -3,13 +3,16 @@ pub mod Found
 pub mod Told
 pub mod Tally
 pub mod Erase
+pub mod Grades
 pub mod Unmatched
 pub mod Choices
 pub mod Put
 pub mod Record
 pub mod Reply
 pub mod Autofill
+pub mod Best
 pub mod Why
 pub mod Answer
 pub mod Resuming
+pub mod Redrawn
 pub mod Opening

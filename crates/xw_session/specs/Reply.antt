@@ -1,6 +1,6 @@
 -- How a session replies to each command.
-use Rattle.std.specs.Prelude.{ℕ, Bool, true, false, not, List, [], ◌∷◌, map, take, length, flat_map, codes, option_map, Option, Some, None, Result, Ok, Err, if◌then◌else◌, nat_eq, nat_lt}
-use Rattle.std.specs.List.{list_any}
+use Rattle.std.specs.Prelude.{ℕ, Bool, true, false, not, List, [], ◌∷◌, map, take, length, flat_map, codes, option_map, Option, Some, None, is_some, Result, Ok, Err, if◌then◌else◌, nat_eq, nat_lt}
+use Rattle.std.specs.List.{list_any, list_all}
 use Rattle.xw_words.specs.declared.fault.WordFault.{WordFault}
 use Rattle.xw_words.specs.declared.fault.WordFault.TheVariants as words
 use Rattle.xw_letters.specs.Letter.{letter_of}
@@ -15,7 +15,7 @@ use Rattle.xw_grid.specs.Edit.{new_grid}
 use Rattle.xw_grid.specs.Light.{lights_of, index_named}
 use Rattle.xw_grid.specs.Clue.{no_clues, with_clue, is_circled, with_circle}
 use Rattle.xw_feas.specs.declared.edit.Refusal.{Refusal as EditRefusal}
-use Rattle.xw_feas.specs.State.{State as Position, Action, after, want_of as want_of_edit, letter_set, cell_cleared, word_placed, list_written, block_toggled, bar_toggled, symmetry_chosen, word_added, word_struck}
+use Rattle.xw_feas.specs.State.{State as Position, Action, after, want_of as want_of_edit, letter_set, cell_cleared, word_placed, list_written, block_toggled, bar_toggled, symmetry_chosen, word_added, word_struck, least_chosen}
 use Rattle.xw_feas.specs.Changes.{cells_that_differ}
 use Rattle.xw_fill.specs.Position.{position_of, filled_in}
 use Rattle.xw_fill.specs.FeasibleWords.{feasible_words}
@@ -42,6 +42,7 @@ pub use Rattle.xw_session.specs.State.{cell_of}
 use Rattle.xw_answers.specs.Escape.{text_spelled, has_nul}
 use Rattle.xw_session.specs.Tally.{tally_lines}
 use Rattle.xw_session.specs.Erase.{erased_cells, emptied}
+use Rattle.xw_session.specs.Grades.{grade_lines}
 use Rattle.xw_session.specs.Unmatched.{unmatched_lines}
 use Rattle.xw_session.specs.Choices.{first_index, choice_lines}
 use Rattle.xw_session.specs.Told.{cell_lines, count_lines, text_lines}
@@ -161,6 +162,14 @@ abbrev pub weighed : State → Option ℕ → ℕ → Option (List ℕ) → Resu
 weighed state None most first = Err refusals.NoLight
 weighed state (Some light) most first = weighed_from state light most (first_index state.position light first)
 
+-- the grid has each of these lights
+abbrev pub are_lights : Grid → List LightName → Bool
+are_lights grid names = list_all (λ name. is_some (index_named (lights_of grid) name)) names
+
+-- the grades of the words of the named lights, or of all wholly entered lights if none is named
+abbrev pub graded : State → List LightName → Result Reply Refusal
+graded state names = if are_lights state.position.grid names then shown state (grade_lines state.position names) else Err refusals.NoLight
+
 -- the feasible letters of an open cell
 abbrev pub lettered : State → Cell → Result Reply Refusal
 lettered state cell =
@@ -189,7 +198,8 @@ fill_tried state limit =
 
 -- ---- the reply to each command if no allocation fails
 
--- A placeholder for autofill and why, which can have more than one allowed reply; `IsDue` of `Answer.antt` has their rows.
+-- A placeholder for autofill, best and why, which can have more than one allowed reply; `IsDue` of `Answer.antt` has their
+-- rows.
 -- No record has such a command.
 abbrev pub not_determined : Result Reply Refusal
 not_determined = Err refusals.NoLight
@@ -197,8 +207,9 @@ not_determined = Err refusals.NoLight
 abbrev pub reply_to : State → Command → Result Reply Refusal
 reply_to state (commands.Size width height) = resized state (new_grid width height)
 reply_to state (commands.Symmetry kind) = moved state (after state.position (symmetry_chosen kind))
-reply_to state (commands.Add word) = moved state (after state.position (word_added word))
+reply_to state (commands.Add word grade) = moved state (after state.position (word_added word grade))
 reply_to state (commands.Strike word) = moved state (after state.position (word_struck word))
+reply_to state (commands.Least grade) = moved state (after state.position (least_chosen grade))
 reply_to state (commands.Match pattern) = matched state (matching_answer state.position.words pattern)
 reply_to state (commands.Set spot letter) = with_letter state spot (letter_of letter)
 reply_to state (commands.Clear spot) = moved state (after state.position (cell_cleared (cell_of spot)))
@@ -218,11 +229,13 @@ reply_to state (commands.Letters spot) = lettered state (cell_of spot)
 reply_to state (commands.Tally spot) = tallied state (cell_of spot)
 reply_to state commands.Duplicates = shown state (flat_map (duplicate_line state.position.grid) (duplicates_of state.position))
 reply_to state commands.Unlisted = shown state (flat_map (spelled_line state.position.grid) (unlisted_of state.position))
+reply_to state (commands.Grades lights) = graded state (map name_of_light lights)
 reply_to state commands.Unmatched = shown state (unmatched_lines state.position)
 reply_to state commands.Suggest = shown state (suggestion_line state.position (suggestion state.position))
 reply_to state (commands.Why named) = not_determined
 reply_to state (commands.Fill limit) = fill_tried state limit
 reply_to state (commands.Autofill limit seed lights) = not_determined
+reply_to state (commands.Best limit seed lights) = not_determined
 reply_to state (commands.Watch is_on) = edited (record state { is_watched = is_on })
 reply_to state (commands.Tell telling) = shown state (told_lines state telling)
 reply_to state (commands.Put putting field spelling) = put state putting field (text_spelled spelling)
@@ -243,7 +256,7 @@ want_of_action state action = option_map refusal_of (want_of_edit state.position
 -- the refusal that a failed allocation gives, if the command may allocate
 abbrev pub want_of : State → Command → Option Refusal
 want_of state (commands.Size width height) = Some grid_memory
-want_of state (commands.Add word) = want_of_action state (word_added word)
+want_of state (commands.Add word grade) = want_of_action state (word_added word grade)
 want_of state (commands.Block spot) = Some grid_memory
 want_of state (commands.Bar spot side) = Some grid_memory
 want_of state (commands.Clue named text) = want_of_text text
@@ -254,5 +267,6 @@ want_of state commands.Unlisted = Some grid_memory
 want_of state (commands.Why named) = Some grid_memory
 want_of state (commands.Fill limit) = Some grid_memory
 want_of state (commands.Autofill limit seed lights) = Some grid_memory
+want_of state (commands.Best limit seed lights) = Some grid_memory
 want_of state (commands.Put putting field spelling) = want_of_text spelling
 want_of state other = None

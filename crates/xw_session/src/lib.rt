@@ -3,6 +3,7 @@
 
 mod lookup;
 pub mod opening;
+mod redrawing;
 pub mod resuming;
 pub mod saving;
 pub mod session;

@@ -134,7 +134,7 @@ fn resume_line<F: Searchable, E: Sink>(
 
 /// Executes the lines of a session file without writing their answers. Reports each refused line on `errors`, in the
 /// form `xw: FILE: line N: NAME`. Returns the number of refused lines. Stops at the first line that is not a command,
-/// and if an allocation fails.
+/// and if an allocation fails. Lines in a row that edit nothing but the grid update the engine once.
 pub fn resume<F: Searchable, E: Sink>(
     alloc: Global,
     session: &mut Session<F>,
@@ -148,6 +148,11 @@ pub fn resume<F: Searchable, E: Sink>(
     let mut number = 0;
     let mut refused = 0;
     while !rest.is_empty() {
+        if let Some((taken, after)) = session.redraw(rest) {
+            number += taken;
+            rest = after;
+            continue;
+        }
         let (line, after) = first_line(rest);
         number += 1;
         refused += resume_line(alloc, session, file, number, line, errors)?;

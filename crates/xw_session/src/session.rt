@@ -1,9 +1,11 @@
 //! The session type, and the answering of lines.
 mod asking;
 mod autofilling;
+mod besting;
 mod changing;
 mod choosing;
 mod erasing;
+mod grading;
 mod matching;
 mod putting;
 mod queries;
@@ -34,6 +36,7 @@ use xw_commands::command::{self, CellArg, Command, Kind, SyntaxFault};
 use xw_feas::edit::Refusal as EditRefusal;
 use xw_feas::feasible::Feasible;
 use xw_feas::searchable::Searchable;
+use xw_fill::best::BestHint;
 use xw_fill::named_lights::Hint;
 use xw_grid::puzzle::{Puzzle, Texts};
 use xw_grid::{Cell, Circles, Clues, Grid, GridFault};
@@ -41,19 +44,41 @@ use xw_lines::device::{Sink, Source, WriteFailed};
 use xw_lines::outcome::{AnswerFault, RunEnd, Step};
 use xw_lines::run::{self, LineHandler};
 
+/// What the last `autofill` and the last `best` left to the next ones, if nothing has changed since.
+#[derive(Drop)]
+pub(crate) struct Hints {
+    autofill: Option<Hint>,
+    best: Option<BestHint>,
+}
+
+impl Hints {
+    fn none() -> Hints {
+        Hints {
+            autofill: None,
+            best: None,
+        }
+    }
+
+    /// Forgets what searches left if they cannot go on.
+    pub(crate) fn forget_if(&mut self, are_over: bool) {
+        if are_over {
+            *self = Hints::none();
+        }
+    }
+}
+
 /// A session over an engine: the puzzle, the watch, and the word counts at the start. `begun` holds, for each length,
-/// how many words were known when the session started. `hint` is what the last `autofill` left to the next one, if nothing
-/// has changed since.
+/// how many words were known when the session started.
 #[derive(Drop)]
 pub struct Session<E: Feasible> {
     alloc: Global,
-    engine: E,
+    pub(crate) engine: E,
     texts: Texts,
     clues: Clues,
     circles: Circles,
     is_watched: bool,
     begun: [usize; LENGTHS],
-    hint: Option<Hint>,
+    pub(crate) hints: Hints,
 }
 
 impl<E: Feasible> Model for Session<E> {
@@ -86,13 +111,6 @@ fn end_answer<W: Sink>(sink: &mut W, done: Result<(), Refusal>) -> Result<Step, 
             text::write_refused(sink, refusal)?;
             Ok(Step::Refused)
         }
-    }
-}
-
-/// Forgets what a search left if the search cannot go on.
-fn forget_if(hint: &mut Option<Hint>, is_over: bool) {
-    if is_over {
-        *hint = None;
     }
 }
 
@@ -153,7 +171,7 @@ impl<E: Feasible> Session<E> {
             circles,
             is_watched: false,
             begun,
-            hint: None,
+            hints: Hints::none(),
         }
     }
 
@@ -218,15 +236,15 @@ impl<E: Feasible> Session<E> {
 impl<E: Searchable> Session<E> {
     ghost use Rattle.xw_commands.specs.declared.command.Command.TheVariants as commands;
 
-    /// Executes a command and writes its answer. A change that is not refused ends the search that `autofill` could go on
-    /// with.
+    /// Executes a command and writes its answer. A change that is not refused ends the searches that `autofill` and `best`
+    /// could go on with.
     fn answer<W: Sink>(&mut self, command: Command<'_>, sink: &mut W) -> Result<Step, WriteFailed>
         ensures { AnswersTo W.transcript W.failures self.old command.entry result self.new sink.old sink.new }
     {
         let is_change = command.kind() == Kind::Change;
         let step = self.answer_any(command, sink);
         let is_refused = matches!(step, Ok(Step::Refused));
-        forget_if(&mut self.hint, is_change && !is_refused);
+        self.hints.forget_if(is_change && !is_refused);
         step
     }
 
@@ -241,8 +259,9 @@ impl<E: Searchable> Session<E> {
         match command {
             Command::Size(width, height) => end_answer(sink, self.resize(width, height)),
             Command::Symmetry(kind) => self.edit(&self.symmetry(kind), sink),
-            Command::Add(word) => self.edit(&self.add(word.bytes()), sink),
+            Command::Add(word, grade) => self.edit(&self.add(word.bytes(), grade), sink),
             Command::Strike(word) => self.edit(&self.strike(word.bytes()), sink),
+            Command::Least(grade) => self.edit(&self.least(grade), sink),
             Command::Set(spot, letter) => self.edit(&self.set(spot, letter), sink),
             Command::Clear(spot) => self.edit(&self.clear(spot), sink),
             Command::Place(named, word) => self.edit(&self.place(named, word.bytes()), sink),
@@ -282,6 +301,7 @@ impl<E: Searchable> Session<E> {
             Command::Tally(spot) => self.answer_tally(spot, sink),
             Command::Duplicates => self.answer_duplicates(sink),
             Command::Unlisted => self.answer_unlisted(sink),
+            Command::Grades(lights) => self.answer_grades(lights, sink),
             Command::Unmatched => self.answer_unmatched(sink),
             Command::Suggest => self.answer_suggestion(sink),
             Command::Why(named) => self.answer_why(named, sink),
@@ -289,6 +309,7 @@ impl<E: Searchable> Session<E> {
             Command::Autofill(limit, seed, lights) => {
                 self.answer_autofill(limit, seed, lights, sink)
             }
+            Command::Best(limit, seed, lights) => self.answer_best(limit, seed, lights, sink),
             Command::Tell(telling) => self.tell(telling, sink),
             _ => unreachable!(),
         }

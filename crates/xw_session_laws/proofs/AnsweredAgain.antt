@@ -21,8 +21,9 @@ use Rattle.xw_session_laws.specs.Replay.{state_left, left_by_line, replayed_line
 determined : (state : State) (command : Command) (due : Result Reply Refusal) (left : State) → state_left (reply_to state command) ≡ Some left → IsDue state command due → reply_to state command ≡ due
 determined state (commands.Size width height) due left e owed = owed
 determined state (commands.Symmetry kind) due left e owed = owed
-determined state (commands.Add word) due left e owed = owed
+determined state (commands.Add word grade) due left e owed = owed
 determined state (commands.Strike word) due left e owed = owed
+determined state (commands.Least grade) due left e owed = owed
 determined state (commands.Match pattern) due left e owed = owed
 determined state (commands.Set spot letter) due left e owed = owed
 determined state (commands.Clear spot) due left e owed = owed
@@ -42,11 +43,13 @@ determined state (commands.Letters spot) due left e owed = owed
 determined state (commands.Tally spot) due left e owed = owed
 determined state commands.Duplicates due left e owed = owed
 determined state commands.Unlisted due left e owed = owed
+determined state (commands.Grades lights) due left e owed = owed
 determined state commands.Unmatched due left e owed = owed
 determined state commands.Suggest due left e owed = owed
 determined state (commands.Why named) due left e owed = cc
 determined state (commands.Fill limit) due left e owed = owed
 determined state (commands.Autofill limit seed lights) due left e owed = cc
+determined state (commands.Best limit seed lights) due left e owed = cc
 determined state (commands.Watch is_on) due left e owed = owed
 determined state (commands.Tell telling) due left e owed = owed
 determined state (commands.Put putting field spelling) due left e owed = owed

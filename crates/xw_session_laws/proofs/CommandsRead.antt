@@ -26,11 +26,11 @@ use Rattle.xw_commands.specs.Command.{command_named, command_in, command_of, who
 use Rattle.xw_lines.specs.Cut.{HasNoLf}
 use Rattle.xw_answers.specs.Escape.{letter_for, escaped, is_end, spelled_at, escaped_text}
 use Rattle.xw_commands.specs.Line.{without_cr, first_word, trimmed_start, trimmed_end, trimmed}
-use Rattle.xw_commands.specs.Reading.{◌>>=◌, given, number, byte, word, text, side, direction, switch, symmetry, spot, text_name, field_named, field}
+use Rattle.xw_commands.specs.Reading.{◌>>=◌, given, number, grade, grade_if_any, byte, word, text, side, direction, switch, symmetry, spot, text_name, field_named, field}
 use Rattle.xw_commands.specs.Names.{direction_name, side_name, symmetry_name, switch_name, field_name, clue_name, text_fields}
 use Rattle.xw_answers.specs.Spelling.{in_field, command_words, command_line}
 use Rattle.xw_answers.specs.Text.{line_of}
-use Rattle.xw_session_laws.proofs.LinesRead.{spaced, line_parts, first_read, reads_word, then_read, is_high, each_weaker, IsHigh, high_word, short_number, high_number, reads_number, reads_spot, reads_byte, reads_key, reads_side, reads_direction, reads_switch, reads_symmetry, space_first, both, list_all_both}
+use Rattle.xw_session_laws.proofs.LinesRead.{spaced, line_parts, first_read, reads_word, then_read, is_high, each_weaker, IsHigh, high_word, short_number, high_number, reads_number, reads_grade, reads_no_grade, reads_some_grade, reads_spot, reads_byte, reads_key, reads_side, reads_direction, reads_switch, reads_symmetry, space_first, both, list_all_both}
 use Rattle.xw_commands.proofs.Passing.{each_passes}
 use Rattle.xw_session_laws.proofs.SpelledLines.{IsInked, inked, starts_inked, spelled_trimmed}
 
@@ -225,11 +225,16 @@ reads_field (fields.Clue at way) ws small =
 abbrev pub IsKnownWord : List ℕ → Type 0
 IsKnownWord letters = All IsLetter letters × (2 ≤ length letters) × (length letters ≤ 255)
 
+abbrev pub IsSmallGrade : Option ℕ → Type 0
+IsSmallGrade None = Unit {0}
+IsSmallGrade (Some grade) = grade ≤ 100
+
 abbrev pub IsRecorded : Command → Type 0
 IsRecorded (commands.Size width height) = (width ≤ 255) × (height ≤ 255)
 IsRecorded (commands.Symmetry kind) = Unit {0}
-IsRecorded (commands.Add letters) = IsKnownWord letters
+IsRecorded (commands.Add letters grade) = IsKnownWord letters × IsSmallGrade grade
 IsRecorded (commands.Strike letters) = IsKnownWord letters
+IsRecorded (commands.Least grade) = grade ≤ 100
 IsRecorded (commands.Match pattern) = ⊥
 IsRecorded (commands.Set at letter) = IsSmallSpot at × IsLetter letter
 IsRecorded (commands.Clear at) = ⊥
@@ -249,11 +254,13 @@ IsRecorded (commands.Letters at) = ⊥
 IsRecorded (commands.Tally at) = ⊥
 IsRecorded commands.Duplicates = ⊥
 IsRecorded commands.Unlisted = ⊥
+IsRecorded (commands.Grades lights) = ⊥
 IsRecorded commands.Unmatched = ⊥
 IsRecorded commands.Suggest = ⊥
 IsRecorded (commands.Why named) = ⊥
 IsRecorded (commands.Fill limit) = ⊥
 IsRecorded (commands.Autofill limit seed lights) = ⊥
+IsRecorded (commands.Best limit seed lights) = ⊥
 IsRecorded (commands.Watch is_on) = Unit {0}
 IsRecorded (commands.Tell telling) = ⊥
 IsRecorded (commands.Put putting where_put spelling) = IsSmallField where_put × (piece : List ℕ) × (spelling ≡ escaped_text piece) × (length piece ≤ 2000)
@@ -300,14 +307,29 @@ read_again (commands.Symmetry kind) is =
     made_of (codes "sym") (symmetry_name kind ∷ []) (commands.Symmetry kind) refl
     (line_read (codes "sym") (symmetry_name kind ∷ []) (commands.Symmetry kind) 3 (1 + 9 + 0) (omega arith, refl) (omega arith) (symmetry_fit kind) (omega arith)
     (then_read symmetry (λ kind. given (commands.Symmetry kind)) (spaced (symmetry_name kind ∷ [])) [] kind (reads_symmetry kind [])))
-read_again (commands.Add letters) is =
-    made_of (codes "add") (letters ∷ []) (commands.Add letters) refl
-    (line_read (codes "add") (letters ∷ []) (commands.Add letters) 3 (1 + 255 + 0) (omega arith, refl) (omega arith) (high_fit 255 0 letters [] (letters_high letters is) is.2 none_fit) (omega arith)
-    (then_read word (λ letters. given (commands.Add letters)) (spaced (letters ∷ [])) [] letters (reads_word letters [] (high_word letters (letters_high letters is)))))
+read_again (commands.Add letters None) is =
+    let known = is.0 in
+    made_of (codes "add") (letters ∷ []) (commands.Add letters None) refl
+    (line_read (codes "add") (letters ∷ []) (commands.Add letters None) 3 (1 + 255 + 0) (omega arith, refl) (omega arith) (high_fit 255 0 letters [] (letters_high letters known) known.2 none_fit) (omega arith)
+    (then_read word (λ letters. grade_if_any >>= (λ grade. given (commands.Add letters grade))) (spaced (letters ∷ [])) [] letters (reads_word letters [] (high_word letters (letters_high letters known)))
+    ∙ then_read grade_if_any (λ grade. given (commands.Add letters grade)) [] [] None reads_no_grade))
+read_again (commands.Add letters (Some number)) is =
+    let known = is.0 in
+    let short : number ≤ 255 = omega (arith, is.1) in
+    made_of (codes "add") (letters ∷ decimal number ∷ []) (commands.Add letters (Some number)) refl
+    (line_read (codes "add") (letters ∷ decimal number ∷ []) (commands.Add letters (Some number)) 3 (1 + 255 + (1 + 3 + 0)) (omega arith, refl) (omega arith)
+    (high_fit 255 (1 + 3 + 0) letters (decimal number ∷ []) (letters_high letters known) known.2 (number_fit number 0 [] short none_fit)) (omega arith)
+    (then_read word (λ letters. grade_if_any >>= (λ grade. given (commands.Add letters grade))) (spaced (letters ∷ decimal number ∷ [])) (spaced (decimal number ∷ [])) letters (reads_word letters (decimal number ∷ []) (high_word letters (letters_high letters known)))
+    ∙ then_read grade_if_any (λ grade. given (commands.Add letters grade)) (spaced (decimal number ∷ [])) [] (Some number) (reads_some_grade number is.1)))
 read_again (commands.Strike letters) is =
     made_of (codes "strike") (letters ∷ []) (commands.Strike letters) refl
     (line_read (codes "strike") (letters ∷ []) (commands.Strike letters) 6 (1 + 255 + 0) (omega arith, refl) (omega arith) (high_fit 255 0 letters [] (letters_high letters is) is.2 none_fit) (omega arith)
     (then_read word (λ letters. given (commands.Strike letters)) (spaced (letters ∷ [])) [] letters (reads_word letters [] (high_word letters (letters_high letters is)))))
+read_again (commands.Least number) is =
+    let short : number ≤ 255 = omega (arith, is) in
+    made_of (codes "least") (decimal number ∷ []) (commands.Least number) refl
+    (line_read (codes "least") (decimal number ∷ []) (commands.Least number) 5 (1 + 3 + 0) (omega arith, refl) (omega arith) (number_fit number 0 [] short none_fit) (omega arith)
+    (then_read grade (λ grade. given (commands.Least grade)) (spaced (decimal number ∷ [])) [] number (reads_grade number [] is)))
 read_again (commands.Set at letter) is =
     let high : 48 ≤ letter = omega (arith, is.1.0) in
     let as_word : IsHigh (letter ∷ []) = (omega arith, list_all_both is_high letter [] (le-leb 48 letter high) refl) in
@@ -359,9 +381,11 @@ read_again (commands.Letters at) is = absurd is
 read_again (commands.Tally at) is = absurd is
 read_again commands.Duplicates is = absurd is
 read_again commands.Unlisted is = absurd is
+read_again (commands.Grades lights) is = absurd is
 read_again commands.Unmatched is = absurd is
 read_again commands.Suggest is = absurd is
 read_again (commands.Why named) is = absurd is
 read_again (commands.Fill limit) is = absurd is
 read_again (commands.Autofill limit seed lights) is = absurd is
+read_again (commands.Best limit seed lights) is = absurd is
 read_again (commands.Tell telling) is = absurd is

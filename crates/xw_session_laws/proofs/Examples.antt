@@ -1,7 +1,7 @@
 -- Examples of a record and of a journal, computed from the definitions.
-use Rattle.std.specs.Prelude.{◌≡◌, true, false, List, [], ◌∷◌, ◌++◌, codes, map, replicate, set, Some, None, Ok, refl}
+use Rattle.std.specs.Prelude.{◌≡◌, true, false, List, [], ◌∷◌, ◌++◌, codes, map, replicate, Some, None, Ok, refl}
 use Rattle.std.specs.Fmt.{digits}
-use Rattle.xw_words.specs.Dictionary.{Dictionary, Entry}
+use Rattle.xw_words.specs.Dictionary.{Dictionary, Entry, no_words, with_row}
 use Rattle.xw_grid.specs.declared.cell.Square.TheVariants.{Open}
 use Rattle.xw_grid.specs.declared.cell.Symmetry.TheVariants as kinds
 use Rattle.xw_grid.specs.Edit.{blank}
@@ -23,10 +23,21 @@ use Rattle.xw_session_laws.specs.Replay.{replayed, replayed_lines}
 use Rattle.xw_session_laws.specs.Journals.{IsJournaled, without_flushes}
 
 abbrev words_of_two : List Entry → Dictionary
-words_of_two entries = set (replicate 256 []) 2 entries
+words_of_two entries = with_row no_words 2 entries
 
 abbrev first_word : Entry
-first_word = record { word = codes "AS"; active = true; grade = 70 }
+first_word = record { word = codes "AS"; active = true; struck = false; grade = 70; regraded = false }
+
+-- it came back with another grade, and was struck again
+abbrev first_struck : Entry
+first_struck = record { word = codes "AS"; active = false; struck = true; grade = 90; regraded = true }
+
+abbrev second_word : Entry
+second_word = record { word = codes "AT"; active = true; struck = false; grade = 100; regraded = false }
+
+-- it is left out for its grade
+abbrev third_word : Entry
+third_word = record { word = codes "IT"; active = false; struck = false; grade = 35; regraded = false }
 
 -- a session that knows one word
 abbrev at_first : State
@@ -39,12 +50,13 @@ at_first = record {
   begun = known_counts (words_of_two (first_word ∷ []));
 }
 
--- a session with one more word, the first word struck, two cells with a bar between them, a circle and a clue
+-- a session with two more words, one of them left out, the first word struck, two cells with a bar between them, a circle
+-- and a clue
 abbrev later : State
 later = record {
   position = record {
     grid = record { width = 2; height = 1; squares = Open (Some 65) ∷ Open None ∷ []; right = true ∷ false ∷ []; below = false ∷ false ∷ []; symmetry = kinds.Half };
-    words = words_of_two (record first_word { active = false } ∷ record { word = codes "AT"; active = true; grade = 100 } ∷ []);
+    words = record (words_of_two (first_struck ∷ second_word ∷ third_word ∷ [])) { least = 40 };
   };
   texts = record { title = []; author = codes "one"; copyright = []; notes = [] };
   clues = record { across = (record { row = 1; col = 1 }, codes "First") ∷ []; down = [] };
@@ -56,7 +68,7 @@ later = record {
 made_again : replayed at_first (record_commands later) ≡ Some later
 made_again = refl
 
-lines : record_lines later ≡ codes "add AT\nstrike AS\nsize 2 1\ncircle 1 2\nbar 1 1 right\nsym half\nset 1 1 A\ntext title \ntext author one\ntext copyright \ntext notes \ntext clue 1 1 across First\nwatch on\n"
+lines : record_lines later ≡ codes "add AT\nadd IT 35\nstrike AS\nadd AS 90\nstrike AS\nleast 40\nsize 2 1\ncircle 1 2\nbar 1 1 right\nsym half\nset 1 1 A\ntext title \ntext author one\ntext copyright \ntext notes \ntext clue 1 1 across First\nwatch on\n"
 unfolding digits
 lines = refl
 
@@ -65,12 +77,12 @@ lines = refl
 -- three open cells, which one word of the dictionary fits
 abbrev before_fill : State
 before_fill = record {
-  position = record { grid = record { width = 3; height = 1; squares = Open None ∷ Open (Some 65) ∷ Open None ∷ []; right = replicate 3 false; below = replicate 3 false; symmetry = kinds.None }; words = replicate 256 [] };
+  position = record { grid = record { width = 3; height = 1; squares = Open None ∷ Open (Some 65) ∷ Open None ∷ []; right = replicate 3 false; below = replicate 3 false; symmetry = kinds.None }; words = no_words };
   texts = record { title = []; author = []; copyright = []; notes = [] };
   clues = no_clues;
   circles = [];
   is_watched = false;
-  begun = known_counts (replicate 256 []);
+  begun = known_counts no_words;
 }
 
 abbrev after_fill : State

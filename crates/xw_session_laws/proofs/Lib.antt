@@ -3,6 +3,8 @@ pub mod Replaying
 pub mod CellsAgain
 pub mod CirclesAgain
 pub mod BarsAgain
+pub mod WordAgain
+pub mod RowAgain
 pub mod WordsAgain
 pub mod InOrder
 pub mod CluesAgain

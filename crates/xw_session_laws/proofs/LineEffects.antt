@@ -2,10 +2,11 @@
 use Rattle.std.proofs.Common.{◌≡◌, ℕ, zero, suc, Bool, true, false, not, ◌&&◌, List, [], ◌∷◌, ◌++◌, length, map, get_or, flat_map, Some, None, refl, sym, ◌∙◌, ap, subst, inl, inr}
 use Rattle.std.specs.Prelude.{Option, Result, Ok, Err, ◌⊎◌, nat_le, nat_lt, if◌then◌else◌}
 use Rattle.xw_letters.specs.Letter.{IsLetter, letter_of}
-use Rattle.xw_words.specs.Dictionary.{matching_answer}
+use Rattle.xw_words.specs.Dictionary.{matching_answer, with_least}
 use Rattle.xw_words.specs.declared.fault.WordFault.{WordFault}
 use Rattle.xw_words.specs.declared.fault.WordFault.TheVariants as faults
 use Rattle.xw_grid.specs.declared.cell.Cell.{Cell}
+use Rattle.xw_grid.specs.declared.cell.LightName.{LightName}
 use Rattle.xw_grid.specs.declared.cell.Square.{Square}
 use Rattle.xw_grid.specs.declared.cell.Square.TheVariants as squares
 use Rattle.xw_grid.specs.declared.fault.GridFault.{GridFault}
@@ -17,7 +18,7 @@ use Rattle.xw_grid.specs.Clue.{no_clues, with_clue, with_circle, is_circled}
 use Rattle.xw_grid.specs.Light.{lights_of, index_named}
 use Rattle.xw_feas.specs.Board.{board_of, square_entry}
 use Rattle.xw_feas.specs.declared.edit.Refusal.{Refusal as EditRefusal}
-use Rattle.xw_feas.specs.State.{State as Position, letter_set, cell_cleared, word_placed, list_written, block_toggled, bar_toggled, symmetry_chosen, word_added, word_struck, after}
+use Rattle.xw_feas.specs.State.{State as Position, letter_set, cell_cleared, word_placed, list_written, block_toggled, bar_toggled, symmetry_chosen, word_added, word_struck, least_chosen, after}
 use Rattle.xw_feas.specs.WellFormed.{HasLetterEntries}
 use Rattle.xw_feas.proofs.FormedLemmas.{laid_out}
 use Rattle.xw_fill.specs.Position.{position_of, filled_in}
@@ -31,6 +32,9 @@ use Rattle.xw_fill.specs.FeasibleWords.{feasible_words}
 use Rattle.xw_fill.specs.declared.search.Filling.{Filling}
 use Rattle.xw_fill.specs.declared.search.Filling.TheVariants as fillings
 use Rattle.xw_fill.specs.NamedFill.{IsAutofilled, is_named}
+use Rattle.xw_fill.specs.declared.best.Best.{Best}
+use Rattle.xw_fill.specs.declared.best.Best.TheVariants as bests
+use Rattle.xw_fill.specs.Best.{IsBest}
 use Rattle.xw_commands.specs.declared.command.Command.{Command}
 use Rattle.xw_commands.specs.declared.command.Command.TheVariants as commands
 use Rattle.xw_commands.specs.declared.command.CellArg.{CellArg}
@@ -46,6 +50,7 @@ use Rattle.xw_answers.specs.Refusal.{refusal_of}
 use Rattle.xw_session.specs.Autofill.{names_of}
 use Rattle.xw_session.specs.Tally.{tally_lines}
 use Rattle.xw_session.specs.Erase.{erased_cells, emptied}
+use Rattle.xw_session.specs.Grades.{grade_lines}
 use Rattle.xw_session.specs.Unmatched.{unmatched_lines}
 use Rattle.xw_session.specs.Choices.{first_index, choice_lines}
 use Rattle.xw_session.specs.Answer.{IsDue}
@@ -55,7 +60,7 @@ use Rattle.xw_session.specs.Put.{target_of, has_target, text_at, with_text_at, w
 use Rattle.xw_answers.specs.Show.{show_lines}
 use Rattle.xw_answers.specs.Text.{word_line, light_lines, circle_lines, letters_line, counted_lines, spelled_line}
 use Rattle.xw_session.specs.Found.{duplicate_line, suggestion_line}
-use Rattle.xw_session.specs.Reply.{Reply, reply_to, edited, shown, moved, watch_lines, with_letter, resized, matched, with_clue_of, erased, written, circle_toggled, worded, weighed, weighed_from, put, light_named, name_of_light, told_lines, first_words, filling_name}
+use Rattle.xw_session.specs.Reply.{Reply, reply_to, edited, shown, moved, watch_lines, with_letter, resized, matched, with_clue_of, erased, written, circle_toggled, worded, are_lights, graded, weighed, weighed_from, put, light_named, name_of_light, told_lines, first_words, filling_name}
 use Rattle.xw_commands.specs.declared.command.Kind.{Kind}
 use Rattle.xw_commands.specs.declared.command.Kind.TheVariants.{Query, Change, Search}
 use Rattle.xw_commands.specs.Kind.{kind_of}
@@ -139,6 +144,10 @@ module _ (state : State) (is : IsGrid state.position.grid) (reply : Reply) where
   of_choices None most first e = refused_not Stays refusals.NoLight e
   of_choices (Some light) most first e = of_choices_from light most (first_index state.position light first) e
 
+  of_grades : (names : List LightName) → graded state names ≡ Ok reply → Stays
+  of_grades names e =
+      by_test Stays (are_lights state.position.grid names) (shown state (grade_lines state.position names)) (Err refusals.NoLight) (when_shown (grade_lines state.position names)) (λ _ e. refused_not Stays refusals.NoLight e) e
+
   of_cell : (cell : Cell) (lines : List ℕ) → (if not (is_inside state.position.grid cell) then Err (refusals.Grid grids.OutOfGrid) else if is_block state.position.grid cell then Err (refusals.Grid grids.OnBlock) else shown state lines) ≡ Ok reply → Stays
   of_cell cell lines e =
       by_test Stays (not (is_inside state.position.grid cell)) (Err (refusals.Grid grids.OutOfGrid)) (if is_block state.position.grid cell then Err (refusals.Grid grids.OnBlock) else shown state lines) (refused_not Stays (refusals.Grid grids.OutOfGrid))
@@ -162,13 +171,19 @@ module _ (state : State) (is : IsGrid state.position.grid) (reply : Reply) where
   by_end named fillings.NoFill position told (none, same) = inl (told ∙ ap (λ (p : Position). record state { position = p }) same)
   by_end named fillings.Limit position told same = inl (told ∙ ap (λ (p : Position). record state { position = p }) same)
 
+  by_best : (named : ℕ → Bool) (best : Best) (position : Position) → reply.state ≡ record state { position = position } → IsBest named state.position position best → Searched
+  by_best named (bests.Filled least bound) position told (filled, proved) = inr (position, told, record { entries = filled.entries; letters = filled.fill.letters; kept = filled.fill.kept; is = filled.holds })
+  by_best named bests.NoFill position told (none, same) = inl (told ∙ ap (λ (p : Position). record state { position = p }) same)
+  by_best named (bests.Limit bound) position told (above, proved, same) = inl (told ∙ ap (λ (p : Position). record state { position = p }) same)
+
   -- ---- all commands
 
   pub effected : (command : Command) → IsDue state command (Ok reply) → HasEffect (kind_of command) state command reply
   effected (commands.Size width height) e = e
   effected (commands.Symmetry kind) e = e
-  effected (commands.Add word) e = e
+  effected (commands.Add word grade) e = e
   effected (commands.Strike word) e = e
+  effected (commands.Least grade) e = e
   effected (commands.Match pattern) e = of_words (matching_answer state.position.words pattern) e
   effected (commands.Set at letter) e = e
   effected (commands.Clear at) e = e
@@ -188,12 +203,14 @@ module _ (state : State) (is : IsGrid state.position.grid) (reply : Reply) where
   effected (commands.Tally at) e = of_cell (cell_of at) (tally_lines state.position (cell_of at)) e
   effected commands.Duplicates e = when_shown (flat_map (duplicate_line state.position.grid) (duplicates_of state.position)) e
   effected commands.Unlisted e = when_shown (flat_map (spelled_line state.position.grid) (unlisted_of state.position)) e
+  effected (commands.Grades lights) e = of_grades (map name_of_light lights) e
   effected commands.Unmatched e = when_shown (unmatched_lines state.position) e
   effected commands.Suggest e = when_shown (suggestion_line state.position (suggestion state.position)) e
   effected (commands.Why named) e = ap (λ (reply : Reply). reply.state) e.is
   effected (commands.Fill limit) e =
       by_fill (nat_lt limit (due (position_of state.position))) (found (position_of state.position)) (word_line (filling_name fillings.Limit)) (word_line (filling_name fillings.Filled)) (word_line (filling_name fillings.NoFill)) refl e
   effected (commands.Autofill limit seed lights) e = by_end (is_named state.position (names_of lights)) e.filling e.position (ap (λ (reply : Reply). reply.state) e.is) e.done
+  effected (commands.Best limit seed lights) e = by_best (is_named state.position (names_of lights)) e.best e.position (ap (λ (reply : Reply). reply.state) e.is) e.done
   effected (commands.Watch is_on) e = e
   effected (commands.Tell telling) e = when_shown (told_lines state telling) e
   effected (commands.Put putting field spelling) e = e
@@ -281,8 +298,9 @@ module _ (state : State) (is : IsGrid state.position.grid) (reply : Reply) where
   pub grid_left : (command : Command) → IsDue state command (Ok reply) → Good
   grid_left (commands.Size width height) e = good_size (new_grid width height) (size_good width height) e
   grid_left (commands.Symmetry kind) e = good_moved (after state.position (symmetry_chosen kind)) (λ next. with_symmetry_good state.position next is kind) e
-  grid_left (commands.Add word) e = good_moved (after state.position (word_added word)) (λ next. with_words_good state.position next is _) e
+  grid_left (commands.Add word grade) e = good_moved (after state.position (word_added word grade)) (λ next. with_words_good state.position next is _) e
   grid_left (commands.Strike word) e = good_moved (after state.position (word_struck word)) (λ next. with_words_good state.position next is _) e
+  grid_left (commands.Least grade) e = good_moved (after state.position (least_chosen grade)) (λ next. with_words_good state.position next is (Ok (with_least grade state.position.words))) e
   grid_left (commands.Match pattern) e = good_quiet (effected (commands.Match pattern) e)
   grid_left (commands.Set at letter) e = good_letter at letter (letter_of letter) refl e
   grid_left (commands.Clear at) e = good_moved (after state.position (cell_cleared (cell_of at))) (λ next. with_letter_good state.position next is (cell_of at) None tt) e
@@ -303,11 +321,13 @@ module _ (state : State) (is : IsGrid state.position.grid) (reply : Reply) where
   grid_left (commands.Tally at) e = good_quiet (effected (commands.Tally at) e)
   grid_left commands.Duplicates e = good_quiet (effected commands.Duplicates e)
   grid_left commands.Unlisted e = good_quiet (effected commands.Unlisted e)
+  grid_left (commands.Grades lights) e = good_quiet (effected (commands.Grades lights) e)
   grid_left commands.Unmatched e = good_quiet (effected commands.Unmatched e)
   grid_left commands.Suggest e = good_quiet (effected commands.Suggest e)
   grid_left (commands.Why named) e = good_quiet (effected (commands.Why named) e)
   grid_left (commands.Fill limit) e = good_searched (effected (commands.Fill limit) e)
   grid_left (commands.Autofill limit seed lights) e = good_searched (effected (commands.Autofill limit seed lights) e)
+  grid_left (commands.Best limit seed lights) e = good_searched (effected (commands.Best limit seed lights) e)
   grid_left (commands.Watch is_on) e = good_edited (record state { is_watched = is_on }) is e
   grid_left (commands.Tell telling) e = good_quiet (effected (commands.Tell telling) e)
   grid_left (commands.Put putting field spelling) e = good_put putting field (text_spelled spelling) e

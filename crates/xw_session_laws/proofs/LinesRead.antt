@@ -18,9 +18,9 @@ use Rattle.xw_grid.specs.declared.cell.Symmetry.TheVariants as kinds
 use Rattle.xw_text.proofs.Position.{position_is_some, position_is_none}
 use Rattle.xw_commands.specs.declared.command.SyntaxFault.{SyntaxFault}
 use Rattle.xw_commands.specs.declared.command.SyntaxFault.TheVariants as faults
-use Rattle.xw_commands.specs.Line.{is_blank, is_ink, is_digit, number_in, byte_in, first_index, trimmed_start, parted, first_word}
+use Rattle.xw_commands.specs.Line.{is_blank, is_ink, is_digit, number_in, grade_in, byte_in, first_index, trimmed_start, parted, first_word}
 use Rattle.xw_commands.specs.declared.command.CellArg.{CellArg}
-use Rattle.xw_commands.specs.Reading.{Reading, ◌>>=◌, given, wanted, word, number, byte, lookup, key_word, direction, side, symmetry, switch, spot}
+use Rattle.xw_commands.specs.Reading.{Reading, ◌>>=◌, given, wanted, is_ended, word, number, grade, grade_if_any, byte, lookup, key_word, direction, side, symmetry, switch, spot}
 use Rattle.xw_commands.specs.Names.{direction_name, side_name, symmetry_name, switch_name, directions, sides, symmetries, switches}
 use Rattle.xw_answers.specs.Text.{line_of}
 
@@ -218,6 +218,29 @@ module _ (n : ℕ) (small : n ≤ 255) where
   reads_number ws =
       then_read word (λ w. wanted (number_in w)) (spaced (decimal n ∷ ws)) (spaced ws) (decimal n) (reads_word (decimal n) ws (high_word (decimal n) high_number))
       ∙ ap (λ found. wanted found (spaced ws)) number_is
+
+-- ---- grades
+
+pub reads_grade : (n : ℕ) (ws : List (List ℕ)) → n ≤ 100 → grade (spaced (decimal n ∷ ws)) ≡ Ok (n, spaced ws)
+reads_grade n ws small =
+    let short : n ≤ 255 = omega (arith, small) in
+    then_read number (λ number. wanted (grade_in number)) (spaced (decimal n ∷ ws)) (spaced ws) n (reads_number n short ws)
+    ∙ ap (λ b. wanted (if b then Some n else None) (spaced ws)) (le-leb n 100 small)
+
+more_left : (w : List ℕ) (ws : List (List ℕ)) → IsOneWord w → is_ended (spaced (w ∷ ws)) ≡ false
+more_left [] ws is = absurd is
+more_left (b ∷ bs) ws is =
+    ap (λ start. nat_eq (length start) 0) (space_first b (bs ++ spaced ws) (both (is_ink b) (list_all is_ink bs) is).0)
+    ∙ ne_eqb (length (b ∷ bs ++ spaced ws)) 0 (λ e. absurd (omega (arith, e)))
+
+pub reads_no_grade : grade_if_any [] ≡ Ok (None, [])
+reads_no_grade = refl
+
+pub reads_some_grade : (n : ℕ) → n ≤ 100 → grade_if_any (spaced (decimal n ∷ [])) ≡ Ok (Some n, [])
+reads_some_grade n small =
+    let short : n ≤ 255 = omega (arith, small) in
+    ap (λ b. (if b then given None (spaced (decimal n ∷ [])) else (grade >>= (λ found. given (Some found))) (spaced (decimal n ∷ [])))) (more_left (decimal n) [] (high_word (decimal n) (high_number n short)))
+    ∙ then_read grade (λ found. given (Some found)) (spaced (decimal n ∷ [])) [] n (reads_grade n [] small)
 
 -- ---- spots, letters and names
 

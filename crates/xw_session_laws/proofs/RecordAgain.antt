@@ -91,7 +91,7 @@ module _ (words : Dictionary) (made state : State) (is : BeganWith words made) (
   words_done : replayed state (section_commands made sections.Words) ≡ Some worded
   words_done =
       ap (λ counts. replayed state (word_commands counts made.position.words)) is.begun
-      ∙ words_again state words made.position.words is.dictionary is.known.lengths begins is.first
+      ∙ words_again state words made.position.words is.dictionary is.known.lengths is.least begins is.first
 
   circles_done : replayed sized (section_commands made (sections.Cells parts.Circles)) ≡ Some circled
   circles_done = circles_again sized grid is.grid made.circles made.clues ∙ ap (λ circles. Some (record sized { circles = circles })) (all_circles grid made.circles is.circles)

@@ -1,13 +1,13 @@
 -- The lines of a record, parsed and executed one after another.
 use Rattle.std.proofs.Common.{◌≡◌, ℕ, ◌+◌, ◌*◌, ◌<◌, ◌≤◌, zero, suc, Bool, true, false, List, [], ◌∷◌, ◌++◌, length, map, drop, get_or, flat_map, Some, None, refl, sym, ◌∙◌, ap, inl, inr, subst, append-nil, append_assoc, zero-add, arith}
-use Rattle.std.specs.Prelude.{Option, Result, Ok, if◌then◌else◌}
+use Rattle.std.specs.Prelude.{Option, Result, Ok, ◌==◌, if◌then◌else◌}
 use Rattle.std.specs.Option.{option_and_then}
 use Rattle.std.specs.List.{range_with_len}
 use Rattle.std.proofs.lemmas.Bool.{cases_lt}
 use Rattle.std.proofs.lemmas.List.{length-drop, length-take, get_or-drop}
 use Rattle.std.proofs.lemmas.List.Elements.{All-get_or}
 use Rattle.std.proofs.lemmas.List.FromFn.{get_or-range_with_len, length-range_with_len}
-use Rattle.xw_words.specs.Dictionary.{Dictionary, Entry, IsDictionary, row, no_entry}
+use Rattle.xw_words.specs.Dictionary.{Dictionary, Entry, IsDictionary, row, no_entry, best_grade}
 use Rattle.xw_grid.specs.declared.cell.Cell.{Cell}
 use Rattle.xw_grid.specs.declared.cell.Direction.{Direction}
 use Rattle.xw_grid.specs.declared.cell.Square.{Square}
@@ -29,13 +29,13 @@ use Rattle.xw_commands.specs.Command.{command_of}
 use Rattle.xw_lines.specs.Cut.{Cut, cut, lines_of, last_line, with_lfs, AllHaveNoLf}
 use Rattle.xw_session.specs.Put.{text_of_field}
 use Rattle.xw_session.specs.Reply.{reply_to}
-use Rattle.xw_answers.specs.Record.{spot_of, piece_at, further_pieces, more_command, text_commands, add_command, strike_commands, row_commands, length_commands, letter_commands, clue_commands, cell_commands, part_commands, command_lines}
+use Rattle.xw_answers.specs.Record.{spot_of, piece_at, further_pieces, more_command, text_commands, add_command, regrade_commands, strike_commands, row_commands, length_commands, least_commands, letter_commands, clue_commands, cell_commands, part_commands, command_lines}
 use Rattle.xw_session.specs.Record.{section_commands, record_sections, record_commands, record_lines}
 use Rattle.xw_session_laws.specs.Replay.{state_left, replayed, left_by_line, replayed_lines, BeganWith}
 use Rattle.xw_lines.proofs.Cuts.{cut-with_lfs}
 use Rattle.xw_answers.proofs.LightTexts.{cell_in_order}
 use Rattle.xw_session_laws.proofs.CellsAgain.{square_is}
-use Rattle.xw_session_laws.proofs.CommandsRead.{IsRecorded, IsKnownWord, IsSmallField, line_without_lf, read_again}
+use Rattle.xw_session_laws.proofs.CommandsRead.{IsRecorded, IsKnownWord, IsSmallGrade, IsSmallField, line_without_lf, read_again}
 
 -- ---- the commands of records
 
@@ -54,26 +54,42 @@ each_recorded made d (x ∷ xs) are =
 
 -- ---- words
 
-adds_recorded : (entries : List Entry) → ((k : ℕ) → k < length entries → IsKnownWord (get_or entries k no_entry).word) → AreRecorded (map add_command entries)
+-- the letters and the grade of a known word
+abbrev IsKnown : Entry → Type 0
+IsKnown entry = IsKnownWord entry.word × (entry.grade ≤ best_grade)
+
+named_small : (grade : ℕ) (b : Bool) → grade ≤ best_grade → IsSmallGrade (if b then None else Some grade)
+named_small grade true small = tt
+named_small grade false small = small
+
+adds_recorded : (entries : List Entry) → ((k : ℕ) → k < length entries → IsKnown (get_or entries k no_entry)) → AreRecorded (map add_command entries)
 adds_recorded [] known = tt
-adds_recorded (e ∷ entries) known = (known 0 (omega arith), adds_recorded entries (λ k within. known (suc k) (omega (arith, within))))
+adds_recorded (e ∷ entries) known =
+    let first = known 0 (omega arith) in
+    ((first.0, named_small e.grade (e.grade == best_grade) first.1), adds_recorded entries (λ k within. known (suc k) (omega (arith, within))))
 
-strike_recorded : (e : Entry) (active : Bool) → IsKnownWord e.word → AreRecorded (if active then [] else commands.Strike e.word ∷ [])
-strike_recorded e true known = tt
-strike_recorded e false known = (known, tt)
+regrade_recorded : (e : Entry) (b : Bool) → IsKnown e → AreRecorded (if b then commands.Strike e.word ∷ commands.Add e.word (Some e.grade) ∷ [] else [])
+regrade_recorded e true known = (known.0, ((known.0, known.1), tt))
+regrade_recorded e false known = tt
 
-row_recorded : (entries : List Entry) (n : ℕ) → ((k : ℕ) → k < length entries → IsKnownWord (get_or entries k no_entry).word) → AreRecorded (row_commands entries n)
+strike_recorded : (e : Entry) (b : Bool) → IsKnown e → AreRecorded (if b then commands.Strike e.word ∷ [] else [])
+strike_recorded e true known = (known.0, tt)
+strike_recorded e false known = tt
+
+row_recorded : (entries : List Entry) (n : ℕ) → ((k : ℕ) → k < length entries → IsKnown (get_or entries k no_entry)) → AreRecorded (row_commands entries n)
 row_recorded entries n known =
-    both_recorded (map add_command (drop n entries)) (flat_map strike_commands entries)
-    (adds_recorded (drop n entries) (λ k within. subst (λ (e : Entry). IsKnownWord e.word) (sym (get_or-drop n entries k no_entry)) (known (n + k) (omega (arith, within, length-drop n entries)))))
-    (each_recorded strike_commands no_entry entries (λ k within. strike_recorded (get_or entries k no_entry) (get_or entries k no_entry).active (known k within)))
+    both_recorded (map add_command (drop n entries)) (flat_map regrade_commands entries ++ flat_map strike_commands entries)
+    (adds_recorded (drop n entries) (λ k within. subst IsKnown (sym (get_or-drop n entries k no_entry)) (known (n + k) (omega (arith, within, length-drop n entries)))))
+    (both_recorded (flat_map regrade_commands entries) (flat_map strike_commands entries)
+    (each_recorded regrade_commands no_entry entries (λ k within. regrade_recorded (get_or entries k no_entry) (get_or entries k no_entry).regraded (known k within)))
+    (each_recorded strike_commands no_entry entries (λ k within. strike_recorded (get_or entries k no_entry) (get_or entries k no_entry).struck (known k within))))
 
-known_in_row : (words : Dictionary) (count : ℕ) → IsDictionary words → count < 256 → (k : ℕ) → k < length (row words count) → IsKnownWord (get_or (row words count) k no_entry).word
+known_in_row : (words : Dictionary) (count : ℕ) → IsDictionary words → count < 256 → (k : ℕ) → k < length (row words count) → IsKnown (get_or (row words count) k no_entry)
 known_in_row words count is below k within =
     let are = is.words count in
     let size : length (get_or (row words count) k no_entry).word ≡ count = are.long k no_entry within in
     let several : 2 ≤ count = at_least (row words count) (is.none_shorter count) within in
-    (are.letters k no_entry within, omega (arith, size, several), omega (arith, size, below))
+    ((are.letters k no_entry within, omega (arith, size, several), omega (arith, size, below)), are.graded k no_entry within)
   where
     at_least : (entries : List Entry) → (count < 2 → entries ≡ []) → k < length entries → 2 ≤ count
     at_least entries none l = elim (cases_lt count 2) [
@@ -87,6 +103,10 @@ words_recorded begun words is n most =
     let below : i < n = omega (arith, within, length-range_with_len 0 n) in
     let at : get_or (range_with_len 0 n) i 0 ≡ i = get_or-range_with_len 0 n i 0 below ∙ zero-add i in
     subst (λ count. AreRecorded (length_commands begun words count)) (sym at) (row_recorded (row words i) (get_or begun i 0) (known_in_row words i is (omega (arith, below, most)))))
+
+least_recorded : (least : ℕ) (b : Bool) → least ≤ best_grade → AreRecorded (if b then [] else commands.Least least ∷ [])
+least_recorded least true small = tt
+least_recorded least false small = (small, tt)
 
 -- ---- texts
 
@@ -144,7 +164,10 @@ module _ (grid : Grid) (is : IsGrid grid) (clues : ClueMap) (circles : List Cell
 -- ---- the whole record
 
 section_recorded : (words : Dictionary) (made : State) → BeganWith words made → (section : Section) → AreRecorded (section_commands made section)
-section_recorded words made is sections.Words = words_recorded made.begun made.position.words is.dictionary 256 (omega arith)
+section_recorded words made is sections.Words =
+    let least = made.position.words.least in
+    both_recorded (flat_map (length_commands made.begun made.position.words) (range_with_len 0 256)) (least_commands least)
+    (words_recorded made.begun made.position.words is.dictionary 256 (omega arith)) (least_recorded least (least == 0) is.dictionary.least)
 section_recorded words made is sections.Size = ((is.grid.wide.1, is.grid.high.1), tt)
 section_recorded words made is (sections.Cells part) = part_recorded made.position.grid is.grid made.clues made.circles part
 section_recorded words made is sections.Symmetry = (tt, tt)

@@ -6,10 +6,11 @@ use Rattle.std.proofs.lemmas.List.Folds.{list_any-append}
 use Rattle.std.proofs.lemmas.Option.{slice_get_within, get_or_from_slice_get}
 use Rattle.xw_letters.specs.Letter.{folded, letter_of}
 use Rattle.xw_words.specs.Word.{is_bad_letter}
-use Rattle.xw_words.specs.Dictionary.{Dictionary, matching_answer, add_answer, strike_answer}
+use Rattle.xw_words.specs.Dictionary.{Dictionary, matching_answer, add_answer, strike_answer, with_least}
 use Rattle.xw_words.specs.declared.fault.WordFault.{WordFault}
 use Rattle.xw_words.specs.declared.fault.WordFault.TheVariants as faults
 use Rattle.xw_grid.specs.declared.cell.Cell.{Cell}
+use Rattle.xw_grid.specs.declared.cell.LightName.{LightName}
 use Rattle.xw_grid.specs.declared.cell.Direction.{Direction}
 use Rattle.xw_grid.specs.declared.cell.Direction.TheVariants.{Across, Down}
 use Rattle.xw_grid.specs.declared.fault.GridFault.{GridFault}
@@ -21,7 +22,7 @@ use Rattle.xw_grid.specs.Clue.{ClueMap, no_clues, with_clue, with_circle, is_cir
 use Rattle.xw_grid.specs.Light.{lights_of, no_light, index_named, cells_of}
 use Rattle.xw_grid.proofs.OrderLemmas.{lights_are_made, made_inside}
 use Rattle.xw_feas.specs.declared.edit.Refusal.{Refusal as EditRefusal}
-use Rattle.xw_feas.specs.State.{State as Position, Action, letter_set, cell_cleared, word_placed, list_written, block_toggled, bar_toggled, symmetry_chosen, word_added, word_struck, after, with_grid as with_edited, with_words as with_dictionary, by_fault, with_letters, spelled_in, placed_in, then_write, write_list}
+use Rattle.xw_feas.specs.State.{State as Position, Action, letter_set, cell_cleared, word_placed, list_written, block_toggled, bar_toggled, symmetry_chosen, word_added, word_struck, least_chosen, after, with_grid as with_edited, with_words as with_dictionary, by_fault, with_letters, spelled_in, placed_in, then_write, write_list}
 use Rattle.xw_feas.specs.WellFormed.{IsWellFormed}
 use Rattle.xw_fill.specs.Position.{position_of, filled_in}
 use Rattle.xw_fill.specs.FeasibleLetters.{feasible_letters}
@@ -32,6 +33,9 @@ use Rattle.xw_fill.specs.Suggesting.{suggestion}
 use Rattle.xw_fill.specs.declared.search.Filling.{Filling}
 use Rattle.xw_fill.specs.declared.search.Filling.TheVariants as fillings
 use Rattle.xw_fill.specs.NamedFill.{IsAutofilled, is_named}
+use Rattle.xw_fill.specs.declared.best.Best.{Best}
+use Rattle.xw_fill.specs.declared.best.Best.TheVariants as bests
+use Rattle.xw_fill.specs.Best.{IsBest}
 use Rattle.xw_grid.specs.Puzzle.{TextsShown}
 use Rattle.xw_commands.specs.declared.command.Command.{Command}
 use Rattle.xw_commands.specs.declared.command.Command.TheVariants as commands
@@ -49,9 +53,11 @@ use Rattle.xw_session.specs.declared.session.putting.Target.{Target}
 use Rattle.xw_session.specs.declared.session.putting.Target.TheVariants as targets
 use Rattle.xw_answers.specs.Refusal.{refusal_of}
 use Rattle.xw_session.specs.Autofill.{names_of}
+use Rattle.xw_session.specs.Best.{best_lines}
 use Rattle.xw_session.specs.Why.{entry_lines}
 use Rattle.xw_session.specs.Tally.{tally_lines}
 use Rattle.xw_session.specs.Erase.{erased_cells, emptied}
+use Rattle.xw_session.specs.Grades.{grade_lines}
 use Rattle.xw_session.specs.Unmatched.{unmatched_lines}
 use Rattle.xw_session.specs.Choices.{first_index, choice_lines}
 use Rattle.xw_session.specs.Answer.{IsDue, Replies, state_after, AnswersParsed}
@@ -61,12 +67,12 @@ use Rattle.xw_session.specs.Put.{target_of, has_target, text_of_field, text_at, 
 use Rattle.xw_answers.specs.Show.{show_lines}
 use Rattle.xw_answers.specs.Text.{word_line, light_lines, circle_lines, letters_line, counted_lines, spelled_line}
 use Rattle.xw_session.specs.Found.{duplicate_line, suggestion_line}
-use Rattle.xw_session.specs.Reply.{Reply, edited, shown, moved, watch_lines, with_letter, resized, matched, with_clue_of, erased, written, circle_toggled, worded, weighed, weighed_from, lettered, tallied, put, light_named, name_of_light, told_lines, first_words, filling_name}
+use Rattle.xw_session.specs.Reply.{Reply, edited, shown, moved, watch_lines, with_letter, resized, matched, with_clue_of, erased, written, circle_toggled, worded, are_lights, graded, weighed, weighed_from, lettered, tallied, put, light_named, name_of_light, told_lines, first_words, filling_name}
 use Rattle.xw_session_laws.specs.Replay.{BarsAreOnEdges, AreFrom, AreTextsFrom, clues_of, BeganWith, SessionsBegin}
 use Rattle.xw_session_laws.proofs.InOrder.{plain_at}
 use Rattle.xw_session_laws.proofs.KeptInOrder.{circle_kept, clue_kept, cells_there, texts_there}
 use Rattle.xw_session_laws.proofs.KeptEdges.{edges_kept, blank_edges}
-use Rattle.xw_session_laws.proofs.KeptWords.{AllComeFirst, added_kept, struck_kept}
+use Rattle.xw_session_laws.proofs.KeptWords.{AllComeFirst, added_kept, struck_kept, limited_kept}
 
 -- ---- a position after an edit
 
@@ -109,6 +115,9 @@ list_framed (written ∷ list) grid next e = by_tests (is_inside grid written.0)
   by_tests true false rest h = rest h
   by_tests true true rest h = cc
   by_tests false b rest h = cc
+
+ok_words : (one other : Dictionary) → ◌≡◌ {A = Result Dictionary WordFault} (Ok one) (Ok other) → one ≡ other
+ok_words one other e = cc
 
 module _ (begun : Dictionary) (position next : Position) (is : IsGrid position.grid) (only : BarsAreOnEdges position.grid) (first : AllComeFirst begun position.words) where
   -- an edit of the grid
@@ -165,8 +174,9 @@ module _ (begun : Dictionary) (position next : Position) (is : IsGrid position.g
       by_edge (is_inside position.grid cell) (is_edge position.grid cell side) (with_edges position.grid cell side (not (is_barred position.grid cell side)))
       (λ edge. record { wide = refl; high = refl; bars = edges_kept position.grid cell side (not (is_barred position.grid cell side)) is edge only }) e
   edit_kept (symmetry_chosen kind) e = by_one _ (record position.grid { symmetry = kind }) (framed position.grid _ (refl, refl, refl, refl) only) e
-  edit_kept (word_added word) e = to_words _ (added_kept begun position.words first (map folded word) (add_answer position.words word)) e
+  edit_kept (word_added word grade) e = to_words _ (added_kept begun position.words first (map folded word) grade (add_answer position.words word)) e
   edit_kept (word_struck word) e = to_words _ (struck_kept begun position.words first (map folded word) (strike_answer position.words word)) e
+  edit_kept (least_chosen grade) e = to_words (Ok (with_least grade position.words)) (λ made same. subst (AllComeFirst begun) (ok_words _ made same) (limited_kept begun position.words first grade)) e
 
 -- ---- lights
 
@@ -215,22 +225,23 @@ module _ (words : Dictionary) (state : State) (is : BeganWith words state) where
   -- ---- states that differ in one part
 
   with_texts : (texts : TextsShown) → ((name : TextField) → has_nul (text_of_field texts name) ≡ false) → BeganWith words (record state { texts = texts })
-  with_texts texts are = record { grid = is.grid; bars = is.bars; known = is.known; dictionary = is.dictionary; first = is.first; begun = is.begun; texts = are; clues = is.clues; circles = is.circles }
+  with_texts texts are = record { grid = is.grid; bars = is.bars; known = is.known; least = is.least; dictionary = is.dictionary; first = is.first; begun = is.begun; texts = are; clues = is.clues; circles = is.circles }
 
   with_clues : (clues : ClueMap) → ((direction : Direction) → AreTextsFrom state.position.grid 0 (clues_of clues direction)) → BeganWith words (record state { clues = clues })
-  with_clues clues are = record { grid = is.grid; bars = is.bars; known = is.known; dictionary = is.dictionary; first = is.first; begun = is.begun; texts = is.texts; clues = are; circles = is.circles }
+  with_clues clues are = record { grid = is.grid; bars = is.bars; known = is.known; least = is.least; dictionary = is.dictionary; first = is.first; begun = is.begun; texts = is.texts; clues = are; circles = is.circles }
 
   with_circles : (circles : List Cell) → AreFrom state.position.grid 0 circles → BeganWith words (record state { circles = circles })
-  with_circles circles are = record { grid = is.grid; bars = is.bars; known = is.known; dictionary = is.dictionary; first = is.first; begun = is.begun; texts = is.texts; clues = is.clues; circles = are }
+  with_circles circles are = record { grid = is.grid; bars = is.bars; known = is.known; least = is.least; dictionary = is.dictionary; first = is.first; begun = is.begun; texts = is.texts; clues = is.clues; circles = are }
 
   with_watch : (is_on : Bool) → BeganWith words (record state { is_watched = is_on })
-  with_watch is_on = record { grid = is.grid; bars = is.bars; known = is.known; dictionary = is.dictionary; first = is.first; begun = is.begun; texts = is.texts; clues = is.clues; circles = is.circles }
+  with_watch is_on = record { grid = is.grid; bars = is.bars; known = is.known; least = is.least; dictionary = is.dictionary; first = is.first; begun = is.begun; texts = is.texts; clues = is.clues; circles = is.circles }
 
   with_position : (next : Position) → PositionKept words state.position next → IsWellFormed next → BeganWith words (record state { position = next })
   with_position next kept formed = record {
     grid = formed.grid;
     bars = kept.grid.bars;
     known = is.known;
+    least = is.least;
     dictionary = formed.dictionary;
     first = kept.first;
     begun = is.begun;
@@ -245,6 +256,7 @@ module _ (words : Dictionary) (state : State) (is : BeganWith words state) where
     grid = formed.grid;
     bars = only;
     known = is.known;
+    least = is.least;
     dictionary = is.dictionary;
     first = is.first;
     begun = is.begun;
@@ -354,6 +366,10 @@ module _ (words : Dictionary) (state : State) (is : BeganWith words state) where
     by_choices None most first e = not_refused refusals.NoLight e
     by_choices (Some light) most first e = by_choices_from light most (first_index state.position light first) e
 
+    by_grades : (names : List LightName) → graded state names ≡ Ok reply → Kept
+    by_grades names e =
+        by_test (are_lights state.position.grid names) (shown state (grade_lines state.position names)) (Err refusals.NoLight) (λ _ e. when_shown (grade_lines state.position names) e) (λ _ e. not_refused refusals.NoLight e) e
+
     by_letters : (cell : Cell) → lettered state cell ≡ Ok reply → Kept
     by_letters cell e =
         let letters = letters_line (feasible_letters (position_of state.position) (index_of state.position.grid cell)) in
@@ -374,17 +390,31 @@ module _ (words : Dictionary) (state : State) (is : BeganWith words state) where
         by_test (not (is_inside state.position.grid cell)) (Err (refusals.Grid grids.OutOfGrid)) (if is_block state.position.grid cell then Err (refusals.Grid grids.OnBlock) else shown state lines) (λ _ e. not_refused (refusals.Grid grids.OutOfGrid) e)
         (λ _ e. by_test (is_block state.position.grid cell) (Err (refusals.Grid grids.OnBlock)) (shown state lines) (λ _ e. not_refused (refusals.Grid grids.OnBlock) e) (λ _ e. when_shown lines e) e) e
 
-    -- the reply has a state with this position
-    by_filling : (filling : Filling) (position next : Position) → reply ≡ record { lines = word_line (filling_name filling); state = record state { position = position } } → position ≡ next
-        → ◌≡◌ {A = Result Reply Refusal} (Ok (record { lines = word_line (filling_name filling); state = record state { position = next } })) (Ok reply)
-    by_filling filling position next is same = ap Ok (ap (λ (p : Position). record { lines = word_line (filling_name filling); state = record state { position = p } }) (sym same) ∙ sym is)
+    -- the reply has these lines and a state with this position
+    abbrev Tells : List ℕ → Position → Type 0
+    Tells lines position = reply ≡ record { lines = lines; state = record state { position = position } }
 
-    by_end : (named : ℕ → Bool) (filling : Filling) (position : Position) → reply ≡ record { lines = word_line (filling_name filling); state = record state { position = position } } → IsAutofilled named state.position position filling → Kept
-    by_end named fillings.Filled position told (entries, fill, same) =
-        left_at (record { lines = word_line (filling_name fillings.Filled); state = record state { position = filled_in state.position entries } })
-        (λ good. with_position (filled_in state.position entries) (record { grid = framed state.position.grid _ (refl, refl, refl, refl) is.bars; first = is.first }) good) (by_filling fillings.Filled position (filled_in state.position entries) told same)
-    by_end named fillings.NoFill position told (none, same) = when_shown (word_line (filling_name fillings.NoFill)) (by_filling fillings.NoFill position state.position told same)
-    by_end named fillings.Limit position told same = when_shown (word_line (filling_name fillings.Limit)) (by_filling fillings.Limit position state.position told same)
+    by_told : (lines : List ℕ) (position next : Position) → Tells lines position → position ≡ next
+        → ◌≡◌ {A = Result Reply Refusal} (Ok (record { lines = lines; state = record state { position = next } })) (Ok reply)
+    by_told lines position next is same = ap Ok (ap (λ (p : Position). record { lines = lines; state = record state { position = p } }) (sym same) ∙ sym is)
+
+    by_entered : (lines : List ℕ) (position : Position) (entries : List (Option ℕ)) → Tells lines position → position ≡ filled_in state.position entries → Kept
+    by_entered lines position entries told same =
+        left_at (record { lines = lines; state = record state { position = filled_in state.position entries } })
+        (λ good. with_position (filled_in state.position entries) (record { grid = framed state.position.grid _ (refl, refl, refl, refl) is.bars; first = is.first }) good) (by_told lines position (filled_in state.position entries) told same)
+
+    by_none : (lines : List ℕ) (position : Position) → Tells lines position → position ≡ state.position → Kept
+    by_none lines position told same = when_shown lines (by_told lines position state.position told same)
+
+    by_end : (named : ℕ → Bool) (filling : Filling) (position : Position) → Tells (word_line (filling_name filling)) position → IsAutofilled named state.position position filling → Kept
+    by_end named fillings.Filled position told (entries, fill, same) = by_entered _ position entries told same
+    by_end named fillings.NoFill position told (none, same) = by_none _ position told same
+    by_end named fillings.Limit position told same = by_none _ position told same
+
+    by_best : (named : ℕ → Bool) (best : Best) (position : Position) → Tells (best_lines best) position → IsBest named state.position position best → Kept
+    by_best named (bests.Filled least bound) position told (filled, proved) = by_entered _ position filled.entries told filled.holds
+    by_best named bests.NoFill position told (none, same) = by_none _ position told same
+    by_best named (bests.Limit bound) position told (above, proved, same) = by_none _ position told same
 
     by_reason : (entries : List (Option ℕ)) → reply ≡ record { lines = entry_lines state.position.grid entries; state = state } → Kept
     by_reason entries told = when_shown (entry_lines state.position.grid entries) (ap Ok (sym told))
@@ -401,8 +431,9 @@ module _ (words : Dictionary) (state : State) (is : BeganWith words state) where
     pub reply_kept : (command : Command) → IsDue state command (Ok reply) → Kept
     reply_kept (commands.Size width height) e = by_size (new_grid width height) (λ grid made. size_bars width height grid ((nat_le 1 width && nat_le width 255) && (nat_le 1 height && nat_le height 255)) made) e
     reply_kept (commands.Symmetry kind) e = by_edit (symmetry_chosen kind) e
-    reply_kept (commands.Add word) e = by_edit (word_added word) e
+    reply_kept (commands.Add word grade) e = by_edit (word_added word grade) e
     reply_kept (commands.Strike word) e = by_edit (word_struck word) e
+    reply_kept (commands.Least grade) e = by_edit (least_chosen grade) e
     reply_kept (commands.Match pattern) e = by_words (matching_answer state.position.words pattern) e
     reply_kept (commands.Set at letter) e = by_letter at (letter_of letter) e
     reply_kept (commands.Clear at) e = by_edit (cell_cleared (cell_of at)) e
@@ -423,6 +454,7 @@ module _ (words : Dictionary) (state : State) (is : BeganWith words state) where
     reply_kept (commands.Tally at) e = by_tally (cell_of at) e
     reply_kept commands.Duplicates e = when_shown (flat_map (duplicate_line state.position.grid) (duplicates_of state.position)) e
     reply_kept commands.Unlisted e = when_shown (flat_map (spelled_line state.position.grid) (unlisted_of state.position)) e
+    reply_kept (commands.Grades lights) e = by_grades (map name_of_light lights) e
     reply_kept commands.Unmatched e = when_shown (unmatched_lines state.position) e
     reply_kept commands.Suggest e = when_shown (suggestion_line state.position (suggestion state.position)) e
     reply_kept (commands.Why named) e = by_reason e.entries e.is
@@ -430,6 +462,7 @@ module _ (words : Dictionary) (state : State) (is : BeganWith words state) where
         by_fill (nat_lt limit (due (position_of state.position))) (found (position_of state.position)) (word_line (filling_name fillings.Limit)) (word_line (filling_name fillings.Filled)) (word_line (filling_name fillings.NoFill))
         (end (position_of state.position)).board.entries e
     reply_kept (commands.Autofill limit seed lights) e = by_end (is_named state.position (names_of lights)) e.filling e.position e.is e.done
+    reply_kept (commands.Best limit seed lights) e = by_best (is_named state.position (names_of lights)) e.best e.position e.is e.done
     reply_kept (commands.Watch is_on) e = when_edited (record state { is_watched = is_on }) (with_watch is_on) e
     reply_kept (commands.Tell telling) e = when_shown (told_lines state telling) e
     reply_kept (commands.Put putting field spelling) e = by_put putting field (text_spelled spelling) e
@@ -456,12 +489,13 @@ no_text Copyright = refl
 no_text Notes = refl
 
 pub session_begun : SessionsBegin
-session_begun position formed only first = record {
+session_begun position formed only fresh = record {
   grid = formed.grid;
   bars = only;
   known = formed.dictionary;
+  least = fresh.least;
   dictionary = formed.dictionary;
-  first = first;
+  first = fresh.first;
   begun = refl;
   texts = no_text;
   clues = no_clues_there position.grid;

@@ -1,7 +1,7 @@
 -- Executing commands one after another when no allocation fails, and the laws of records.
-use Rattle.std.specs.Prelude.{◌≡◌, ℕ, ◌+◌, ◌<◌, ◌≤◌, true, false, List, [], ◌∷◌, ◌++◌, map, take, drop, length, All, slice_index_or, Option, Some, None, Result, Ok, Err}
+use Rattle.std.specs.Prelude.{◌≡◌, ℕ, ◌+◌, ◌<◌, ◌≤◌, true, false, List, [], ◌∷◌, ◌++◌, map, length, slice_index_or, Option, Some, None, Result, Ok, Err}
 use Rattle.std.specs.Option.{option_and_then}
-use Rattle.xw_words.specs.Dictionary.{Dictionary, Entry, IsDictionary, row, best_grade}
+use Rattle.xw_words.specs.Dictionary.{Dictionary, Entry, IsDictionary, row, entry_at}
 use Rattle.xw_grid.specs.declared.cell.Square.{Square}
 use Rattle.xw_grid.specs.declared.cell.Square.TheVariants.{Block, Open}
 use Rattle.xw_grid.specs.declared.cell.Cell.{Cell}
@@ -68,14 +68,19 @@ with_words state words = record state { position = record state.position { words
 
 -- ---- the invariant of a session
 
--- the entry of the same word, not struck
-abbrev pub unstruck : Entry → Entry
-unstruck entry = record entry { active = true }
+-- a word with this grade, as it is when a session starts: active, and nothing was done to it
+abbrev pub fresh : List ℕ → ℕ → Entry
+fresh word grade = record { word = word; active = true; struck = false; grade = grade; regraded = false }
 
--- the known words begin with those from the start of the session, none of which was struck at the start; each word
--- that was added since has the greatest grade
-abbrev pub ComeFirst : List Entry → List Entry → Type 0
-ComeFirst begun entries = (begun ≡ map unstruck (take (length begun) entries)) × All (λ entry. entry.grade ≡ best_grade) (drop (length begun) entries)
+-- Nothing had been done to the word when the session started. It has the same grade now, unless it came back with
+-- another one.
+abbrev pub IsSince : Entry → Entry → Type 0
+IsSince begun entry = (begun ≡ fresh entry.word begun.grade) × (entry.regraded ≡ false → begun.grade ≡ entry.grade)
+
+-- the known words begin with those from the start of the session
+pub record ComeFirst (begun entries : List Entry) : Type 0 where
+  pub few : length begun ≤ length entries
+  pub since : (index : ℕ) → index < length begun → IsSince (entry_at begun index) (entry_at entries index)
 
 -- no bar lies on the border of the grid
 abbrev pub BarsAreOnEdges : Grid → Type 0
@@ -111,6 +116,7 @@ pub record BeganWith (words : Dictionary) (state : State) : Type 0 where
   pub grid : IsGrid state.position.grid
   pub bars : BarsAreOnEdges state.position.grid
   pub known : IsDictionary words
+  pub least : words.least ≡ 0
   pub dictionary : IsDictionary state.position.words
   pub first : (count : ℕ) → ComeFirst (row words count) (row state.position.words count)
   pub begun : state.begun ≡ known_counts words
@@ -118,14 +124,15 @@ pub record BeganWith (words : Dictionary) (state : State) : Type 0 where
   pub clues : (direction : Direction) → AreTextsFrom state.position.grid 0 (clues_of state.clues direction)
   pub circles : AreFrom state.position.grid 0 state.circles
 
--- no word of the dictionary is struck
-abbrev pub NoneIsStruck : Dictionary → Type 0
-NoneIsStruck words = (count : ℕ) → ComeFirst (row words count) (row words count)
+-- no word is left out or struck, and none came back with another grade
+pub record IsFresh (words : Dictionary) : Type 0 where
+  pub least : words.least ≡ 0
+  pub first : (count : ℕ) → ComeFirst (row words count) (row words count)
 
--- a session started on a dictionary without struck words, with no texts, clues and circles, meets the invariant
+-- a session started on a dictionary to which nothing was done, with no texts, clues and circles, meets the invariant
 abbrev pub SessionsBegin : Type 0
 SessionsBegin =
-    (position : Position) → IsWellFormed position → BarsAreOnEdges position.grid → NoneIsStruck position.words
+    (position : Position) → IsWellFormed position → BarsAreOnEdges position.grid → IsFresh position.words
     → BeganWith position.words (record {
       position = position;
       texts = record { title = []; author = []; copyright = []; notes = [] };
@@ -146,10 +153,10 @@ opened_on words puzzle = record {
   begun = known_counts words;
 }
 
--- a session opened on the puzzle of some bytes, with a dictionary without struck words, meets the invariant
+-- a session opened on the puzzle of some bytes, with a dictionary to which nothing was done, meets the invariant
 abbrev pub SessionsOpen : (List ℕ → Result PuzzleShown ReadFault) → Type 0
 SessionsOpen spelled =
-    (words : Dictionary) (bytes : List ℕ) (puzzle : PuzzleShown) → spelled bytes ≡ Ok puzzle → IsWellFormed (opened_on words puzzle).position → NoneIsStruck words
+    (words : Dictionary) (bytes : List ℕ) (puzzle : PuzzleShown) → spelled bytes ≡ Ok puzzle → IsWellFormed (opened_on words puzzle).position → IsFresh words
     → BeganWith words (opened_on words puzzle)
 
 -- Every line keeps the invariant. The contract of the engine gives the well-formedness of the new state.

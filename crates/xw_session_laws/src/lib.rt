@@ -4,7 +4,7 @@
 
 ghost use Rattle.std.specs.Prelude.{◌≡◌, ℕ, ◌++◌, ◌*◌, List, [], map, replicate, filter, None, Some, true, false};
 ghost use Rattle.std.specs.Option.{option_and_then};
-ghost use Rattle.xw_words.specs.Dictionary.{IsDictionary, row};
+ghost use Rattle.xw_words.specs.Dictionary.{IsDictionary, row, no_words};
 ghost use Rattle.xw_words.specs.WordList.{listed_in};
 ghost use Rattle.xw_grid.specs.declared.cell.Direction.{Direction};
 ghost use Rattle.xw_grid.specs.declared.cell.Direction.TheVariants.{Across, Down};
@@ -26,7 +26,7 @@ ghost use Rattle.xw_session.specs.State.{State};
 ghost use Rattle.xw_session.specs.Put.{target_of, has_target, with_text_at};
 ghost use Rattle.xw_answers.specs.Record.{known_counts, text_commands};
 ghost use Rattle.xw_session.specs.Record.{section_commands};
-ghost use Rattle.xw_session_laws.specs.Replay.{NoneIsStruck, SessionsBegin, SessionsOpen, SessionsStay, CommandsMakeSessionsAgain, LinesAreReadAgain};
+ghost use Rattle.xw_session_laws.specs.Replay.{IsFresh, SessionsBegin, SessionsOpen, SessionsStay, CommandsMakeSessionsAgain, LinesAreReadAgain};
 ghost use Rattle.xw_session_laws.specs.Replay.{LinesMakeSessionsAgain, AnsweredLinesMakeSessionsAgain, RecordsAreRefusedForMemoryOnly, replayed, bared};
 ghost use Rattle.xw_session_laws.specs.Replay.{with_grid, with_words, clues_of, ComeFirst, BarsAreOnEdges, barred, barred_right, AreFrom, AreTextsFrom};
 ghost use Rattle.xw_session_laws.specs.Journals.{JournalsMakeSessionsAgain, JournalsHaveWholeLines, AnsweredJournalsMakeSessionsAgain};
@@ -62,11 +62,12 @@ pub fn commands_follow_one_another()
         → replayed state (front ++ rest) ≡ option_and_then (λ mid. replayed mid rest) (replayed state front) }
 {}
 
-/// The word commands of a record rebuild the dictionary, with the words in the same order, each active or struck as before
-/// and with its grade. The session must start with the same words, none of them struck, and each word that was added
-/// since has the greatest grade.
+/// The word commands of a record rebuild the dictionary: the words in the same order, each with its grade and what was
+/// done to it, and the least grade. The session must start with the same words, and nothing done to them: none is left
+/// out or struck, and a word of the start has another grade now only if it came back with it.
 pub fn words_are_made_again()
     ensures { (state made : State) → IsDictionary state.position.words → IsDictionary made.position.words
+        → state.position.words.least ≡ 0
         → made.begun ≡ known_counts state.position.words
         → ((count : ℕ) → ComeFirst (row state.position.words count) (row made.position.words count))
         → replayed state (section_commands made sections.Words) ≡ Some (with_words state made.position.words) }
@@ -163,18 +164,18 @@ pub fn records_make_sessions_again()
     ensures memory { RecordsAreRefusedForMemoryOnly }
 {}
 
-/// A session started with an engine alone meets the premises of these laws, if no word is struck and no bar lies on the
-/// border of the grid. Every line keeps the premises.
+/// A session started with an engine alone meets the premises of these laws, if nothing was done to its words and no bar
+/// lies on the border of the grid. Every line keeps the premises.
 pub fn sessions_keep_what_they_have()
     ensures begun { SessionsBegin }
     ensures kept { SessionsStay }
 {}
 
-/// A session opened with the puzzle of a `.puz` or text file meets the premises of these laws, if no word of its
-/// dictionary is struck. A new dictionary and one loaded from a word list have no struck words.
+/// A session opened with the puzzle of a `.puz` or text file meets the premises of these laws, if nothing was done to the
+/// words of its dictionary. Nothing was done to those of a new dictionary and of one loaded from a word list.
 pub fn sessions_open_with_files()
-    ensures empty { NoneIsStruck (replicate 256 []) }
-    ensures listed { (bytes : List ℕ) → NoneIsStruck (listed_in bytes) }
+    ensures empty { IsFresh no_words }
+    ensures listed { (bytes : List ℕ) → IsFresh (listed_in bytes) }
     ensures puz { SessionsOpen puzzle_at }
     ensures text { SessionsOpen all_of }
 {}

@@ -79,7 +79,7 @@ pub fn edit_of(spelled: Do) -> Option<Edit<'static>> {
         Do::Block(row, col) => Edit::Block(at(row, col)),
         Do::Bar(row, col, side) => Edit::Bar(at(row, col), side),
         Do::Choose(symmetry) => Edit::Symmetry(symmetry),
-        Do::Add(text) => Edit::Add(text),
+        Do::Add(text) => Edit::Add(text, None),
         Do::Strike(text) => Edit::Strike(text),
     })
 }

@@ -63,7 +63,7 @@ fn opened<E: Searchable>(alloc: Global) -> Result<E, Refusal> {
     let grid = Grid::new(alloc, THREE_BY_THREE.width, THREE_BY_THREE.height)?;
     let mut engine = E::open(alloc, grid, Bank::new(alloc)?)?;
     for word in THREE_BY_THREE.words.split_ascii_whitespace() {
-        let _ = engine.edit(&Edit::Add(word.as_bytes()))?;
+        let _ = engine.edit(&Edit::Add(word.as_bytes(), None))?;
     }
     Ok(engine)
 }

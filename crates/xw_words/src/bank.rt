@@ -1,15 +1,15 @@
 //! The dictionary: all known words, grouped by length.
 ghost use Rattle.std.specs.Prelude.{◌≡◌, ◌≢◌, ℕ, ◌+◌, ◌*◌, ◌<◌, ◌≤◌, Bool, true, false, [], map, replicate, length, slice_index_or, Ok, Err, None, All, IsOk, IfErr, IfOk, IfSome, IfNone, OnOk, OnErr, IsOkUnless, position, vec_len};
 ghost use Rattle.xw_letters.specs.Letter.{folded, IsLetter};
-ghost use Rattle.xw_words.specs.Dictionary.{row as words_of, entry_at, index_of_word, add_answer, answer_on, add_to, after_add, strike_answer, after_strike, IsNew, IsDictionary, matching_answer, reserve_answer, most_words, best_grade};
-ghost use Rattle.xw_words.specs.Bank.{has_room, IsKept, KeepsRoom, KeepsOtherRoom};
+ghost use Rattle.xw_words.specs.Dictionary.{row as words_of, entry_at, index_of_word, add_answer, answer_on, add_to, after_add, strike_answer, after_strike, IsNew, IsDictionary, matching_answer, reserve_answer, most_words, best_grade, no_words, with_least};
+ghost use Rattle.xw_words.specs.Bank.{has_room, limited_row, IsKept, KeepsRoom, KeepsOtherRoom};
 ghost use Rattle.xw_words.specs.Word.{is_bad_letter, judged};
 ghost use Rattle.xw_bits.specs.Bits.{has_bit};
 ghost use Rattle.xw_words.specs.Columns.{has_letter, has_one_of, is_active as word_is_active, IsColumn, AreColumns};
 
 use crate::fault::WordFault;
 use crate::matching::Matching;
-use crate::row::{MOST_WORDS, Row};
+use crate::row::{BEST_GRADE, MOST_WORDS, Row};
 use crate::word::{judge_length, judge_pattern, judge_word};
 use std::alloc::{AllocError, Global};
 use std::marker::Model;
@@ -21,7 +21,7 @@ use xw_letters::letter::{Letter, are_letters};
 pub enum Added {
     /// The word was not known before.
     New(usize),
-    /// The word was known but struck, and is active again.
+    /// The word was known but not active, and is active again.
     Returned(usize),
 }
 
@@ -32,7 +32,7 @@ pub(crate) const LENGTHS: usize = 256;
 fn make_rows(alloc: Global, rows: &mut Vec<Row>) -> Result<(), AllocError>
     requires { vec_len rows.old ≡ 0 }
     ensures empty { OnOk result (map (λ row. row.entries) rows.new.items ≡ replicate 256 []) }
-    ensures kept { OnOk result (IsKept rows.new.items) }
+    ensures kept { OnOk result (IsKept rows.new.items 0) }
 {
     for len in 0..LENGTHS {
         rows.push(Row::new(alloc, len))?;
@@ -40,13 +40,24 @@ fn make_rows(alloc: Global, rows: &mut Vec<Row>) -> Result<(), AllocError>
     Ok(())
 }
 
-/// The dictionary. For each length it keeps the known words in the order they were first added,
-/// each active or struck. A word is addressed by its length and its index among the known words of
-/// that length; the index never changes.
+/// Leaves out the words below a grade in each row.
+fn limit_rows(rows: &mut [Row], least: u8)
+    ensures { rows.new ≡ map (limited_row least) rows.old }
+{
+    for index in 0..rows.len() {
+        let row = &mut rows[index];
+        row.limit(least);
+    }
+}
+
+/// The dictionary. For each length it keeps the known words in the order they were first added. A word
+/// is active, struck, or left out because its grade is below the least one. It is addressed by its length
+/// and its index among the known words of that length; the index never changes.
 #[derive(Drop)]
 pub struct Bank {
     alloc: Global,
     rows: Vec<Row>,
+    least: u8,
 }
 
 impl Model for Bank {
@@ -54,20 +65,24 @@ impl Model for Bank {
 
     ghost Value = { DictionaryWithRoom };
 
-    ghost view = { λ bank. bank_of bank.rows.items };
+    ghost view = { λ bank. bank_of bank.rows.items bank.least };
 
-    ghost invariant = { λ bank. IsKept bank.rows.items };
+    ghost invariant = { λ bank. IsKept bank.rows.items bank.least };
 }
 
 impl Bank {
     /// An empty dictionary. Returns `Memory` if the allocation fails.
     pub fn new(alloc: Global) -> Result<Bank, WordFault>
-        ensures empty { IfOk result (λ bank. bank.words ≡ replicate 256 []) }
+        ensures empty { IfOk result (λ bank. bank.words ≡ no_words) }
         ensures memory { IsOkUnless result WordFault.Memory }
     {
         let mut rows = Vec::new(alloc);
         make_rows(alloc, &mut rows)?;
-        Ok(Bank { alloc, rows })
+        Ok(Bank {
+            alloc,
+            rows,
+            least: 0,
+        })
     }
 
     /// The number of known words of length `len`, including struck ones.
@@ -78,6 +93,44 @@ impl Bank {
         match self.rows.get(len) {
             Some(row) => row.len(),
             None => 0,
+        }
+    }
+
+    /// The least grade of an active word, 0 to `BEST_GRADE`.
+    pub fn least(&self) -> u8
+        ensures least { result ≡ self.now.words.least }
+        ensures range { result ≤ best_grade }
+    {
+        self.least
+    }
+
+    /// Leaves out all words below a grade, and brings back those above it that are not struck. More than `BEST_GRADE`
+    /// counts as `BEST_GRADE`.
+    pub fn set_least(&mut self, least: u8)
+        ensures words { self.new.words ≡ with_least least self.old.words }
+        ensures room { self.new.room ≡ self.old.room }
+    {
+        self.least = least.min(BEST_GRADE);
+        limit_rows(&mut self.rows, self.least);
+    }
+
+    /// Whether word `index` of length `len` was struck; false if there is no such word.
+    pub fn is_struck(&self, len: usize, index: usize) -> bool
+        ensures { result ≡ (entry_at (words_of self.now.words len) index).struck }
+    {
+        match self.rows.get(len) {
+            Some(row) => row.is_struck(index),
+            None => false,
+        }
+    }
+
+    /// Whether word `index` of length `len` came back with a grade that was chosen then; false if there is no such word.
+    pub fn is_regraded(&self, len: usize, index: usize) -> bool
+        ensures { result ≡ (entry_at (words_of self.now.words len) index).regraded }
+    {
+        match self.rows.get(len) {
+            Some(row) => row.is_regraded(index),
+            None => false,
         }
     }
 
@@ -207,9 +260,9 @@ impl Bank {
         self.rows[bytes.len()].judge_add(bytes)
     }
 
-    /// Adds a word: appends a new one, or makes a struck one active again. A grade that is given, at
-    /// most `BEST_GRADE`, becomes the word's; else a new word has `BEST_GRADE`, and a struck one
-    /// keeps its grade.
+    /// Adds a word: appends a new one, or makes one active again that was struck or left out. A grade that is given, at
+    /// most `BEST_GRADE`, becomes the word's; else a new word has `BEST_GRADE`, and another one keeps its grade. A grade
+    /// below the least one of active words is raised to it.
     ///
     /// Returns `BadLetter` for the first byte that is not a letter, then `Length` for a length
     /// outside 2 to 255, then `Known` if the word is active, `Full` if `MOST_WORDS` words of this
@@ -226,7 +279,7 @@ impl Bank {
     {
         judge_word(bytes)?;
         let row = &mut self.rows[bytes.len()];
-        row.add(self.alloc, bytes, grade)
+        row.add(self.alloc, bytes, grade, self.least)
     }
 
     /// Like `add`, for a word that is spelled already.
@@ -242,11 +295,11 @@ impl Bank {
     {
         judge_length(word.len())?;
         let row = &mut self.rows[word.len()];
-        row.add_word(self.alloc, word, grade)
+        row.add_word(self.alloc, word, grade, self.least)
     }
 
     /// Strikes a word and returns its index. The word stays known. Returns `BadLetter` or `Length`
-    /// as `add` does, and `Unknown` if the word is not active.
+    /// as `add` does, and `Unknown` if the word is not known or struck already.
     pub fn strike(&mut self, bytes: &[u8]) -> Result<usize, WordFault>
         ensures answer { result ≡ strike_answer self.old.words bytes.now }
         ensures ok { IfOk result (λ index. self.new.words ≡ after_strike self.old.words (map folded bytes.now) index) }
@@ -310,7 +363,7 @@ impl Bank {
         are_letters(word);
         let row = &mut self.rows[word.len()];
         let index = row.len();
-        row.add_reserved(word, grade);
+        row.add_reserved(word, grade, self.least);
         index
     }
 }

@@ -8,6 +8,7 @@ pub mod counted;
 pub mod fault;
 mod grade;
 mod index;
+mod marks;
 pub mod matching;
 mod row;
 pub mod rows;

@@ -2,8 +2,9 @@
 ghost use Rattle.xw_bits.specs.Bits.{has_bit};
 ghost use Rattle.xw_words.specs.Columns.{has_letter, has_one_of, is_active, AreFits, IsColumn, AreColumns};
 ghost use Rattle.xw_words.specs.Matching.{HasFits};
-ghost use Rattle.std.specs.Prelude.{◌≡◌, ℕ, ◌+◌, ◌*◌, ◌<◌, ◌≤◌, ◌||◌, ◌==◌, Bool, true, false, None, [], ◌∷◌, ◌++◌, length, slice_index_or, take, map, position, OnOk, OnErr, IfOk, IfErr, IfSome, IfNone, ◌≢◌, vec_len, vec_capacity};
-ghost use Rattle.xw_words.specs.Dictionary.{entry_at, marked, regraded, index_in, add_to, added_at, with_added, grade_given, strike_from, IsNew, most_words, best_grade};
+ghost use Rattle.std.specs.Prelude.{◌≡◌, ℕ, ◌+◌, ◌*◌, ◌<◌, ◌≤◌, ◌||◌, ◌==◌, Bool, true, false, None, [], ◌∷◌, ◌++◌, length, slice_index_or, slice_set, take, map, position, OnOk, OnErr, IfOk, IfErr, IfSome, IfNone, ◌≢◌, vec_len, vec_capacity};
+ghost use Rattle.xw_words.specs.Dictionary.{entry_at, index_in, add_to, added_at, with_added, strike_from, IsNew, most_words, all_limited, grade_left, new_entry, returned, with_struck};
+ghost use Rattle.xw_words.specs.Row.{no_marks, are_left, entry_of};
 ghost use Rattle.xw_letters.specs.Letter.{folded};
 ghost use Rattle.xw_words.specs.Word.{is_bad_letter, is_bad_in_pattern};
 
@@ -11,6 +12,7 @@ use crate::bank::Added;
 use crate::columns::{LETTERS, grow_columns, push_word};
 use crate::fault::WordFault;
 use crate::index::Index;
+use crate::marks::Marks;
 use crate::weights::Weights;
 use crate::word::{LONGEST, spell};
 use std::alloc::{AllocError, Global};
@@ -42,7 +44,7 @@ fn grown(known: usize, expected: usize) -> usize
 /// Reserves room for `words` words in total.
 fn reserve_words(
     active: &mut BitRow,
-    grades: &mut Vec<u8>,
+    marks: &mut Vec<Marks>,
     letters: &mut Vec<Letter>,
     word_len: usize,
     words: usize,
@@ -51,20 +53,20 @@ fn reserve_words(
     requires few { words ≤ most_words }
     requires short { word_len ≤ 255 }
     requires letters { length letters.old.items ≡ length active.old.bits * word_len }
-    requires grades { length grades.old.items ≡ length active.old.bits }
+    requires marks { length marks.old.items ≡ length active.old.bits }
     ensures bits { active.new.bits ≡ active.old.bits }
     ensures room_stays { active.old.room ≤ active.new.room }
-    ensures grades_stay { grades.new.items ≡ grades.old.items }
-    ensures grades_capacity { vec_capacity grades.old ≤ vec_capacity grades.new }
+    ensures marks_stay { marks.new.items ≡ marks.old.items }
+    ensures marks_capacity { vec_capacity marks.old ≤ vec_capacity marks.new }
     ensures items { letters.new.items ≡ letters.old.items }
     ensures capacity { vec_capacity letters.old ≤ vec_capacity letters.new }
     ensures room { OnOk result (words ≤ active.new.room) }
-    ensures grades_room { OnOk result (words ≤ vec_capacity grades.new) }
+    ensures marks_room { OnOk result (words ≤ vec_capacity marks.new) }
     ensures letters_room { OnOk result (words * word_len ≤ vec_capacity letters.new) }
 {
     let more = words - active.len();
     active.reserve(words)?;
-    grades.reserve_exact(more)?;
+    marks.reserve_exact(more)?;
     letters.reserve_exact(more * word_len)?;
     Ok(())
 }
@@ -78,22 +80,55 @@ fn append(letters: &mut Vec<Letter>, word: &[Letter])
     let _ = letters.extend_from_slice(word);
 }
 
-/// Appends a grade within the capacity.
-fn append_grade(grades: &mut Vec<u8>, grade: u8)
-    requires { vec_len grades.old < vec_capacity grades.old }
-    ensures items { grades.new.items ≡ grades.old.items ++ grade ∷ [] }
-    ensures capacity { vec_capacity grades.old ≤ vec_capacity grades.new }
+/// Appends the marks of a word within the capacity.
+fn append_marks(marks: &mut Vec<Marks>, new: Marks)
+    requires { vec_len marks.old < vec_capacity marks.old }
+    ensures items { marks.new.items ≡ marks.old.items ++ new ∷ [] }
+    ensures capacity { vec_capacity marks.old ≤ vec_capacity marks.new }
 {
-    let _ = grades.push(grade);
+    let _ = marks.push(new);
 }
 
-/// The grade of an added word: the one that is given, at most `BEST_GRADE`, or else `usual`.
-fn grade_or(given: Option<u8>, usual: u8) -> u8
-    ensures { result ≡ grade_given given usual }
+/// The grade of an added word: the one that is given, at most `BEST_GRADE`, or else `usual`; raised to `least`.
+fn grade_or(least: u8, given: Option<u8>, usual: u8) -> u8
+    ensures { result ≡ grade_left least given usual }
 {
     match given {
-        Some(grade) => grade.min(BEST_GRADE),
-        None => usual,
+        Some(grade) => grade.min(BEST_GRADE).max(least),
+        None => usual.max(least),
+    }
+}
+
+/// Whether a word with these marks is not struck and not below a grade.
+fn is_left(marks: Marks, least: u8) -> bool
+    ensures { result ≡ are_left least marks }
+{
+    !marks.struck & (least <= marks.grade)
+}
+
+/// A bit for each of at most 64 words: whether it is not struck and not below a grade. The first word is
+/// the lowest bit. It has no branch on a word, since no processor could predict it.
+fn left_bits(marks: &[Marks], least: u8) -> u64
+    requires { length marks.now ≤ 64 }
+    ensures { (k : ℕ) → k < length marks.now → has_bit result k ≡ are_left least (slice_index_or marks.now k no_marks) }
+{
+    let mut bits = 0;
+    for k in 0..marks.len() {
+        bits |= u64::from(is_left(marks[k], least)) << k;
+    }
+    bits
+}
+
+/// Sets the flag of each word that is not struck and not below a grade, and clears the others.
+fn limit_flags(active: &mut BitRow, marks: &[Marks], least: u8)
+    requires { length active.old.bits ≡ length marks.now }
+    ensures bits { active.new.bits ≡ map (are_left least) marks.now }
+    ensures room { active.new.room ≡ active.old.room }
+{
+    for chunk in 0..marks.len().div_ceil(64) {
+        let first = 64 * chunk;
+        let end = marks.len().min(first + 64);
+        active.set_chunk(chunk, left_bits(&marks[first..end], least));
     }
 }
 
@@ -104,7 +139,7 @@ pub struct Row {
     letters: Vec<Letter>,
     index: Index,
     active: BitRow,
-    grades: Vec<u8>,
+    marks: Vec<Marks>,
     weights: Weights,
     columns: Vec<BitRow>,
     reserved: usize,
@@ -136,14 +171,14 @@ impl Row {
             letters: Vec::new(alloc),
             index: Index::new(alloc),
             active: BitRow::new(alloc),
-            grades: Vec::new(alloc),
+            marks: Vec::new(alloc),
             weights: Weights::new(),
             columns: Vec::new(alloc),
             reserved: 0,
         }
     }
 
-    /// The number of known words, including struck ones.
+    /// The number of known words, active or not.
     pub fn len(&self) -> usize
         ensures value { result ≡ length self.now.entries }
         ensures few { result ≤ most_words }
@@ -162,10 +197,29 @@ impl Row {
     pub fn grade(&self, index: usize) -> u8
         ensures { result ≡ (entry_at self.now.entries index).grade }
     {
-        if index < self.grades.len() {
-            self.grades[index]
-        } else {
-            0
+        match self.marks.get(index) {
+            Some(marks) => marks.grade,
+            None => 0,
+        }
+    }
+
+    /// Whether word `index` was struck; false if there is no such word.
+    pub fn is_struck(&self, index: usize) -> bool
+        ensures { result ≡ (entry_at self.now.entries index).struck }
+    {
+        match self.marks.get(index) {
+            Some(marks) => marks.struck,
+            None => false,
+        }
+    }
+
+    /// Whether word `index` came back with a grade that was chosen then; false if there is no such word.
+    pub fn is_regraded(&self, index: usize) -> bool
+        ensures { result ≡ (entry_at self.now.entries index).regraded }
+    {
+        match self.marks.get(index) {
+            Some(marks) => marks.regraded,
+            None => false,
         }
     }
 
@@ -179,8 +233,8 @@ impl Row {
         let mut left = words;
         for _ in 0..words.count_ones() {
             let index = first.saturating_add(left.trailing_zeros() as usize);
-            if let Some(grade) = self.grades.get(index) {
-                total = total.saturating_add(self.weights.of_grade(*grade));
+            if let Some(marks) = self.marks.get(index) {
+                total = total.saturating_add(self.weights.of_grade(marks.grade));
             }
             left &= left.wrapping_sub(1);
         }
@@ -200,19 +254,36 @@ impl Row {
         &self.letters[index * self.word_len..(index + 1) * self.word_len]
     }
 
-    /// Makes word `index` active or struck, with this grade.
-    fn mark(&mut self, index: usize, active: bool, grade: u8)
+    /// Makes word `index` active or not, with these marks.
+    fn mark(&mut self, index: usize, active: bool, marks: Marks)
         requires { index < length self.old.entries }
-        ensures entries { self.new.entries ≡ regraded self.old.entries index active grade }
+        ensures entries { self.new.entries ≡ slice_set self.old.entries index (entry_of (entry_at self.old.entries index).word active marks) }
         ensures word_len { self.new.word_len ≡ self.old.word_len }
         ensures room { self.new.room ≡ self.old.room }
     {
-        self.weights.note(grade);
+        self.weights.note(marks.grade);
         self.active.put(index, active);
-        self.grades[index] = grade;
+        self.marks[index] = marks;
     }
 
-    /// The index of a word, active or struck.
+    /// The marks of word `index`.
+    fn marks(&self, index: usize) -> Marks
+        requires { index < length self.now.entries }
+        ensures { entry_at self.now.entries index ≡ entry_of (entry_at self.now.entries index).word (entry_at self.now.entries index).active result }
+    {
+        self.marks[index]
+    }
+
+    /// Makes the words active that are not struck and not below a grade, and no others.
+    pub fn limit(&mut self, least: u8)
+        ensures entries { self.new.entries ≡ all_limited least self.old.entries }
+        ensures word_len { self.new.word_len ≡ self.old.word_len }
+        ensures room { self.new.room ≡ self.old.room }
+    {
+        limit_flags(&mut self.active, self.marks.as_slice(), least);
+    }
+
+    /// The index of a word, active or not.
     pub fn find(&self, word: &[Letter]) -> Option<usize>
         ensures { result ≡ index_in self.now.entries word.now }
     {
@@ -354,12 +425,13 @@ impl Row {
         (self.active_row(), pattern.len())
     }
 
-    /// Adds the word that the bytes spell: appends a new one, or makes a struck one active again.
+    /// Adds the word that the bytes spell: appends a new one, or brings back one that is not active.
     pub fn add(
         &mut self,
         alloc: Global,
         bytes: &[u8],
         grade: Option<u8>,
+        least: u8,
     ) -> Result<Added, WordFault>
         requires letters { position is_bad_letter bytes.now ≡ None }
         requires length { length bytes.now ≡ self.old.word_len }
@@ -367,7 +439,7 @@ impl Row {
         ensures word_len { self.new.word_len ≡ self.old.word_len }
         ensures answer { result ≢ Err WordFault.Memory → result ≡ add_to self.old.entries (map folded bytes.now) }
         ensures memory { result ≡ Err WordFault.Memory → IsNew (add_to self.old.entries (map folded bytes.now)) }
-        ensures ok { IfOk result (λ added. self.new.entries ≡ with_added self.old.entries (map folded bytes.now) grade added) }
+        ensures ok { IfOk result (λ added. self.new.entries ≡ with_added least self.old.entries (map folded bytes.now) grade added) }
         ensures err { OnErr result (self.new.entries ≡ self.old.entries) }
         ensures room_at_err { OnErr result (self.new.room ≡ self.old.room) }
         ensures room_at_return { (index : ℕ) → result ≡ Ok (Added.Returned index) → self.new.room ≡ self.old.room }
@@ -375,46 +447,52 @@ impl Row {
         let _ = &self.word_len;
         let mut letters = [Letter::first(); LONGEST];
         spell(&mut letters, bytes);
-        self.add_word(alloc, &letters[..bytes.len()], grade)
+        self.add_word(alloc, &letters[..bytes.len()], grade, least)
     }
 
-    /// Adds a word: appends a new one, or makes a struck one active again.
+    /// Adds a word: appends a new one, or brings back one that is not active.
     pub fn add_word(
         &mut self,
         alloc: Global,
         word: &[Letter],
         grade: Option<u8>,
+        least: u8,
     ) -> Result<Added, WordFault>
         requires length { length word.now ≡ self.old.word_len }
         requires long { 2 ≤ self.old.word_len }
         ensures word_len { self.new.word_len ≡ self.old.word_len }
         ensures answer { result ≢ Err WordFault.Memory → result ≡ add_to self.old.entries word.now }
         ensures memory { result ≡ Err WordFault.Memory → IsNew (add_to self.old.entries word.now) }
-        ensures ok { IfOk result (λ added. self.new.entries ≡ with_added self.old.entries word.now grade added) }
+        ensures ok { IfOk result (λ added. self.new.entries ≡ with_added least self.old.entries word.now grade added) }
         ensures err { OnErr result (self.new.entries ≡ self.old.entries) }
         ensures room_at_err { OnErr result (self.new.room ≡ self.old.room) }
         ensures room_at_return { (index : ℕ) → result ≡ Ok (Added.Returned index) → self.new.room ≡ self.old.room }
     {
         match self.seek(word) {
-            Some(index) => self.add_again(index, grade),
-            None => self.add_new(alloc, word, grade),
+            Some(index) => self.add_again(index, grade, least),
+            None => self.add_new(alloc, word, grade, least),
         }
     }
 
-    /// Makes a struck word active again; refuses an active one.
-    fn add_again(&mut self, index: usize, grade: Option<u8>) -> Result<Added, WordFault>
+    /// Makes a word active again; refuses an active one.
+    fn add_again(&mut self, index: usize, grade: Option<u8>, least: u8) -> Result<Added, WordFault>
         requires { index < length self.old.entries }
         ensures word_len { self.new.word_len ≡ self.old.word_len }
         ensures answer { result ≡ added_at self.old.entries (Some index) }
-        ensures ok { OnOk result (self.new.entries ≡ regraded self.old.entries index true (grade_given grade (entry_at self.old.entries index).grade)) }
+        ensures ok { OnOk result (self.new.entries ≡ slice_set self.old.entries index (returned least grade (entry_at self.old.entries index))) }
         ensures err { OnErr result (self.new.entries ≡ self.old.entries) }
         ensures room { self.new.room ≡ self.old.room }
     {
         if self.is_active(index) {
             return Err(WordFault::Known);
         }
-        let grade = grade_or(grade, self.grade(index));
-        self.mark(index, true, grade);
+        let old = self.marks(index);
+        let marks = Marks {
+            grade: grade_or(least, grade, old.grade),
+            struck: false,
+            regraded: old.regraded || grade.is_some() || old.grade < least,
+        };
+        self.mark(index, true, marks);
         Ok(Added::Returned(index))
     }
 
@@ -424,6 +502,7 @@ impl Row {
         alloc: Global,
         word: &[Letter],
         grade: Option<u8>,
+        least: u8,
     ) -> Result<Added, WordFault>
         requires length { length word.now ≡ self.old.word_len }
         requires long { 2 ≤ self.old.word_len }
@@ -431,7 +510,7 @@ impl Row {
         ensures word_len { self.new.word_len ≡ self.old.word_len }
         ensures answer { result ≢ Err WordFault.Memory → result ≡ added_at self.old.entries None }
         ensures memory { result ≡ Err WordFault.Memory → IsNew (added_at self.old.entries None) }
-        ensures ok { OnOk result (self.new.entries ≡ self.old.entries ++ record { word = word.now; active = true; grade = grade_given grade best_grade } ∷ []) }
+        ensures ok { OnOk result (self.new.entries ≡ self.old.entries ++ new_entry least word.now grade ∷ []) }
         ensures err { OnErr result (self.new.entries ≡ self.old.entries) }
         ensures room { OnErr result (self.new.room ≡ self.old.room) }
         ensures added { IfOk result (λ added. IsNew (Ok added)) }
@@ -441,7 +520,7 @@ impl Row {
             return Err(WordFault::Full);
         }
         self.reserve(alloc, 0)?;
-        self.add_reserved(word, grade);
+        self.add_reserved(word, grade, least);
         Ok(Added::New(index))
     }
 
@@ -468,7 +547,7 @@ impl Row {
         requires length { length bytes.now ≡ self.old.word_len }
         ensures word_len { self.new.word_len ≡ self.old.word_len }
         ensures answer { result ≡ strike_from self.old.entries (map folded bytes.now) }
-        ensures ok { IfOk result (λ index. self.new.entries ≡ marked self.old.entries index false) }
+        ensures ok { IfOk result (λ index. self.new.entries ≡ with_struck self.old.entries index) }
         ensures err { OnErr result (self.new.entries ≡ self.old.entries) }
         ensures room { self.new.room ≡ self.old.room }
     {
@@ -476,8 +555,12 @@ impl Row {
         let mut letters = [Letter::first(); LONGEST];
         spell(&mut letters, bytes);
         match self.find(&letters[..bytes.len()]) {
-            Some(index) if self.is_active(index) => {
-                self.mark(index, false, self.grade(index));
+            Some(index) if !self.is_struck(index) => {
+                let marks = Marks {
+                    struck: true,
+                    ..self.marks(index)
+                };
+                self.mark(index, false, marks);
                 Ok(index)
             }
             _ => Err(WordFault::Unknown),
@@ -504,7 +587,7 @@ impl Row {
         grow_columns(alloc, &mut self.columns, LETTERS * self.word_len, words)?;
         reserve_words(
             &mut self.active,
-            &mut self.grades,
+            &mut self.marks,
             &mut self.letters,
             self.word_len,
             words,
@@ -514,12 +597,12 @@ impl Row {
     }
 
     /// Appends a word that is not known, in reserved room.
-    pub fn add_reserved(&mut self, word: &[Letter], grade: Option<u8>)
+    pub fn add_reserved(&mut self, word: &[Letter], grade: Option<u8>, least: u8)
         requires length { length word.now ≡ self.old.word_len }
         requires room { self.old.room ≡ true }
         requires unknown { index_in self.old.entries word.now ≡ None }
         ensures word_len { self.new.word_len ≡ self.old.word_len }
-        ensures entries { self.new.entries ≡ self.old.entries ++ record { word = word.now; active = true; grade = grade_given grade best_grade } ∷ [] }
+        ensures entries { self.new.entries ≡ self.old.entries ++ new_entry least word.now grade ∷ [] }
         ensures few { length self.old.entries < most_words }
         ensures long { 2 ≤ length word.now }
     {
@@ -527,9 +610,14 @@ impl Row {
         self.index.insert(&self.letters, word, index as u32);
         push_word(&mut self.columns, word, index);
         self.active.push(true);
-        let grade = grade_or(grade, BEST_GRADE);
+        let grade = grade_or(least, grade, BEST_GRADE);
         self.weights.note(grade);
-        append_grade(&mut self.grades, grade);
+        let marks = Marks {
+            grade,
+            struck: false,
+            regraded: false,
+        };
+        append_marks(&mut self.marks, marks);
         append(&mut self.letters, word);
     }
 }

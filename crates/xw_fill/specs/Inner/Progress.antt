@@ -14,6 +14,8 @@ use Rattle.xw_fill.specs.Fill.{IsActive}
 use Rattle.xw_fill.specs.NamedFill.{flags, is_in_named, entry_in, Keeps, IsFillOf}
 use Rattle.xw_fill.specs.declared.named_lights.frame.Frame.{Frame}
 use Rattle.xw_fill.specs.declared.named_lights.plan.Plan.{Plan}
+use Rattle.xw_fill.specs.declared.search.Filling.{Filling}
+use Rattle.xw_fill.specs.declared.search.Filling.TheVariants.{Filled}
 
 -- the cell is to be filled: it is in a named light, and empty at the start
 abbrev pub is_target : (ℕ → Bool) → Position → ℕ → Bool
@@ -139,6 +141,11 @@ entries_of state = (board_of state.grid).entries
 -- the state has these entries, and is otherwise like the start
 abbrev pub IsAt : State → List (Option ℕ) → State → Type 0
 IsAt start entries now = DiffersInEntries start now × (entries_of now ≡ entries)
+
+-- after Filled the entries are a fill, and all else is as it was
+abbrev pub HasEntered : (ℕ → Bool) → State → State → Filling → Type 0
+HasEntered named before after Filled = IsFillOf named (position_of before) (entries_of after) × DiffersInEntries before after
+HasEntered named before after other = Unit {0}
 
 -- a letter may be tried in a cell: the cell is empty and to be filled, the letter is feasible, and nothing rules out a fill yet
 pub record MayTry (named : ℕ → Bool) (start : Position) (now : List (Option ℕ)) (cell letter : ℕ) : Type 0 where

@@ -69,6 +69,12 @@ impl Effort {
             left: 0,
         })
     }
+
+    /// Begins another search, which keeps the weights: its runs are cut as those of a first search are.
+    pub fn restart(&mut self) {
+        self.cut = CUT;
+        self.weighted = self.graded;
+    }
 }
 
 /// Counts a failure of a light.

@@ -8,7 +8,7 @@ use Rattle.xw_feas.specs.State.{State}
 use Rattle.xw_net.specs.Region.{light_cost, cost}
 use Rattle.xw_net.specs.Sums.{sum_below}
 
-sum_by-filter : {X : Type 0} (f : X → ℕ) (test : X → Bool) (xs : List X) → sum_by f (filter test xs) ≡ sum_by (λ x. cond (test x) (f x) 0) xs
+pub sum_by-filter : {X : Type 0} (f : X → ℕ) (test : X → Bool) (xs : List X) → sum_by f (filter test xs) ≡ sum_by (λ x. cond (test x) (f x) 0) xs
 sum_by-filter f test [] = refl
 sum_by-filter {X} f test (x ∷ xs) = first (test x) ∙ ap (λ n. cond (test x) (f x) 0 + n) (sum_by-filter f test xs) ∙ sym (sum_by-cons (λ y. cond (test y) (f y) 0) x xs) where
   first : (b : Bool) → sum_by f (cond b (x ∷ filter test xs) (filter test xs)) ≡ cond b (f x) 0 + sum_by f (filter test xs)

@@ -1,21 +1,21 @@
 -- Facts about the description of an edit.
-use Rattle.std.proofs.Common.{◌≡◌, ℕ, zero, suc, ◌<◌, ◌≤◌, List, [], ◌∷◌, ◌++◌, true, false, map, length, set, Some, None, refl, sym, ◌∙◌, ap, subst, arith, inl, inr}
+use Rattle.std.proofs.Common.{◌≡◌, ℕ, zero, suc, ◌<◌, ◌≤◌, List, [], ◌∷◌, ◌++◌, false, map, length, get_or, set, Some, None, refl, sym, ◌∙◌, ap, subst, arith, inl, inr}
 use Rattle.std.specs.Prelude.{Option, Result, Ok, Err, Contains, slice_get}
-use Rattle.std.proofs.lemmas.Bool.{cases_lt, cases_eq}
+use Rattle.std.proofs.lemmas.Bool.{cases_lt, cases_eq, false≢true}
 use Rattle.std.proofs.lemmas.List.{get_or-set_same, get_or-set_other, get_or_append_left, length-map}
 use Rattle.xw_words.specs.declared.fault.WordFault.{WordFault}
 use Rattle.xw_words.specs.declared.bank.Added.{Added}
 use Rattle.xw_words.specs.declared.bank.Added.TheVariants.{New, Returned}
 use Rattle.xw_letters.specs.Letter.{folded}
-use Rattle.xw_words.specs.Dictionary.{Entry, Dictionary, row, entry_at, no_entry, marked, best_grade, add_answer, after_add, strike_answer, after_strike}
-use Rattle.xw_words.proofs.DictionaryLemmas.{word-regraded}
+use Rattle.xw_words.specs.Dictionary.{Entry, Dictionary, row, with_row, entry_at, no_entry, new_entry, returned, struck, add_answer, after_add, strike_answer, after_strike}
+use Rattle.xw_words.proofs.DictionaryLemmas.{word-set}
 use Rattle.xw_grid.specs.declared.cell.Cell.{Cell}
 use Rattle.xw_grid.specs.Grid.{Grid, IsGrid, index_of}
 use Rattle.xw_grid.specs.Light.{lights_of}
-use Rattle.xw_feas.specs.State.{State, Action, after, grid_after, letter_set, cell_cleared, word_placed, list_written, block_toggled, bar_toggled, symmetry_chosen, word_added, word_struck, answered, add_word, strike_word}
+use Rattle.xw_feas.specs.State.{State, Action, after, grid_after, letter_set, cell_cleared, word_placed, list_written, block_toggled, bar_toggled, symmetry_chosen, word_added, word_struck, least_chosen, answered, add_word, strike_word}
 use Rattle.xw_feas.specs.WellFormed.{IsWellFormed}
 use Rattle.xw_feas.proofs.AdditionLemmas.{new_word}
-use Rattle.xw_net.specs.Change.{Fields, IsChange, IsIndexOf, with_entry_of, entries_written, indices_listed, index_added, index_struck, word_changed}
+use Rattle.xw_net.specs.Change.{Fields, IsChange, IsIndexOf, with_entry_of, entries_written, indices_listed, index_added, index_struck, is_limit, word_changed}
 use Rattle.xw_net.specs.Region.{cells_written, edited_cells}
 use Rattle.xw_net.proofs.Edits.KeptByEdits.{IsWrittenAt, grid_of_after, written_after, with_grid-Ok, with_words-Ok}
 
@@ -35,18 +35,18 @@ size_kept grid new action is made = written_after grid new action is made
 
 -- ---- the known words
 
-set_past : (words : Dictionary) (at : ℕ) (entries : List Entry) → length words ≤ at → set words at entries ≡ words
+set_past : (rows : List (List Entry)) (at : ℕ) (entries : List Entry) → length rows ≤ at → set rows at entries ≡ rows
 set_past [] at entries past = refl
-set_past (first ∷ words) zero entries past = absurd (omega arith)
-set_past (first ∷ words) (suc at) entries past = ap (λ rest. first ∷ rest) (set_past words at entries (omega arith))
+set_past (first ∷ rows) zero entries past = absurd (omega arith)
+set_past (first ∷ rows) (suc at) entries past = ap (λ rest. first ∷ rest) (set_past rows at entries (omega arith))
 
 -- a property of the words of each length, after those of one length were replaced
-row_set : (P : ℕ → List Entry → Type 0) (words : Dictionary) (len : ℕ) (entries : List Entry) (word_len : ℕ) → P len entries → P word_len (row words word_len) → (word_len ≡ len → P len entries → P word_len entries) → P word_len (row (set words len entries) word_len)
+row_set : (P : ℕ → List Entry → Type 0) (words : Dictionary) (len : ℕ) (entries : List Entry) (word_len : ℕ) → P len entries → P word_len (row words word_len) → (word_len ≡ len → P len entries → P word_len entries) → P word_len (row (with_row words len entries) word_len)
 row_set P words len entries word_len there here moved = elim (cases_eq word_len len) [
-  | inr apart ↦ subst (P word_len) (sym (get_or-set_other words len word_len entries [] apart)) here
-  | inl e ↦ elim (cases_lt len (length words)) [
-    | inl below ↦ subst (P word_len) (sym (ap (λ n. row (set words len entries) n) e ∙ get_or-set_same words len entries [] below)) (moved e there)
-    | inr past ↦ subst (P word_len) (sym (ap (λ (d : Dictionary). row d word_len) (set_past words len entries past))) here
+  | inr apart ↦ subst (P word_len) (sym (get_or-set_other words.rows len word_len entries [] apart)) here
+  | inl e ↦ elim (cases_lt len (length words.rows)) [
+    | inl below ↦ subst (P word_len) (sym (ap (λ n. row (with_row words len entries) n) e ∙ get_or-set_same words.rows len entries [] below)) (moved e there)
+    | inr past ↦ subst (P word_len) (sym (ap (λ (rows : List (List Entry)). get_or rows word_len []) (set_past words.rows len entries past))) here
   ]
 ]
 
@@ -82,7 +82,7 @@ same_words old new word same = record {
   alike = λ word_len k below. ap (λ (d : Dictionary). (entry_at (row d word_len) k).word) same;
 }
 
-words_but : (old : Dictionary) (len index : ℕ) (entries : List Entry) → AgreeBut index (row old len) entries → AreSpelledAlike (row old len) entries → AreWordsBut old (set old len entries) (Some (len, index))
+words_but : (old : Dictionary) (len index : ℕ) (entries : List Entry) → AgreeBut index (row old len) entries → AreSpelledAlike (row old len) entries → AreWordsBut old (with_row old len entries) (Some (len, index))
 words_but old len index entries agree alike = record {
   agree = λ word_len k apart.
       row_set (λ n es. ¬ ((len ≡ n) × (index ≡ k)) → slice_get es k ≡ slice_get (row old n) k) old len entries word_len
@@ -91,58 +91,65 @@ words_but old len index entries agree alike = record {
       row_set (λ n es. AreSpelledAlike (row old n) es) old len entries word_len alike (λ k below. refl) (λ e there. subst (λ n. AreSpelledAlike (row old n) entries) (sym e) there);
 }
 
-added_but : (old new : Dictionary) (word : List ℕ) (answer : Result Added WordFault) → add_answer old word ≡ answer → answered (after_add old (map folded word) None) answer ≡ Ok new → AreWordsBut old new (index_added (length word) answer)
-added_but old new word (Err fault) is h = cc
-added_but old new word (Ok (Returned index)) is h =
-    let made : after_add old (map folded word) None (Returned index) ≡ new = cc in
+added_but : (old new : Dictionary) (word : List ℕ) (grade : Option ℕ) (answer : Result Added WordFault) → add_answer old word ≡ answer → answered (after_add old (map folded word) grade) answer ≡ Ok new → AreWordsBut old new (index_added (length word) answer)
+added_but old new word grade (Err fault) is h = cc
+added_but old new word grade (Ok (Returned index)) is h =
+    let made : after_add old (map folded word) grade (Returned index) ≡ new = cc in
     let len : length (map folded word) ≡ length word = length-map word folded in
+    let entries = row old (length (map folded word)) in
+    let again : Entry = returned old.least grade (entry_at entries index) in
     subst (λ (d : Dictionary). AreWordsBut old d (Some (length word, index))) made
-    (subst (λ n. AreWordsBut old (after_add old (map folded word) None (Returned index)) (Some (n, index))) len
-    (words_but old (length (map folded word)) index (marked (row old (length (map folded word))) index true)
-    (set_agrees (row old (length (map folded word))) index _)
-    (λ k below. word-regraded (row old (length (map folded word))) index true _ k no_entry)))
-added_but old new word (Ok (New index)) is h =
-    let made : after_add old (map folded word) None (New index) ≡ new = cc in
+    (subst (λ n. AreWordsBut old (after_add old (map folded word) grade (Returned index)) (Some (n, index))) len
+    (words_but old (length (map folded word)) index (set entries index again) (set_agrees entries index again) (λ k below. word-set entries index again refl k no_entry)))
+added_but old new word grade (Ok (New index)) is h =
+    let made : after_add old (map folded word) grade (New index) ≡ new = cc in
     let len : length (map folded word) ≡ length word = length-map word folded in
+    let entries = row old (length (map folded word)) in
+    let entry : Entry = new_entry old.least (map folded word) grade in
     let fresh = new_word old word (subst Rattle.xw_words.specs.Dictionary.IsNew (sym is) tt) in
     let last : index ≡ length (row old (length word)) = let answer = fresh.answer in cc in
     let last' : length (row old (length (map folded word))) ≡ index = ap (λ n. length (row old n)) len ∙ sym last in
     subst (λ (d : Dictionary). AreWordsBut old d (Some (length word, index))) made
-    (subst (λ n. AreWordsBut old (after_add old (map folded word) None (New index)) (Some (n, index))) len
-    (words_but old (length (map folded word)) index (row old (length (map folded word)) ++ record { word = map folded word; active = true; grade = best_grade } ∷ [])
-    (subst (λ p. AgreeBut p (row old (length (map folded word))) (row old (length (map folded word)) ++ record { word = map folded word; active = true; grade = best_grade } ∷ [])) last' (push_agrees (row old (length (map folded word))) _))
-    (λ k below. ap (λ (e : Entry). e.word) (get_or_append_left (row old (length (map folded word))) (record { word = map folded word; active = true; grade = best_grade } ∷ []) no_entry k below))))
+    (subst (λ n. AreWordsBut old (after_add old (map folded word) grade (New index)) (Some (n, index))) len
+    (words_but old (length (map folded word)) index (entries ++ entry ∷ []) (subst (λ p. AgreeBut p entries (entries ++ entry ∷ [])) last' (push_agrees entries entry))
+    (λ k below. ap (λ (e : Entry). e.word) (get_or_append_left entries (entry ∷ []) no_entry k below))))
 
 struck_but : (old new : Dictionary) (word : List ℕ) (answer : Result ℕ WordFault) → answered (after_strike old (map folded word)) answer ≡ Ok new → AreWordsBut old new (index_struck (length word) answer)
 struck_but old new word (Err fault) h = cc
 struck_but old new word (Ok index) h =
     let made : after_strike old (map folded word) index ≡ new = cc in
     let len : length (map folded word) ≡ length word = length-map word folded in
+    let entries = row old (length (map folded word)) in
+    let gone : Entry = struck (entry_at entries index) in
     subst (λ (d : Dictionary). AreWordsBut old d (Some (length word, index))) made
     (subst (λ n. AreWordsBut old (after_strike old (map folded word) index) (Some (n, index))) len
-    (words_but old (length (map folded word)) index (marked (row old (length (map folded word))) index false)
-    (set_agrees (row old (length (map folded word))) index _)
-    (λ k below. word-regraded (row old (length (map folded word))) index false _ k no_entry)))
+    (words_but old (length (map folded word)) index (set entries index gone) (set_agrees entries index gone) (λ k below. word-set entries index gone refl k no_entry)))
 
-words_after : (before now : State) (action : Action) → after before action ≡ Ok now → AreWordsBut before.words now.words (word_changed before.words action)
-words_after before now (letter_set cell letter) made = same_words before.words now.words None (with_grid-Ok before now (grid_after before.grid (letter_set cell letter)) made).1
-words_after before now (cell_cleared cell) made = same_words before.words now.words None (with_grid-Ok before now (grid_after before.grid (cell_cleared cell)) made).1
-words_after before now (word_placed name bytes) made = same_words before.words now.words None (with_grid-Ok before now (grid_after before.grid (word_placed name bytes)) made).1
-words_after before now (list_written list) made = same_words before.words now.words None (with_grid-Ok before now (grid_after before.grid (list_written list)) made).1
-words_after before now (block_toggled cell) made = same_words before.words now.words None (with_grid-Ok before now (grid_after before.grid (block_toggled cell)) made).1
-words_after before now (bar_toggled cell side) made = same_words before.words now.words None (with_grid-Ok before now (grid_after before.grid (bar_toggled cell side)) made).1
-words_after before now (symmetry_chosen kind) made = same_words before.words now.words None (with_grid-Ok before now (grid_after before.grid (symmetry_chosen kind)) made).1
-words_after before now (word_added word) made = added_but before.words now.words word (add_answer before.words word) refl (with_words-Ok before now (add_word before.words word) made).0
-words_after before now (word_struck word) made = struck_but before.words now.words word (strike_answer before.words word) (with_words-Ok before now (strike_word before.words word) made).0
+words_after : (before now : State) (action : Action) → after before action ≡ Ok now → is_limit action ≡ false → AreWordsBut before.words now.words (word_changed before.words action)
+words_after before now (letter_set cell letter) made told = same_words before.words now.words None (with_grid-Ok before now (grid_after before.grid (letter_set cell letter)) made).1
+words_after before now (cell_cleared cell) made told = same_words before.words now.words None (with_grid-Ok before now (grid_after before.grid (cell_cleared cell)) made).1
+words_after before now (word_placed name bytes) made told = same_words before.words now.words None (with_grid-Ok before now (grid_after before.grid (word_placed name bytes)) made).1
+words_after before now (list_written list) made told = same_words before.words now.words None (with_grid-Ok before now (grid_after before.grid (list_written list)) made).1
+words_after before now (block_toggled cell) made told = same_words before.words now.words None (with_grid-Ok before now (grid_after before.grid (block_toggled cell)) made).1
+words_after before now (bar_toggled cell side) made told = same_words before.words now.words None (with_grid-Ok before now (grid_after before.grid (bar_toggled cell side)) made).1
+words_after before now (symmetry_chosen kind) made told = same_words before.words now.words None (with_grid-Ok before now (grid_after before.grid (symmetry_chosen kind)) made).1
+words_after before now (word_added word grade) made told = added_but before.words now.words word grade (add_answer before.words word) refl (with_words-Ok before now (add_word before.words word grade) made).0
+words_after before now (word_struck word) made told = struck_but before.words now.words word (strike_answer before.words word) (with_words-Ok before now (strike_word before.words word) made).0
+words_after before now (least_chosen grade) made told = absurd (false≢true (sym told))
 
 -- ---- the change
 
-pub change_made : (before now : State) (action : Action) (change : Fields) → after before action ≡ Ok now → IsWellFormed before → IsWellFormed now
+-- an edit that adds or strikes a word does not choose the least grade
+pub word_no_limit : (words : Dictionary) (action : Action) (word : ℕ × ℕ) → word_changed words action ≡ Some word → is_limit action ≡ false
+word_no_limit words (least_chosen grade) word some = let never : None ≡ Some word = some in cc
+word_no_limit words other word some = refl
+
+pub change_made : (before now : State) (action : Action) (change : Fields) → after before action ≡ Ok now → is_limit action ≡ false → IsWellFormed before → IsWellFormed now
     → change.cells ≡ entries_written before.grid action → change.before ≡ lights_of before.grid → change.word ≡ word_changed before.words action → IsChange before now action change
-change_made before now action change made formed_before formed_now cells lights word =
+change_made before now action change made told formed_before formed_now cells lights word =
     let written = written_after before.grid now.grid action formed_before.grid (grid_of_after before now action made) in
     let indices : indices_listed before.grid change.cells ≡ edited_cells before.grid action = ap (indices_listed before.grid) cells ∙ written_indices before.grid action in
-    let words = words_after before now action made in
+    let words = words_after before now action made told in
     record {
       made = made;
       formed_before = formed_before;

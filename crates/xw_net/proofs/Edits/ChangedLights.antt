@@ -15,7 +15,7 @@ use Rattle.xw_letters.specs.Letter.{is_capital}
 use Rattle.xw_feas.specs.Feasible.{may_stand}
 use Rattle.xw_feas.specs.Known.{spellings, actives}
 use Rattle.xw_feas.specs.Choices.{is_base_at, IsExact}
-use Rattle.xw_feas.specs.State.{State, Action, letter_set, cell_cleared, word_placed, list_written, block_toggled, bar_toggled, symmetry_chosen, word_added, word_struck}
+use Rattle.xw_feas.specs.State.{State, Action, letter_set, cell_cleared, word_placed, list_written, block_toggled, bar_toggled, symmetry_chosen, word_added, word_struck, least_chosen}
 use Rattle.xw_words.specs.declared.fault.WordFault.{WordFault}
 use Rattle.xw_words.specs.declared.bank.Added.{Added}
 use Rattle.xw_words.specs.declared.bank.Added.TheVariants.{New, Returned}
@@ -312,7 +312,7 @@ struck_len len word_len index (Ok at) h = eq-eqb len word_len (first_of len at w
 struck_len len word_len index (Err fault) h = cc
 
 changed_len : (words : Dictionary) (action : Action) (word_len index : ℕ) → word_changed words action ≡ Some (word_len, index) → changes_words action word_len ≡ true
-changed_len words (word_added word) word_len index h = added_len (length word) word_len index (add_answer words word) h
+changed_len words (word_added word grade) word_len index h = added_len (length word) word_len index (add_answer words word) h
 changed_len words (word_struck word) word_len index h = struck_len (length word) word_len index (strike_answer words word) h
 changed_len words (letter_set cell letter) word_len index h = cc
 changed_len words (cell_cleared cell) word_len index h = cc
@@ -321,6 +321,7 @@ changed_len words (list_written list) word_len index h = cc
 changed_len words (block_toggled cell) word_len index h = cc
 changed_len words (bar_toggled cell side) word_len index h = cc
 changed_len words (symmetry_chosen kind) word_len index h = cc
+changed_len words (least_chosen grade) word_len index h = cc
 
 module _ (before now : State) (action : Action) (change : Fields) (is : IsChange before now action change) (member : List ℕ → Bool) (region : IsRegion before now action member) where
   -- the new lights, those through edited cells, and those with the length of the changed word are

@@ -15,7 +15,7 @@ use Rattle.xw_grid.specs.Edit.{set_entry, toggle_block, turned, square_of, with_
 use Rattle.xw_grid.proofs.GridLemmas.{index_of-lt}
 use Rattle.xw_grid.proofs.ChangeLemmas.{blocks_change_orbits}
 use Rattle.xw_feas.specs.Board.{board_of, entry, is_open, light_at}
-use Rattle.xw_feas.specs.State.{State, Action, grid_after, write_list, letter_set, cell_cleared, word_placed, list_written, block_toggled, bar_toggled, symmetry_chosen, word_added, word_struck}
+use Rattle.xw_feas.specs.State.{State, Action, grid_after, write_list, letter_set, cell_cleared, word_placed, list_written, block_toggled, bar_toggled, symmetry_chosen, word_added, word_struck, least_chosen}
 use Rattle.xw_feas.specs.WellFormed.{IsLaidOut}
 use Rattle.xw_feas.proofs.BoardLemmas.{is_open-square, entry-square, length-lights, light_at-board}
 use Rattle.xw_feas.proofs.WordsLemmas.{named_within}
@@ -95,8 +95,9 @@ module _ (grid new : Grid) (other : Cell) (is : IsGrid grid) (laid_out : IsLaidO
   open_written (block_toggled cell) ok same inside_new among has = block_open cell (by_fault-Ok (toggle_block grid cell) new ok) same inside_new has
   open_written (bar_toggled cell side) ok same inside_new among has = absurd (in_none [] (index_of grid other) refl among)
   open_written (symmetry_chosen kind) ok same inside_new among has = absurd (in_none [] (index_of grid other) refl among)
-  open_written (word_added word) ok same inside_new among has = absurd (in_none [] (index_of grid other) refl among)
+  open_written (word_added word grade) ok same inside_new among has = absurd (in_none [] (index_of grid other) refl among)
   open_written (word_struck word) ok same inside_new among has = absurd (in_none [] (index_of grid other) refl among)
+  open_written (least_chosen grade) ok same inside_new among has = absurd (in_none [] (index_of grid other) refl among)
 
 -- a listed cell that was empty and has a letter now was open
 pub filled_was_open : (before now : State) (action : Action) (change : Fields) → IsChange before now action change

@@ -10,7 +10,7 @@ use Rattle.std.proofs.lemmas.Option.{slice_get-get_or, slice_get_past}
 use Rattle.xw_words.specs.declared.fault.WordFault.{WordFault}
 use Rattle.xw_letters.specs.Letter.{folded}
 use Rattle.xw_words.specs.Word.{is_bad_letter}
-use Rattle.xw_words.specs.Dictionary.{Dictionary}
+use Rattle.xw_words.specs.Dictionary.{Dictionary, with_least}
 use Rattle.xw_grid.specs.declared.cell.Cell.{Cell}
 use Rattle.xw_grid.specs.declared.cell.Square.{Square}
 use Rattle.xw_grid.specs.declared.cell.Square.TheVariants.{Block, Open}
@@ -28,7 +28,7 @@ use Rattle.xw_grid.proofs.GridLemmas.{index_of-cell_at, length-cells, cell_at-in
 use Rattle.xw_feas.specs.declared.edit.Refusal.{Refusal}
 use Rattle.xw_feas.specs.declared.edit.Refusal.TheVariants as refusals
 use Rattle.xw_feas.specs.Board.{board_of, entry, is_open}
-use Rattle.xw_feas.specs.State.{State, Action, letter_set, cell_cleared, word_placed, list_written, block_toggled, bar_toggled, symmetry_chosen, word_added, word_struck, after, grid_after, with_grid, with_words, by_fault, write_list, with_letters, place_word, placed_in, spelled_in, add_word, strike_word}
+use Rattle.xw_feas.specs.State.{State, Action, letter_set, cell_cleared, word_placed, list_written, block_toggled, bar_toggled, symmetry_chosen, word_added, word_struck, least_chosen, after, grid_after, with_grid, with_words, by_fault, write_list, with_letters, place_word, placed_in, spelled_in, add_word, strike_word}
 use Rattle.xw_feas.proofs.BoardLemmas.{is_open-square, entry-square}
 use Rattle.xw_feas.proofs.Elements.{contains_first, contains_later, contains_mapped, contains_filtered, slice_get-set_other}
 use Rattle.xw_net.specs.Region.{cells_named, same_entry, cells_changed, edited_cells}
@@ -191,8 +191,9 @@ written_after grid new (list_written list) is h = list_kept grid new list is (by
 written_after grid new (block_toggled cell) is h = block_kept grid new cell is (by_fault-Ok (toggle_block grid cell) new h)
 written_after grid new (bar_toggled cell side) is h = bar_kept grid new cell side (by_fault-Ok (toggle_bar grid cell side) new h)
 written_after grid new (symmetry_chosen kind) is h = symmetry_kept grid new kind (by_fault-Ok (set_symmetry grid kind) new h)
-written_after grid new (word_added word) is h = let is_new : grid ≡ new = cc in subst (λ g. IsWrittenAt grid g []) is_new (same_squares grid [])
+written_after grid new (word_added word grade) is h = let is_new : grid ≡ new = cc in subst (λ g. IsWrittenAt grid g []) is_new (same_squares grid [])
 written_after grid new (word_struck word) is h = let is_new : grid ≡ new = cc in subst (λ g. IsWrittenAt grid g []) is_new (same_squares grid [])
+written_after grid new (least_chosen grade) is h = let is_new : grid ≡ new = cc in subst (λ g. IsWrittenAt grid g []) is_new (same_squares grid [])
 
 -- ---- the two parts of a state
 
@@ -216,8 +217,11 @@ grid_of_after state next (list_written list) h = (with_grid-Ok state next (grid_
 grid_of_after state next (block_toggled cell) h = (with_grid-Ok state next (grid_after state.grid (block_toggled cell)) h).0
 grid_of_after state next (bar_toggled cell side) h = (with_grid-Ok state next (grid_after state.grid (bar_toggled cell side)) h).0
 grid_of_after state next (symmetry_chosen kind) h = (with_grid-Ok state next (grid_after state.grid (symmetry_chosen kind)) h).0
-grid_of_after state next (word_added word) h = ap Ok (sym (with_words-Ok state next (add_word state.words word) h).1)
+grid_of_after state next (word_added word grade) h = ap Ok (sym (with_words-Ok state next (add_word state.words word grade) h).1)
 grid_of_after state next (word_struck word) h = ap Ok (sym (with_words-Ok state next (strike_word state.words word) h).1)
+grid_of_after state next (least_chosen grade) h =
+    let is : record state { words = with_least grade state.words } ≡ next = cc in
+    ap (λ (s : State). Ok s.grid) is
 
 -- ---- the board
 

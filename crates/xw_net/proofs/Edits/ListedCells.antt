@@ -12,7 +12,7 @@ use Rattle.xw_grid.proofs.GridLemmas.{cell_at-inside, length-cells}
 use Rattle.xw_grid.proofs.LightLemmas.{length-line, get_or-line}
 use Rattle.xw_grid.proofs.LightTableLemmas.{light_inside}
 use Rattle.xw_feas.specs.declared.edit.Refusal.{Refusal}
-use Rattle.xw_feas.specs.State.{State, Action, after, grid_after, letter_set, cell_cleared, word_placed, list_written, block_toggled, bar_toggled, symmetry_chosen, word_added, word_struck}
+use Rattle.xw_feas.specs.State.{State, Action, after, grid_after, letter_set, cell_cleared, word_placed, list_written, block_toggled, bar_toggled, symmetry_chosen, word_added, word_struck, least_chosen}
 use Rattle.xw_feas.proofs.BoardLemmas.{length-lights}
 use Rattle.xw_feas.proofs.WordsLemmas.{named_within}
 use Rattle.xw_net.specs.Region.{same_entry, cells_named, cells_changed, cells_written}
@@ -85,8 +85,9 @@ module _ (grid new : Grid) (is : IsGrid grid) where
   written_inside (block_toggled at) ok cell among = orbit_inside at cell among
   written_inside (bar_toggled at side) ok cell (k, below, here) = absurd (omega (arith, below))
   written_inside (symmetry_chosen kind) ok cell (k, below, here) = absurd (omega (arith, below))
-  written_inside (word_added word) ok cell (k, below, here) = absurd (omega (arith, below))
+  written_inside (word_added word grade) ok cell (k, below, here) = absurd (omega (arith, below))
   written_inside (word_struck word) ok cell (k, below, here) = absurd (omega (arith, below))
+  written_inside (least_chosen grade) ok cell (k, below, here) = absurd (omega (arith, below))
 
 -- the cells that an edit writes are in the grid after it
 pub edit_in_grid : (before now : State) (action : Action) (cells : List (Cell × Option ℕ)) → IsGrid before.grid → after before action ≡ Ok now → cells ≡ entries_written before.grid action

@@ -1,5 +1,5 @@
 -- What is known of an edit of which a net is told.
-use Rattle.std.proofs.Common.{◌≡◌, ℕ, ◌+◌, ◌*◌, ◌<◌, ◌≤◌, Bool, true, false, cond, List, [], map, length, set, Some, None, refl, sym, ◌∙◌, ap, subst, arith, inl, inr}
+use Rattle.std.proofs.Common.{◌≡◌, ℕ, ◌+◌, ◌*◌, ◌<◌, ◌≤◌, Bool, true, false, cond, List, [], map, length, Some, None, refl, sym, ◌∙◌, ap, subst, arith, inl, inr}
 use Rattle.std.specs.Prelude.{Option, Result, Ok, Err, All, position, is_some, vec_len}
 use Rattle.std.specs.Coded.{Coded-set, coded_ℕ, le_prop}
 use Rattle.std.proofs.Math.Logic.{∥∥₁_elim}
@@ -12,13 +12,13 @@ use Rattle.xw_words.specs.declared.fault.WordFault.{WordFault}
 use Rattle.xw_words.specs.declared.fault.WordFault.TheVariants as faults
 use Rattle.xw_words.specs.declared.bank.Added.{Added}
 use Rattle.xw_words.specs.Word.{is_bad_letter, is_word_length, judged}
-use Rattle.xw_words.specs.Dictionary.{Entry, Dictionary, IsDictionary, AreWords, row, entry_at, no_entry, add_to, strike_from, answer_on, after_add, after_strike, with_added, marked}
-use Rattle.xw_words.proofs.DictionaryLemmas.{AreWords-added, AreWords-marked, IsDictionary-set, letters_folded}
+use Rattle.xw_words.specs.Dictionary.{Entry, Dictionary, IsDictionary, row, entry_at, no_entry, add_to, strike_from, answer_on, after_add, after_strike, with_least}
+use Rattle.xw_words.proofs.DictionaryLemmas.{IsDictionary-added, IsDictionary-struck, IsDictionary-with_least, letters_folded}
 use Rattle.xw_grid.specs.declared.lights.Light.{Light}
 use Rattle.xw_grid.specs.Light.{lights_of}
 use Rattle.xw_feas.specs.Board.{board_of, light_at}
 use Rattle.xw_feas.specs.Shape.{SameCounts}
-use Rattle.xw_feas.specs.State.{State, Action, after, grid_after, letter_set, cell_cleared, word_placed, list_written, block_toggled, bar_toggled, symmetry_chosen, word_added, word_struck, answered, add_word, strike_word}
+use Rattle.xw_feas.specs.State.{State, Action, after, grid_after, letter_set, cell_cleared, word_placed, list_written, block_toggled, bar_toggled, symmetry_chosen, word_added, word_struck, least_chosen, answered, add_word, strike_word}
 use Rattle.xw_feas.proofs.BoardLemmas.{length-open_cells}
 use Rattle.xw_feas.proofs.WellFormedLemmas.{state_formed}
 use Rattle.xw_net.specs.declared.change.Change.{Change}
@@ -40,25 +40,25 @@ module _ (words new : Dictionary) (bytes : List ℕ) (is : IsDictionary words) w
   abbrev word : List ℕ
   word = map folded bytes
 
-  replaced : (entries : List Entry) → is_word_length (length bytes) ≡ true → AreWords (length word) entries → IsDictionary (set words (length word) entries)
-  replaced entries fits are =
+  long : is_word_length (length bytes) ≡ true → 2 ≤ length word
+  long fits =
       let least : 2 ≤ length bytes = leb-true 2 (length bytes) (and_parts _ _ fits).0 in
-      IsDictionary-set words (length word) entries is (omega (arith, least, length-map bytes folded)) are
+      omega (arith, least, length-map bytes folded)
 
-  added : answered (after_add words word None) (answer_on add_to words (judged (position is_bad_letter bytes) (length bytes) word)) ≡ Ok new → IsDictionary new
-  added h = by_letters (position is_bad_letter bytes) refl h where
-    by_answer : position is_bad_letter bytes ≡ None → is_word_length (length bytes) ≡ true → (answer : Result Added WordFault) → add_to (row words (length word)) word ≡ answer → answered (after_add words word None) answer ≡ Ok new → IsDictionary new
+  added : (grade : Option ℕ) → answered (after_add words word grade) (answer_on add_to words (judged (position is_bad_letter bytes) (length bytes) word)) ≡ Ok new → IsDictionary new
+  added grade h = by_letters (position is_bad_letter bytes) refl h where
+    by_answer : position is_bad_letter bytes ≡ None → is_word_length (length bytes) ≡ true → (answer : Result Added WordFault) → add_to (row words (length word)) word ≡ answer → answered (after_add words word grade) answer ≡ Ok new → IsDictionary new
     by_answer good fits (Err fault) found g = cc
     by_answer good fits (Ok outcome) found g =
-        let made : after_add words word None outcome ≡ new = cc in
-        subst IsDictionary made (replaced (with_added (row words (length word)) word None outcome) fits (AreWords-added (length word) (row words (length word)) word None outcome (is.words (length word)) refl (letters_folded bytes good) found))
+        let made : after_add words word grade outcome ≡ new = cc in
+        subst IsDictionary made (IsDictionary-added words word grade outcome is (long fits) (letters_folded bytes good) found)
 
     by_length : position is_bad_letter bytes ≡ None → (fits : Bool) → is_word_length (length bytes) ≡ fits
-        → answered (after_add words word None) (answer_on add_to words (cond fits (Ok word) (Err faults.Length))) ≡ Ok new → IsDictionary new
+        → answered (after_add words word grade) (answer_on add_to words (cond fits (Ok word) (Err faults.Length))) ≡ Ok new → IsDictionary new
     by_length good true fits g = by_answer good fits (add_to (row words (length word)) word) refl g
     by_length good false fits g = cc
 
-    by_letters : (bad : Option ℕ) → position is_bad_letter bytes ≡ bad → answered (after_add words word None) (answer_on add_to words (judged bad (length bytes) word)) ≡ Ok new → IsDictionary new
+    by_letters : (bad : Option ℕ) → position is_bad_letter bytes ≡ bad → answered (after_add words word grade) (answer_on add_to words (judged bad (length bytes) word)) ≡ Ok new → IsDictionary new
     by_letters None good g = by_length good (is_word_length (length bytes)) refl g
     by_letters (Some at) bad g = cc
 
@@ -68,7 +68,7 @@ module _ (words new : Dictionary) (bytes : List ℕ) (is : IsDictionary words) w
     by_answer fits (Err fault) g = cc
     by_answer fits (Ok index) g =
         let made : after_strike words word index ≡ new = cc in
-        subst IsDictionary made (replaced (marked (row words (length word)) index false) fits (AreWords-marked (length word) (row words (length word)) index false (is.words (length word))))
+        subst IsDictionary made (IsDictionary-struck words word index is (long fits))
 
     by_length : (fits : Bool) → is_word_length (length bytes) ≡ fits → answered (after_strike words word) (answer_on strike_from words (cond fits (Ok word) (Err faults.Length))) ≡ Ok new → IsDictionary new
     by_length true fits g = by_answer fits (strike_from (row words (length word)) word) g
@@ -86,12 +86,15 @@ dictionary_after before now (list_written list) made is = subst IsDictionary (sy
 dictionary_after before now (block_toggled cell) made is = subst IsDictionary (sym (with_grid-Ok before now (grid_after before.grid (block_toggled cell)) made).1) is
 dictionary_after before now (bar_toggled cell side) made is = subst IsDictionary (sym (with_grid-Ok before now (grid_after before.grid (bar_toggled cell side)) made).1) is
 dictionary_after before now (symmetry_chosen kind) made is = subst IsDictionary (sym (with_grid-Ok before now (grid_after before.grid (symmetry_chosen kind)) made).1) is
-dictionary_after before now (word_added bytes) made is = added before.words now.words bytes is (with_words-Ok before now (add_word before.words bytes) made).0
+dictionary_after before now (word_added bytes grade) made is = added before.words now.words bytes is grade (with_words-Ok before now (add_word before.words bytes grade) made).0
 dictionary_after before now (word_struck bytes) made is = struck before.words now.words bytes is (with_words-Ok before now (strike_word before.words bytes) made).0
+dictionary_after before now (least_chosen grade) made is =
+    let next : record before { words = with_least grade before.words } ≡ now = cc in
+    subst IsDictionary (ap (λ (state : State). state.words) next) (IsDictionary-with_least grade before.words is)
 
 pub told_is_change : ToldIsChange
 told_is_change before now action change told is =
-    change_made before now action change told.made told.formed_before
+    change_made before now action change told.made told.no_limit told.formed_before
     (state_formed now.grid now.words is (dictionary_after before now action told.made told.formed_before.dictionary))
     told.cells told.lights told.word
 

@@ -39,6 +39,19 @@ all_zero n i = elim (cases_lt i n) [
   | inr le ↦ get_or_past (replicate n none) i none (omega (arith, length-replicate n none))
 ]
 
+-- no word has the index that stands for no support
+pub held_far : (grid : Grid) → IsGrid grid → (held : List ℕ) → held ≡ replicate (52 * length grid.squares) far_on
+    → (light position letter : ℕ) → IsPositionIn (board_of grid) light position → is_capital letter ≡ true → most_words ≤ get_or held (26 * slot_at (board_of grid) light position + (letter - 65)) 0
+held_far grid is_grid held is light position letter here capital =
+    let cell : cell_at (board_of grid) light position < length (board_of grid).open_cells =
+    All-get_or (λ cell. cell < length (board_of grid).open_cells) (light_at (board_of grid) light) position 0 here.1 (light_in_board grid light is_grid (omega (arith, here.0, length-lights grid))) in
+    let code = capital_is_letter letter capital in
+    let within : 26 * slot_at (board_of grid) light position + (letter - 65) < 52 * length grid.squares = omega (arith, cell, length-open_cells grid, side_small (light_at (board_of grid) light), code.0, code.1) in
+    let there : get_or held (26 * slot_at (board_of grid) light position + (letter - 65)) 0 ≡ far_on =
+    ap (λ (indices : List ℕ). get_or indices (26 * slot_at (board_of grid) light position + (letter - 65)) 0) is
+    ∙ get_or-replicate (52 * length grid.squares) (26 * slot_at (board_of grid) light position + (letter - 65)) far_on none within in
+    omega (arith, there)
+
 module _ (grid : Grid) (is_grid : IsGrid grid) (dictionary : Dictionary) (is_dictionary : IsDictionary dictionary) (net : Net)
     (blank : IsBlank (lights_of grid) (counts_of (row dictionary)) (length grid.squares) net) (room : HasRoom (lights_of grid) (counts_of (row dictionary)) net) where
   in_lights : (light : ℕ) → light < length (board_of grid).lights → light < length (lights_of grid)
@@ -75,14 +88,7 @@ module _ (grid : Grid) (is_grid : IsGrid grid) (dictionary : Dictionary) (is_dic
 
   far : (light position letter : ℕ) → IsPositionIn (board_of grid) light position → is_capital letter ≡ true → most_words ≤ held_in net (slot_at (board_of grid) light position) letter
   unfolding held_in
-  far light position letter here capital =
-      let cell : cell_at (board_of grid) light position < length (board_of grid).open_cells = All-get_or (λ cell. cell < length (board_of grid).open_cells) (light_at (board_of grid) light) position 0 here.1 (light_in_board grid light is_grid (in_lights light here.0)) in
-      let is = capital_is_letter letter capital in
-      let within : 26 * slot_at (board_of grid) light position + (letter - 65) < 52 * length grid.squares = omega (arith, cell, length-open_cells grid, side_small (light_at (board_of grid) light), is.0, is.1) in
-      let held : get_or net.held.items (26 * slot_at (board_of grid) light position + (letter - 65)) 0 ≡ far_on =
-      ap (λ (indices : List ℕ). get_or indices (26 * slot_at (board_of grid) light position + (letter - 65)) 0) blank.held
-      ∙ get_or-replicate (52 * length grid.squares) (26 * slot_at (board_of grid) light position + (letter - 65)) far_on none within in
-      omega (arith, held)
+  far light position letter here capital = held_far grid is_grid net.held.items blank.held light position letter here capital
 
   not_pending : (slot letter : ℕ) → pending_in net slot letter ≡ false
   unfolding pending_in
@@ -126,7 +132,7 @@ module _ (grid : Grid) (is_grid : IsGrid grid) (dictionary : Dictionary) (is_dic
       room = row_room net.rows.items room.rows;
       base_room = row_room net.base.items room.base;
     };
-    words = no_word;
+    past = λ light choice beyond. no_word light choice;
     held = far;
     pending = not_pending;
     quiet = record { queue = blank.queue.lights; queued = not_queued; taken = blank.chain.lights; marked = not_marked };

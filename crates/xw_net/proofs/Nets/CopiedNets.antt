@@ -64,7 +64,7 @@ pub blank_reusable : (grid : Grid) → IsGrid grid → (dictionary : Dictionary)
     → HasRoom (lights_of grid) (counts_of (row dictionary)) net → IsReusable (lights_of grid) (known_counts dictionary) (length grid.squares) net
 blank_reusable grid is_grid dictionary is_dictionary net blank room =
     let fresh = blank_fresh grid is_grid dictionary is_dictionary net blank room in
-    whole_reusable grid dictionary net fresh.whole fresh.quiet fresh.pending (λ light choice beyond. fresh.words light choice)
+    whole_reusable grid dictionary net fresh.whole fresh.quiet fresh.pending (λ light choice beyond. fresh.past light choice (omega (arith, beyond, length-lights grid)))
 
 reusable_prop : (lights : List Light) (counts : ℕ → ℕ) (cells : ℕ) (net : Net) → IsProp (IsReusable lights counts cells net)
 reusable_prop lights counts cells net x y = λ i. record {

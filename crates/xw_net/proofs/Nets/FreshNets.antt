@@ -98,20 +98,23 @@ module _ (board : Board) (entries : ℕ → List Entry) (dictionary : Dictionary
     held = λ light position letter here off alive. absurd (both_ways (marks.queued light) off (queued light here.0));
   }
 
--- the marks after words came back at all lights, to a net without words and with all allowed
--- letters
+-- the marks after words came back at all lights, to a net without words past them and with all
+-- allowed letters
 pub brought_ready_all : (board : Board) (entries : ℕ → List Entry) (dictionary : Dictionary) → IsSetting board entries dictionary → (old new : Marks) (chain : ℕ → Bool) → IsBrought board dictionary old new chain
     → ((light : ℕ) → light < length board.lights → chain light ≡ true)
-    → ((light choice : ℕ) → old.words light choice ≡ false)
+    → ((light choice : ℕ) → length board.lights ≤ light → old.words light choice ≡ false)
     → ((cell letter : ℕ) → old.letters cell letter ≡ may_stand board cell letter)
     → ((light position letter : ℕ) → IsPositionIn board light position → is_capital letter ≡ true → known board dictionary light ≤ old.held (slot_at board light position) letter)
     → ((slot letter : ℕ) → old.pending slot letter ≡ false)
     → IsReady board dictionary new
 brought_ready_all board entries dictionary setting old new chain brought all none letters held pending =
     fresh_ready board entries dictionary setting new
-    (λ light choice h. elim (cases_Bool (chain light)) [
-      | inl on ↦ brought.lights light on
-      | inr off ↦ absurd (both_ways (new.words light choice) (brought.words_off light choice off ∙ none light choice) h)
+    (λ light choice h. elim (cases_lt light (length board.lights)) [
+      | inl lt ↦ lt
+      | inr le ↦ elim (cases_Bool (chain light)) [
+        | inl on ↦ brought.lights light on
+        | inr off ↦ absurd (both_ways (new.words light choice) (brought.words_off light choice off ∙ none light choice le) h)
+      ]
     ])
     (λ light choice lt. brought.words_on light choice (all light lt))
     (λ cell letter. elim (cases_Bool (may_stand board cell letter)) [

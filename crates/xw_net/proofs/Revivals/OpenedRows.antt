@@ -11,7 +11,7 @@ use Rattle.xw_grid.specs.Light.{lights_of, no_light, step}
 use Rattle.xw_feas.specs.Board.{board_of, entry, light_at, is_wholly_entered}
 use Rattle.xw_feas.specs.Choices.{is_base_at}
 use Rattle.xw_feas.specs.Flags.{set_has}
-use Rattle.xw_feas.specs.State.{State, Action, after, letter_set, cell_cleared, word_placed, list_written, block_toggled, bar_toggled, symmetry_chosen, word_added, word_struck, add_word, strike_word}
+use Rattle.xw_feas.specs.State.{State, Action, after, letter_set, cell_cleared, word_placed, list_written, block_toggled, bar_toggled, symmetry_chosen, word_added, word_struck, least_chosen, add_word, strike_word}
 use Rattle.xw_feas.proofs.ChoicesLemmas.{base_flag_entered}
 use Rattle.xw_feas.proofs.Support.{set_flag_within}
 use Rattle.xw_feas.proofs.FormedLemmas.{light_in, length-light_at, within_lights, index_is, inside_at}
@@ -42,7 +42,7 @@ use Rattle.xw_net.proofs.Edits.ChangedLights.{base_bits_same, changed_base, chan
 
 -- adding or striking a word keeps the grid
 word_keeps_grid : (before now : State) (action : Action) (word : ℕ × ℕ) → after before action ≡ Ok now → word_changed before.words action ≡ Some word → now.grid ≡ before.grid
-word_keeps_grid before now (word_added bytes) word made some = (with_words-Ok before now (add_word before.words bytes) made).1
+word_keeps_grid before now (word_added bytes grade) word made some = (with_words-Ok before now (add_word before.words bytes grade) made).1
 word_keeps_grid before now (word_struck bytes) word made some = (with_words-Ok before now (strike_word before.words bytes) made).1
 word_keeps_grid before now (letter_set cell letter) word made some = let never : None ≡ Some word = some in cc
 word_keeps_grid before now (cell_cleared cell) word made some = let never : None ≡ Some word = some in cc
@@ -51,6 +51,7 @@ word_keeps_grid before now (list_written list) word made some = let never : None
 word_keeps_grid before now (block_toggled cell) word made some = let never : None ≡ Some word = some in cc
 word_keeps_grid before now (bar_toggled cell side) word made some = let never : None ≡ Some word = some in cc
 word_keeps_grid before now (symmetry_chosen kind) word made some = let never : None ≡ Some word = some in cc
+word_keeps_grid before now (least_chosen grade) word made some = let never : None ≡ Some word = some in cc
 
 same_entry : (old new : List Entry) (index : ℕ) → slice_get old index ≡ slice_get new index → entry_at old index ≡ entry_at new index
 same_entry old new index same = sym (unwrap_or-slice_get old index no_entry) ∙ ap (λ o. unwrap_or o no_entry) same ∙ unwrap_or-slice_get new index no_entry

@@ -90,16 +90,22 @@ impl<E: Feasible> Session<E> {
         Ok(Edit::Symmetry(kind))
     }
 
-    pub(crate) fn add<'a>(&self, word: &'a [u8]) -> Result<Edit<'a>, Refusal>
-        ensures { Asks self.now (commands.Add word.now) result }
+    pub(crate) fn add<'a>(&self, word: &'a [u8], grade: Option<u8>) -> Result<Edit<'a>, Refusal>
+        ensures { Asks self.now (commands.Add word.now grade) result }
     {
-        Ok(Edit::Add(word))
+        Ok(Edit::Add(word, grade))
     }
 
     pub(crate) fn strike<'a>(&self, word: &'a [u8]) -> Result<Edit<'a>, Refusal>
         ensures { Asks self.now (commands.Strike word.now) result }
     {
         Ok(Edit::Strike(word))
+    }
+
+    pub(crate) fn least<'a>(&self, grade: u8) -> Result<Edit<'a>, Refusal>
+        ensures { Asks self.now (commands.Least grade) result }
+    {
+        Ok(Edit::Least(grade))
     }
 
     pub(crate) fn set<'a>(&self, spot: CellArg, letter: u8) -> Result<Edit<'a>, Refusal>

@@ -14,6 +14,7 @@ use xw_answers::refusal::Refusal;
 use xw_commands::command::LightArg;
 use xw_commands::lights::LightArgs;
 use xw_feas::edit::Refusal as EditRefusal;
+use xw_feas::feasible::Feasible;
 use xw_feas::searchable::Searchable;
 use xw_fill::named_lights::{Hint, autofill};
 use xw_fill::search::Filling;
@@ -22,7 +23,7 @@ use xw_lines::device::{Sink, WriteFailed};
 use xw_lines::outcome::Step;
 
 /// Returns the name of a light that a command names, or `None` if the grid has no such light.
-fn known_name<E: Searchable>(engine: &E, named: LightArg) -> Option<LightName>
+pub(crate) fn known_name<E: Feasible>(engine: &E, named: LightArg) -> Option<LightName>
     ensures some { IfSome result (λ name. (name ≡ name_of_light named) × (is_some (index_named (lights_of (E.state engine.now).grid) (name_of_light named)) ≡ true)) }
     ensures none { IfNone result (is_some (index_named (lights_of (E.state engine.now).grid) (name_of_light named)) ≡ false) }
 {
@@ -36,7 +37,7 @@ fn known_name<E: Searchable>(engine: &E, named: LightArg) -> Option<LightName>
 }
 
 /// Returns whether the grid has each of these lights.
-fn are_lights<E: Searchable>(engine: &E, lights: LightArgs<'_>) -> bool
+pub(crate) fn are_lights<E: Feasible>(engine: &E, lights: LightArgs<'_>) -> bool
     ensures yes { result ≡ true → AreLights (E.state engine.now) (names_of_lights lights.entry) }
     ensures no { result ≡ false → AreLights (E.state engine.now) (names_of_lights lights.entry) → ⊥ }
 {
@@ -49,7 +50,7 @@ fn are_lights<E: Searchable>(engine: &E, lights: LightArgs<'_>) -> bool
 }
 
 /// Returns the names of lights. Returns `NoLight` if the grid has not each of them, and `Memory` if an allocation fails.
-fn names_of<E: Searchable>(
+pub(crate) fn names_of<E: Searchable>(
     alloc: Global,
     engine: &E,
     lights: LightArgs<'_>,
@@ -109,8 +110,9 @@ impl<E: Searchable> Session<E> {
             lights,
             limit,
             seed,
-            &mut self.hint,
+            &mut self.hints.autofill,
         );
+        self.hints.forget_if(matches!(filled, Ok(Filling::Filled)));
         end_filling(sink, filled)
     }
 }

@@ -15,7 +15,7 @@ ghost use Rattle.xw_session.specs.Answer.{AnswersTo, fill_reply, text_of, step_o
 ghost use Rattle.xw_session.specs.State.{State};
 
 use crate::lookup::light_name;
-use crate::session::{Session, end_answer, forget_if};
+use crate::session::{Session, end_answer};
 use xw_answers::answer_line::{Token, write_line};
 use xw_answers::lookup::light_named;
 use xw_answers::refusal::Refusal;
@@ -128,7 +128,7 @@ fn filling_name(filling: Filling) -> &'static str
     }
 }
 
-fn write_filling<W: Sink>(sink: &mut W, filling: Filling) -> Result<(), WriteFailed>
+pub(crate) fn write_filling<W: Sink>(sink: &mut W, filling: Filling) -> Result<(), WriteFailed>
     ensures { Sends W.transcript W.failures sink.old sink.new result (word_line (name_of_filling filling)) }
 {
     write_line(sink, &[Token::Name(filling_name(filling))])
@@ -331,7 +331,7 @@ impl<E: Searchable> Session<E> {
         ensures { AnswersTo W.transcript W.failures self.old (commands.Fill limit) result self.new sink.old sink.new }
     {
         let filled = fill(self.alloc, &mut self.engine, limit);
-        forget_if(&mut self.hint, matches!(filled, Ok(Filling::Filled)));
+        self.hints.forget_if(matches!(filled, Ok(Filling::Filled)));
         end_filling(sink, filled)
     }
 }

@@ -5,6 +5,6 @@ use Rattle.xw_session_laws.proofs.WordsAgain.{words_again}
 use Rattle.xw_session_laws.proofs.words_are_made_again.Goals as goal
 
 pub returns : goal.returns
-returns c = λ state made was is begun first.
+returns c = λ state made was is least begun first.
     ap (λ counts. replayed state (word_commands counts made.position.words)) begun
-    ∙ words_again state state.position.words made.position.words is was.lengths refl first
+    ∙ words_again state state.position.words made.position.words is was.lengths least refl first

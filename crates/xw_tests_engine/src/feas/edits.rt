@@ -193,14 +193,14 @@ const EMPTY_SQUARE: Start = Start {
 fn refused_edits_are_passed_over(rt: HostRuntime) -> Result<(), Refusal> {
     let mut square = engine(rt.alloc(), EMPTY_SQUARE)?;
     let edits = [
-        Edit::Add(b"AS"),
-        Edit::Add(b"4"),
-        Edit::Add(b"AT"),
-        Edit::Add(b"at"),
-        Edit::Add(b"SO"),
+        Edit::Add(b"AS", None),
+        Edit::Add(b"4", None),
+        Edit::Add(b"AT", None),
+        Edit::Add(b"at", None),
+        Edit::Add(b"SO", None),
         Edit::Set(at(3, 1), Letter::first()),
-        Edit::Add(b"TO"),
-        Edit::Add(b"IN"),
+        Edit::Add(b"TO", None),
+        Edit::Add(b"IN", None),
     ];
     assert_eq!(rt; run(&mut square, &edits), 3);
     pass(

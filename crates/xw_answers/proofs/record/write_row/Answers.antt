@@ -9,4 +9,4 @@ returns-in_err-write_added g c =
     rw e.1 (stops_as g.W.Sink.transcript g.W.Sink.failures _ _ _ _ (lines_of_both _ _) (stops-within g.W.Sink.transcript g.W.Sink.failures _ _ _ _ c.in_err-write_added.ensures))
 
 pub returns : goal.returns
-returns g c = sends_as g.W.Sink.transcript g.W.Sink.failures _ _ _ _ _ (lines_of_both _ _) (sends-then g.W.Sink.transcript g.W.Sink.failures _ _ _ _ _ _ c.in_ok-write_added.ensures c.write_struck.ensures)
+returns g c = sends_as g.W.Sink.transcript g.W.Sink.failures _ _ _ _ _ (lines_of_both _ _) (sends-then g.W.Sink.transcript g.W.Sink.failures _ _ _ _ _ _ c.in_ok-write_added.ensures c.write_marks.ensures)

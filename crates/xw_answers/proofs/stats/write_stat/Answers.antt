@@ -2,13 +2,13 @@ use Rattle.std.proofs.Common.{◌≡◌, length, ℕ, codes, sym, ◌∙◌, sub
 use Rattle.xw_grid.specs.Grid.{cells}
 use Rattle.xw_grid.proofs.GridLemmas.{length-cells}
 use Rattle.xw_lines.specs.Sends.{Sends}
-use Rattle.xw_answers.specs.Stats.{number_line}
+use Rattle.xw_answers.specs.Text.{number_line}
 use Rattle.xw_answers.proofs.stats.write_stat.Goals as goal
 
 pub returns-in-Cells : goal.returns-in-Cells
 returns-in-Cells g c =
     let size : c.size.result ≡ length (cells c.args.grid.now) = c.size.ensures.size ∙ sym (length-cells c.args.grid.now) in
-    rw c.in-Cells.is (subst (λ (n : ℕ). Sends g.W.Sink.transcript g.W.Sink.failures c.args.sink.now c.write_number.new.sink c.write_number.result (number_line (codes "cells") n)) size c.write_number.ensures)
+    rw c.in-Cells.is (subst (λ (n : ℕ). Sends g.W.Sink.transcript g.W.Sink.failures c.args.sink.now c.write_named_number.new.sink c.write_named_number.result (number_line (codes "cells") n)) size c.write_named_number.ensures)
 
 pub returns-in-Sizes : goal.returns-in-Sizes
 returns-in-Sizes g c = rw c.in-Sizes.is c.write_sizes.ensures

@@ -54,3 +54,11 @@ loop-effort-preserved g c = record {
   same = c.in-Cut.ensures.same (λ e. subst is_filled (sym e) tt) ∙ c.loop-effort.invariant.same;
   ready = c.in-Cut.ensures.ready;
 }
+
+pub returns-in-Filled-clause-entered : goal.returns-in-Filled-clause-entered
+returns-in-Filled-clause-entered g c =
+    let now = g.E.Feasible.state c.run.new.engine in
+    let same = c.loop-effort.invariant.same in (
+      subst (λ (s : State). IsFillOf (flags c.args.plan.now.named.items) (position_of s) (entries_of now)) same (c.in-Filled.ensures.filled refl),
+      subst (λ (s : State). DiffersInEntries s now) same (c.in-Filled.ensures.entries refl),
+    )

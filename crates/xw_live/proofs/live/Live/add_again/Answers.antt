@@ -28,7 +28,7 @@ pub invariant_of-self-2 : goal.invariant_of-self-2
 invariant_of-self-2 c =
     let old = c.args.self.now in
     let now : State = record { grid = old.grid; words = c.return_in.new.bank.words } in
-    let kept : IsKept now c.settle_word-self.new.net = c.settle_word-self.ensures.kept old.bank.words (word_added c.args.word.now) (returned_edit old.grid old.bank.words c.return_in.new.bank.words c.args.word.now c.args.index c.requires c.in_ok-return_in.ensures.ok) old.kept.formed old.kept.settled in
+    let kept : IsKept now c.settle_word-self.new.net = c.settle_word-self.ensures.kept old.bank.words (word_added c.args.word.now c.args.grade) (returned_edit old.grid old.bank.words c.return_in.new.bank.words c.args.word.now c.args.grade c.args.index c.requires c.in_ok-return_in.ensures.ok) old.kept.formed old.kept.settled in
     record {
       light_list = old.light_list;
       kept = kept;

@@ -51,9 +51,9 @@ invariant_of-self-2 c =
     let old = c.args.self.now in
     let now : State = record { grid = old.grid; words = c.add_in.new.bank.words } in
     let ready = settled_alike (state_of old) old.net c.make_room.new.net c.make_room.ensures.same old.kept.settled in
-    let added : add_word old.bank.words c.args.word.now ≡ Ok c.add_in.new.bank.words = ap (λ (words : Dictionary). add_word words c.args.word.now) (sym c.make_room.ensures.words) ∙ c.add_in.ensures.words in
-    let edit : IsWordEdit old.grid old.bank.words c.add_in.new.bank.words (word_added c.args.word.now) (length c.args.word.now, c.args.index) = added_edit old.grid old.bank.words c.add_in.new.bank.words c.args.word.now c.args.index c.requires added in
-    let kept : IsKept now c.settle_word-self.new.net = c.settle_word-self.ensures.kept old.bank.words (word_added c.args.word.now) edit old.kept.formed ready in
+    let added : add_word old.bank.words c.args.word.now c.args.grade ≡ Ok c.add_in.new.bank.words = ap (λ (words : Dictionary). add_word words c.args.word.now c.args.grade) (sym c.make_room.ensures.words) ∙ c.add_in.ensures.words in
+    let edit : IsWordEdit old.grid old.bank.words c.add_in.new.bank.words (word_added c.args.word.now c.args.grade) (length c.args.word.now, c.args.index) = added_edit old.grid old.bank.words c.add_in.new.bank.words c.args.word.now c.args.grade c.args.index c.requires added in
+    let kept : IsKept now c.settle_word-self.new.net = c.settle_word-self.ensures.kept old.bank.words (word_added c.args.word.now c.args.grade) edit old.kept.formed ready in
     record {
       light_list = old.light_list;
       kept = kept;
@@ -65,11 +65,11 @@ pub returns-clause-done : goal.returns-clause-done
 returns-clause-done c =
     let old = c.args.self.now in
     let ready = settled_alike (state_of old) old.net c.make_room.new.net c.make_room.ensures.same old.kept.settled in
-    let added : add_word old.bank.words c.args.word.now ≡ Ok c.add_in.new.bank.words = ap (λ (words : Dictionary). add_word words c.args.word.now) (sym c.make_room.ensures.words) ∙ c.add_in.ensures.words in
-    let edit : IsWordEdit old.grid old.bank.words c.add_in.new.bank.words (word_added c.args.word.now) (length c.args.word.now, c.args.index) = added_edit old.grid old.bank.words c.add_in.new.bank.words c.args.word.now c.args.index c.requires added in
+    let added : add_word old.bank.words c.args.word.now c.args.grade ≡ Ok c.add_in.new.bank.words = ap (λ (words : Dictionary). add_word words c.args.word.now c.args.grade) (sym c.make_room.ensures.words) ∙ c.add_in.ensures.words in
+    let edit : IsWordEdit old.grid old.bank.words c.add_in.new.bank.words (word_added c.args.word.now c.args.grade) (length c.args.word.now, c.args.index) = added_edit old.grid old.bank.words c.add_in.new.bank.words c.args.word.now c.args.grade c.args.index c.requires added in
     record {
       made = edit.made;
       letters = c.keep_letters.ensures ∙ c.make_room.ensures.same.sets;
-      cost = c.settle_word-self.ensures.cost old.bank.words (word_added c.args.word.now) edit old.kept.formed ready;
+      cost = c.settle_word-self.ensures.cost old.bank.words (word_added c.args.word.now c.args.grade) edit old.kept.formed ready;
       risen = c.settle_word-self.ensures.risen;
     }

@@ -3,6 +3,7 @@ use Rattle.std.specs.Prelude.{None}
 use Rattle.std.specs.Vec.{with_items}
 use Rattle.std.proofs.lemmas.List.{with_items_is, length_push}
 use Rattle.xw_bits.specs.Bits.{RowOfBits}
+use Rattle.xw_words.specs.declared.marks.Marks.{Marks}
 use Rattle.xw_words.specs.Row.{Row, entries_of}
 use Rattle.xw_words.specs.Dictionary.{index_in}
 use Rattle.xw_words.specs.Index.{word_in, IsIndex, IsInserted}
@@ -20,7 +21,7 @@ push_word-requires-clause-room c =
     let known : (n : ℕ) → n ≡ length r.active.bits → ((i : ℕ) → i < length r.columns.items → length r.active.bits < (column_at r.columns.items i).room) → (i : ℕ) → i < length r.columns.items → n < (column_at r.columns.items i).room =
     λ n e all i lt. omega (arith, e, all i lt) in
     subst P (sym c.deref_mut.ensures.value) (known c.len-index.result c.len-index.ensures.value
-    (column_room r.word_len r.reserved r.letters.items r.active.bits r.grades.items r.columns.items (record { few = kept.column_count; all = kept.all_columns; bits = kept.columns; room = kept.columns_room }) some))
+    (column_room r.word_len r.reserved r.letters.items r.active.bits r.marks.items r.columns.items (record { few = kept.column_count; all = kept.all_columns; bits = kept.columns; room = kept.columns_room }) some))
 
 pub push_word-requires-clause-long : goal.push_word-requires-clause-long
 push_word-requires-clause-long c =
@@ -28,7 +29,7 @@ push_word-requires-clause-long c =
     let kept = c.self.invariant in
     let P : List RowOfBits → Type 0 = λ columns. (i : ℕ) → i < length columns → length (column_at columns i).bits ≡ 64 * ((c.len-index.result + 63) / 64) in
     subst P (sym c.deref_mut.ensures.value) (λ i lt.
-    column_long r.word_len r.reserved r.letters.items r.active.bits r.grades.items r.columns.items (record { few = kept.column_count; all = kept.all_columns; bits = kept.columns; room = kept.columns_room }) i lt
+    column_long r.word_len r.reserved r.letters.items r.active.bits r.marks.items r.columns.items (record { few = kept.column_count; all = kept.all_columns; bits = kept.columns; room = kept.columns_room }) i lt
     ∙ ap (λ n. 64 * ((n + 63) / 64)) (sym c.len-index.ensures.value))
 
 pub push_word-requires-clause-clear : goal.push_word-requires-clause-clear
@@ -38,7 +39,7 @@ push_word-requires-clause-clear c =
     let P : List RowOfBits → Type 0 = λ columns. (i : ℕ) → i < length columns → get_or (column_at columns i).bits c.len-index.result false ≡ false in
     subst P (sym c.deref_mut.ensures.value) (λ i lt.
     ap (λ n. get_or (column_at r.columns.items i).bits n false) c.len-index.ensures.value
-    ∙ column_clear r.word_len r.reserved r.letters.items r.active.bits r.grades.items r.columns.items (record { few = kept.column_count; all = kept.all_columns; bits = kept.columns; room = kept.columns_room }) i lt)
+    ∙ column_clear r.word_len r.reserved r.letters.items r.active.bits r.marks.items r.columns.items (record { few = kept.column_count; all = kept.all_columns; bits = kept.columns; room = kept.columns_room }) i lt)
 
 pub invariant_of-self : goal.invariant_of-self
 invariant_of-self c =
@@ -48,37 +49,38 @@ invariant_of-self c =
     let flags = r.active.bits in
     let some = room_is (length flags) r.reserved r.index.room c.args.self.now.room (ap (λ (row : Row). row.room) c.self.view_is) c.requires.room in
     let fits : length word ≡ r.word_len = c.requires.length ∙ sym (ap (λ (row : Row). row.word_len) c.self.view_is) in
-    let long_entries = length-entries_of r.word_len r.letters.items flags r.grades.items in
+    let long_entries = length-entries_of r.word_len r.letters.items flags r.marks.items in
     let known : length flags < 1048576 = omega (arith, some, kept.reserved_few) in
-    let unknown : index_in (entries_of r.word_len r.letters.items flags r.grades.items) word ≡ None = ap (λ (row : Row). index_in row.entries word) c.self.view_is ∙ c.requires.unknown in
+    let unknown : index_in (entries_of r.word_len r.letters.items flags r.marks.items) word ≡ None = ap (λ (row : Row). index_in row.entries word) c.self.view_is ∙ c.requires.unknown in
     let B : ℕ → List ℕ → ℕ → Type 0 = λ len letters index. IsInserted (word_in len letters) r.index.indices word index c.insert.new.self.indices in
     let counted : B r.word_len c.deref.result.now c.len-index.result = subst (λ n. B n c.deref.result.now c.len-index.result) fits c.insert.ensures in
     let lettered : B r.word_len r.letters.items c.len-index.result = subst (λ ls. B r.word_len ls c.len-index.result) c.deref.ensures.value counted in
     let put : B r.word_len r.letters.items (length flags) = subst (B r.word_len r.letters.items) c.len-index.ensures.value lettered in
     let grown = length_push flags true in
     let longer : length c.push.new.self.bits ≡ length flags + 1 = ap length c.push.ensures.bits ∙ grown in
-    let indexed = index_pushed r.word_len r.letters.items word flags r.grades.items r.index.indices c.insert.new.self.indices kept.index put kept.letters fits unknown in
+    let indexed = index_pushed r.word_len r.letters.items word flags r.marks.items r.index.indices c.insert.new.self.indices kept.index put kept.letters fits unknown in
     let I : List ℕ → ℕ → List ℕ → Type 0 = λ letters n index. IsIndex (word_in r.word_len letters) n index in
-    let C : List ℕ → List Bool → List ℕ → List RowOfBits → Type 0 = λ letters bits grades columns. AreColumns r.word_len r.reserved (entries_of r.word_len letters bits grades) columns in
-    let grades_now : List ℕ = r.grades.items ++ c.grade_or-grade.result ∷ [] in
+    let C : List ℕ → List Bool → List Marks → List RowOfBits → Type 0 = λ letters bits marks columns. AreColumns r.word_len r.reserved (entries_of r.word_len letters bits marks) columns in
+    let mark : Marks = record { grade = c.grade_or-grade.result; struck = false; regraded = false } in
+    let marks_now : List Marks = r.marks.items ++ mark ∷ [] in
     let new = c.push_word.new.columns in
     let old_is = c.deref_mut.ensures.value in
     let same : length new ≡ length r.columns.items = c.push_word.auto.columns ∙ ap length old_is in
-    let pushed = columns_pushed r.word_len r.reserved r.letters.items word flags r.grades.items c.grade_or-grade.result r.columns.items new (record { few = kept.column_count; all = kept.all_columns; bits = kept.columns; room = kept.columns_room }) same kept.letters kept.grades fits
+    let pushed = columns_pushed r.word_len r.reserved r.letters.items word flags r.marks.items mark r.columns.items new (record { few = kept.column_count; all = kept.all_columns; bits = kept.columns; room = kept.columns_room }) same kept.letters kept.marks fits
     (let P : List RowOfBits → ℕ → Type 0 = λ old index. (i : ℕ) → i < length old → length (column_at new i).bits ≡ 64 * ((index + 64) / 64) in subst (λ old. P old (length r.active.bits)) old_is (subst (P c.deref_mut.result.now) c.len-index.ensures.value c.push_word.ensures.long))
     (let P : List RowOfBits → ℕ → Type 0 = λ old index. (i other : ℕ) → i < length old → get_or (column_at new i).bits other false ≡ cond (eqb other index) (bit_in word i) (get_or (column_at old i).bits other false) in
     subst (λ old. P old (length r.active.bits)) old_is (subst (P c.deref_mut.result.now) c.len-index.ensures.value c.push_word.ensures.bits))
     (let P : List RowOfBits → Type 0 = λ old. (i : ℕ) → (column_at old i).room ≤ (column_at new i).room in subst P old_is c.push_word.ensures.more) in
     let columns_now : List RowOfBits = (with_items r.columns new).items in
-    let with_columns : C (r.letters.items ++ word) (flags ++ true ∷ []) grades_now columns_now = subst (C (r.letters.items ++ word) (flags ++ true ∷ []) grades_now) (sym (with_items_is r.columns new (c.push_word.auto.columns ∙ c.deref_mut.ensures.len))) pushed in
-    let active : C (r.letters.items ++ word) c.push.new.self.bits grades_now columns_now = subst (λ bits. C (r.letters.items ++ word) bits grades_now columns_now) (sym c.push.ensures.bits) with_columns in
-    let graded : C (r.letters.items ++ word) c.push.new.self.bits c.append_grade.new.grades.items columns_now = subst (λ grades. C (r.letters.items ++ word) c.push.new.self.bits grades columns_now) (sym c.append_grade.ensures.items) active in
-    let columns : C c.append.new.letters.items c.push.new.self.bits c.append_grade.new.grades.items columns_now = subst (λ letters. C letters c.push.new.self.bits c.append_grade.new.grades.items columns_now) (sym c.append.ensures.items) graded in
+    let with_columns : C (r.letters.items ++ word) (flags ++ true ∷ []) marks_now columns_now = subst (C (r.letters.items ++ word) (flags ++ true ∷ []) marks_now) (sym (with_items_is r.columns new (c.push_word.auto.columns ∙ c.deref_mut.ensures.len))) pushed in
+    let active : C (r.letters.items ++ word) c.push.new.self.bits marks_now columns_now = subst (λ bits. C (r.letters.items ++ word) bits marks_now columns_now) (sym c.push.ensures.bits) with_columns in
+    let marked : C (r.letters.items ++ word) c.push.new.self.bits c.append_marks.new.marks.items columns_now = subst (λ marks. C (r.letters.items ++ word) c.push.new.self.bits marks columns_now) (sym c.append_marks.ensures.items) active in
+    let columns : C c.append.new.letters.items c.push.new.self.bits c.append_marks.new.marks.items columns_now = subst (λ letters. C letters c.push.new.self.bits c.append_marks.new.marks.items columns_now) (sym c.append.ensures.items) marked in
     record {
       short = kept.short;
       long = kept.long;
       letters = ap length c.append.ensures.items ∙ length-append r.letters.items word ∙ (let e : length r.letters.items + length word ≡ (length flags + 1) * r.word_len = omega (arith, kept.letters, fits) in e) ∙ ap (λ n. n * r.word_len) (sym longer);
-      grades = ap length c.append_grade.ensures.items ∙ length_push r.grades.items c.grade_or-grade.result ∙ ap (λ n. n + 1) kept.grades ∙ sym longer;
+      marks = ap length c.append_marks.ensures.items ∙ length_push r.marks.items mark ∙ ap (λ n. n + 1) kept.marks ∙ sym longer;
       few = omega (arith, longer, known);
       within = omega (arith, longer, some);
       reserved_few = kept.reserved_few;
@@ -87,7 +89,7 @@ invariant_of-self c =
       all_columns = columns.all;
       columns = columns.bits;
       letters_room = omega (arith, kept.letters_room, c.append.ensures.capacity);
-      grades_room = omega (arith, kept.grades_room, c.append_grade.ensures.capacity);
+      marks_room = omega (arith, kept.marks_room, c.append_marks.ensures.capacity);
       active_room = omega (arith, kept.active_room, c.push.ensures.room);
       columns_room = columns.room;
     }
@@ -98,7 +100,7 @@ returns-clause-few c =
     let kept = c.self.invariant in
     let flags = r.active.bits in
     let some = room_is (length flags) r.reserved r.index.room c.args.self.now.room (ap (λ (row : Row). row.room) c.self.view_is) c.requires.room in
-    omega (arith, some, kept.reserved_few, length-entries_of r.word_len r.letters.items flags r.grades.items, ap (λ (row : Row). length row.entries) c.self.view_is)
+    omega (arith, some, kept.reserved_few, length-entries_of r.word_len r.letters.items flags r.marks.items, ap (λ (row : Row). length row.entries) c.self.view_is)
 
 pub returns-clause-long : goal.returns-clause-long
 returns-clause-long c =

@@ -8,7 +8,7 @@ use Rattle.xw_words.proofs.KeptRowLemmas.{AreColumns, columns_made, columns_kept
 use Rattle.xw_words.proofs.row.Row.reserve.Goals as goal
 
 -- a row with the same words, and room for as many as are reserved
-module _ (r s : Inside) (kept : IsKeptRow r) (len : s.word_len ≡ r.word_len) (letters : s.letters.items ≡ r.letters.items) (bits : s.active.bits ≡ r.active.bits) (grades : s.grades.items ≡ r.grades.items) (indices : s.index.indices ≡ r.index.indices) where
+module _ (r s : Inside) (kept : IsKeptRow r) (len : s.word_len ≡ r.word_len) (letters : s.letters.items ≡ r.letters.items) (bits : s.active.bits ≡ r.active.bits) (marks : s.marks.items ≡ r.marks.items) (indices : s.index.indices ≡ r.index.indices) where
   same_index : IsIndex (word_in s.word_len s.letters.items) (length s.active.bits) s.index.indices
   same_index =
       subst (λ n. IsIndex (word_in n s.letters.items) (length s.active.bits) s.index.indices) (sym len)
@@ -16,19 +16,19 @@ module _ (r s : Inside) (kept : IsKeptRow r) (len : s.word_len ≡ r.word_len) (
       (subst (λ fs. IsIndex (word_in r.word_len r.letters.items) (length fs) s.index.indices) (sym bits)
       (subst (IsIndex (word_in r.word_len r.letters.items) (length r.active.bits)) (sym indices) kept.index)))
 
-  same_words : AreColumns r.word_len s.reserved (entries_of r.word_len r.letters.items r.active.bits r.grades.items) s.columns.items → AreColumns s.word_len s.reserved (entries_of s.word_len s.letters.items s.active.bits s.grades.items) s.columns.items
+  same_words : AreColumns r.word_len s.reserved (entries_of r.word_len r.letters.items r.active.bits r.marks.items) s.columns.items → AreColumns s.word_len s.reserved (entries_of s.word_len s.letters.items s.active.bits s.marks.items) s.columns.items
   same_words are =
-      subst (λ n. AreColumns n s.reserved (entries_of n s.letters.items s.active.bits s.grades.items) s.columns.items) (sym len)
-      (subst (λ ls. AreColumns r.word_len s.reserved (entries_of r.word_len ls s.active.bits s.grades.items) s.columns.items) (sym letters)
-      (subst (λ fs. AreColumns r.word_len s.reserved (entries_of r.word_len r.letters.items fs s.grades.items) s.columns.items) (sym bits)
-      (subst (λ gs. AreColumns r.word_len s.reserved (entries_of r.word_len r.letters.items r.active.bits gs) s.columns.items) (sym grades) are)))
+      subst (λ n. AreColumns n s.reserved (entries_of n s.letters.items s.active.bits s.marks.items) s.columns.items) (sym len)
+      (subst (λ ls. AreColumns r.word_len s.reserved (entries_of r.word_len ls s.active.bits s.marks.items) s.columns.items) (sym letters)
+      (subst (λ fs. AreColumns r.word_len s.reserved (entries_of r.word_len r.letters.items fs s.marks.items) s.columns.items) (sym bits)
+      (subst (λ ms. AreColumns r.word_len s.reserved (entries_of r.word_len r.letters.items r.active.bits ms) s.columns.items) (sym marks) are)))
 
-  still_kept : AreColumns r.word_len s.reserved (entries_of r.word_len r.letters.items r.active.bits r.grades.items) s.columns.items → (0 < s.reserved → 2 ≤ r.word_len) → length r.active.bits ≤ s.reserved → s.reserved ≤ 1048576
-      → s.reserved * r.word_len ≤ vec_capacity s.letters → s.reserved ≤ vec_capacity s.grades → s.reserved ≤ s.active.room → IsKeptRow s
-  still_kept are long within reserved_few letters_room grades_room active_room = record {
+  still_kept : AreColumns r.word_len s.reserved (entries_of r.word_len r.letters.items r.active.bits r.marks.items) s.columns.items → (0 < s.reserved → 2 ≤ r.word_len) → length r.active.bits ≤ s.reserved → s.reserved ≤ 1048576
+      → s.reserved * r.word_len ≤ vec_capacity s.letters → s.reserved ≤ vec_capacity s.marks → s.reserved ≤ s.active.room → IsKeptRow s
+  still_kept are long within reserved_few letters_room marks_room active_room = record {
     short = omega (arith, kept.short, len);
     letters = ap length letters ∙ kept.letters ∙ ap (λ n. length r.active.bits * n) (sym len) ∙ ap (λ fs. length fs * s.word_len) (sym bits);
-    grades = ap length grades ∙ kept.grades ∙ sym (ap length bits);
+    marks = ap length marks ∙ kept.marks ∙ sym (ap length bits);
     few = omega (arith, kept.few, ap length bits);
     within = omega (arith, within, ap length bits);
     reserved_few = reserved_few;
@@ -38,12 +38,12 @@ module _ (r s : Inside) (kept : IsKeptRow r) (len : s.word_len ≡ r.word_len) (
     all_columns = (same_words are).all;
     columns = (same_words are).bits;
     letters_room = omega (arith, letters_room, ap (λ n. s.reserved * n) len);
-    grades_room = grades_room;
+    marks_room = marks_room;
     active_room = active_room;
     columns_room = (same_words are).room;
   }
 
-columns_of : (r : Inside) → IsKeptRow r → AreColumns r.word_len r.reserved (entries_of r.word_len r.letters.items r.active.bits r.grades.items) r.columns.items
+columns_of : (r : Inside) → IsKeptRow r → AreColumns r.word_len r.reserved (entries_of r.word_len r.letters.items r.active.bits r.marks.items) r.columns.items
 columns_of r kept = record { few = kept.column_count; all = kept.all_columns; bits = kept.columns; room = kept.columns_room }
 
 -- if an allocation failed, the columns are still those of the known words
@@ -52,18 +52,18 @@ invariant_of-self-in_err-grow_columns c =
     let r = c.self.inside in
     let kept = c.self.invariant in
     still_kept r _ kept refl refl refl refl c.reserve.ensures.indices
-    (columns_kept r.word_len r.reserved (entries_of r.word_len r.letters.items r.active.bits r.grades.items) r.columns.items c.grow_columns.new.columns.items (columns_of r kept) (omega (arith, c.grow_columns.ensures.more))
-    (omega (arith, length-entries_of r.word_len r.letters.items r.active.bits r.grades.items, kept.within)) c.grow_columns.ensures.bits (omega (arith, c.grow_columns.ensures.few)) c.grow_columns.ensures.room_stays)
-    kept.long kept.within kept.reserved_few kept.letters_room kept.grades_room kept.active_room
+    (columns_kept r.word_len r.reserved (entries_of r.word_len r.letters.items r.active.bits r.marks.items) r.columns.items c.grow_columns.new.columns.items (columns_of r kept) (omega (arith, c.grow_columns.ensures.more))
+    (omega (arith, length-entries_of r.word_len r.letters.items r.active.bits r.marks.items, kept.within)) c.grow_columns.ensures.bits (omega (arith, c.grow_columns.ensures.few)) c.grow_columns.ensures.room_stays)
+    kept.long kept.within kept.reserved_few kept.letters_room kept.marks_room kept.active_room
 
 pub invariant_of-self-in_err-reserve_words : goal.invariant_of-self-in_err-reserve_words
 invariant_of-self-in_err-reserve_words c =
     let r = c.self.inside in
     let kept = c.self.invariant in
-    still_kept r _ kept refl c.reserve_words.ensures.items c.reserve_words.ensures.bits c.reserve_words.ensures.grades_stay c.reserve.ensures.indices
-    (columns_kept r.word_len r.reserved (entries_of r.word_len r.letters.items r.active.bits r.grades.items) r.columns.items c.grow_columns.new.columns.items (columns_of r kept) (omega (arith, c.grow_columns.ensures.more))
-    (omega (arith, length-entries_of r.word_len r.letters.items r.active.bits r.grades.items, kept.within)) c.grow_columns.ensures.bits (omega (arith, c.grow_columns.ensures.few)) c.grow_columns.ensures.room_stays)
-    kept.long kept.within kept.reserved_few (omega (arith, kept.letters_room, c.reserve_words.ensures.capacity)) (omega (arith, kept.grades_room, c.reserve_words.ensures.grades_capacity)) (omega (arith, kept.active_room, c.reserve_words.ensures.room_stays))
+    still_kept r _ kept refl c.reserve_words.ensures.items c.reserve_words.ensures.bits c.reserve_words.ensures.marks_stay c.reserve.ensures.indices
+    (columns_kept r.word_len r.reserved (entries_of r.word_len r.letters.items r.active.bits r.marks.items) r.columns.items c.grow_columns.new.columns.items (columns_of r kept) (omega (arith, c.grow_columns.ensures.more))
+    (omega (arith, length-entries_of r.word_len r.letters.items r.active.bits r.marks.items, kept.within)) c.grow_columns.ensures.bits (omega (arith, c.grow_columns.ensures.few)) c.grow_columns.ensures.room_stays)
+    kept.long kept.within kept.reserved_few (omega (arith, kept.letters_room, c.reserve_words.ensures.capacity)) (omega (arith, kept.marks_room, c.reserve_words.ensures.marks_capacity)) (omega (arith, kept.active_room, c.reserve_words.ensures.room_stays))
 
 pub invariant_of-self-2 : goal.invariant_of-self-2
 invariant_of-self-2 c =
@@ -71,13 +71,13 @@ invariant_of-self-2 c =
     let kept = c.self.invariant in
     let words = c.grown-words.result in
     let new = c.grow_columns.new.columns in
-    let entries_long = length-entries_of r.word_len r.letters.items r.active.bits r.grades.items in
+    let entries_long = length-entries_of r.word_len r.letters.items r.active.bits r.marks.items in
     let new_long : length new.items ≡ vec_len new = omega arith in
-    still_kept r _ kept refl c.reserve_words.ensures.items c.reserve_words.ensures.bits c.reserve_words.ensures.grades_stay c.reserve.ensures.indices
-    (columns_made r.word_len r.reserved (entries_of r.word_len r.letters.items r.active.bits r.grades.items) r.columns.items new.items (columns_of r kept) (omega (arith, c.grow_columns.ensures.more))
+    still_kept r _ kept refl c.reserve_words.ensures.items c.reserve_words.ensures.bits c.reserve_words.ensures.marks_stay c.reserve.ensures.indices
+    (columns_made r.word_len r.reserved (entries_of r.word_len r.letters.items r.active.bits r.marks.items) r.columns.items new.items (columns_of r kept) (omega (arith, c.grow_columns.ensures.more))
     (omega (arith, entries_long, kept.within)) c.grow_columns.ensures.bits (new_long ∙ c.in_ok-grow_columns.ensures.all) words (λ i lt. c.in_ok-grow_columns.ensures.room i (omega (arith, new_long, lt))))
     (λ _. omega (arith, c.requires.long, ap (λ (row : Row). row.word_len) c.self.view_is)) (omega (arith, c.len-known.ensures.value, c.grown-words.ensures.more)) c.grown-words.ensures.few
-    c.in_ok-reserve_words.ensures.letters_room c.in_ok-reserve_words.ensures.grades_room c.in_ok-reserve_words.ensures.room
+    c.in_ok-reserve_words.ensures.letters_room c.in_ok-reserve_words.ensures.marks_room c.in_ok-reserve_words.ensures.room
 
 pub returns-clause-ok : goal.returns-clause-ok
 returns-clause-ok c = search rules

@@ -18,7 +18,7 @@ returns-in-Some-clause-row c = λ i clear.
     let pattern = c.args.pattern.now in
     let position = c.loop-position.position in
     let P : Row → Type 0 = λ kept. All (λ (entry : Entry). length entry.word ≡ kept.word_len) kept.entries in
-    let long : P row = subst P c.self.view_is (entries_long r.word_len r.letters.items r.active.bits r.grades.items c.self.invariant.letters) in
+    let long : P row = subst P c.self.view_is (entries_long r.word_len r.letters.items r.active.bits r.marks.items c.self.invariant.letters) in
     let good = good_at pattern position c.requires.good c.loop-position-test.true in
     letter_missing row.word_len row.entries pattern position i long c.requires.length (omega (arith, c.requires.length)) (letter_no_dot (get_or pattern position 0) good c.if-pattern-position-ne46.true)
     (ap (λ letter. has_letter row.entries position letter i) (sym c.capital-letter.ensures) ∙ sym (c.in-Some.ensures.some.says i) ∙ clear)

@@ -1,0 +1,107 @@
+-- The search for the best fill.
+use Rattle.std.proofs.Common.{◌≡◌, ℕ, ◌<◌, ◌≤◌, Bool, true, List, [], Option, Some, sym, ◌∙◌, ap, subst, arith}
+use Rattle.std.specs.Prelude.{replicate, Result, Ok, Err, IfOk}
+use Rattle.std.proofs.lemmas.List.{get_or-replicate}
+use Rattle.xw_grid.specs.declared.cell.LightName.{LightName}
+use Rattle.xw_words.specs.Dictionary.{best_grade}
+use Rattle.xw_feas.specs.State.{State}
+use Rattle.xw_feas.specs.declared.edit.Refusal.{Refusal}
+use Rattle.xw_feas.specs.Snapshot.{IsTwin}
+use Rattle.xw_feas.specs.WellFormed.{IsWellFormed}
+use Rattle.xw_fill.specs.Position.{position_of}
+use Rattle.xw_fill.specs.Search.{light_count}
+use Rattle.xw_fill.specs.NamedFill.{flags, AreFlags, IsFillOf}
+use Rattle.xw_fill.specs.Best.{at_least, IsFillAt, HasNoneAt, IsBound, IsFilledAt, IsBest}
+use Rattle.xw_fill.specs.declared.best.Best.{Best}
+use Rattle.xw_fill.specs.declared.best.Best.TheVariants.{Filled, NoFill, Limit}
+use Rattle.xw_fill.specs.Inner.Climbing.{IsClimbing}
+use Rattle.xw_fill.specs.declared.best.climb.Climb.{Climb}
+use Rattle.xw_feas.proofs.BoardLemmas.{length-lights}
+use Rattle.xw_fill.proofs.MarksLemmas.{IsTwin-turned, filled_twin}
+use Rattle.xw_fill.proofs.LeastLemmas.{at_least-same, least_within}
+use Rattle.xw_fill.proofs.GradeLemmas.{none_up}
+use Rattle.xw_fill.proofs.Naming.{fill_same}
+
+-- where the bound is no greater than the least grade, there is no fill
+pub none_left : (named : ℕ → Bool) (state : State) (bound : ℕ) → IsWellFormed state → IsBound named state bound → bound ≤ state.words.least → (entries : List (Option ℕ)) → IsFillOf named (position_of state) entries → ⊥
+none_left named state bound formed is below entries fill =
+    let within = least_within state formed in
+    none_up named state bound state.words.least below (is.none (omega (arith, below, within))) entries
+    (subst (λ (s : State). IsFillOf named (position_of s) entries) (sym (at_least-same state formed)) fill)
+
+-- the state with a fill is a twin of the state before
+pub filled_at_twin : (named : ℕ → Bool) (before after : State) (grade : ℕ) → IsFilledAt named before after grade → IsTwin before after
+filled_at_twin named before after grade is = subst (IsTwin before) (sym is.holds) (filled_twin before is.entries)
+
+-- a better bound
+pub bounded : {E S : Type 0} (saved : S → State) (climb : Climb E S) (left grade : ℕ) (start : State) → IsClimbing saved climb start → grade ≤ best_grade → HasNoneAt (flags climb.plan.named.items) start grade → IsClimbing saved (record climb { bound = grade; left = left }) start
+bounded saved climb left grade start is within none = record {
+  plan = is.plan;
+  fresh = is.fresh;
+  least = is.least;
+  began = is.began;
+  best = is.best;
+  found = is.found;
+  bound = record { within = omega (arith, within); none = λ below. none };
+}
+
+-- another fill
+pub found_more : {E S : Type 0} (saved : S → State) (climb : Climb E S) (start_now best_now : S) (grade : ℕ) (start filled : State) → IsClimbing saved climb start → IsFilledAt (flags climb.plan.named.items) start filled grade → saved start_now ≡ start → saved best_now ≡ filled
+    → IsClimbing saved (record climb { start = start_now; best = best_now; found = Some grade }) start
+found_more saved climb start_now best_now grade start filled is fill start_is best_is = record {
+  plan = is.plan;
+  fresh = is.fresh;
+  least = is.least;
+  began = start_is;
+  best = subst (λ s. IsTwin s start) (sym best_is) (IsTwin-turned start filled (filled_at_twin (flags climb.plan.named.items) start filled grade fill));
+  found = subst (λ s. IsFilledAt (flags climb.plan.named.items) start s grade) (sym best_is) fill;
+  bound = is.bound;
+}
+
+-- ---- the named lights
+
+-- what holds for some lights holds for the same lights
+module _ (f g : ℕ → Bool) (before : State) (same : (light : ℕ) → light < light_count (position_of before) → f light ≡ g light) where
+  back : (light : ℕ) → light < light_count (position_of before) → g light ≡ f light
+  back light in_grid = sym (same light in_grid)
+
+  fill_at_same : (grade : ℕ) (entries : List (Option ℕ)) → IsFillAt f before grade entries → IsFillAt g before grade entries
+  fill_at_same grade entries = fill_same f g (position_of (at_least before grade)) same entries
+
+  fill_at_back : (grade : ℕ) (entries : List (Option ℕ)) → IsFillAt g before grade entries → IsFillAt f before grade entries
+  fill_at_back grade entries = fill_same g f (position_of (at_least before grade)) back entries
+
+  bound_same : (bound : ℕ) → IsBound f before bound → IsBound g before bound
+  bound_same bound is = record {
+    within = is.within;
+    none = λ below entries fill. is.none below entries (fill_at_back bound entries fill);
+  }
+
+  best_same : (after : State) (best : Best) → IsBest f before after best → IsBest g before after best
+  best_same after (Filled least bound) is =
+      let filled = is.0 in (
+        record {
+          entries = filled.entries;
+          fill = fill_at_same least filled.entries filled.fill;
+          left = filled.left;
+          graded = filled.graded;
+          greatest = λ grade above within fill. filled.greatest grade above within (fill_at_back grade filled.entries fill);
+          holds = filled.holds;
+        },
+        bound_same bound is.1,
+      )
+  best_same after NoFill is = (λ entries fill. is.0 entries (fill_same g f (position_of before) back entries fill), is.1)
+  best_same after (Limit bound) is = (is.0, bound_same bound is.1, is.2)
+
+  pub if_best_same : (after : State) (result : Result Best Refusal) → IfOk result (IsBest f before after) → IfOk result (IsBest g before after)
+  if_best_same after (Ok best) is = best_same after best is
+  if_best_same after (Err refusal) is = is
+
+-- a flag for each light is a flag for each named light, if an empty list names all lights
+pub all_are_flags : (state : State) (list : List Bool) → list ≡ replicate (light_count (position_of state)) true → AreFlags state [] list
+all_are_flags state list is light in_grid =
+    ap (λ flagged. flags flagged light) is ∙ get_or-replicate (light_count (position_of state)) light true _ (subst (λ n. light < n) (sym (length-lights state.grid)) in_grid)
+
+pub if_all_flags : {A : Type 0} (state : State) (names : List LightName) (items : A → List Bool) (result : Result A Refusal) → names ≡ [] → IfOk result (λ named. items named ≡ replicate (light_count (position_of state)) true) → IfOk result (λ named. AreFlags state names (items named))
+if_all_flags state names items (Ok named) none is = subst (λ list. AreFlags state list (items named)) (sym none) (all_are_flags state (items named) is)
+if_all_flags state names items (Err refusal) none is = is

@@ -1,0 +1,60 @@
+-- What a search for the best fill knows on its way.
+use Rattle.std.specs.Prelude.{◌≡◌, ℕ, ◌<◌, ◌≤◌, not, Bool, true, List, length, IfSome}
+use Rattle.xw_words.specs.Dictionary.{best_grade, with_least}
+use Rattle.xw_feas.specs.State.{State}
+use Rattle.xw_feas.specs.Snapshot.{IsTwin}
+use Rattle.xw_fill.specs.Position.{Position, position_of}
+use Rattle.xw_fill.specs.Search.{light_count, is_entered, spelling}
+use Rattle.xw_fill.specs.Fill.{IsActive}
+use Rattle.xw_fill.specs.NamedFill.{flags}
+use Rattle.xw_fill.specs.Best.{at_least, HasNoneAt, IsBound, IsFilledAt}
+use Rattle.xw_fill.specs.Inner.Progress.{IsDead, AreAlive, IsPlan}
+use Rattle.xw_fill.specs.declared.best.climb.Climb.{Climb}
+use Rattle.xw_fill.specs.declared.best.probe.Probe.{Probe}
+use Rattle.xw_fill.specs.declared.best.probe.Probe.TheVariants.{Filled, NoFill, Limit}
+
+-- the states differ at most in the least grade
+abbrev pub DiffersInLeast : State → State → Type 0
+DiffersInLeast before after = (grade : ℕ) → at_least after grade ≡ at_least before grade
+
+-- with the words of this grade and better, a watched light has no feasible word
+abbrev pub IsDeadAt : (ℕ → Bool) → State → ℕ → Type 0
+IsDeadAt watched state grade = (light : ℕ) × IsDead watched (position_of (at_least state grade)) light
+
+-- with the words of this grade and better, each watched light has a feasible word
+abbrev pub AreAliveAt : (ℕ → Bool) → State → ℕ → Type 0
+AreAliveAt watched state grade = AreAlive watched (position_of (at_least state grade))
+
+-- the word is one of this grade or better, and not struck
+abbrev pub IsActiveAt : State → ℕ → List ℕ → Type 0
+IsActiveAt state grade word = IsActive (with_least grade state.words) word
+
+-- each flagged light that is wholly entered spells a word of this grade or better
+abbrev pub AreActiveAt : (ℕ → Bool) → State → ℕ → Type 0
+AreActiveAt flagged state grade = (light : ℕ) → light < light_count (position_of state) → flagged light ≡ true → is_entered (position_of state) light ≡ true → IsActiveAt state grade (spelling (position_of state) light)
+
+-- there is a flag for each light: whether it is not wholly entered
+pub record AreFresh (start : Position) (fresh : List Bool) : Type 0 where
+  pub long : length fresh ≡ light_count start
+  pub are : (light : ℕ) → light < light_count start → flags fresh light ≡ not (is_entered start light)
+
+-- what a search for a fill with the words of a grade and better found: a fill that is one at `least`; or that there is none
+abbrev pub IsProbed : (ℕ → Bool) → State → ℕ → State → Probe → Type 0
+IsProbed named before grade after (Filled least) = (grade ≤ least) × IsFilledAt named before after least
+IsProbed named before grade after NoFill = HasNoneAt named before grade × (after ≡ before)
+IsProbed named before grade after Limit = after ≡ before
+
+-- a fill that was found is one at this grade or above
+abbrev pub IsAtLeast : ℕ → Probe → Type 0
+IsAtLeast grade (Filled least) = (grade ≤ least) × (least ≤ best_grade)
+IsAtLeast grade other = Unit {0}
+
+-- the search began at this state, and knows a bound and the best fill that was found
+pub record IsClimbing {E S : Type 0} (saved : S → State) (climb : Climb E S) (start : State) : Type 0 where
+  pub plan : IsPlan (position_of start) climb.plan
+  pub fresh : AreFresh (position_of start) climb.fresh.items
+  pub least : climb.least ≡ start.words.least
+  pub began : saved climb.start ≡ start
+  pub best : IsTwin (saved climb.best) start
+  pub found : IfSome climb.found (IsFilledAt (flags climb.plan.named.items) start (saved climb.best))
+  pub bound : IsBound (flags climb.plan.named.items) start climb.bound

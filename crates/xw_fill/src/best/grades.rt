@@ -1,0 +1,107 @@
+//! Which grade a grid can have.
+ghost use Rattle.std.specs.Prelude.{◌≡◌, ℕ, suc, ◌<◌, ◌≤◌, not, true, false, length, IfOk, IfErr};
+ghost use Rattle.xw_words.specs.Dictionary.{best_grade};
+ghost use Rattle.xw_fill.specs.Position.{position_of};
+ghost use Rattle.xw_fill.specs.Search.{light_count, is_entered, spelling};
+ghost use Rattle.xw_fill.specs.NamedFill.{flags};
+ghost use Rattle.xw_fill.specs.Best.{at_least};
+ghost use Rattle.xw_fill.specs.Inner.Climbing.{DiffersInLeast, IsDeadAt, AreAliveAt, IsActiveAt, AreActiveAt, AreFresh};
+
+use crate::listing::{size_of, word_index};
+use crate::named_lights::checks::first_dead;
+use crate::scan::{is_entered, light_count};
+use std::alloc::Global;
+use xw_feas::edit::{Edit, Refusal};
+use xw_feas::feasible::Feasible;
+use xw_grid::fault::GridFault;
+/// The greatest grade of a word.
+pub const BEST_GRADE: u8 = 100;
+
+/// One more than the greatest grade: a bound that says nothing.
+pub const NO_BOUND: u8 = BEST_GRADE + 1;
+
+/// Leaves out the words below a grade, and brings back the others.
+pub fn choose_least<E: Feasible>(engine: &mut E, grade: u8)
+    ensures { E.state engine.new ≡ at_least (E.state engine.old) grade }
+{
+    let _ = engine.edit(&Edit::Least(grade));
+}
+
+/// Leaves out the words below a grade. Returns whether a watched light then has no feasible word.
+fn is_dead_at<E: Feasible>(engine: &mut E, watched: &[bool], grade: u8) -> bool
+    requires long { length watched.now ≡ light_count (position_of (E.state engine.old)) }
+    ensures state { E.state engine.new ≡ at_least (E.state engine.old) grade }
+    ensures dead { result ≡ true → IsDeadAt (flags watched.now) (E.state engine.old) grade }
+    ensures alive { result ≡ false → AreAliveAt (flags watched.now) (E.state engine.old) grade }
+{
+    choose_least(engine, grade);
+    first_dead(engine, watched).is_some()
+}
+
+/// Halves the grades from `from` to below `to` until it comes to one at which a watched light has no feasible word, though
+/// each has one at the grade below. Returns `to` if there is none. Leaves another least grade.
+pub fn first_deadly<E: Feasible>(engine: &mut E, watched: &[bool], from: u8, to: u8) -> u8
+    requires long { length watched.now ≡ light_count (position_of (E.state engine.old)) }
+    requires ordered { from ≤ to }
+    requires graded { to ≤ suc best_grade }
+    ensures state { DiffersInLeast (E.state engine.old) (E.state engine.new) }
+    ensures above { from ≤ result }
+    ensures below { result ≤ to }
+    ensures dead { result < to → IsDeadAt (flags watched.now) (E.state engine.old) result }
+    ensures alive { (grade : ℕ) → from ≤ grade → suc grade ≡ result → AreAliveAt (flags watched.now) (E.state engine.old) grade }
+{
+    let mut low = from;
+    let mut high = to;
+    while low < high {
+        let grade = low + (high - low) / 2;
+        if is_dead_at(engine, watched, grade) {
+            high = grade;
+        } else {
+            low = grade + 1;
+        }
+    }
+    high
+}
+
+/// The grade of the word that a light spells; 0 if it is not known.
+fn grade_of<E: Feasible>(engine: &E, light: usize) -> u8
+    requires { light < light_count (position_of (E.state engine.now)) }
+    ensures within { result ≤ best_grade }
+    ensures active { (grade : ℕ) → grade ≤ best_grade → IsActiveAt (E.state engine.now) grade (spelling (position_of (E.state engine.now)) light) → grade ≤ result }
+    ensures reached { (grade other : ℕ) → IsActiveAt (E.state engine.now) other (spelling (position_of (E.state engine.now)) light) → grade ≤ result → IsActiveAt (E.state engine.now) grade (spelling (position_of (E.state engine.now)) light) }
+{
+    match word_index(engine, light) {
+        None => 0,
+        Some(index) => engine.bank().grade(size_of(engine, light), index),
+    }
+}
+
+/// The least grade of the words that the flagged lights spell which are wholly entered; `BEST_GRADE` if none is.
+pub fn worst_grade<E: Feasible>(engine: &E, flagged: &[bool]) -> u8
+    requires long { length flagged.now ≡ light_count (position_of (E.state engine.now)) }
+    ensures within { result ≤ best_grade }
+    ensures active { (grade : ℕ) → grade ≤ best_grade → AreActiveAt (flags flagged.now) (E.state engine.now) grade → grade ≤ result }
+    ensures reached { (grade other : ℕ) → AreActiveAt (flags flagged.now) (E.state engine.now) other → grade ≤ result → AreActiveAt (flags flagged.now) (E.state engine.now) grade }
+{
+    let mut worst = BEST_GRADE;
+    for light in 0..light_count(engine) {
+        if flagged[light] && is_entered(engine, light) {
+            worst = worst.min(grade_of(engine, light));
+        }
+    }
+    worst
+}
+
+/// A flag for each light: whether it is not wholly entered. It is refused only if an allocation fails.
+pub fn fresh_lights<E: Feasible>(alloc: Global, engine: &E) -> Result<Vec<bool>, Refusal>
+    ensures ok { IfOk result (λ fresh. AreFresh (position_of (E.state engine.now)) fresh.items) }
+    ensures memory { IfErr result (λ refusal. refusal ≡ Refusal.Grid GridFault.Memory) }
+{
+    let mut fresh = Vec::new(alloc);
+    for light in 0..light_count(engine) {
+        fresh
+            .push(!is_entered(engine, light))
+            .map_err(|_| Refusal::Grid(GridFault::Memory))?;
+    }
+    Ok(fresh)
+}

@@ -1,0 +1,11 @@
+use Rattle.std.proofs.Common.{List, ◌∙◌, subst}
+use Rattle.std.specs.Prelude.{IfOk}
+use Rattle.xw_grid.specs.declared.cell.LightName.{LightName}
+use Rattle.xw_fill.specs.NamedFill.{is_named}
+use Rattle.xw_fill.specs.Best.{IsBest}
+use Rattle.xw_session.proofs.session.besting.best_filled.Goals as goal
+
+pub returns-clause-ok : goal.returns-clause-ok
+returns-clause-ok g c =
+    let before = g.E.Feasible.state c.args.engine.now in
+    subst (λ (names : List LightName). IfOk c.best_fill.result (IsBest (is_named before names) before (g.E.Feasible.state c.best_fill.new.engine))) (c.as_slice.ensures.value ∙ c.in_ok-names.ensures.ok) c.best_fill.ensures.ok

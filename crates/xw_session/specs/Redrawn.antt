@@ -1,0 +1,47 @@
+-- Lines that edit nothing but the grid, which a replay executes with one update of the engine.
+use Rattle.std.specs.Prelude.{◌≡◌, ℕ, ◌+◌, ◌≤◌, List, [], ◌∷◌, ◌++◌, length, option_map, Option, Some, None, Ok}
+use Rattle.xw_letters.specs.Letter.{letter_of}
+use Rattle.xw_grid.specs.Grid.{Grid}
+use Rattle.xw_feas.specs.State.{Action, grid_after, letter_set, cell_cleared, block_toggled, bar_toggled, symmetry_chosen}
+use Rattle.xw_lines.specs.Cut.{lines_of}
+use Rattle.xw_commands.specs.Command.{command_of}
+use Rattle.xw_commands.specs.declared.command.Command.{Command}
+use Rattle.xw_commands.specs.declared.command.Command.TheVariants as commands
+use Rattle.xw_session.specs.State.{State, cell_of}
+use Rattle.xw_session.specs.Resuming.{AreDone}
+
+-- the edit of a command that edits nothing but the grid
+abbrev pub grid_action : Command → Option Action
+grid_action (commands.Symmetry kind) = Some (symmetry_chosen kind)
+grid_action (commands.Set spot letter) = option_map (letter_set (cell_of spot)) (letter_of letter)
+grid_action (commands.Clear spot) = Some (cell_cleared (cell_of spot))
+grid_action (commands.Block spot) = Some (block_toggled (cell_of spot))
+grid_action (commands.Bar spot side) = Some (bar_toggled (cell_of spot) side)
+grid_action other = None
+
+-- the command is such an edit, is accepted, and turns the first grid into the second
+pub record Redraws (command : Command) (old new : Grid) : Type 0 where
+  pub action : Action
+  pub is : grid_action command ≡ Some action
+  pub made : grid_after old action ≡ Ok new
+
+-- these lines are such commands, executed one after another
+abbrev pub AreDrawn : List (List ℕ) → Grid → Grid → Type 0
+AreDrawn [] old new = new ≡ old
+AreDrawn (line ∷ lines) old new = (command : Command) × (mid : Grid) × (command_of line ≡ Ok (Some command)) × Redraws command old mid × AreDrawn lines mid new
+
+-- the first lines of a text, as many as this, are such commands, and this text is left
+pub record IsDrawn (text : List ℕ) (old : Grid) (taken : ℕ) (rest : List ℕ) (new : Grid) : Type 0 where
+  pub lines : List (List ℕ)
+  pub parts : lines_of text ≡ lines ++ lines_of rest
+  pub counted : taken ≡ length lines
+  pub drawn : AreDrawn lines old new
+  pub shorter : taken + length rest ≤ length text
+
+-- the first lines of a text, as many as this, may be executed and leave this state, without a refusal; this text is left
+pub record IsRedrawn (text : List ℕ) (start : State) (taken : ℕ) (rest : List ℕ) (end : State) : Type 0 where
+  pub lines : List (List ℕ)
+  pub parts : lines_of text ≡ lines ++ lines_of rest
+  pub counted : taken ≡ length lines
+  pub done : (file : List ℕ) (number : ℕ) → AreDone file number start lines [] 0 end
+  pub shorter : taken + length rest ≤ length text

@@ -1,0 +1,125 @@
+//! Answers `grades`.
+ghost use Rattle.std.specs.Prelude.{◌≡◌, ◌<◌, true, flat_map, is_some};
+ghost use Rattle.std.specs.Option.{option_and_then};
+ghost use Rattle.xw_grid.specs.Light.{lights_of, index_named};
+ghost use Rattle.xw_fill.specs.Position.{position_of};
+ghost use Rattle.xw_fill.specs.Search.{light_count};
+ghost use Rattle.xw_fill.specs.Listing.{grade_of};
+ghost use Rattle.xw_fill.specs.NamedFill.{AreLights};
+ghost use Rattle.xw_lines.specs.Sends.{Sends};
+ghost use Rattle.xw_session.specs.Reply.{name_of_light};
+ghost use Rattle.xw_session.specs.Autofill.{names_of};
+ghost use Rattle.xw_session.specs.Grades.{entered_line, entered_lines, named_line, grade_lines};
+ghost use Rattle.xw_session.specs.Answer.{AnswersTo};
+
+use crate::session::autofilling::{are_lights, known_name};
+use crate::session::{Session, end_answer};
+use xw_answers::refusal::Refusal;
+use xw_answers::text;
+use xw_commands::command::LightArg;
+use xw_commands::lights::LightArgs;
+use xw_feas::feasible::Feasible;
+use xw_fill::listing::grade;
+use xw_fill::scan::{is_entered, name_at};
+use xw_grid::LightName;
+use xw_lines::device::{Sink, WriteFailed};
+use xw_lines::outcome::Step;
+
+/// Writes the grade of the word of a light if the light is wholly entered.
+fn write_if_entered<E: Feasible, W: Sink>(
+    sink: &mut W,
+    engine: &E,
+    light: usize,
+) -> Result<(), WriteFailed>
+    requires { light < light_count (position_of (E.state engine.now)) }
+    ensures { Sends W.transcript W.failures sink.old sink.new result (entered_line (E.state engine.now) light) }
+{
+    if is_entered(engine, light) {
+        text::write_grade(sink, name_at(engine, light), grade(engine, light))
+    } else {
+        Ok(())
+    }
+}
+
+/// Writes the grades of the words of all wholly entered lights.
+fn write_entered<E: Feasible, W: Sink>(sink: &mut W, engine: &E) -> Result<(), WriteFailed>
+    ensures { Sends W.transcript W.failures sink.old sink.new result (entered_lines (E.state engine.now)) }
+{
+    for light in 0..engine.lights().len() {
+        write_if_entered(sink, engine, light)?;
+    }
+    Ok(())
+}
+
+/// Returns the grade of the word of the light with this name.
+fn grade_named<E: Feasible>(engine: &E, name: LightName) -> Option<u8>
+    ensures { result ≡ option_and_then (grade_of (position_of (E.state engine.now))) (index_named (lights_of (E.state engine.now).grid) name) }
+{
+    let light = engine.lights().index(name)?;
+    grade(engine, light)
+}
+
+/// Writes the grade of the word of a light that a command names.
+fn write_named<E: Feasible, W: Sink>(
+    sink: &mut W,
+    engine: &E,
+    named: LightArg,
+) -> Result<(), WriteFailed>
+    requires { is_some (index_named (lights_of (E.state engine.now).grid) (name_of_light named)) ≡ true }
+    ensures { Sends W.transcript W.failures sink.old sink.new result (named_line (E.state engine.now) (name_of_light named)) }
+{
+    match known_name(engine, named) {
+        Some(name) => text::write_grade(sink, name, grade_named(engine, name)),
+        None => unreachable!(),
+    }
+}
+
+/// Writes the grades of the words of lights that a command names.
+fn write_each<E: Feasible, W: Sink>(
+    sink: &mut W,
+    engine: &E,
+    lights: LightArgs<'_>,
+) -> Result<(), WriteFailed>
+    requires { AreLights (E.state engine.now) (names_of lights) }
+    ensures { Sends W.transcript W.failures sink.old sink.new result (flat_map (named_line (E.state engine.now)) (names_of lights.entry)) }
+{
+    for named in lights {
+        write_named(sink, engine, named)?;
+    }
+    Ok(())
+}
+
+/// Writes the grades of the words of the named lights, or of all wholly entered lights if none is named.
+fn write_grades<E: Feasible, W: Sink>(
+    sink: &mut W,
+    engine: &E,
+    lights: LightArgs<'_>,
+) -> Result<(), WriteFailed>
+    requires { AreLights (E.state engine.now) (names_of lights) }
+    ensures { Sends W.transcript W.failures sink.old sink.new result (grade_lines (E.state engine.now) (names_of lights.entry)) }
+{
+    if lights.copy().next().is_none() {
+        write_entered(sink, engine)
+    } else {
+        write_each(sink, engine, lights)
+    }
+}
+
+impl<E: Feasible> Session<E> {
+    ghost use Rattle.xw_commands.specs.declared.command.Command.TheVariants as commands;
+
+    /// Answers `grades`: the grades of the words of named lights, or of all wholly entered lights.
+    pub(crate) fn answer_grades<W: Sink>(
+        &self,
+        lights: LightArgs<'_>,
+        sink: &mut W,
+    ) -> Result<Step, WriteFailed>
+        ensures { AnswersTo W.transcript W.failures self.now (commands.Grades lights.entry) result self.now sink.old sink.new }
+    {
+        if !are_lights(&self.engine, lights.copy()) {
+            return end_answer(sink, Err(Refusal::NoLight));
+        }
+        write_grades(sink, &self.engine, lights)?;
+        end_answer(sink, Ok(()))
+    }
+}
